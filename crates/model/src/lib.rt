@@ -1,0 +1,135 @@
+// The types that the definitions of specs/ and the code of the other crates share.
+
+// The index of a read: one of its n, or left open for the schedule to settle (255 in the text).
+pub enum Index {
+    Fixed(u8),
+    Open,
+}
+
+// The operands of a read. NOW and LAST have neither factor nor index in the text; theirs are 1 and 0.
+pub struct Sampled {
+    pub signal: u8,
+    pub factor: u8,
+    pub index: Index,
+}
+
+// The five reads.
+pub enum Kind {
+    Now,
+    Last,
+    When,
+    LastWhen,
+    Current,
+}
+
+// The operators with two operands.
+pub enum Binary {
+    Add,
+    Sub,
+    Mul,
+    Less,
+    Same,
+    Min,
+    Max,
+}
+
+// The mode of a latency constraint.
+pub enum Mode {
+    Exists,
+    Backward,
+}
+
+// What a byte of the program text commands, before its operands are looked at.
+pub enum Keyword {
+    // no byte is left
+    Missing,
+    // no command has this byte
+    Unknown,
+    End,
+    Input,
+    Equation,
+    Latency,
+    Link,
+    Cap,
+    Constant,
+    Read(Kind),
+    Binary(Binary),
+    Negate,
+    If,
+}
+
+// A command of the program text with its operands, expressions and LINKs left out.
+pub enum Command {
+    // no byte is left, or an operand is cut off by the end of the text
+    EndsEarly,
+    // no command has this byte
+    Unknown,
+    // an operand is outside its range
+    OutOfRange,
+    End,
+    // period, initial word
+    Input(u8, i32),
+    // period, initial word, weight
+    Equation(u8, i32, u16),
+    // mode, bound
+    Latency(Mode, u16),
+    // signal
+    Link(u8),
+    // limit
+    Cap(u32),
+    Constant(i32),
+    Read(Kind, Sampled),
+    Binary(Binary),
+    Negate,
+    If,
+}
+
+// A command of the schedule text.
+pub enum Placing {
+    // no byte is left, or an operand is cut off by the end of the text
+    EndsEarly,
+    // no command has this byte
+    Unknown,
+    End,
+    // signal, phase
+    Put(u8, u8),
+}
+
+// A command of an image's code.
+pub enum Code {
+    // no byte is left, or an operand is cut off by the end of the code
+    EndsEarly,
+    // no command has this byte
+    Unknown,
+    Push(i32),
+    Load(u8),
+    Fetch(u8),
+    Store(u8),
+    Binary(Binary),
+    Negate,
+    If,
+}
+
+// What a search for an index finds.
+pub enum Found {
+    At(usize),
+    Nowhere,
+}
+
+// A refusal: its number and its place.
+pub struct Fault {
+    pub number: u8,
+    pub place: usize,
+}
+
+// What `compile` answers: the image's length, or the refusal.
+pub enum Compiled {
+    Length(usize),
+    Refused(Fault),
+}
+
+// What `reset` and `cycle` answer.
+pub enum Ran {
+    Done,
+    Refused(Fault),
+}
