@@ -1,0 +1,42 @@
+-- The compiler's verdict on a program and a schedule, and what compile leaves in the buffer (17).
+use Prim.Native.Nat.{ℕ, _≤_}
+use mathlib.Core.Bool.{Bool, _&&_}
+use mathlib.Core.List.{List, _++_}
+use lib.Dec.{leb}
+use lib.ListN.{length, drop}
+use Rattle.model.specs.Image.{imageOf}
+use Rattle.model.specs.Latency.{timely}
+use Rattle.model.specs.Load.{loaded}
+use Rattle.model.specs.Machine.{Effect, effect}
+use Rattle.model.specs.Outcome.{Outcome, accepted, _▷_, provided}
+use Rattle.model.specs.Program.{parseProgram}
+use Rattle.model.specs.Rates.{declaredAndRated, hypercycle, linked}
+use Rattle.model.specs.Reads.{met}
+use Rattle.model.specs.Schedule.{parseSchedule, placed}
+
+-- Program 8,192 bytes, schedule 193.
+unfoldable pub shortEnough : List ℕ → List ℕ → Outcome (Unit {0})
+shortEnough program schedule = provided (leb (length program) 8192 && leb (length schedule) 193) 1 0
+
+-- Refused because of the input, in the order stated; or the one image of the pair.
+unfoldable pub verdictOf : List ℕ → List ℕ → Outcome (List ℕ)
+verdictOf program schedule =
+    shortEnough program schedule ▷ λ _. -- 1
+    parseProgram program ▷ λ p. -- 2 to 6
+    declaredAndRated p ▷ λ _. -- 7, 8
+    hypercycle p ▷ λ h. -- 9
+    linked p ▷ λ _. -- 10
+    parseSchedule schedule ▷ λ puts. -- 11
+    placed p puts ▷ λ s. -- 12, 13
+    met p s ▷ λ _. -- 14
+    loaded p s h ▷ λ _. -- 15
+    timely p s h ▷ λ _. -- 16
+    accepted (imageOf p s h)
+
+-- 17 where the buffer is shorter than L; bytes past L stay.
+unfoldable pub compileOf : List ℕ → List ℕ → List ℕ → Effect ℕ
+compileOf program schedule buffer =
+    effect buffer
+    (verdictOf program schedule ▷ λ image.
+    provided (leb (length image) (length buffer)) 17 (length image) ▷ λ _.
+    accepted (record { yields = length image; leaves = image ++ drop (length image) buffer }))

@@ -1,0 +1,220 @@
+-- Programs: their trees, and reading one from its text (refusals 2 to 6).
+use Prim.Native.Nat.{ℕ, zero, suc, _+_}
+use mathlib.Core.Bool.{Bool, true, false, cond}
+use mathlib.Core.List.{List, [], _∷_, _++_}
+use lib.Dec.{leb, ltb, eqb}
+use lib.IntN.{ℤ, pos}
+use lib.ListN.{length, getD}
+use Rattle.model.specs.Outcome.{Outcome, accepted, refuse, _▷_, provided, Parsed, parsed}
+use Rattle.model.specs.Command.{keywordAt, commandAt}
+use Rattle.model.specs.Word.{byteAt}
+use Rattle.model.specs.declared.Binary.{Binary}
+use Rattle.model.specs.declared.Command.{Command}
+use Rattle.model.specs.declared.Command.the-variants as Command
+use Rattle.model.specs.declared.Keyword.{Keyword}
+use Rattle.model.specs.declared.Keyword.the-variants as Keyword
+use Rattle.model.specs.declared.Kind.{Kind}
+use Rattle.model.specs.declared.Kind.the-variants.{Now, Last, When, LastWhen, Current}
+use Rattle.model.specs.declared.Mode.{Mode}
+use Rattle.model.specs.declared.Sampled.{Sampled}
+
+-- A read, with the offset at which it stands.
+pub record Read : Type 0 where
+  pub place : ℕ
+  pub kind : Kind
+  pub operands : Sampled
+
+pub data Expr : Type 0 where
+  constant : ℤ → Expr
+  read : Read → Expr
+  binary : Binary → Expr → Expr → Expr
+  negate : Expr → Expr
+  choose : Expr → Expr → Expr → Expr
+
+-- What a signal is: an input, or an equation with its weight.
+pub data Body : Type 0 where
+  input : Body
+  equation : ℕ → Expr → Body
+
+-- A signal, with the offset of its IN or EQ.
+pub record Signal : Type 0 where
+  pub place : ℕ
+  pub period : ℕ
+  pub initial : ℤ
+  pub body : Body
+
+pub record Link : Type 0 where
+  pub place : ℕ
+  pub signal : ℕ
+
+-- A latency constraint over a chain of links, with the offset of its LAT.
+pub record Chain : Type 0 where
+  pub place : ℕ
+  pub mode : Mode
+  pub bound : ℕ
+  pub links : List Link
+
+pub data Limit : Type 0 where
+  unlimited : Limit
+  limit : ℕ → Limit
+
+pub record Program : Type 0 where
+  pub signals : List Signal
+  pub chains : List Chain
+  pub cap : Limit
+
+abbrev pub empty : Program
+empty = record { signals = []; chains = []; cap = unlimited }
+
+abbrev pub withSignal : Program → Signal → Program
+withSignal p s = record { signals = p .signals ++ (s ∷ []); chains = p .chains; cap = p .cap }
+
+abbrev pub withChain : Program → Chain → Program
+withChain p c = record { signals = p .signals; chains = p .chains ++ (c ∷ []); cap = p .cap }
+
+abbrev pub withCap : Program → ℕ → Program
+withCap p n = record { signals = p .signals; chains = p .chains; cap = limit n }
+
+-- The number N of signals, and signal s, numbered from 0 as declared.
+abbrev pub count : Program → ℕ
+count p = length (p .signals)
+
+abbrev pub noSignal : Signal
+noSignal = record { place = 0; period = 1; initial = pos 0; body = input }
+
+abbrev pub signalAt : Program → ℕ → Signal
+signalAt p s = getD (p .signals) s noSignal
+
+-- 2 and 3, judged at each operator of an expression before its depth and its operands.
+abbrev pub operatorHere : List ℕ → ℕ → Keyword → Outcome (Unit {0})
+operatorHere text at Keyword.Missing = refuse 2 (length text)
+operatorHere text at Keyword.Unknown = refuse 3 at
+operatorHere text at Keyword.End = refuse 3 at
+operatorHere text at Keyword.Input = refuse 3 at
+operatorHere text at Keyword.Equation = refuse 3 at
+operatorHere text at Keyword.Latency = refuse 3 at
+operatorHere text at Keyword.Link = refuse 3 at
+operatorHere text at Keyword.Cap = refuse 3 at
+operatorHere text at Keyword.Constant = accepted tt
+operatorHere text at (Keyword.Read kind) = accepted tt
+operatorHere text at (Keyword.Binary operator) = accepted tt
+operatorHere text at Keyword.Negate = accepted tt
+operatorHere text at Keyword.If = accepted tt
+
+-- The bytes of a read: NOW s is two, WHEN s i n is four.
+abbrev pub readWidth : Kind → ℕ
+readWidth Now = 2
+readWidth Last = 2
+readWidth When = 4
+readWidth LastWhen = 4
+readWidth Current = 4
+
+-- The expression at `at`, operator first, where `sub` reads an operand.
+unfoldable pub node : (ℕ → Outcome (Parsed Expr)) → List ℕ → ℕ → Command → Outcome (Parsed Expr)
+node sub text at Command.EndsEarly = refuse 2 (length text)
+node sub text at Command.Unknown = refuse 3 at
+node sub text at Command.OutOfRange = refuse 5 at
+node sub text at Command.End = refuse 3 at
+node sub text at (Command.Input period initial) = refuse 3 at
+node sub text at (Command.Equation period initial weight) = refuse 3 at
+node sub text at (Command.Latency mode bound) = refuse 3 at
+node sub text at (Command.Link signal) = refuse 3 at
+node sub text at (Command.Cap n) = refuse 3 at
+node sub text at (Command.Constant w) = parsed (constant w) (at + 5)
+node sub text at (Command.Read kind operands) =
+    parsed (read (record { place = at; kind = kind; operands = operands })) (at + readWidth kind)
+node sub text at (Command.Binary operator) =
+    sub (at + 1) ▷ λ x. sub (x .next) ▷ λ y. parsed (binary operator (x .value) (y .value)) (y .next)
+node sub text at Command.Negate = sub (at + 1) ▷ λ x. parsed (negate (x .value)) (x .next)
+node sub text at Command.If =
+    sub (at + 1) ▷ λ x. sub (x .next) ▷ λ y. sub (y .next) ▷ λ z.
+    parsed (choose (x .value) (y .value) (z .value)) (z .next)
+
+-- An expression nests at most `depth` deep; a leaf is 1.
+unfoldable pub parseExpr : ℕ → List ℕ → ℕ → Outcome (Parsed Expr)
+parseExpr zero text at = operatorHere text at (keywordAt text at) ▷ λ _. refuse 4 at
+parseExpr (suc depth) text at =
+    operatorHere text at (keywordAt text at) ▷ λ _. node (λ n. parseExpr depth text n) text at (commandAt text at)
+
+-- The LINKs from `at` on, after those of `links`; `room` more are allowed. A chain ends at the first byte that isn't 13 or
+-- where the text ends.
+unfoldable pub parseLinks : ℕ → List ℕ → ℕ → List Link → Outcome (Parsed (List Link))
+parseLinks zero text at links = elim (eqb (byteAt text at) 0x13) [ true ↦ refuse 4 at | false ↦ parsed links at ]
+parseLinks (suc room) text at links =
+    elim (eqb (byteAt text at) 0x13) [
+      true ↦
+          provided (leb (at + 2) (length text)) 2 (length text) ▷ λ _.
+          parseLinks room text (at + 2) (links ++ (record { place = at; signal = byteAt text (at + 1) } ∷ [])) |
+      false ↦ parsed links at
+    ]
+
+-- A command with its operands, after those of p; `next` reads on.
+unfoldable pub declare : (ℕ → Program → Outcome Program) → List ℕ → ℕ → Program → Command → Outcome Program
+declare next text at p Command.EndsEarly = refuse 2 (length text)
+declare next text at p Command.Unknown = refuse 3 at
+declare next text at p Command.OutOfRange = refuse 5 at
+declare next text at p Command.End = provided (leb (length text) (at + 1)) 6 (at + 1) ▷ λ _. accepted p
+declare next text at p (Command.Input period initial) =
+    next (at + 6) (withSignal p (record { place = at; period = period; initial = initial; body = input }))
+declare next text at p (Command.Equation period initial weight) =
+    parseExpr 16 text (at + 8) ▷ λ e.
+    next (e .next)
+    (withSignal p (record { place = at; period = period; initial = initial; body = equation weight (e .value) }))
+declare next text at p (Command.Latency mode bound) =
+    parseLinks 16 text (at + 4) [] ▷ λ ls.
+    provided (leb 2 (length (ls .value))) 5 at ▷ λ _.
+    next (ls .next) (withChain p (record { place = at; mode = mode; bound = bound; links = ls .value }))
+declare next text at p (Command.Link signal) = refuse 3 at
+declare next text at p (Command.Cap n) = next (at + 5) (withCap p n)
+declare next text at p (Command.Constant w) = refuse 3 at
+declare next text at p (Command.Read kind operands) = refuse 3 at
+declare next text at p (Command.Binary operator) = refuse 3 at
+declare next text at p Command.Negate = refuse 3 at
+declare next text at p Command.If = refuse 3 at
+
+abbrev pub isUnlimited : Limit → Bool
+isUnlimited unlimited = true
+isUnlimited (limit n) = false
+
+-- 2, 3, then counts and second CAP, judged at each command before its operands.
+abbrev pub commandHere : List ℕ → ℕ → Program → Keyword → Outcome (Unit {0})
+commandHere text at p Keyword.Missing = refuse 2 (length text)
+commandHere text at p Keyword.Unknown = refuse 3 at
+commandHere text at p Keyword.End = accepted tt
+commandHere text at p Keyword.Input = provided (ltb (count p) 64) 4 at
+commandHere text at p Keyword.Equation = provided (ltb (count p) 64) 4 at
+commandHere text at p Keyword.Latency = provided (ltb (length (p .chains)) 16) 4 at
+commandHere text at p Keyword.Link = refuse 3 at
+commandHere text at p Keyword.Cap = provided (isUnlimited (p .cap)) 5 at
+commandHere text at p Keyword.Constant = refuse 3 at
+commandHere text at p (Keyword.Read kind) = refuse 3 at
+commandHere text at p (Keyword.Binary operator) = refuse 3 at
+commandHere text at p Keyword.Negate = refuse 3 at
+commandHere text at p Keyword.If = refuse 3 at
+
+-- The commands from `at` on, after those of p. Each takes a byte at least, so `left` bytes hold no more than `left` of them.
+unfoldable pub parseCommands : ℕ → List ℕ → ℕ → Program → Outcome Program
+parseCommands zero text at p = refuse 2 (length text)
+parseCommands (suc left) text at p =
+    commandHere text at p (keywordAt text at) ▷ λ _.
+    declare (λ n q. parseCommands left text n q) text at p (commandAt text at)
+
+unfoldable pub parseProgram : List ℕ → Outcome Program
+parseProgram text = parseCommands (length text) text 0 empty
+
+-- The reads of an expression and of a signal, from left to right.
+unfoldable pub readsOf : Expr → List Read
+readsOf (constant w) = []
+readsOf (read ρ) = ρ ∷ []
+readsOf (binary operator x y) = readsOf x ++ readsOf y
+readsOf (negate x) = readsOf x
+readsOf (choose x y z) = readsOf x ++ (readsOf y ++ readsOf z)
+
+abbrev pub bodyReads : Body → List Read
+bodyReads input = []
+bodyReads (equation weight e) = readsOf e
+
+-- Inputs weigh 0.
+abbrev pub weightOf : Body → ℕ
+weightOf input = 0
+weightOf (equation weight e) = weight
