@@ -8,11 +8,13 @@ use Rattle.model.specs.Image.{imageOf}
 use Rattle.model.specs.Latency.{timely}
 use Rattle.model.specs.Load.{loaded}
 use Rattle.model.specs.Machine.{Effect, effect}
-use Rattle.model.specs.Outcome.{Outcome, accepted, _▷_, provided}
+use Rattle.model.specs.Outcome.{Outcome, accepted, refused, _▷_, provided}
 use Rattle.model.specs.Program.{parseProgram}
 use Rattle.model.specs.Rates.{declaredAndRated, hypercycle, linked}
 use Rattle.model.specs.Reads.{met}
 use Rattle.model.specs.Schedule.{parseSchedule, placed}
+use Rattle.model.specs.declared.Compiled.{Compiled}
+use Rattle.model.specs.declared.Compiled.the-variants as Compiled
 
 -- Program 8,192 bytes, schedule 193.
 unfoldable pub shortEnough : List ℕ → List ℕ → Outcome (Unit {0})
@@ -21,17 +23,22 @@ shortEnough program schedule = provided (leb (length program) 8192 && leb (lengt
 -- Refused because of the input, in the order stated; or the one image of the pair.
 unfoldable pub verdictOf : List ℕ → List ℕ → Outcome (List ℕ)
 verdictOf program schedule =
-    shortEnough program schedule ▷ λ _. -- 1
-    parseProgram program ▷ λ p. -- 2 to 6
-    declaredAndRated p ▷ λ _. -- 7, 8
-    hypercycle p ▷ λ h. -- 9
-    linked p ▷ λ _. -- 10
-    parseSchedule schedule ▷ λ puts. -- 11
-    placed p puts ▷ λ s. -- 12, 13
-    met p s ▷ λ _. -- 14
-    loaded p s h ▷ λ _. -- 15
-    timely p s h ▷ λ _. -- 16
+    shortEnough program schedule ▷ λ _.  -- 1
+    parseProgram program ▷ λ p.  -- 2 to 6
+    declaredAndRated p ▷ λ _.  -- 7, 8
+    hypercycle p ▷ λ h.  -- 9
+    linked p ▷ λ _.  -- 10
+    parseSchedule schedule ▷ λ puts.  -- 11
+    placed p puts ▷ λ s.  -- 12, 13
+    met p s ▷ λ _.  -- 14
+    loaded p s h ▷ λ _.  -- 15
+    timely p s h ▷ λ _.  -- 16
     accepted (imageOf p s h)
+
+-- What the answer of compile stands for: L, or the refusal's number and place.
+abbrev pub compiledOf : Compiled → Outcome ℕ
+compiledOf (Compiled.Length n) = accepted n
+compiledOf (Compiled.Refused f) = refused f
 
 -- 17 where the buffer is shorter than L; bytes past L stay.
 unfoldable pub compileOf : List ℕ → List ℕ → List ℕ → Effect ℕ

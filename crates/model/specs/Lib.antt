@@ -7,6 +7,7 @@ pub mod Program
 pub mod Rates
 pub mod Schedule
 pub mod Reads
+pub mod Accepted
 pub mod Streams
 pub mod Load
 pub mod Latency

@@ -12,6 +12,8 @@ use Rattle.model.specs.Word.{byteAt, twoAt, wordAt, binaryWord, negWord,
 use Rattle.model.specs.declared.Binary.the-variants as Binary
 use Rattle.model.specs.declared.Code.{Code}
 use Rattle.model.specs.declared.Code.the-variants as Code
+use Rattle.model.specs.declared.Ran.{Ran}
+use Rattle.model.specs.declared.Ran.the-variants as Ran
 
 -- The operators, by their bytes.
 unfoldable pub operatorCode : ℕ → Code
@@ -118,8 +120,8 @@ codesOk image =
 unfoldable pub wellFormed : List ℕ → Bool
 wellFormed image =
     elim (headOk image) [
-      true ↦ elim (listsOk image) [ true ↦ entriesOk image && codesOk image | false ↦ false ] |
-      false ↦ false
+      | true ↦ elim (listsOk image) [ true ↦ entriesOk image && codesOk image | false ↦ false ]
+      | false ↦ false
     ]
 
 -- The working stack, its top first; one that is short is left empty.
@@ -203,6 +205,11 @@ pub record Job (A : Type 0) : Type 0 where
 abbrev pub effect : {A : Type 0} → List A → Outcome (Job A) → Effect A
 effect lent (accepted job) = record { answer = accepted (job .yields); left = job .leaves }
 effect lent (refused f) = record { answer = refused f; left = lent }
+
+-- What the answer of reset and cycle stands for.
+abbrev pub ranOf : Ran → Outcome ℕ
+ranOf Ran.Done = accepted 0
+ranOf (Ran.Refused f) = refused f
 
 unfoldable pub resetOf : List ℕ → List ℤ → Effect ℤ
 resetOf image state =

@@ -17,7 +17,6 @@ refuse number place = refused (fault number place)
 
 -- One step after another. The first fault met is the one given.
 infixr 10 _▷_
-
 unfoldable pub _▷_ : {A B : Type 0} → Outcome A → (A → Outcome B) → Outcome B
 accepted a ▷ next = next a
 refused f ▷ next = refused f

@@ -142,10 +142,10 @@ unfoldable pub parseLinks : ℕ → List ℕ → ℕ → List Link → Outcome (
 parseLinks zero text at links = elim (eqb (byteAt text at) 0x13) [ true ↦ refuse 4 at | false ↦ parsed links at ]
 parseLinks (suc room) text at links =
     elim (eqb (byteAt text at) 0x13) [
-      true ↦
+      | true ↦
           provided (leb (at + 2) (length text)) 2 (length text) ▷ λ _.
-          parseLinks room text (at + 2) (links ++ (record { place = at; signal = byteAt text (at + 1) } ∷ [])) |
-      false ↦ parsed links at
+          parseLinks room text (at + 2) (links ++ (record { place = at; signal = byteAt text (at + 1) } ∷ []))
+      | false ↦ parsed links at
     ]
 
 -- A command with its operands, after those of p; `next` reads on.

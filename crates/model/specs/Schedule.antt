@@ -9,18 +9,18 @@ use Rattle.model.specs.Program.{Program, Signal, count, signalAt}
 use Rattle.model.specs.Search.{allBelow, table}
 use Rattle.model.specs.Word.{byteAt}
 use Rattle.model.specs.declared.Fault.{Fault}
-use Rattle.model.specs.declared.Placing.{Placing}
-use Rattle.model.specs.declared.Placing.the-variants as Placing
+use Rattle.model.specs.declared.ScheduleCommand.{ScheduleCommand}
+use Rattle.model.specs.declared.ScheduleCommand.the-variants as ScheduleCommand
 
 -- The command at an offset of the schedule text.
-unfoldable pub placingAt : List ℕ → ℕ → Placing
-placingAt text at =
+unfoldable pub scheduleCommandAt : List ℕ → ℕ → ScheduleCommand
+scheduleCommandAt text at =
     cond (ltb at (length text))
-    (cond (eqb (byteAt text at) 0x00) Placing.End
+    (cond (eqb (byteAt text at) 0x00) ScheduleCommand.End
     (cond (eqb (byteAt text at) 0x40)
-    (cond (leb (at + 3) (length text)) (Placing.Put (byteAt text (at + 1)) (byteAt text (at + 2))) Placing.EndsEarly)
-    Placing.Unknown))
-    Placing.EndsEarly
+    (cond (leb (at + 3) (length text)) (ScheduleCommand.Put (byteAt text (at + 1)) (byteAt text (at + 2))) ScheduleCommand.EndsEarly)
+    ScheduleCommand.Unknown))
+    ScheduleCommand.EndsEarly
 
 -- A PUT, with its offset.
 pub record Put : Type 0 where
@@ -29,17 +29,17 @@ pub record Put : Type 0 where
   pub phase : ℕ
 
 -- One command after the PUTs of `puts`; `next` reads on. What is read is the PUTs and the offset of END.
-unfoldable pub placing : (ℕ → List Put → Outcome (Parsed (List Put))) → List ℕ → ℕ → List Put → Placing → Outcome (Parsed (List Put))
-placing next text at puts Placing.EndsEarly = refuse 11 (length text)
-placing next text at puts Placing.Unknown = refuse 11 at
-placing next text at puts Placing.End = provided (leb (length text) (at + 1)) 11 (at + 1) ▷ λ _. parsed puts at
-placing next text at puts (Placing.Put signal phase) =
+unfoldable pub scheduleCommand : (ℕ → List Put → Outcome (Parsed (List Put))) → List ℕ → ℕ → List Put → ScheduleCommand → Outcome (Parsed (List Put))
+scheduleCommand next text at puts ScheduleCommand.EndsEarly = refuse 11 (length text)
+scheduleCommand next text at puts ScheduleCommand.Unknown = refuse 11 at
+scheduleCommand next text at puts ScheduleCommand.End = provided (leb (length text) (at + 1)) 11 (at + 1) ▷ λ _. parsed puts at
+scheduleCommand next text at puts (ScheduleCommand.Put signal phase) =
     next (at + 3) (puts ++ (record { place = at; signal = signal; phase = phase } ∷ []))
 
 -- The commands from `at` on: `left` bytes hold no more than `left` of them.
 unfoldable pub parsePuts : ℕ → List ℕ → ℕ → List Put → Outcome (Parsed (List Put))
 parsePuts zero text at puts = refuse 11 (length text)
-parsePuts (suc left) text at puts = placing (λ n qs. parsePuts left text n qs) text at puts (placingAt text at)
+parsePuts (suc left) text at puts = scheduleCommand (λ n qs. parsePuts left text n qs) text at puts (scheduleCommandAt text at)
 
 unfoldable pub parseSchedule : List ℕ → Outcome (Parsed (List Put))
 parseSchedule text = parsePuts (length text) text 0 []

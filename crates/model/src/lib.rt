@@ -85,7 +85,7 @@ pub enum Command {
 }
 
 // A command of the schedule text.
-pub enum Placing {
+pub enum ScheduleCommand {
     // no byte is left, or an operand is cut off by the end of the text
     EndsEarly,
     // no command has this byte

@@ -1,0 +1,60 @@
+-- What an accepted pair keeps, as statements over all runs. The tests of the other modules decide them.
+use Prim.Native.Nat.{ℕ, zero, suc, _+_, _*_, _≤_, _<_, _∣_}
+use mathlib.Core.Bool.{Bool}
+use mathlib.Core.List.{List, [], _∷_}
+use mathlib.Core.Path.{_≡_}
+use lib.ListN.{length, getD}
+use Rattle.model.specs.Program.{Program, Read, count, signalAt, bodyReads}
+use Rattle.model.specs.Reads.{Rate, rateOf, runCycle, writerFirst, before, place, settled}
+use Rattle.model.specs.Schedule.{Schedule, phaseOf}
+use Rattle.model.specs.declared.Kind.{Kind}
+use Rattle.model.specs.declared.Kind.the-variants.{Now, Last, When, LastWhen, Current}
+
+abbrev pub All : {A : Type 0} → (A → Type 0) → List A → Type 0
+All Q [] = Unit {0}
+All Q (x ∷ xs) = Q x × All Q xs
+
+-- The period rule of a read with factor n.
+abbrev pub PeriodRule : Kind → ℕ → ℕ → ℕ → Type 0
+PeriodRule Now w r n = r ≡ w
+PeriodRule Last w r n = r ≡ w
+PeriodRule When w r n = r ≡ n * w
+PeriodRule LastWhen w r n = r ≡ n * w
+PeriodRule Current w r n = w ≡ n * r
+
+abbrev pub Between : ℕ → ℕ → ℕ → Type 0
+Between a x b = (a ≤ x) × (x < b)
+
+-- The line of a read at index i.
+abbrev pub Line : Kind → Rate → Rate → ℕ → Type 0
+Line Now w r i = w .phase ≤ r .phase
+Line Last w r i = r .phase ≤ w .phase
+Line When w r i = Between (i * w .period + w .phase) (r .phase) (suc i * w .period + w .phase)
+Line LastWhen w r i = Between (r .phase) (i * w .period + w .phase) (r .phase + w .period)
+Line Current w r i = Between (w .phase) (i * r .period + r .phase) (w .phase + r .period)
+
+-- Wherever a run of w and a run of r share a cycle, the one comes first that the read wants first.
+abbrev pub Order : Kind → Rate → Rate → Bool → Type 0
+Order kind w r before = (j k : ℕ) → runCycle w j ≡ runCycle r k → before ≡ writerFirst kind
+
+module _ (p : Program) (s : Schedule) where
+  -- A read in the equation of r is met.
+  pub record Met (r : ℕ) (ρ : Read) : Type 0 where
+    pub declared : ρ .operands .signal < count p
+    pub within : settled p s r ρ < ρ .operands .factor
+    pub periods : PeriodRule (ρ .kind) (signalAt p (ρ .operands .signal) .period) (signalAt p r .period) (ρ .operands .factor)
+    pub line : Line (ρ .kind) (rateOf p s (ρ .operands .signal)) (rateOf p s r) (settled p s r ρ)
+    pub order : Order (ρ .kind) (rateOf p s (ρ .operands .signal)) (rateOf p s r) (before s (ρ .operands .signal) r)
+
+  -- Phases are below periods, every read is met, and every signal is put once.
+  pub record Accepted : Type 0 where
+    pub phases : (x : ℕ) → x < count p → phaseOf s x < signalAt p x .period
+    pub met : (x : ℕ) → x < count p → All (Met x) (bodyReads (signalAt p x .body))
+    pub put : (x : ℕ) → x < count p → place (s .order) x < length (s .order)
+    pub once : (j : ℕ) → j < length (s .order) → place (s .order) (getD (s .order) j 0) ≡ j
+    pub only : (j : ℕ) → j < length (s .order) → getD (s .order) j 0 < count p
+
+-- h is a common multiple of all periods.
+pub record Multiple (p : Program) (h : ℕ) : Type 0 where
+  pub positive : zero < h
+  pub divides : (x : ℕ) → x < count p → signalAt p x .period ∣ h
