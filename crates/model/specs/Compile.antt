@@ -1,5 +1,5 @@
 -- The compiler's verdict on a program and a schedule, and what compile leaves in the buffer (17).
-use Prim.Native.Nat.{ℕ, _≤_}
+use Prim.Native.Nat.{ℕ}
 use mathlib.Core.Bool.{Bool, _&&_}
 use mathlib.Core.List.{List, _++_}
 use lib.Dec.{leb}
@@ -9,10 +9,10 @@ use Rattle.model.specs.Latency.{timely}
 use Rattle.model.specs.Load.{loaded}
 use Rattle.model.specs.Machine.{Effect, effect}
 use Rattle.model.specs.Outcome.{Outcome, accepted, refused, _▷_, provided}
-use Rattle.model.specs.Program.{parseProgram}
+use Rattle.model.specs.Program.{Program, parseProgram}
 use Rattle.model.specs.Rates.{declaredAndRated, hypercycle, linked}
 use Rattle.model.specs.Reads.{met}
-use Rattle.model.specs.Schedule.{parseSchedule, placed}
+use Rattle.model.specs.Schedule.{Schedule, parseSchedule, placed}
 use Rattle.model.specs.declared.Compiled.{Compiled}
 use Rattle.model.specs.declared.Compiled.the-variants as Compiled
 
@@ -20,9 +20,15 @@ use Rattle.model.specs.declared.Compiled.the-variants as Compiled
 unfoldable pub shortEnough : List ℕ → List ℕ → Outcome (Unit {0})
 shortEnough program schedule = provided (leb (length program) 8192 && leb (length schedule) 193) 1 0
 
--- Refused because of the input, in the order stated; or the one image of the pair.
-unfoldable pub verdictOf : List ℕ → List ℕ → Outcome (List ℕ)
-verdictOf program schedule =
+-- An accepted pair, and its hypercycle.
+pub record Pair : Type 0 where
+  pub program : Program
+  pub schedule : Schedule
+  pub hypercycle : ℕ
+
+-- Refused because of the input, in the order stated.
+unfoldable pub pairOf : List ℕ → List ℕ → Outcome Pair
+pairOf program schedule =
     shortEnough program schedule ▷ λ _.  -- 1
     parseProgram program ▷ λ p.  -- 2 to 6
     declaredAndRated p ▷ λ _.  -- 7, 8
@@ -33,7 +39,12 @@ verdictOf program schedule =
     met p s ▷ λ _.  -- 14
     loaded p s h ▷ λ _.  -- 15
     timely p s h ▷ λ _.  -- 16
-    accepted (imageOf p s h)
+    accepted (record { program = p; schedule = s; hypercycle = h })
+
+-- An accepted pair has one image.
+unfoldable pub verdictOf : List ℕ → List ℕ → Outcome (List ℕ)
+verdictOf program schedule =
+    pairOf program schedule ▷ λ q. accepted (imageOf (q .program) (q .schedule) (q .hypercycle))
 
 -- What the answer of compile stands for: L, or the refusal's number and place.
 abbrev pub compiledOf : Compiled → Outcome ℕ
