@@ -125,3 +125,8 @@ product-below {x} {y} hx hy = lt-of-le-of-lt (mul-le-mul-left x (le-of-lt hy)) (
 -- what a call of `bits` on a local says
 pub of-local : {a : ℤ} {x : ℕ} → SFits w32 a → x ≡ bitsOf (toZ w32 (ofZ w32 a)) → x ≡ bitsOf a
 of-local fa h = h ∙ ap bitsOf (toZ-ofZ fa)
+
+-- the result of a call on two locals
+pub of-two : (f : ℤ → ℤ → ℤ) {a b r : ℤ} → SFits w32 a → SFits w32 b → mag r < 2 ^ 31
+    → r ≡ f (toZ w32 (ofZ w32 a)) (toZ w32 (ofZ w32 b)) → toZ w32 (ofZ w32 r) ≡ f a b
+of-two f {r = r} fa fb fr h = kept r fr ∙ h ∙ ap₂ f (toZ-ofZ fa) (toZ-ofZ fb)

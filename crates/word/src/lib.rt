@@ -1,7 +1,7 @@
 // The signed 32-bit words: their operators, their bits, and their bytes with the low byte first.
 use model::Binary;
 ghost use mathlib.Core.Path.{_≡_};
-ghost use Prim.Native.Nat.{_+_, _%_, _^_, _≤_};
+ghost use Prim.Native.Nat.{_+_, _%_, _^_, _<_, _≤_};
 ghost use lib.ListN.{length};
 ghost use lib.Seq.{sets};
 ghost use Rattle.model.specs.Word.{bitsOf, wordOf};
@@ -107,4 +107,62 @@ pub fn binary(operator: Binary, a: i32, b: i32) -> i32
         Binary::Min => least(a, b),
         Binary::Max => greatest(a, b),
     }
+}
+
+// A byte as a number that sums of bytes fit in.
+fn wide(byte: u8) -> u32
+    ensures { λ r. ⌜ (r ≡ byte) × (r < 256) ⌝ }
+{
+    byte as u32
+}
+
+// The number in the two bytes at `at`.
+pub fn two_at(text: &[u8], at: usize) -> u16
+    requires { ⌜ at + 2 ≤ length (now text) ⌝ }
+    ensures { λ r. ⌜ r ≡ twoAt (now (text .entry)) at ⌝ }
+{
+    let a = wide(text[at]);
+    let b = wide(text[at + 1]);
+    (a + 256 * b) as u16
+}
+
+// The number in the four bytes at `at`.
+pub fn four_at(text: &[u8], at: usize) -> u32
+    requires { ⌜ at + 4 ≤ length (now text) ⌝ }
+    ensures { λ r. ⌜ r ≡ fourAt (now (text .entry)) at ⌝ }
+{
+    let a = wide(text[at]);
+    let b = wide(text[at + 1]);
+    let c = wide(text[at + 2]);
+    let d = wide(text[at + 3]);
+    a + 256 * b + 65536 * c + 16777216 * d
+}
+
+// The word in the four bytes at `at`.
+pub fn word_at(text: &[u8], at: usize) -> i32
+    requires { ⌜ at + 4 ≤ length (now text) ⌝ }
+    ensures { λ r. ⌜ r ≡ wordAt (now (text .entry)) at ⌝ }
+{
+    from_bits(four_at(text, at))
+}
+
+// Writes the low two bytes of a number.
+pub fn put_two(out: &mut [u8], at: usize, n: usize)
+    requires { ⌜ at + 2 ≤ length (now out) ⌝ }
+    ensures { λ _. ⌜ now (out .exit) ≡ sets (now (out .entry)) at (twoBytes n) ⌝ }
+{
+    out[at] = (n % 256) as u8;
+    out[at + 1] = (n / 256 % 256) as u8;
+}
+
+// Writes the four bytes of a word.
+pub fn put_word(out: &mut [u8], at: usize, w: i32)
+    requires { ⌜ at + 4 ≤ length (now out) ⌝ }
+    ensures { λ _. ⌜ now (out .exit) ≡ sets (now (out .entry)) at (wordBytes w) ⌝ }
+{
+    let u = bits(w);
+    out[at] = (u % 256) as u8;
+    out[at + 1] = (u / 256 % 256) as u8;
+    out[at + 2] = (u / 65536 % 256) as u8;
+    out[at + 3] = (u / 16777216 % 256) as u8;
 }
