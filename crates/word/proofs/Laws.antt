@@ -4,17 +4,17 @@ use mathlib.Core.Bool.{Bool, true, false}
 use Prim.Native.Nat.{ℕ, zero, suc, _+_, _-_, _*_, _%_, _^_, _≤_, _<_}
 use native.Mathlib.Nat.{zero-add, lt-of-le-of-lt, le-of-lt, mul-le-mul-left, mul-lt-mul-of-pos-right}
 use native.Mathlib.Omega.{arith}
-use borrow.Author.Tests.{ltb-true, le-ltb, lt-ltb, eq-eqb, ne-eqb}
-use lib.IntN.{ℤ, pos, negsuc, negℤ, natAbs, _+ℤ_, _-ℤ_, subℕ}
-use lib.Signed.{ltZ, nonNeg, mag}
-use lib.Dec.{T, ltb, eqb, lit<}
+use borrow.Author.Tests.{ltb-true, le-ltb, eq-eqb, ne-eqb}
+use lib.IntN.{ℤ, pos, negsuc, _-ℤ_}
+use lib.Signed.{ltZ, mag}
+use lib.Dec.{lit<}
 use mir.Syntax.{w32}
-use mir.Val.{toZ, ofZ, Fits, SFits}
+use mir.Val.{toZ, ofZ, SFits}
 use mir.Facts.{toZ-ofZ}
 use mir.ValLaws.{toZ-pos, toZ-neg}
 use borrow.Author.Needs.{sfits-of}
 use Rattle.model.specs.Word.{bitsOf, wordOf, wrap, addWord, subWord, mulWord, negWord, eqZ}
-use Rattle.word.proofs.Modulo.{bits-add, bits-sub, bits-mul, bits-neg, bits-lt}
+use Rattle.word.proofs.Modulo.{bits-add, bits-sub, bits-mul, bits-neg}
 
 -- a test on two words, of their bits
 pub test : {a b : ℤ} {t : Bool} → SFits w32 a → SFits w32 b → ltZ (toZ w32 (ofZ w32 a)) (toZ w32 (ofZ w32 b)) ≡ t → ltZ a b ≡ t
@@ -49,8 +49,13 @@ minus {z = pos n} f h = absurd (never (ltb-true n 0 (rw (toZ-ofZ f) at h)))
     never : n < 0 → ⊥
     never p = omega arith
 minus {z = negsuc n} f h =
-    record { n = n; small = f .sfits; flipped = rw (toZ-ofZ f) (flip-neg n)
-           ; back = rw (toZ-ofZ f, flip-neg n) (toZ-ofZ {w = w32} (sfits-of (f .sfits))); out = out n (f .sfits) }
+    record {
+      n = n;
+      small = f .sfits;
+      flipped = rw (toZ-ofZ f) (flip-neg n);
+      back = rw (toZ-ofZ f, flip-neg n) (toZ-ofZ {w = w32} (sfits-of (f .sfits)));
+      out = out n (f .sfits);
+    }
   where
     out : (n : ℕ) → n < 2 ^ 31 → 4294967295 - n ≡ bitsOf (negsuc n)
     out n h = omega arith

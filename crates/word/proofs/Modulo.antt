@@ -2,9 +2,9 @@
 use mathlib.Core.Path.{_≡_, refl, sym, ap, ap₂, _∙_}
 use mathlib.Core.Bool.{Bool, true, false, not, cond}
 use Prim.Native.Nat.{ℕ, zero, suc, _+_, _-_, _*_, _/_, _%_, _^_, _≤_, _<_}
-use native.Mathlib.Nat.{zero-add, mod-eq-of-lt, mod-lt, add-mul, mul-add, mul-assoc, mul-comm, div-add-mod', mul-add-mod-self-right, mul-mod-left, add-comm}
+use native.Mathlib.Nat.{add-mul, mul-add, mul-assoc, mul-comm, div-add-mod', mul-add-mod-self-right, mul-mod-left, add-comm}
 use native.Mathlib.Omega.{arith}
-use lib.IntN.{ℤ, pos, negsuc, negℤ, natAbs, _+ℤ_, _-ℤ_, _*ℤ_, subℕ}
+use lib.IntN.{ℤ, pos, negsuc, negℤ, _+ℤ_, _-ℤ_, _*ℤ_, subℕ}
 use lib.Dec.{T, ltb, ltb→lt, nltb→le}
 use Rattle.model.specs.Word.{bitsOf}
 
@@ -43,14 +43,20 @@ pub bits-sub : (a b : ℤ) → bitsOf (a -ℤ b) ≡ (bitsOf a + (2 ^ 32 - bitsO
 bits-sub a b = rw (bits-add a (negℤ b), bits-neg b) (omega arith)
 
 -- a factor may be reduced first
-mod-mul-l : (x y : ℕ) → x * y % 2 ^ 32 ≡ (x % 2 ^ 32) * y % 2 ^ 32
-mod-mul-l x y =
+mod-mul-left : (x y : ℕ) → x * y % 2 ^ 32 ≡ (x % 2 ^ 32) * y % 2 ^ 32
+mod-mul-left x y =
     ap (λ (k : ℕ). k * y % 2 ^ 32) (sym (div-add-mod' x (2 ^ 32)))
-    ∙ ap (λ (k : ℕ). k % 2 ^ 32) (add-mul (x / 2 ^ 32 * 2 ^ 32) (x % 2 ^ 32) y ∙ ap (λ (k : ℕ). k + x % 2 ^ 32 * y) (mul-assoc (x / 2 ^ 32) (2 ^ 32) y ∙ ap (λ (k : ℕ). x / 2 ^ 32 * k) (mul-comm (2 ^ 32) y) ∙ sym (mul-assoc (x / 2 ^ 32) y (2 ^ 32))))
+    ∙ ap (λ (k : ℕ). k % 2 ^ 32) (add-mul (x / 2 ^ 32 * 2 ^ 32) (x % 2 ^ 32) y ∙ ap (λ (k : ℕ). k + x % 2 ^ 32 * y) multiple)
     ∙ mul-add-mod-self-right (x / 2 ^ 32 * y) (2 ^ 32) (x % 2 ^ 32 * y)
+  where
+    multiple : x / 2 ^ 32 * 2 ^ 32 * y ≡ x / 2 ^ 32 * y * 2 ^ 32
+    multiple = mul-assoc (x / 2 ^ 32) (2 ^ 32) y ∙ ap (λ (k : ℕ). x / 2 ^ 32 * k) (mul-comm (2 ^ 32) y) ∙ sym (mul-assoc (x / 2 ^ 32) y (2 ^ 32))
+
+mod-mul-right : (x y : ℕ) → x * y % 2 ^ 32 ≡ x * (y % 2 ^ 32) % 2 ^ 32
+mod-mul-right x y = ap (λ (k : ℕ). k % 2 ^ 32) (mul-comm x y) ∙ mod-mul-left y x ∙ ap (λ (k : ℕ). k % 2 ^ 32) (mul-comm (y % 2 ^ 32) x)
 
 mod-mul : (x y : ℕ) → x * y % 2 ^ 32 ≡ (x % 2 ^ 32) * (y % 2 ^ 32) % 2 ^ 32
-mod-mul x y = mod-mul-l x y ∙ ap (λ (k : ℕ). k % 2 ^ 32) (mul-comm (x % 2 ^ 32) y) ∙ mod-mul-l y (x % 2 ^ 32) ∙ ap (λ (k : ℕ). k % 2 ^ 32) (mul-comm (y % 2 ^ 32) (x % 2 ^ 32))
+mod-mul x y = mod-mul-left x y ∙ mod-mul-right (x % 2 ^ 32) y
 
 -- x and y are opposite
 opposite : (x y : ℕ) → (x + y) % 2 ^ 32 ≡ 0 → x % 2 ^ 32 ≡ (2 ^ 32 - y % 2 ^ 32) % 2 ^ 32
@@ -75,11 +81,8 @@ mixed-mul : (a b : ℕ) → bitsOf (negℤ (pos (a * suc b))) ≡ (a % 2 ^ 32) *
 unfolding bitsOf
 mixed-mul a b =
     bits-neg (pos (a * suc b))
-    ∙ ap (λ (k : ℕ). (2 ^ 32 - k) % 2 ^ 32) (mod-mul a (suc b) ∙ ap (λ (k : ℕ). (a % 2 ^ 32) * k % 2 ^ 32) (sym (suc-bits b)) ∙ sym (twice (a % 2 ^ 32) (suc (b % 2 ^ 32))))
+    ∙ ap (λ (k : ℕ). (2 ^ 32 - k) % 2 ^ 32) (mod-mul a (suc b) ∙ ap (λ (k : ℕ). (a % 2 ^ 32) * k % 2 ^ 32) (sym (suc-bits b)) ∙ sym (mod-mul-right (a % 2 ^ 32) (suc (b % 2 ^ 32))))
     ∙ sym (mul-opposite (a % 2 ^ 32) (suc (b % 2 ^ 32)) (suc-most b))
-  where
-    twice : (x y : ℕ) → x * y % 2 ^ 32 ≡ x * (y % 2 ^ 32) % 2 ^ 32
-    twice x y = ap (λ (k : ℕ). k % 2 ^ 32) (mul-comm x y) ∙ mod-mul-l y x ∙ ap (λ (k : ℕ). k % 2 ^ 32) (mul-comm (y % 2 ^ 32) x)
 
 sucs : (a b : ℕ) → suc a * suc b % 2 ^ 32 ≡ suc (a % 2 ^ 32) * suc (b % 2 ^ 32) % 2 ^ 32
 sucs a b =

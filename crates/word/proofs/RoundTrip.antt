@@ -1,8 +1,8 @@
 -- From words to bits and bytes, and back. Assumes nothing.
 use mathlib.Core.Path.{_≡_, refl, ap, ap₂, _∙_}
 use mathlib.Core.Bool.{Bool, true, false, not}
-use mathlib.Core.List.{List, [], _∷_}
-use Prim.Native.Nat.{ℕ, suc, _+_, _-_, _*_, _/_, _%_, _^_, _≤_, _<_}
+use mathlib.Core.List.{[], _∷_}
+use Prim.Native.Nat.{ℕ, suc, _+_, _-_, _*_, _%_, _^_, _≤_, _<_}
 use native.Mathlib.Omega.{arith}
 use lib.Dec.{T, ltb, ltb→lt, nltb→le}
 use lib.IntN.{ℤ, pos, negsuc}
@@ -37,6 +37,7 @@ high m h l = ap bitsOf (ap (toZ w32) same ∙ toZ-neg w32 (4294967295 - m) (omeg
   where
     same : m ≡ 2 ^ 32 - suc (4294967295 - m)
     same = omega arith
+
     back : 2 ^ 32 - suc ((4294967295 - m) % 2 ^ 32) ≡ m
     back = omega arith
 

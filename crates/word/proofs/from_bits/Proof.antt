@@ -1,10 +1,9 @@
 use borrow.Author.Needs.{needs}
 use Prim.Native.Nat.{_-_}
-use native.Mathlib.Omega.{arith}
-use mathlib.Core.Path.{_≡_, refl, ap, _∙_}
+use mathlib.Core.Path.{_≡_, refl}
 use lib.IntN.{negsuc, _-ℤ_}
 use mir.Syntax.{w32}
-use mir.Val.{toZ, ofZ, Fits}
+use mir.Val.{toZ}
 use mir.Facts.{toZ-ofZ, sfits-toZ}
 use Rattle.model.specs.Word.{wordOf}
 use Rattle.word.proofs.from_bits.Statement.{statement}

@@ -1,8 +1,5 @@
 use Rattle.word.proofs.greatest.Statement.{statement}
 use Rattle.word.proofs.greatest.Tie as tie
-use mathlib.Core.Path.{sym, ap, _∙_}
-use lib.IntN.{ℤ}
-use mathlib.Core.Bool.{Bool}
 use mir.Facts.{toZ-ofZ}
 use Rattle.model.specs.Word.{maxWord}
 use Rattle.word.proofs.Laws.{test}

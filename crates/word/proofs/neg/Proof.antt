@@ -17,7 +17,10 @@ wrapped-requires : tie.Need-wrapped-requires
 wrapped-requires c κs = search needs
 
 returns : tie.Need-returns
-returns c = kept _ (c .wrapped .ok) ∙ c .wrapped .ensures ∙ neg-is (c .before .before .args .a) (of-local (c .before .before .fits .a) (c .before .bits .ensures))
+returns c =
+    let s = c .before .before in
+    let a = of-local (s .fits .a) (c .before .bits .ensures) in
+    kept _ (c .wrapped .ok) ∙ c .wrapped .ensures ∙ neg-is (s .args .a) a
 
 pub neg-spec : {M : Type 1} → statement M
 neg-spec = tie.close (tie.spec bits-requires cast-wrapped sub-wrapped wrapped-requires returns)

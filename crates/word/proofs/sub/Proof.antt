@@ -26,7 +26,11 @@ wrapped-requires : tie.Need-wrapped-requires
 wrapped-requires c κs = search needs
 
 returns : tie.Need-returns
-returns c = kept _ (c .wrapped .ok) ∙ c .wrapped .ensures ∙ sub-is (c .before .before .before .args .a) (c .before .before .before .args .b) (of-local (c .before .before .before .fits .a) (c .before .before .bits .ensures)) (of-local (c .before .before .before .fits .b) (c .before .bits2 .ensures))
+returns c =
+    let s = c .before .before .before in
+    let a = of-local (s .fits .a) (c .before .before .bits .ensures) in
+    let b = of-local (s .fits .b) (c .before .bits2 .ensures) in
+    kept _ (c .wrapped .ok) ∙ c .wrapped .ensures ∙ sub-is (s .args .a) (s .args .b) a b
 
 pub sub-spec : {M : Type 1} → statement M
 sub-spec =
