@@ -1,3 +1,4 @@
 -- The laws of the definitions of specs/.
 pub mod Rate
 pub mod Lines
+pub mod Decide
