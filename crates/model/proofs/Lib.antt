@@ -2,3 +2,6 @@
 pub mod Rate
 pub mod Lines
 pub mod Decide
+pub mod Fix
+pub mod Values
+pub mod Unique
