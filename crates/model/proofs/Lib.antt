@@ -5,3 +5,5 @@ pub mod Decide
 pub mod Fix
 pub mod Values
 pub mod Unique
+pub mod Turns
+pub mod Lists
