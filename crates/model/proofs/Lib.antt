@@ -7,3 +7,4 @@ pub mod Values
 pub mod Unique
 pub mod Turns
 pub mod Lists
+pub mod Alike
