@@ -8,3 +8,4 @@ pub mod Unique
 pub mod Turns
 pub mod Lists
 pub mod Alike
+pub mod Window
