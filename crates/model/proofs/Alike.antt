@@ -6,11 +6,11 @@ use mathlib.Core.Path.{_≡_, refl, sym, ap, _∙_}
 use borrow.Author.Tests.{lt-ltb, ltb-true}
 use lib.Dec.{ltb}
 use lib.IntN.{ℤ}
-use lib.ListN.{length, getD}
+use lib.ListN.{length}
 use Rattle.model.specs.Accepted.{All, Accepted, Multiple}
 use Rattle.model.specs.Calls.{Call, lentAt, IsInput, Supplied}
 use Rattle.model.specs.Latency.{used}
-use Rattle.model.specs.Program.{Program, Read, count, signalAt, bodyReads}
+use Rattle.model.specs.Program.{Program, count, signalAt, bodyReads}
 use Rattle.model.specs.Reads.{Rate, rateOf, runCycle, stored, indexOf, settled}
 use Rattle.model.specs.Schedule.{Schedule}
 use Rattle.model.specs.Streams.{Satisfies}

@@ -1,6 +1,6 @@
 -- The tests decide the statements: line, period rule, shared cycles and order of a read, and the searches. Assumes nothing.
 use Prim.Native.Nat.{ℕ, zero, suc, _+_, _*_, _/_, _%_, _≤_, _<_, min}
-use mathlib.Core.Bool.{Bool, true, false, not, _&&_, _||_, Bool·beq, false≢true, and-eq-true-iff}
+use mathlib.Core.Bool.{Bool, true, false, not, _||_, Bool·beq, false≢true, and-eq-true-iff}
 use mathlib.Core.Path.{_≡_, refl, sym, ap, _∙_}
 use native.Mathlib.Decide.{decLe, decLt}
 use native.Mathlib.Nat.{
@@ -14,13 +14,32 @@ use native.Mathlib.Nat.{
 }
 use native.Mathlib.Omega.{arith}
 use borrow.Author.Tests.{leb-true, ltb-true, eqb-true, eq-eqb, le-leb, lt-ltb}
-use lib.Dec.{leb, ltb, eqb}
-use Rattle.model.specs.Accepted.{PeriodRule, Between, Line, Order}
+use lib.Dec.{leb, ltb}
+use Rattle.model.specs.Accepted.{PeriodRule, Between, Line, Order, Met}
+use Rattle.model.specs.Program.{Program, Read, count, signalAt}
 use Rattle.model.specs.Rates.{periodRule}
-use Rattle.model.specs.Reads.{Rate, runCycle, between, line, writerFirst, share, ordered, settle}
-use Rattle.model.specs.Search.{firstFrom, first, isFound, allBelow}
+use Rattle.model.specs.Reads.{
+  Rate,
+  rateOf,
+  runCycle,
+  between,
+  line,
+  writerFirst,
+  share,
+  ordered,
+  before,
+  settle,
+  lineHolds,
+  indexOf,
+  settled,
+  isMet,
+}
+use Rattle.model.specs.Schedule.{Schedule, phaseOf}
+use Rattle.model.specs.Search.{firstFrom, first, isFound, foundOr, allBelow}
 use Rattle.model.specs.declared.Found.{Found}
 use Rattle.model.specs.declared.Found.the-variants.{At, Nowhere}
+use Rattle.model.specs.declared.Index.{Index}
+use Rattle.model.specs.declared.Index.the-variants.{Fixed, Open}
 use Rattle.model.specs.declared.Kind.{Kind}
 use Rattle.model.specs.declared.Kind.the-variants.{Now, Last, When, LastWhen, Current}
 use Rattle.model.proofs.Lines.{Indexed, index-once}
@@ -231,3 +250,51 @@ settles kind w r n i x p lt l = go (first n (line kind w r)) refl
         ap At (index-once kind w r n j i x (omega arith) lt p (line-true kind w r j (h .2)) l)
     go Nowhere e =
         absurd (false≢true (sym (is-first n (line kind w r) Nowhere e i (omega arith) (omega arith)) ∙ true-line kind w r i l))
+
+-- A read is met.
+abbrev pub InRange : ℕ → Index → Type 0
+InRange n (Fixed i) = i < n
+InRange n Open = Unit {0}
+
+pub holds-line : (kind : Kind) (w r : Rate) (n : ℕ) (index : Index) → InRange n index → lineHolds kind w r n index ≡ true →
+    (indexOf kind w r n index < n) × Line kind w r (indexOf kind w r n index)
+holds-line kind w r n (Fixed i) lt e = (lt, line-true kind w r i e)
+holds-line kind w r n Open u e = go (settle kind w r n) refl e
+  where
+    go : (f : Found) → settle kind w r n ≡ f → isFound f ≡ true → (foundOr 0 f < n) × Line kind w r (foundOr 0 f)
+    go (At i) q t = settle-line kind w r n i q
+    go Nowhere q t = absurd (false≢true t)
+
+pub line-holds : (kind : Kind) (w r : Rate) (n : ℕ) (index : Index) → indexOf kind w r n index < n →
+    Line kind w r (indexOf kind w r n index) → lineHolds kind w r n index ≡ true
+unfolding settle
+line-holds kind w r n (Fixed i) lt l = true-line kind w r i l
+line-holds kind w r n Open lt l = true-isFound n (line kind w r) _ lt (true-line kind w r _ l)
+
+module _ (p : Program) (s : Schedule) (r : ℕ) (ρ : Read) where
+  pub met-true : ρ .operands .signal < count p → InRange (ρ .operands .factor) (ρ .operands .index) →
+      PeriodRule (ρ .kind) (signalAt p (ρ .operands .signal) .period) (signalAt p r .period) (ρ .operands .factor) →
+      isMet p s r ρ ≡ true → Met p s r ρ
+  unfolding settled isMet
+  met-true lt range rule e =
+      let w = ρ .operands .signal in
+      let f = and-eq-true-iff _ _ .0 e in
+      let h = holds-line (ρ .kind) (rateOf p s w) (rateOf p s r) (ρ .operands .factor) (ρ .operands .index) range (f .0) in
+      record {
+        declared = lt;
+        within = h .0;
+        periods = rule;
+        line = h .1;
+        order =
+            ordered-true (ρ .kind) (rateOf p s w) (rateOf p s r) (ρ .operands .factor) (before s w r) (omega (arith, h .0)) rule (f .1);
+      }
+
+  pub true-met : phaseOf s (ρ .operands .signal) < signalAt p (ρ .operands .signal) .period →
+      phaseOf s r < signalAt p r .period → Met p s r ρ → isMet p s r ρ ≡ true
+  unfolding settled isMet
+  true-met vw vr m =
+      let w = ρ .operands .signal in
+      and-eq-true-iff _ _ .1 (
+        line-holds (ρ .kind) (rateOf p s w) (rateOf p s r) (ρ .operands .factor) (ρ .operands .index) (m .within) (m .line),
+        true-ordered (ρ .kind) (rateOf p s w) (rateOf p s r) (before s w r) vw vr (m .order),
+      )

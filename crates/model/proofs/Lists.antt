@@ -15,7 +15,7 @@ use Rattle.model.specs.Program.{Program, count, signalAt}
 use Rattle.model.specs.Reads.{rateOf, runCycle, due, stored, settled}
 use Rattle.model.specs.Schedule.{Schedule, phaseOf}
 use Rattle.model.specs.Streams.{Satisfies}
-use Rattle.model.proofs.Rate.{stored-is, stored-none, stored-some}
+use Rattle.model.proofs.Rate.{stored-none, stored-some}
 use Rattle.model.proofs.Turns
 use Rattle.model.proofs.Turns.{State, turns-other, cycle-words}
 

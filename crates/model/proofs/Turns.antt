@@ -1,6 +1,6 @@
 -- The step machine on programs, a word for each signal and a position in the hypercycle: a cycle moves every signal on to what
 -- its stream has stored. Assumes nothing.
-use Prim.Native.Nat.{ℕ, zero, suc, _+_, _*_, _/_, _%_, _≤_, _<_}
+use Prim.Native.Nat.{ℕ, suc, _+_, _/_, _%_, _≤_, _<_}
 use mathlib.Core.Bool.{Bool, true, false, cond}
 use mathlib.Core.List.{List, [], _∷_}
 use mathlib.Core.Path.{_≡_, refl, sym, ap, subst, _∙_}
@@ -13,7 +13,7 @@ use lib.ListN.{length, getD}
 use Rattle.model.specs.Accepted.{Met, Accepted}
 use Rattle.model.specs.Calls.{IsInput}
 use Rattle.model.specs.Latency.{used}
-use Rattle.model.specs.Program.{Program, Read, count, signalAt}
+use Rattle.model.specs.Program.{Program, count, signalAt}
 use Rattle.model.specs.Reads.{Rate, rateOf, runCycle, due, stored, place, settled}
 use Rattle.model.specs.Schedule.{Schedule}
 use Rattle.model.specs.Streams.{next, Satisfies}

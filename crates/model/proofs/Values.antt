@@ -19,7 +19,7 @@ use Rattle.model.specs.Program.{
   bodyReads,
 }
 use Rattle.model.specs.Streams.{value, next}
-use Rattle.model.specs.Word.{binaryWord, negWord, ifWord}
+use Rattle.model.specs.Word.{binaryWord, negWord}
 
 pub all-split : {A : Type 0} (Q : A → Type 0) (xs ys : List A) → All Q (xs ++ ys) → All Q xs × All Q ys
 all-split Q [] ys q = (tt, q)

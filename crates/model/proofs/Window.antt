@@ -26,14 +26,14 @@ use Rattle.model.specs.Latency.{
   windowOf,
 }
 use Rattle.model.specs.Program.{Program, Read, count, signalAt}
-use Rattle.model.specs.Reads.{rateOf, runCycle, stored}
+use Rattle.model.specs.Reads.{rateOf, runCycle, stored, before}
 use Rattle.model.specs.Schedule.{Schedule, phaseOf}
 use Rattle.model.specs.declared.Found.{Found}
 use Rattle.model.specs.declared.Found.the-variants.{At, Nowhere}
 use Rattle.model.specs.declared.Mode.{Mode}
 use Rattle.model.specs.declared.Mode.the-variants.{Exists, Backward}
 use Rattle.model.proofs.Decide.{all-true, true-all, isFound-true, true-isFound}
-use Rattle.model.proofs.Rate.{stored-shift}
+use Rattle.model.proofs.Rate.{stored-high, stored-shift, bit}
 use Rattle.model.proofs.Unique.{used-is}
 
 -- a runs of period p and b runs of period q are h cycles, so that a runs and b runs more leave a difference of cycles as it is.
@@ -120,6 +120,30 @@ module _ (p : Program) (s : Schedule) where
         go zero g ih = absurd (omega (arith, some-run w (ch .0 .declared)))
         go (suc j) g ih = ih j (omega (arith, some-run w (ch .0 .declared)))
 
+    -- The way back ends no later than it starts, so that a latency is a difference of cycles.
+    pub back-before : (ρs : List Read) (r k m : ℕ) → r < count p → ChainMet r ρs → back p s r k ρs ≡ At m →
+        runCycle (rateOf p s (source p s r ρs)) m ≤ runCycle (rateOf p s r) k
+    unfolding back source
+    back-before [] r k m lt ch e = let q : m ≡ k = cc in omega (arith, ap (_* signalAt p r .period) q)
+    back-before (ρ ∷ ρs) r k m lt ch e =
+        go (used p s r k ρ) refl e (λ j f. back-before ρs (ρ .operands .signal) j m (ch .0 .declared) (ch .1) f)
+      where
+        w : ℕ
+        w = ρ .operands .signal
+
+        one : (b : Bool) → bit b ≤ 1
+        one true = omega arith
+        one false = omega arith
+
+        go : (j : ℕ) → used p s r k ρ ≡ j → onward (λ m. back p s w m ρs) j ≡ At m →
+            ((j : ℕ) → back p s w j ρs ≡ At m → runCycle (rateOf p s (source p s w ρs)) m ≤ runCycle (rateOf p s w) j) →
+            runCycle (rateOf p s (source p s w ρs)) m ≤ runCycle (rateOf p s r) k
+        go zero u f ih = let z : _≡_ {A = ℕ} 0 1 = cc in absurd (omega arith)
+        go (suc j) u f ih =
+            let t : ℕ = runCycle (rateOf p s r) k + bit (before s w r) in
+            let g = stored-high (rateOf p s w) t (acc .phases w (ch .0 .declared)) in
+            omega (arith, ih j f, one (before s w r), rw (used-is p s acc r ρ k lt (ch .0) ∙ u) at g)
+
     module _ (r : ℕ) (ρs : List Read) (lt : r < count p) (ch : ChainMet r ρs) where
       -- A run in the first hypercycles, one more than there are reads, that goes back over as many cycles as run k does to
       -- element m.
@@ -187,20 +211,18 @@ module _ (p : Program) (s : Schedule) where
       -- The runs of the window decide the constraint.
       pub window-decides : (mode : Mode) (bound : ℕ) →
           (isTimely p s mode r ρs bound (windowOf p s h r ρs) ≡ true) ↔ Timely p s mode r ρs bound
-      window-decides Backward bound =
-          (
-            λ e k l q.
-                let f = window-latency k l q in
-                late-not bound _ (all-true _ _ e (f .0) (f .1)) l (f .2),
-            λ g. true-all _ _ (λ k lk. not-late bound (runLatency p s r ρs k) (λ l q. g k l q)),
-          )
-      window-decides Exists bound =
-          (
-            λ e.
-                let f = isFound-true _ _ e in
-                let g = in-time bound _ (f .2) in
-                (f .0, g .0, g .1, g .2),
-            λ g.
-                let f = window-latency (g .0) (g .1) (g .2) in
-                true-isFound _ _ (f .0) (f .1) (rw (f .2) (le-leb _ _ (g .3))),
-          )
+      window-decides Backward bound = (
+        λ e k l q.
+            let f = window-latency k l q in
+            late-not bound _ (all-true _ _ e (f .0) (f .1)) l (f .2),
+        λ g. true-all _ _ (λ k lk. not-late bound (runLatency p s r ρs k) (λ l q. g k l q)),
+      )
+      window-decides Exists bound = (
+        λ e.
+            let f = isFound-true _ _ e in
+            let g = in-time bound _ (f .2) in
+            (f .0, g .0, g .1, g .2),
+        λ g.
+            let f = window-latency (g .0) (g .1) (g .2) in
+            true-isFound _ _ (f .0) (f .1) (rw (f .2) (le-leb _ _ (g .3))),
+      )
