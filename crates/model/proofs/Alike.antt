@@ -26,6 +26,10 @@ use Rattle.model.proofs.Values.{next-same}
 abbrev pub Alike : Program → Schedule → Schedule → Type 0
 Alike p s s′ = (x : ℕ) → x < count p → All (λ ρ. settled p s x ρ ≡ settled p s′ x ρ) (bodyReads (signalAt p x .body))
 
+-- The word that a log supplies for element k of input x.
+abbrev pub sample : Program → Schedule → List (List ℤ) → ℕ → ℕ → ℤ
+sample p s log x k = sampleOf (lentAt log (runCycle (rateOf p s x) k)) x
+
 all-map : {A : Type 0} (Q R : A → Type 0) → ((a : A) → Q a → R a) → (xs : List A) → All Q xs → All R xs
 all-map Q R f [] q = tt
 all-map Q R f (x ∷ xs) q = (f x (q .0), all-map Q R f xs (q .1))
@@ -54,45 +58,40 @@ module _ (p : Program) (s s′ : Schedule) where
       (λ ρ. X (ρ .operands .signal) (used p s′ x k ρ))
       (λ ρ e. rw e) (inputs x k) (signalAt p x .body) (alike x lt)
 
-  module _ (h : ℕ) where
-    -- The word that a log supplies for element k of input x.
-    abbrev pub sample : Schedule → List (List ℤ) → ℕ → ℕ → ℤ
-    sample t log x k = sampleOf (lentAt log (runCycle (rateOf p t x) k)) x
+  -- Two lists of calls, one under each schedule, whose input elements agree wherever both supply them: where both end holding
+  -- one and the same element of x, it is the same word.
+  pub alike-words : (h : ℕ) → Accepted p s → Accepted p s′ → Multiple p h → Alike p s s′ → (st st′ : State) (cs cs′ : List Call) →
+      ((x k : ℕ) → x < count p → IsInput (signalAt p x .body) → runCycle (rateOf p s x) k < length (logOf p [] cs) →
+      runCycle (rateOf p s′ x) k < length (logOf p [] cs′) → sample p s (logOf p [] cs) x k ≡ sample p s′ (logOf p [] cs′) x k) →
+      (x : ℕ) → x < count p → stored (rateOf p s x) (length (logOf p [] cs)) ≡ stored (rateOf p s′ x) (length (logOf p [] cs′)) →
+      stateAfter p s h (reset p st) cs .words x ≡ stateAfter p s′ h (reset p st′) cs′ .words x
+  alike-words h acc acc′ whole alike st st′ cs cs′ agree x lt e =
+      calls-follow p s h acc whole st cs .follows inputs X first sat .words x lt ∙
+      ap (X x) e ∙
+      sym (calls-follow p s′ h acc′ whole st′ cs′ .follows inputs X second (alike-satisfy alike inputs X sat) .words x lt)
+    where
+      log : List (List ℤ)
+      log = logOf p [] cs
 
-    -- Two lists of calls, one under each schedule, whose input elements agree wherever both supply them: where both end holding
-    -- one and the same element of x, it is the same word.
-    pub alike-words : Accepted p s → Accepted p s′ → Multiple p h → Alike p s s′ → (st st′ : State) (cs cs′ : List Call) →
-        ((x k : ℕ) → x < count p → IsInput (signalAt p x .body) → runCycle (rateOf p s x) k < length (logOf p [] cs) →
-        runCycle (rateOf p s′ x) k < length (logOf p [] cs′) → sample s (logOf p [] cs) x k ≡ sample s′ (logOf p [] cs′) x k) →
-        (x : ℕ) → x < count p → stored (rateOf p s x) (length (logOf p [] cs)) ≡ stored (rateOf p s′ x) (length (logOf p [] cs′)) →
-        stateAfter p s h (reset p st) cs .words x ≡ stateAfter p s′ h (reset p st′) cs′ .words x
-    alike-words acc acc′ whole alike st st′ cs cs′ agree x lt e =
-        calls-follow p s h acc whole st cs .follows inputs X first sat .words x lt ∙
-        ap (X x) e ∙
-        sym (calls-follow p s′ h acc′ whole st′ cs′ .follows inputs X second (alike-satisfy alike inputs X sat) .words x lt)
-      where
-        log : List (List ℤ)
-        log = logOf p [] cs
+      log′ : List (List ℤ)
+      log′ = logOf p [] cs′
 
-        log′ : List (List ℤ)
-        log′ = logOf p [] cs′
+      inputs : ℕ → ℕ → ℤ
+      inputs x k = cond (ltb (runCycle (rateOf p s x) k) (length log)) (sample p s log x k) (sample p s′ log′ x k)
 
-        inputs : ℕ → ℕ → ℤ
-        inputs x k = cond (ltb (runCycle (rateOf p s x) k) (length log)) (sample s log x k) (sample s′ log′ x k)
+      X : ℕ → ℕ → ℤ
+      X = streams p s acc inputs
 
-        X : ℕ → ℕ → ℤ
-        X = streams p s acc inputs
+      sat : Satisfies p (settled p s) inputs X
+      sat = streams-satisfy p s acc inputs
 
-        sat : Satisfies p (settled p s) inputs X
-        sat = streams-satisfy p s acc inputs
+      first : Supplied p s log inputs
+      first x k lx i g = rw (lt-ltb (runCycle (rateOf p s x) k) (length log) g)
 
-        first : Supplied p s log inputs
-        first x k lx i g = rw (lt-ltb (runCycle (rateOf p s x) k) (length log) g)
-
-        second : Supplied p s′ log′ inputs
-        second x k lx i g = go (ltb (runCycle (rateOf p s x) k) (length log)) refl
-          where
-            go : (b : Bool) → ltb (runCycle (rateOf p s x) k) (length log) ≡ b →
-                cond b (sample s log x k) (sample s′ log′ x k) ≡ sample s′ log′ x k
-            go true f = agree x k lx i (ltb-true _ _ f) g
-            go false f = refl
+      second : Supplied p s′ log′ inputs
+      second x k lx i g = go (ltb (runCycle (rateOf p s x) k) (length log)) refl
+        where
+          go : (b : Bool) → ltb (runCycle (rateOf p s x) k) (length log) ≡ b →
+              cond b (sample p s log x k) (sample p s′ log′ x k) ≡ sample p s′ log′ x k
+          go true f = agree x k lx i (ltb-true _ _ f) g
+          go false f = refl
