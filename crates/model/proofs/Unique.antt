@@ -20,6 +20,7 @@ use Rattle.model.proofs.Lines.{met-index}
 use Rattle.model.proofs.Rate.{stored-high, bit}
 use Rattle.model.proofs.Values.{next-same}
 
+-- A place is at most the number of signals put.
 place-le : (xs : List ℕ) (x : ℕ) → place xs x ≤ length xs
 unfolding place
 place-le [] x = omega arith

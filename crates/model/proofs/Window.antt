@@ -51,6 +51,7 @@ module _ (p : Program) (s : Schedule) where
   ChainMet r [] = Unit {0}
   ChainMet r (ρ ∷ ρs) = Met p s r ρ × ChainMet (ρ .operands .signal) ρs
 
+  -- A chain of met reads ends at a declared signal.
   pub source-count : (ρs : List Read) (r : ℕ) → r < count p → ChainMet r ρs → source p s r ρs < count p
   unfolding source
   source-count [] r lt ch = lt
@@ -76,6 +77,7 @@ module _ (p : Program) (s : Schedule) where
   in-time bound Nowhere e = absurd (false≢true e)
 
   module _ (acc : Accepted p s) (h : ℕ) (hyper : Multiple p h) where
+    -- The runs of x fill the hypercycle, and there is one.
     pub whole : (x : ℕ) → x < count p → runs p h x * signalAt p x .period ≡ h
     whole x lt = div-mul-cancel (signalAt p x .period) (hyper .divides x lt)
 
@@ -164,6 +166,7 @@ module _ (p : Program) (s : Schedule) where
             omega (arith, ih j f, one (before s w r), rw (used-is p s acc r ρ k lt (ch .0) ∙ u) at g)
 
     module _ (r : ℕ) (ρs : List Read) (lt : r < count p) (ch : ChainMet r ρs) where
+      -- Every run that counts has such a run.
       pub window : (n k m : ℕ) → k < n → back p s r k ρs ≡ At m → Repeats h r ρs k m
       unfolding windowOf
       window zero k m g e = absurd (omega arith)
