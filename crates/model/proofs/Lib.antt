@@ -1,2 +1,12 @@
--- What is proved of the definitions alone.
+-- What is proved of the definitions alone: their laws, and the paper's examples.
+pub mod Rate
+pub mod Lines
+pub mod Decide
+pub mod Fix
+pub mod Values
+pub mod Unique
+pub mod Turns
+pub mod Lists
+pub mod Alike
+pub mod Window
 pub mod Examples

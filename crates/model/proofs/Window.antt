@@ -1,0 +1,231 @@
+-- Going back along a chain of reads repeats with the hypercycle, so that a window of runs decides a latency constraint.
+-- Assumes nothing.
+use Prim.Native.Nat.{ℕ, zero, suc, _+_, _*_, _-_, _/_, _≤_, _<_}
+use mathlib.Core.Bool.{Bool, true, false, not, false≢true}
+use mathlib.Core.List.{List, [], _∷_}
+use mathlib.Core.Logic.{_↔_}
+use mathlib.Core.Path.{_≡_, refl, sym, ap, _∙_}
+use native.Mathlib.Decide.{decLt}
+use native.Mathlib.Nat.{suc-add, div-mul-cancel}
+use native.Mathlib.Omega.{arith}
+use borrow.Author.Tests.{leb-true, ltb-false, le-leb, le-ltb, not-true}
+use lib.ListN.{length}
+use Rattle.model.specs.Accepted.{Met, Accepted, Multiple}
+use Rattle.model.specs.Latency.{
+  onward,
+  used,
+  back,
+  source,
+  latencyOf,
+  latencyFrom,
+  runLatency,
+  Timely,
+  isLate,
+  isInTime,
+  isTimely,
+  windowOf,
+}
+use Rattle.model.specs.Program.{Program, Read, count, signalAt}
+use Rattle.model.specs.Reads.{rateOf, runCycle, stored, before}
+use Rattle.model.specs.Schedule.{Schedule, phaseOf}
+use Rattle.model.specs.declared.Found.{Found}
+use Rattle.model.specs.declared.Found.the-variants.{At, Nowhere}
+use Rattle.model.specs.declared.Mode.{Mode}
+use Rattle.model.specs.declared.Mode.the-variants.{Exists, Backward}
+use Rattle.model.proofs.Decide.{all-true, true-all, isFound-true, true-isFound}
+use Rattle.model.proofs.Rate.{stored-high, stored-shift, bit}
+use Rattle.model.proofs.Unique.{used-is}
+
+-- a runs of period p and b runs of period q take h cycles each, so going on by so many leaves a difference of cycles as it is.
+shift-sum : (j a p f l b q g x y h : ℕ) → a * p ≡ h → b * q ≡ h → j * p + f + (y * q + g) ≡ x * p + f + (l * q + g) →
+    (j + 1 * a) * p + f + (y * q + g) ≡ x * p + f + ((l + 1 * b) * q + g)
+shift-sum j a p f l b q g x y h s t e = omega arith
+
+-- The number of runs of x in h cycles.
+abbrev pub runs : Program → ℕ → ℕ → ℕ
+runs p h x = h / signalAt p x .period
+
+module _ (p : Program) (s : Schedule) where
+  -- Each read is one of the signal before it, and met.
+  abbrev pub ChainMet : ℕ → List Read → Type 0
+  ChainMet r [] = Unit {0}
+  ChainMet r (ρ ∷ ρs) = Met p s r ρ × ChainMet (ρ .operands .signal) ρs
+
+  -- A chain of met reads ends at a declared signal.
+  pub source-count : (ρs : List Read) (r : ℕ) → r < count p → ChainMet r ρs → source p s r ρs < count p
+  unfolding source
+  source-count [] r lt ch = lt
+  source-count (ρ ∷ ρs) r lt ch = source-count ρs (ρ .operands .signal) (ch .0 .declared) (ch .1)
+
+  -- A run in the first hypercycles, one more than there are reads, that goes back over as many cycles as run k does to
+  -- element m.
+  abbrev pub Repeats : (h r : ℕ) → List Read → (k m : ℕ) → Type 0
+  Repeats h r ρs k m =
+      (k′ m′ : ℕ) × (k′ < windowOf p s h r ρs) × (back p s r k′ ρs ≡ At m′) ×
+      (runCycle (rateOf p s r) k + runCycle (rateOf p s (source p s r ρs)) m′ ≡
+      runCycle (rateOf p s r) k′ + runCycle (rateOf p s (source p s r ρs)) m)
+
+  late-not : (bound : ℕ) (f : Found) → not (isLate p s bound f) ≡ true → (l : ℕ) → f ≡ At l → l ≤ bound
+  late-not bound f e l q = ltb-false bound l (not-true _ (rw q at e))
+
+  not-late : (bound : ℕ) (f : Found) → ((l : ℕ) → f ≡ At l → l ≤ bound) → not (isLate p s bound f) ≡ true
+  not-late bound (At l) g = rw (le-ltb bound l (g l refl))
+  not-late bound Nowhere g = refl
+
+  in-time : (bound : ℕ) (f : Found) → isInTime p s bound f ≡ true → (l : ℕ) × (f ≡ At l) × (l ≤ bound)
+  in-time bound (At l) e = (l, refl, leb-true l bound e)
+  in-time bound Nowhere e = absurd (false≢true e)
+
+  module _ (acc : Accepted p s) (h : ℕ) (hyper : Multiple p h) where
+    -- The runs of x fill the hypercycle, and there is one.
+    pub whole : (x : ℕ) → x < count p → runs p h x * signalAt p x .period ≡ h
+    whole x lt = div-mul-cancel (signalAt p x .period) (hyper .divides x lt)
+
+    pub some-run : (x : ℕ) → x < count p → 0 < runs p h x
+    some-run x lt = go (runs p h x) (whole x lt)
+      where
+        go : (n : ℕ) → n * signalAt p x .period ≡ h → 0 < n
+        go zero e = absurd (omega (arith, hyper .positive))
+        go (suc n) e = omega arith
+
+    -- c hypercycles later a read uses what lies c hypercycles later.
+    pub used-shift : (r k c : ℕ) (ρ : Read) → r < count p → Met p s r ρ →
+        used p s r (k + c * runs p h r) ρ ≡ used p s r k ρ + c * runs p h (ρ .operands .signal)
+    used-shift r k c ρ lt m =
+        let w = ρ .operands .signal in
+        sym (used-is p s acc r ρ (k + c * runs p h r) lt m) ∙
+        ap (stored (rateOf p s w)) (omega (arith, ap (c *_) (whole r lt), ap (c *_) (whole w (m .declared)))) ∙
+        stored-shift (rateOf p s w) _ (c * runs p h w) (acc .phases w (m .declared)) ∙
+        ap (_+ c * runs p h w) (used-is p s acc r ρ k lt m)
+
+    -- And the same way back is gone c hypercycles later.
+    pub back-shift : (ρs : List Read) (r k c m : ℕ) → r < count p → ChainMet r ρs → back p s r k ρs ≡ At m →
+        back p s r (k + c * runs p h r) ρs ≡ At (m + c * runs p h (source p s r ρs))
+    unfolding back source
+    back-shift [] r k c m lt ch e = let q : k ≡ m = cc in ap (λ x. At (x + c * runs p h r)) q
+    back-shift (ρ ∷ ρs) r k c m lt ch e =
+        rw (used-shift r k c ρ lt (ch .0))
+        (go (used p s r k ρ) e (λ j f. back-shift ρs (ρ .operands .signal) j c m (ch .0 .declared) (ch .1) f))
+      where
+        w : ℕ
+        w = ρ .operands .signal
+
+        go : (j : ℕ) → onward (λ m. back p s w m ρs) j ≡ At m →
+            ((j : ℕ) → back p s w j ρs ≡ At m → back p s w (j + c * runs p h w) ρs ≡ At (m + c * runs p h (source p s w ρs))) →
+            onward (λ m. back p s w m ρs) (j + c * runs p h w) ≡ At (m + c * runs p h (source p s w ρs))
+        go zero f ih = let z : _≡_ {A = ℕ} 0 1 = cc in absurd (omega arith)
+        go (suc j) f ih = rw suc-add (ih j f)
+
+    -- After as many hypercycles as there are reads every run counts.
+    pub back-enough : (ρs : List Read) (r k : ℕ) → r < count p → ChainMet r ρs → length ρs * runs p h r ≤ k →
+        (m : ℕ) × (back p s r k ρs ≡ At m)
+    unfolding back
+    back-enough [] r k lt ch le = (k, refl)
+    back-enough (ρ ∷ ρs) r k lt ch le =
+        go (used p s r k ρ) enough (λ j g. back-enough ρs (ρ .operands .signal) j (ch .0 .declared) (ch .1) g)
+      where
+        w : ℕ
+        w = ρ .operands .signal
+
+        n : ℕ
+        n = suc (length ρs)
+
+        enough : n * runs p h w ≤ used p s r k ρ
+        enough =
+            let e : k - n * runs p h r + n * runs p h r ≡ k = omega arith in
+            let f = used-shift r (k - n * runs p h r) n ρ lt (ch .0) in
+            omega (arith, rw e at f)
+
+        go : (j : ℕ) → n * runs p h w ≤ j → ((j : ℕ) → length ρs * runs p h w ≤ j → (m : ℕ) × (back p s w j ρs ≡ At m)) →
+            (m : ℕ) × (onward (λ m. back p s w m ρs) j ≡ At m)
+        go zero g ih = absurd (omega (arith, some-run w (ch .0 .declared)))
+        go (suc j) g ih = ih j (omega (arith, some-run w (ch .0 .declared)))
+
+    -- The way back ends no later than it starts, so that a latency is a difference of cycles.
+    pub back-before : (ρs : List Read) (r k m : ℕ) → r < count p → ChainMet r ρs → back p s r k ρs ≡ At m →
+        runCycle (rateOf p s (source p s r ρs)) m ≤ runCycle (rateOf p s r) k
+    unfolding back source
+    back-before [] r k m lt ch e = let q : m ≡ k = cc in omega (arith, ap (_* signalAt p r .period) q)
+    back-before (ρ ∷ ρs) r k m lt ch e =
+        go (used p s r k ρ) refl e (λ j f. back-before ρs (ρ .operands .signal) j m (ch .0 .declared) (ch .1) f)
+      where
+        w : ℕ
+        w = ρ .operands .signal
+
+        one : (b : Bool) → bit b ≤ 1
+        one true = omega arith
+        one false = omega arith
+
+        go : (j : ℕ) → used p s r k ρ ≡ j → onward (λ m. back p s w m ρs) j ≡ At m →
+            ((j : ℕ) → back p s w j ρs ≡ At m → runCycle (rateOf p s (source p s w ρs)) m ≤ runCycle (rateOf p s w) j) →
+            runCycle (rateOf p s (source p s w ρs)) m ≤ runCycle (rateOf p s r) k
+        go zero u f ih = let z : _≡_ {A = ℕ} 0 1 = cc in absurd (omega arith)
+        go (suc j) u f ih =
+            let t : ℕ = runCycle (rateOf p s r) k + bit (before s w r) in
+            let g = stored-high (rateOf p s w) t (acc .phases w (ch .0 .declared)) in
+            omega (arith, ih j f, one (before s w r), rw (used-is p s acc r ρ k lt (ch .0) ∙ u) at g)
+
+    module _ (r : ℕ) (ρs : List Read) (lt : r < count p) (ch : ChainMet r ρs) where
+      -- Every run that counts has such a run.
+      pub window : (n k m : ℕ) → k < n → back p s r k ρs ≡ At m → Repeats h r ρs k m
+      unfolding windowOf
+      window zero k m g e = absurd (omega arith)
+      window (suc n) k m g e = go (decLt k (suc (length ρs) * runs p h r)) (λ k m g. window n k m g)
+        where
+          a : ℕ
+          a = source p s r ρs
+
+          descend : (j l : ℕ) → j + 1 * runs p h r ≡ k → back p s r j ρs ≡ At l → Repeats h r ρs j l → Repeats h r ρs k m
+          descend j l q f found =
+              let f′ : back p s r k ρs ≡ At (l + 1 * runs p h a) = rw q at (back-shift ρs r j 1 l lt ch f) in
+              let mm : m ≡ l + 1 * runs p h a = cc in (
+                found .0,
+                found .1,
+                found .2,
+                found .3,
+                rw (← q, mm) (shift-sum j (runs p h r) (signalAt p r .period) (phaseOf s r) l (runs p h a) (signalAt p a .period)
+                    (phaseOf s a) (found .0) (found .1) h (whole r lt) (whole a (source-count ρs r lt ch)) (found .4)),
+              )
+
+          go : Dec (k < suc (length ρs) * runs p h r) → ((k m : ℕ) → k < n → back p s r k ρs ≡ At m → Repeats h r ρs k m) → Repeats h r ρs k m
+          go (yes d) ih = (k, m, d, e, omega arith)
+          go (no d) ih =
+              let positive = some-run r lt in
+              let b = back-enough ρs r (k - runs p h r) lt ch (omega arith) in
+              descend (k - runs p h r) (b .0) (omega arith) (b .1) (ih (k - runs p h r) (b .0) (omega arith) (b .1))
+
+      -- Every latency that occurs is one of a run of the window.
+      pub window-latency : (k l : ℕ) → runLatency p s r ρs k ≡ At l →
+          (k′ : ℕ) × (k′ < windowOf p s h r ρs) × (runLatency p s r ρs k′ ≡ At l)
+      unfolding runLatency latencyOf
+      window-latency k l e = go (back p s r k ρs) refl e
+        where
+          a : ℕ
+          a = source p s r ρs
+
+          go : (f : Found) → back p s r k ρs ≡ f → latencyFrom p s r k a f ≡ At l →
+              (k′ : ℕ) × (k′ < windowOf p s h r ρs) × (latencyFrom p s r k′ a (back p s r k′ ρs) ≡ At l)
+          go (At m) q t =
+              let f = window (suc k) k m (omega arith) q in
+              let d : latencyOf p s r (f .0) a (f .1) ≡ latencyOf p s r k a m = omega (arith, f .4) in
+              (f .0, f .2, rw (f .3) (ap At d ∙ t))
+          go Nowhere q t = let z : _≡_ {A = ℕ} 0 1 = cc in absurd (omega arith)
+
+      -- The runs of the window decide the constraint.
+      pub window-decides : (mode : Mode) (bound : ℕ) →
+          (isTimely p s mode r ρs bound (windowOf p s h r ρs) ≡ true) ↔ Timely p s mode r ρs bound
+      window-decides Backward bound = (
+        λ e k l q.
+            let f = window-latency k l q in
+            late-not bound _ (all-true _ _ e (f .0) (f .1)) l (f .2),
+        λ g. true-all _ _ (λ k lk. not-late bound (runLatency p s r ρs k) (λ l q. g k l q)),
+      )
+      window-decides Exists bound = (
+        λ e.
+            let f = isFound-true _ _ e in
+            let g = in-time bound _ (f .2) in
+            (f .0, g .0, g .1, g .2),
+        λ g.
+            let f = window-latency (g .0) (g .1) (g .2) in
+            true-isFound _ _ (f .0) (f .1) (rw (f .2) (le-leb _ _ (g .3))),
+      )
