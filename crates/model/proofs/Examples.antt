@@ -76,7 +76,7 @@ answerTo (codeOffsets program schedule) =
     ofImage (λ image. numbers (table (countOf image) (codeOffset image))) (verdictOf program schedule)
 answerTo (size program schedule) = ofImage (λ image. numbers (length image ∷ [])) (verdictOf program schedule)
 answerTo (words program schedule x inputs) =
-    ofImage (λ image. signals (wordsFrom image (callOf image (replicate 65 (pos 0)) reset .left) x inputs))
+    ofImage (λ image. signals (wordsFrom image (callOf image (replicate 65 (pos 9)) reset .left) x inputs))
     (verdictOf program schedule)
 answerTo (binary operator a b) = signals (binaryWord operator a b ∷ [])
 answerTo (negation a) = signals (negWord a ∷ [])

@@ -9,4 +9,5 @@ pub mod Turns
 pub mod Lists
 pub mod Alike
 pub mod Window
+pub mod Bounds
 pub mod Examples
