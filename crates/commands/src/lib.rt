@@ -136,6 +136,145 @@ fn sampled_read(kind: Kind, text: &[u8], at: usize) -> Command
     )
 }
 
+// IN: period, initial word.
+fn input_at(text: &[u8], at: usize) -> Command
+    requires { ⌜ at < length (now text) ⌝ }
+    ensures { λ r. ⌜ r ≡ commandOf Keyword.Input (now (text .entry)) at ⌝ }
+{
+    let left = text.len() - at;
+    if left < 2 {
+        return Command::EndsEarly;
+    }
+    let period = text[at + 1];
+    if !is_period(period) {
+        return Command::OutOfRange;
+    }
+    if left < 6 {
+        return Command::EndsEarly;
+    }
+    let initial = word::word_at(text, at + 2);
+    Command::Input(period, initial)
+}
+
+// EQ: period, initial word, weight.
+fn equation_at(text: &[u8], at: usize) -> Command
+    requires { ⌜ at < length (now text) ⌝ }
+    ensures { λ r. ⌜ r ≡ commandOf Keyword.Equation (now (text .entry)) at ⌝ }
+{
+    let left = text.len() - at;
+    if left < 2 {
+        return Command::EndsEarly;
+    }
+    let period = text[at + 1];
+    if !is_period(period) {
+        return Command::OutOfRange;
+    }
+    if left < 8 {
+        return Command::EndsEarly;
+    }
+    let initial = word::word_at(text, at + 2);
+    let weight = word::two_at(text, at + 6);
+    Command::Equation(period, initial, weight)
+}
+
+// LAT: mode, bound.
+fn latency_at(text: &[u8], at: usize) -> Command
+    requires { ⌜ at < length (now text) ⌝ }
+    ensures { λ r. ⌜ r ≡ commandOf Keyword.Latency (now (text .entry)) at ⌝ }
+{
+    let left = text.len() - at;
+    if left < 2 {
+        return Command::EndsEarly;
+    }
+    let byte = text[at + 1];
+    if 1 < byte {
+        return Command::OutOfRange;
+    }
+    if left < 4 {
+        return Command::EndsEarly;
+    }
+    let mode = mode_of(byte);
+    let bound = word::two_at(text, at + 2);
+    Command::Latency(mode, bound)
+}
+
+// LINK: a signal.
+fn link_at(text: &[u8], at: usize) -> Command
+    requires { ⌜ at < length (now text) ⌝ }
+    ensures { λ r. ⌜ r ≡ commandOf Keyword.Link (now (text .entry)) at ⌝ }
+{
+    let left = text.len() - at;
+    if left < 2 {
+        return Command::EndsEarly;
+    }
+    Command::Link(text[at + 1])
+}
+
+// CAP: a limit.
+fn cap_at(text: &[u8], at: usize) -> Command
+    requires { ⌜ at < length (now text) ⌝ }
+    ensures { λ r. ⌜ r ≡ commandOf Keyword.Cap (now (text .entry)) at ⌝ }
+{
+    let left = text.len() - at;
+    if left < 5 {
+        return Command::EndsEarly;
+    }
+    let limit = word::four_at(text, at + 1);
+    Command::Cap(limit)
+}
+
+// CONST: a word.
+fn constant_at(text: &[u8], at: usize) -> Command
+    requires { ⌜ at < length (now text) ⌝ }
+    ensures { λ r. ⌜ r ≡ commandOf Keyword.Constant (now (text .entry)) at ⌝ }
+{
+    let left = text.len() - at;
+    if left < 5 {
+        return Command::EndsEarly;
+    }
+    let w = word::word_at(text, at + 1);
+    Command::Constant(w)
+}
+
+// A read with its operands.
+fn read_at(kind: Kind, text: &[u8], at: usize) -> Command
+    requires { ⌜ at < length (now text) ⌝ }
+    ensures { λ r. ⌜ r ≡ commandOf (Keyword.Read kind) (now (text .entry)) at ⌝ }
+{
+    match kind {
+        Kind::Now => plain_read(kind, text, at),
+        Kind::Last => plain_read(kind, text, at),
+        Kind::When => sampled_read(kind, text, at),
+        Kind::LastWhen => sampled_read(kind, text, at),
+        Kind::Current => sampled_read(kind, text, at),
+    }
+}
+
+// The command at an offset of the program text, with its operands.
+pub fn command_at(text: &[u8], at: usize) -> Command
+    ensures { λ r. ⌜ r ≡ commandAt (now (text .entry)) at ⌝ }
+{
+    if text.len() <= at {
+        return Command::EndsEarly;
+    }
+    let keyword = keyword_of(text[at]);
+    match keyword {
+        Keyword::Missing => Command::EndsEarly,
+        Keyword::Unknown => Command::Unknown,
+        Keyword::End => Command::End,
+        Keyword::Input => input_at(text, at),
+        Keyword::Equation => equation_at(text, at),
+        Keyword::Latency => latency_at(text, at),
+        Keyword::Link => link_at(text, at),
+        Keyword::Cap => cap_at(text, at),
+        Keyword::Constant => constant_at(text, at),
+        Keyword::Read(kind) => read_at(kind, text, at),
+        Keyword::Binary(operator) => Command::Binary(operator),
+        Keyword::Negate => Command::Negate,
+        Keyword::If => Command::If,
+    }
+}
+
 // What stands at an offset of the schedule text.
 pub fn schedule_command_at(text: &[u8], at: usize) -> ScheduleCommand
     ensures { λ r. ⌜ r ≡ scheduleCommandAt (now (text .entry)) at ⌝ }
