@@ -7,7 +7,6 @@ use model::Kind;
 use model::Mode;
 use model::Sampled;
 use model::ScheduleCommand;
-
 ghost use mathlib.Core.Path.{_≡_};
 ghost use Prim.Native.Nat.{_<_};
 ghost use lib.ListN.{length};
@@ -78,13 +77,21 @@ fn is_index(i: u8, n: u8) -> bool
 fn index_of(i: u8) -> Index
     ensures { λ r. ⌜ r ≡ indexOf i ⌝ }
 {
-    if i == 255 { Index::Open } else { Index::Fixed(i) }
+    if i == 255 {
+        Index::Open
+    } else {
+        Index::Fixed(i)
+    }
 }
 
 fn mode_of(byte: u8) -> Mode
     ensures { λ r. ⌜ r ≡ modeOf byte ⌝ }
 {
-    if byte == 0 { Mode::Exists } else { Mode::Backward }
+    if byte == 0 {
+        Mode::Exists
+    } else {
+        Mode::Backward
+    }
 }
 
 // NOW and LAST.
