@@ -1,0 +1,101 @@
+-- Laws of the parser's steps, by which a reader's answer follows from those of its parts. Assumes nothing.
+use mathlib.Core.Path.{_≡_, refl, sym, ap, subst, _∙_}
+use mathlib.Core.Bool.{Bool, true, false, cond}
+use mathlib.Core.List.{List, [], _∷_}
+use Prim.Native.Nat.{ℕ, zero, suc, _+_, _-_, _≤_, _<_}
+use native.Mathlib.Numerals.{sub-one}
+use native.Mathlib.Omega.{arith}
+use lib.Dec.{ltb}
+use lib.ListN.{length}
+use borrow.Author.Tests.{ltb-true}
+use Rattle.model.specs.Command.{keywordAt, keywordOf, commandAt}
+use Rattle.model.specs.Outcome.{Outcome, accepted, refused, refuse, _▷_, Parsed, parsed}
+use Rattle.model.specs.Program.{Expr, operatorHere, node, parseExpr, readWidth}
+use Rattle.model.specs.declared.Fault.{Fault}
+use Rattle.model.specs.declared.Keyword.{Keyword}
+use Rattle.model.specs.declared.Kind.{Kind}
+use Rattle.model.specs.declared.Kind.the-variants.{Now, Last, When, LastWhen, Current}
+use Rattle.model.specs.declared.Keyword.the-variants as Keyword
+use Rattle.reader.specs.Results.{hereOf, expressionOf}
+use Rattle.reader.specs.declared.Reached.{Reached}
+use Rattle.reader.specs.declared.Reached.the-variants as Reached
+
+-- A condition that holds, and one that does not.
+pub here-next : (at n : ℕ) (o : Outcome (Unit {0})) → Reached.Next n ≡ hereOf at o → o ≡ accepted tt
+unfolding hereOf
+here-next at n (accepted a) e = refl
+here-next at n (refused f) e = let z : _≡_ {A = ℕ} 0 1 = cc in absurd (omega arith)
+
+pub here-refused : (at : ℕ) (o : Outcome (Unit {0})) {f : Fault} → Reached.Refused f ≡ hereOf at o → o ≡ refused f
+unfolding hereOf
+here-refused at (accepted a) e = let z : _≡_ {A = ℕ} 0 1 = cc in absurd (omega arith)
+here-refused at (refused f) e = cc
+
+-- An operator that is accepted stands within the text.
+pub present : (text : List ℕ) (at : ℕ) → operatorHere text at (keywordAt text at) ≡ accepted tt → at < length text
+unfolding keywordAt
+present text at e = go (ltb at (length text)) refl e
+  where
+    go : (b : Bool) → ltb at (length text) ≡ b →
+        operatorHere text at (cond b (keywordOf (Rattle.model.specs.Word.byteAt text at)) Keyword.Missing) ≡ accepted tt → at < length text
+    go true h e = ltb-true _ _ h
+    go false h e = let z : _≡_ {A = ℕ} 0 1 = cc in absurd (omega arith)
+
+-- The expression at an operator that is accepted, where some depth is left, and where none is.
+pub parse-step : (d : ℕ) (text : List ℕ) (at : ℕ) → (d ≡ 0 → ⊥) → operatorHere text at (keywordAt text at) ≡ accepted tt →
+    parseExpr d text at ≡ node (λ n. parseExpr (d - 1) text n) text at (commandAt text at)
+unfolding parseExpr _▷_
+parse-step zero text at h e = absurd (h refl)
+parse-step (suc d) text at h e = rw (e, sub-one (suc d))
+
+pub parse-none : (text : List ℕ) (at : ℕ) → operatorHere text at (keywordAt text at) ≡ accepted tt →
+    parseExpr 0 text at ≡ refuse 4 at
+unfolding parseExpr _▷_
+parse-none text at e = rw e
+
+-- And at one that is refused.
+pub parse-refused : (d : ℕ) (text : List ℕ) (at : ℕ) {f : Fault} → operatorHere text at (keywordAt text at) ≡ refused f →
+    parseExpr d text at ≡ refused f
+unfolding parseExpr _▷_
+parse-refused zero text at e = rw e
+parse-refused (suc d) text at e = rw e
+
+-- The answers of a leaf and of a refusal.
+pub next-is : (x : Expr) (n : ℕ) → Reached.Next n ≡ expressionOf (parsed x n)
+unfolding expressionOf
+next-is x n = refl
+
+pub refused-is : (f : Fault) → Reached.Refused f ≡ expressionOf (refused f)
+unfolding expressionOf
+refused-is f = refl
+
+-- An operand that is refused is the answer.
+pub stop : (o : Outcome (Parsed Expr)) (k : Parsed Expr → Outcome (Parsed Expr)) {r : Reached} {f : Fault} →
+    r ≡ expressionOf o → r ≡ Reached.Refused f → r ≡ expressionOf (o ▷ k)
+unfolding _▷_ expressionOf
+stop (accepted x) k {r} {f} e g = let z : _≡_ {A = ℕ} 0 1 = cc in absurd (omega arith)
+stop (refused q) k e g = e
+
+-- After an operand that is read the rest decides.
+pub go-on : (o : Outcome (Parsed Expr)) (k : Parsed Expr → Outcome (Parsed Expr)) {r q : Reached} {n : ℕ} →
+    r ≡ expressionOf o → r ≡ Reached.Next n → ((v : Expr) → q ≡ expressionOf (k (record { value = v; next = n }))) →
+    q ≡ expressionOf (o ▷ k)
+unfolding _▷_ expressionOf
+go-on (accepted x) k {r} {q} {n} e g h =
+    let z : n ≡ x .next = cc in
+    subst (λ m. q ≡ expressionOf (k (record { value = x .value; next = m }))) z (h (x .value))
+go-on (refused f) k {r} {n = n} e g h = let z : _≡_ {A = ℕ} 0 1 = cc in absurd (omega arith)
+
+-- The last operand's end is the expression's.
+pub last : (o : Outcome (Parsed Expr)) (f : Parsed Expr → Expr) {r : Reached} → r ≡ expressionOf o →
+    r ≡ expressionOf (o ▷ λ x. parsed (f x) (x .next))
+unfolding _▷_ expressionOf
+last (accepted x) f e = e
+last (refused q) f e = e
+
+pub width-most : (kind : Kind) → readWidth kind ≤ 4
+width-most Now = omega arith
+width-most Last = omega arith
+width-most When = omega arith
+width-most LastWhen = omega arith
+width-most Current = omega arith
