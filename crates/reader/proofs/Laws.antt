@@ -1,24 +1,29 @@
 -- Laws of the parser's steps, by which a reader's answer follows from those of its parts. Assumes nothing.
 use mathlib.Core.Path.{_≡_, refl, sym, ap, subst, _∙_}
 use mathlib.Core.Bool.{Bool, true, false, cond}
-use mathlib.Core.List.{List, [], _∷_}
+use mathlib.Core.List.{List, [], _∷_, _++_}
 use Prim.Native.Nat.{ℕ, zero, suc, _+_, _-_, _≤_, _<_}
 use native.Mathlib.Numerals.{sub-one}
 use native.Mathlib.Omega.{arith}
-use lib.Dec.{ltb}
-use lib.ListN.{length}
-use borrow.Author.Tests.{ltb-true}
+use lib.Dec.{leb, ltb, eqb}
+use lib.ListN.{length, List·getD-eq-default}
+use borrow.Author.Tests.{ltb-true, le-leb, lt-leb, eq-eqb, ne-eqb}
 use Rattle.model.specs.Command.{keywordAt, keywordOf, commandAt}
-use Rattle.model.specs.Outcome.{Outcome, accepted, refused, refuse, _▷_, Parsed, parsed}
-use Rattle.model.specs.Program.{Expr, operatorHere, node, parseExpr, readWidth}
+use Rattle.model.specs.Outcome.{Outcome, accepted, refused, fault, refuse, _▷_, provided, Parsed, parsed}
+use Rattle.model.specs.Program.{Expr, Link, operatorHere, node, parseExpr, readWidth, parseLinks}
+use Rattle.model.specs.Word.{byteAt}
 use Rattle.model.specs.declared.Fault.{Fault}
 use Rattle.model.specs.declared.Keyword.{Keyword}
 use Rattle.model.specs.declared.Kind.{Kind}
 use Rattle.model.specs.declared.Kind.the-variants.{Now, Last, When, LastWhen, Current}
 use Rattle.model.specs.declared.Keyword.the-variants as Keyword
-use Rattle.reader.specs.Results.{hereOf, expressionOf}
+use Rattle.reader.specs.Results.{hereOf, expressionOf, linksOf, equationOf, chainOf}
+use Rattle.reader.specs.declared.LinksRead.{LinksRead}
+use Rattle.reader.specs.declared.LinksRead.the-variants as Read
 use Rattle.reader.specs.declared.Reached.{Reached}
 use Rattle.reader.specs.declared.Reached.the-variants as Reached
+use Rattle.reader.specs.declared.Step.{Step}
+use Rattle.reader.specs.declared.Step.the-variants as Step
 
 -- A condition that holds, and one that does not.
 pub here-next : (at n : ℕ) (o : Outcome (Unit {0})) → Reached.Next n ≡ hereOf at o → o ≡ accepted tt
@@ -37,7 +42,7 @@ unfolding keywordAt
 present text at e = go (ltb at (length text)) refl e
   where
     go : (b : Bool) → ltb at (length text) ≡ b →
-        operatorHere text at (cond b (keywordOf (Rattle.model.specs.Word.byteAt text at)) Keyword.Missing) ≡ accepted tt → at < length text
+        operatorHere text at (cond b (keywordOf (byteAt text at)) Keyword.Missing) ≡ accepted tt → at < length text
     go true h e = ltb-true _ _ h
     go false h e = let z : _≡_ {A = ℕ} 0 1 = cc in absurd (omega arith)
 
@@ -99,3 +104,67 @@ width-most Last = omega arith
 width-most When = omega arith
 width-most LastWhen = omega arith
 width-most Current = omega arith
+
+-- The LINKs of a chain end, are too many, are cut, or go on.
+abbrev pub linkAt : List ℕ → ℕ → Link
+linkAt text at = record { place = at; signal = byteAt text (at + 1) }
+
+pub links-end : (room : ℕ) (text : List ℕ) (at : ℕ) (links : List Link) → (byteAt text at ≡ 0x13 → ⊥) →
+    parseLinks room text at links ≡ parsed links at
+unfolding parseLinks
+links-end zero text at links h = rw (ne-eqb (byteAt text at) 0x13 h, parseLinks)
+links-end (suc room) text at links h = rw (ne-eqb (byteAt text at) 0x13 h, parseLinks)
+
+pub links-past : (room : ℕ) (text : List ℕ) (at : ℕ) (links : List Link) → length text ≤ at →
+    parseLinks room text at links ≡ parsed links at
+links-past room text at links h =
+    links-end room text at links (λ e. let z : _≡_ {A = ℕ} 0 0x13 = sym (List·getD-eq-default text 0 h) ∙ e in omega arith)
+
+pub links-many : (text : List ℕ) (at : ℕ) (links : List Link) → byteAt text at ≡ 0x13 → parseLinks 0 text at links ≡ refuse 4 at
+unfolding parseLinks
+links-many text at links e = rw (eq-eqb (byteAt text at) 0x13 e, parseLinks)
+
+pub links-cut : (room : ℕ) (text : List ℕ) (at : ℕ) (links : List Link) → byteAt text at ≡ 0x13 → length text < at + 2 →
+    parseLinks (suc room) text at links ≡ refuse 2 (length text)
+unfolding parseLinks _▷_ provided
+links-cut room text at links e h = rw (eq-eqb (byteAt text at) 0x13 e, parseLinks) (rw (lt-leb (at + 2) (length text) h))
+
+pub links-more : (room : ℕ) (text : List ℕ) (at : ℕ) (links : List Link) → byteAt text at ≡ 0x13 → at + 2 ≤ length text →
+    parseLinks (suc room) text at links ≡ parseLinks room text (at + 2) (links ++ (linkAt text at ∷ []))
+unfolding parseLinks _▷_ provided
+links-more room text at links e h = rw (eq-eqb (byteAt text at) 0x13 e, parseLinks) (rw (le-leb (at + 2) (length text) h))
+
+-- The step of an EQ from its expression's answer, and of a LAT from its LINKs'.
+pub equation-next : (o : Outcome (Parsed Expr)) {r : Reached} {n : ℕ} → r ≡ expressionOf o → r ≡ Reached.Next n →
+    Step.Signal n ≡ equationOf o
+unfolding expressionOf equationOf
+equation-next (accepted x) {r} {n} e g = let z : n ≡ x .next = cc in ap Step.Signal z
+equation-next (refused f) {r} {n} e g = let z : _≡_ {A = ℕ} 0 1 = cc in absurd (omega arith)
+
+pub equation-refused : (o : Outcome (Parsed Expr)) {r : Reached} {f : Fault} → r ≡ expressionOf o → r ≡ Reached.Refused f →
+    Step.Refused f ≡ equationOf o
+unfolding expressionOf equationOf
+equation-refused (accepted x) {r} {f} e g = let z : _≡_ {A = ℕ} 0 1 = cc in absurd (omega arith)
+equation-refused (refused q) {r} {f} e g = let z : f ≡ q = cc in ap Step.Refused z
+
+pub chain-short : (at : ℕ) (o : Outcome (Parsed (List Link))) {r : LinksRead} {k n : ℕ} → r ≡ linksOf o → r ≡ Read.Links k n →
+    k < 2 → Step.Refused (fault 5 at) ≡ chainOf at o
+unfolding linksOf chainOf
+chain-short at (accepted x) {r} {k} {n} e g h =
+    let z : k ≡ length (x .value) = cc in rw (lt-leb 2 (length (x .value)) (omega arith))
+chain-short at (refused f) {r} {k} {n} e g h = let z : _≡_ {A = ℕ} 0 1 = cc in absurd (omega arith)
+
+pub chain-next : (at : ℕ) (o : Outcome (Parsed (List Link))) {r : LinksRead} {k n : ℕ} → r ≡ linksOf o → r ≡ Read.Links k n →
+    2 ≤ k → Step.Chain n k ≡ chainOf at o
+unfolding linksOf chainOf
+chain-next at (accepted x) {r} {k} {n} e g h =
+    let z : k ≡ length (x .value) = cc in
+    let y : n ≡ x .next = cc in
+    rw (le-leb 2 (length (x .value)) (omega arith), z, y)
+chain-next at (refused f) {r} {k} {n} e g h = let z : _≡_ {A = ℕ} 0 1 = cc in absurd (omega arith)
+
+pub chain-refused : (at : ℕ) (o : Outcome (Parsed (List Link))) {r : LinksRead} {f : Fault} → r ≡ linksOf o → r ≡ Read.Refused f →
+    Step.Refused f ≡ chainOf at o
+unfolding linksOf chainOf
+chain-refused at (accepted x) {r} {f} e g = let z : _≡_ {A = ℕ} 0 1 = cc in absurd (omega arith)
+chain-refused at (refused q) {r} {f} e g = let z : f ≡ q = cc in ap Step.Refused z

@@ -1,2 +1,3 @@
 -- What the readers' answers stand for.
 pub mod Results
+pub mod Steps

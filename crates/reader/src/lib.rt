@@ -5,11 +5,14 @@ use model::Keyword;
 use model::Kind;
 ghost use mathlib.Core.Path.{_≡_};
 ghost use mathlib.Core.List.{[]};
-ghost use Prim.Native.Nat.{_+_, _<_};
+ghost use Prim.Native.Nat.{_+_, _≤_, _<_};
+ghost use lib.Dec.{leb};
 ghost use lib.ListN.{length};
 ghost use Rattle.model.specs.Command.{keywordAt};
-ghost use Rattle.model.specs.Program.{operatorHere, parseExpr, parseLinks, readWidth};
-ghost use Rattle.reader.specs.Results.{hereOf, expressionOf};
+ghost use Rattle.model.specs.Outcome.{provided};
+ghost use Rattle.model.specs.Program.{Program, operatorHere, parseExpr, parseLinks, readWidth, commandHere};
+ghost use Rattle.reader.specs.Results.{hereOf, expressionOf, linksOf, chainOf, equationOf, endOf};
+ghost use Rattle.reader.specs.Steps.{Counts, Stepped};
 
 // The offset at which reading goes on, or the refusal.
 pub enum Reached {
@@ -105,4 +108,135 @@ pub fn read_expression(text: &[u8], at: usize, depth: usize) -> Reached
             read_expression(text, else_at, depth - 1)
         }
     }
+}
+
+// What reading the LINKs of a chain finds: how many there are and where they end, or the refusal.
+pub enum LinksRead {
+    Links(usize, usize),
+    Refused(Fault),
+}
+
+fn refuse_links(number: u8, place: usize) -> LinksRead
+    ensures { λ r. ⌜ r ≡ LinksRead.Refused (record { number = number; place = place }) ⌝ }
+{
+    LinksRead::Refused(Fault {
+        number: number,
+        place: place,
+    })
+}
+
+// Reads the LINKs from `at` on. They end at the first byte that isn't 13, or where the text ends.
+pub fn read_links(text: &[u8], at: usize) -> LinksRead
+    ensures { λ r. ⌜ r ≡ linksOf (parseLinks 16 (now (text .entry)) at []) ⌝ }
+{
+    let mut next = at;
+    let mut count: usize = 0;
+    while next < text.len() {
+        if text[next] != 0x13 {
+            return LinksRead::Links(count, next);
+        }
+        if 16 <= count {
+            return refuse_links(4, next);
+        }
+        let left = text.len() - next;
+        if left < 2 {
+            return refuse_links(2, text.len());
+        }
+        next = next + 2;
+        count = count + 1;
+    }
+    LinksRead::Links(count, next)
+}
+
+// What one command of the program text is: a declaration, a chain with its number of LINKs, a CAP, each with the offset after
+// it; END; or the refusal.
+pub enum Step {
+    Signal(usize),
+    Chain(usize, usize),
+    Cap(usize, u32),
+    End,
+    Refused(Fault),
+}
+
+fn refuse_step(number: u8, place: usize) -> Step
+    ensures { λ r. ⌜ r ≡ Step.Refused (record { number = number; place = place }) ⌝ }
+{
+    Step::Refused(Fault {
+        number: number,
+        place: place,
+    })
+}
+
+// Goes on at `at` where a condition holds.
+fn judge(holds: bool, number: u8, at: usize) -> Reached
+    ensures { λ r. ⌜ r ≡ hereOf at (provided holds number at) ⌝ }
+{
+    if holds {
+        Reached::Next(at)
+    } else {
+        refuse(number, at)
+    }
+}
+
+// Whether a command may stand at `at` after so many signals and chains: 2, 3, then counts and second CAP.
+fn command_here(text: &[u8], at: usize, signals: usize, chains: usize, capped: bool) -> Reached
+    ensures { λ r. ⌜ ((p : Program) → Counts p signals chains capped → r ≡ hereOf at (commandHere (now (text .entry)) at p (keywordAt (now (text .entry)) at))) ⌝ }
+{
+    let keyword = commands::keyword_at(text, at);
+    match keyword {
+        Keyword::Missing => refuse(2, text.len()),
+        Keyword::Unknown => refuse(3, at),
+        Keyword::End => Reached::Next(at),
+        Keyword::Input => judge(signals < 64, 4, at),
+        Keyword::Equation => judge(signals < 64, 4, at),
+        Keyword::Latency => judge(chains < 16, 4, at),
+        Keyword::Link => refuse(3, at),
+        Keyword::Cap => judge(!capped, 5, at),
+        Keyword::Constant => refuse(3, at),
+        Keyword::Read(_) => refuse(3, at),
+        Keyword::Binary(_) => refuse(3, at),
+        Keyword::Negate => refuse(3, at),
+        Keyword::If => refuse(3, at),
+    }
+}
+
+// An EQ ends where its expression does.
+fn equation_step(text: &[u8], at: usize) -> Step
+    requires { ⌜ at + 8 ≤ length (now text) ⌝ }
+    ensures { λ r. ⌜ r ≡ equationOf (parseExpr 16 (now (text .entry)) (at + 8)) ⌝ }
+{
+    let reached = read_expression(text, at + 8, 16);
+    match reached {
+        Reached::Next(next) => Step::Signal(next),
+        Reached::Refused(fault) => Step::Refused(fault),
+    }
+}
+
+// A LAT ends where its LINKs do; a chain has two of them at least.
+fn chain_step(text: &[u8], at: usize) -> Step
+    requires { ⌜ at + 4 ≤ length (now text) ⌝ }
+    ensures { λ r. ⌜ r ≡ chainOf at (parseLinks 16 (now (text .entry)) (at + 4) []) ⌝ }
+{
+    let read = read_links(text, at + 4);
+    match read {
+        LinksRead::Links(count, next) => {
+            if count < 2 {
+                return refuse_step(5, at);
+            }
+            Step::Chain(next, count)
+        }
+        LinksRead::Refused(fault) => Step::Refused(fault),
+    }
+}
+
+// END is the last byte.
+fn end_step(text: &[u8], at: usize) -> Step
+    requires { ⌜ at < length (now text) ⌝ }
+    ensures { λ r. ⌜ r ≡ endOf (provided (leb (length (now (text .entry))) (at + 1)) 6 (at + 1)) ⌝ }
+{
+    let next = at + 1;
+    if next < text.len() {
+        return refuse_step(6, next);
+    }
+    Step::End
 }

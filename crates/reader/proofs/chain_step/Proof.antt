@@ -1,0 +1,43 @@
+-- `reader::chain_step` meets its contract. Assumes nothing.
+use Rattle.reader.proofs.Laws.{chain-short, chain-next, chain-refused}
+use mathlib.Core.Path.{_∙_}
+use borrow.Author.Needs.{needs}
+use Rattle.reader.proofs.chain_step.Statement.{statement}
+use Rattle.reader.proofs.chain_step.Tie as tie
+
+add-read-links : tie.Need-add-read-links
+add-read-links c = search needs
+
+read-links-requires : tie.Need-read-links-requires
+read-links-requires c κs = search needs
+
+enum-known-read : tie.Need-enum-known-read
+enum-known-read c = search needs
+
+refuse-step-requires : tie.Need-refuse-step-requires
+refuse-step-requires c κs = search needs
+
+returns : tie.Need-returns
+returns c = c .refuse-step .ensures ∙ chain-short _ _ (c .before .before .before .before .before .read-links .ensures) (c .before .before .before .read .given .1) (c .before .if1 .taken)
+
+enum-known-read-2 : tie.Need-enum-known-read-2
+enum-known-read-2 c = search needs
+
+returns-2 : tie.Need-returns-2
+returns-2 c = chain-next _ _ (c .before .before .before .before .read-links .ensures) (c .before .before .read .given .1) (c .if1 .left)
+
+returns-3 : tie.Need-returns-3
+returns-3 c = chain-refused _ _ (c .before .before .before .read-links .ensures) (c .before .read2 .given .1)
+
+pub chain-step-spec : {M : Type 1} → statement M
+chain-step-spec =
+    tie.close
+    (tie.spec
+    add-read-links
+    read-links-requires
+    enum-known-read
+    refuse-step-requires
+    returns
+    enum-known-read-2
+    returns-2
+    returns-3)
