@@ -8,10 +8,12 @@ use native.Mathlib.Omega.{arith}
 use lib.Dec.{leb, ltb, eqb}
 use lib.ListN.{length, List·getD-eq-default}
 use borrow.Author.Tests.{ltb-true, le-leb, lt-leb, eq-eqb, ne-eqb}
-use Rattle.model.specs.Command.{keywordAt, keywordOf, commandAt}
+use Rattle.model.specs.Command.{keywordAt, keywordOf, commandOf, commandAt}
 use Rattle.model.specs.Outcome.{Outcome, accepted, refused, fault, refuse, _▷_, provided, Parsed, parsed}
 use Rattle.model.specs.Program.{Expr, Link, operatorHere, node, parseExpr, readWidth, parseLinks}
 use Rattle.model.specs.Word.{byteAt}
+use Rattle.model.specs.declared.Command.{Command}
+use Rattle.model.specs.declared.Command.the-variants as Command
 use Rattle.model.specs.declared.Fault.{Fault}
 use Rattle.model.specs.declared.Keyword.{Keyword}
 use Rattle.model.specs.declared.Kind.{Kind}
@@ -168,3 +170,12 @@ pub chain-refused : (at : ℕ) (o : Outcome (Parsed (List Link))) {r : LinksRead
 unfolding linksOf chainOf
 chain-refused at (accepted x) {r} {f} e g = let z : _≡_ {A = ℕ} 0 1 = cc in absurd (omega arith)
 chain-refused at (refused q) {r} {f} e g = let z : f ≡ q = cc in ap Step.Refused z
+
+-- A command that does not end early stands within the text.
+pub command-inside : (text : List ℕ) (at : ℕ) {k : Command} → commandAt text at ≡ k → (Command.EndsEarly ≡ k → ⊥) → at < length text
+unfolding commandAt keywordAt commandOf
+command-inside text at {k} e h = go (ltb at (length text)) refl
+  where
+    go : (b : Bool) → ltb at (length text) ≡ b → at < length text
+    go true f = ltb-true _ _ f
+    go false f = absurd (h (rw f at e))

@@ -202,7 +202,7 @@ fn command_here(text: &[u8], at: usize, signals: usize, chains: usize, capped: b
 
 // An EQ ends where its expression does.
 fn equation_step(text: &[u8], at: usize) -> Step
-    requires { ⌜ at + 8 ≤ length (now text) ⌝ }
+    requires { ⌜ at < length (now text) ⌝ }
     ensures { λ r. ⌜ r ≡ equationOf (parseExpr 16 (now (text .entry)) (at + 8)) ⌝ }
 {
     let reached = read_expression(text, at + 8, 16);
@@ -214,7 +214,7 @@ fn equation_step(text: &[u8], at: usize) -> Step
 
 // A LAT ends where its LINKs do; a chain has two of them at least.
 fn chain_step(text: &[u8], at: usize) -> Step
-    requires { ⌜ at + 4 ≤ length (now text) ⌝ }
+    requires { ⌜ at < length (now text) ⌝ }
     ensures { λ r. ⌜ r ≡ chainOf at (parseLinks 16 (now (text .entry)) (at + 4) []) ⌝ }
 {
     let read = read_links(text, at + 4);
@@ -239,4 +239,31 @@ fn end_step(text: &[u8], at: usize) -> Step
         return refuse_step(6, next);
     }
     Step::End
+}
+
+// One command of the program text, after so many signals and chains.
+fn read_command(text: &[u8], at: usize, signals: usize, chains: usize, capped: bool) -> Step
+    ensures { λ r. ⌜ ((p : Program) → Counts p signals chains capped → Stepped (now (text .entry)) at p r) ⌝ }
+{
+    let here = command_here(text, at, signals, chains, capped);
+    if let Reached::Refused(fault) = here {
+        return Step::Refused(fault);
+    }
+    let command = commands::command_at(text, at);
+    match command {
+        Command::EndsEarly => refuse_step(2, text.len()),
+        Command::Unknown => refuse_step(3, at),
+        Command::OutOfRange => refuse_step(5, at),
+        Command::End => end_step(text, at),
+        Command::Input(_, _) => Step::Signal(at + 6),
+        Command::Equation(_, _, _) => equation_step(text, at),
+        Command::Latency(_, _) => chain_step(text, at),
+        Command::Link(_) => refuse_step(3, at),
+        Command::Cap(limit) => Step::Cap(at + 5, limit),
+        Command::Constant(_) => refuse_step(3, at),
+        Command::Read(_, _) => refuse_step(3, at),
+        Command::Binary(_) => refuse_step(3, at),
+        Command::Negate => refuse_step(3, at),
+        Command::If => refuse_step(3, at),
+    }
 }
