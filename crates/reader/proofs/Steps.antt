@@ -1,6 +1,6 @@
 -- What the step of each command says of the definition. Assumes nothing.
 use mathlib.Core.Path.{_≡_, refl, sym, ap, subst, _∙_}
-use mathlib.Core.Bool.{Bool, true, false, cond}
+use mathlib.Core.Bool.{Bool, true, false, cond, _&&_}
 use mathlib.Core.List.{List, [], _∷_}
 use Prim.Native.Nat.{ℕ, zero, suc, _+_, _≤_, _<_}
 use native.Mathlib.Omega.{arith}
@@ -8,10 +8,11 @@ use lib.Dec.{leb, ltb}
 use lib.IntN.{ℤ}
 use lib.ListN.{length}
 use borrow.Author.Tests.{ltb-true}
-use Rattle.model.specs.Command.{keywordAt, keywordOf, commandAt}
+use Rattle.model.specs.Command.{keywordAt, keywordOf, isPeriod, isFactor, isIndex, plainRead, sampledRead, readOf, commandOf, commandAt}
 use Rattle.model.specs.Outcome.{Outcome, accepted, refused, fault, refuse, _▷_, provided, Parsed}
 use Rattle.model.specs.Program.{
   Program,
+  count,
   Expr,
   Link,
   input,
@@ -28,7 +29,10 @@ use Rattle.model.specs.Word.{byteAt}
 use Rattle.model.specs.declared.Command.{Command}
 use Rattle.model.specs.declared.Command.the-variants as Command
 use Rattle.model.specs.declared.Fault.{Fault}
+use Rattle.model.specs.declared.Keyword.{Keyword}
 use Rattle.model.specs.declared.Keyword.the-variants as Keyword
+use Rattle.model.specs.declared.Kind.{Kind}
+use Rattle.model.specs.declared.Kind.the-variants.{Now, Last, When, LastWhen, Current}
 use Rattle.model.specs.declared.Mode.{Mode}
 use Rattle.reader.specs.Results.{equationOf, chainOf, endOf}
 use Rattle.reader.specs.Steps.{Stepped}
@@ -43,6 +47,84 @@ enough links at e = rw e
 short : (links : List Link) (at : ℕ) → leb 2 (length links) ≡ false → provided (leb 2 (length links)) 5 at ≡ refuse 5 at
 unfolding provided
 short links at e = rw e
+
+-- Which keyword a command that is counted comes from.
+abbrev Of : Keyword → Command → Type 0
+Of k Command.EndsEarly = Unit {0}
+Of k Command.Unknown = Unit {0}
+Of k Command.OutOfRange = Unit {0}
+Of k Command.End = Unit {0}
+Of k (Command.Input period initial) = k ≡ Keyword.Input
+Of k (Command.Equation period initial weight) = k ≡ Keyword.Equation
+Of k (Command.Latency mode bound) = k ≡ Keyword.Latency
+Of k (Command.Link signal) = Unit {0}
+Of k (Command.Cap n) = Unit {0}
+Of k (Command.Constant w) = Unit {0}
+Of k (Command.Read kind operands) = Unit {0}
+Of k (Command.Binary operator) = Unit {0}
+Of k Command.Negate = Unit {0}
+Of k Command.If = Unit {0}
+
+record Comes (k : Keyword) (c : Command) : Type 0 where
+  from : Of k c
+
+comes : {k : Keyword} (c : Command) → Of k c → Comes k c
+comes c h = record { from = h }
+
+either : {k : Keyword} (b : Bool) {x y : Command} → Comes k x → Comes k y → Comes k (cond b x y)
+either true h g = h
+either false h g = g
+
+plain-comes : (k : Keyword) (kind : Kind) (text : List ℕ) (at : ℕ) → Comes k (plainRead kind text at)
+unfolding plainRead
+plain-comes k kind text at = either (leb (at + 2) (length text)) (comes (Command.Read kind _) tt) (comes Command.EndsEarly tt)
+
+sampled-comes : (k : Keyword) (kind : Kind) (text : List ℕ) (at : ℕ) → Comes k (sampledRead kind text at)
+unfolding sampledRead
+sampled-comes k kind text at =
+    either (leb (at + 4) (length text))
+    (either (isFactor (byteAt text (at + 3)) && isIndex (byteAt text (at + 2)) (byteAt text (at + 3)))
+    (comes (Command.Read kind _) tt) (comes Command.OutOfRange tt))
+    (comes Command.EndsEarly tt)
+
+read-comes : (k : Keyword) (kind : Kind) (text : List ℕ) (at : ℕ) → Comes k (readOf kind text at)
+read-comes k Now text at = plain-comes k Now text at
+read-comes k Last text at = plain-comes k Last text at
+read-comes k When text at = sampled-comes k When text at
+read-comes k LastWhen text at = sampled-comes k LastWhen text at
+read-comes k Current text at = sampled-comes k Current text at
+
+-- A command of three operands' judgements: cut, out of range, cut.
+judged-comes : {k : Keyword} (a b d : Bool) (c : Command) → Of k c →
+    Comes k (cond a (cond b (cond d c Command.EndsEarly) Command.OutOfRange) Command.EndsEarly)
+judged-comes a b d c h =
+    either a (either b (either d (comes c h) (comes Command.EndsEarly tt)) (comes Command.OutOfRange tt)) (comes Command.EndsEarly tt)
+
+keyword-comes : (k : Keyword) (text : List ℕ) (at : ℕ) → Comes k (commandOf k text at)
+unfolding commandOf
+keyword-comes Keyword.Missing text at = comes Command.EndsEarly tt
+keyword-comes Keyword.Unknown text at = comes Command.Unknown tt
+keyword-comes Keyword.End text at = comes Command.End tt
+keyword-comes Keyword.Input text at = judged-comes (leb (at + 2) (length text)) (isPeriod (byteAt text (at + 1))) (leb (at + 6) (length text)) (Command.Input _ _) refl
+keyword-comes Keyword.Equation text at = judged-comes (leb (at + 2) (length text)) (isPeriod (byteAt text (at + 1))) (leb (at + 8) (length text)) (Command.Equation _ _ _) refl
+keyword-comes Keyword.Latency text at = judged-comes (leb (at + 2) (length text)) (leb (byteAt text (at + 1)) 1) (leb (at + 4) (length text)) (Command.Latency _ _) refl
+keyword-comes Keyword.Link text at = either (leb (at + 2) (length text)) (comes (Command.Link _) tt) (comes Command.EndsEarly tt)
+keyword-comes Keyword.Cap text at = either (leb (at + 5) (length text)) (comes (Command.Cap _) tt) (comes Command.EndsEarly tt)
+keyword-comes Keyword.Constant text at = either (leb (at + 5) (length text)) (comes (Command.Constant _) tt) (comes Command.EndsEarly tt)
+keyword-comes (Keyword.Read kind) text at = read-comes (Keyword.Read kind) kind text at
+keyword-comes (Keyword.Binary operator) text at = comes (Command.Binary operator) tt
+keyword-comes Keyword.Negate text at = comes Command.Negate tt
+keyword-comes Keyword.If text at = comes Command.If tt
+
+of-command : (text : List ℕ) (at : ℕ) (c : Command) → commandAt text at ≡ c → Of (keywordAt text at) c
+unfolding commandAt
+of-command text at c e = subst (Comes (keywordAt text at)) e (keyword-comes (keywordAt text at) text at) .from
+
+-- A condition that holds.
+provided-is : (b : Bool) (n place : ℕ) → provided b n place ≡ accepted tt → b ≡ true
+unfolding provided
+provided-is true n place e = refl
+provided-is false n place e = let z : _≡_ {A = ℕ} 0 1 = cc in absurd (omega arith)
 
 module _ (text : List ℕ) (at : ℕ) (p : Program) where
   -- A command that may not stand here.
@@ -67,6 +149,13 @@ module _ (text : List ℕ) (at : ℕ) (p : Program) where
     unfolding parseCommands _▷_
     declared c e left = rw (here, e)
 
+    -- What is counted is below its bound.
+    signals-below : (k : Keyword) → keywordAt text at ≡ k → commandHere text at p k ≡ provided (ltb (count p) 64) 4 at → count p < 64
+    signals-below k e h = ltb-true _ _ (provided-is _ _ _ (sym h ∙ ap (commandHere text at p) (sym e) ∙ here))
+
+    chains-below : keywordAt text at ≡ Keyword.Latency → length (p .chains) < 16
+    chains-below e = ltb-true _ _ (provided-is _ _ _ (ap (commandHere text at p) (sym e) ∙ here))
+
     -- A command that is refused whatever follows.
     pub step-refused : (c : Command) (f : Fault) → commandAt text at ≡ c →
         ((next : ℕ → Program → Outcome Program) → declare next text at p c ≡ refused f) → Stepped text at p (Step.Refused f)
@@ -89,6 +178,7 @@ module _ (text : List ℕ) (at : ℕ) (p : Program) where
     equation-by (accepted x) period initial weight h q e = (
       record { place = at; period = period; initial = initial; body = equation weight (x .value) },
       refl,
+      signals-below Keyword.Equation (of-command text at _ e) refl,
       omega arith,
       λ left. declared (Command.Equation period initial weight) e left ∙ rw h,
     )
@@ -111,6 +201,7 @@ module _ (text : List ℕ) (at : ℕ) (p : Program) where
           record { place = at; mode = mode; bound = bound; links = x .value },
           refl,
           refl,
+          chains-below (of-command text at _ e),
           omega arith,
           λ left. declared (Command.Latency mode bound) e left ∙ rw (h, enough (x .value) at f),
         )
@@ -126,6 +217,7 @@ module _ (text : List ℕ) (at : ℕ) (p : Program) where
     step-input period initial e = (
       record { place = at; period = period; initial = initial; body = input },
       refl,
+      signals-below Keyword.Input (of-command text at _ e) refl,
       omega arith,
       declared (Command.Input period initial) e,
     )

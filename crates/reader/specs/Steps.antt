@@ -28,10 +28,10 @@ pub record Counts (p : Program) (signals chains : ℕ) (capped : Bool) : Type 0 
 -- What the definition makes of the command at `at`, after what p has.
 unfoldable pub Stepped : List ℕ → ℕ → Program → Step → Type 0
 Stepped text at p (Step.Signal n) =
-    (x : Signal) × (x .place ≡ at) × (at < n) ×
+    (x : Signal) × (x .place ≡ at) × (count p < 64) × (at < n) ×
     ((left : ℕ) → parseCommands (suc left) text at p ≡ parseCommands left text n (withSignal p x))
 Stepped text at p (Step.Chain n k) =
-    (c : Chain) × (c .place ≡ at) × (length (c .links) ≡ k) × (at < n) ×
+    (c : Chain) × (c .place ≡ at) × (length (c .links) ≡ k) × (length (p .chains) < 16) × (at < n) ×
     ((left : ℕ) → parseCommands (suc left) text at p ≡ parseCommands left text n (withChain p c))
 Stepped text at p (Step.Cap n m) =
     (at < n) × ((left : ℕ) → parseCommands (suc left) text at p ≡ parseCommands left text n (withCap p m))
