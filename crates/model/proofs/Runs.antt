@@ -1,6 +1,6 @@
 -- The code of an expression pushes its value, and the code of a signal stores its next word. Assumes nothing.
-use Prim.Native.Nat.{ℕ, zero, suc, _+_, _-_, _≤_, _<_}
-use mathlib.Core.Bool.{Bool, true, false, cond}
+use Prim.Native.Nat.{ℕ, suc, _+_, _-_, _≤_}
+use mathlib.Core.Bool.{true, false}
 use mathlib.Core.List.{List, [], _∷_, _++_, append-nil}
 use mathlib.Core.Path.{_≡_, refl, sym, ap, _∙_}
 use native.Mathlib.Numerals.{add-one}
@@ -15,13 +15,13 @@ use Rattle.model.specs.Image.{binaryByte, exprCode, signalCode}
 use Rattle.model.specs.Machine.{operatorCode, codeAt, runCommand, runFrom, runCode}
 use Rattle.model.specs.Program.{Body, input, equation, Expr, constant, read, binary, negate, choose, Read}
 use Rattle.model.specs.Streams.{value, next}
-use Rattle.model.specs.Word.{byteAt, wordAt, fourBytes, wordBytes, binaryWord, negWord, ifWord}
+use Rattle.model.specs.Word.{fourBytes, wordBytes, binaryWord, negWord, ifWord}
 use Rattle.model.specs.declared.Binary.{Binary}
 use Rattle.model.specs.declared.Binary.the-variants.{Add, Sub, Mul, Less, Same, Min, Max}
 use Rattle.model.specs.declared.Code.{Code}
 use Rattle.model.specs.declared.Code.the-variants as Code
 use Rattle.model.proofs.Bounds.{Words, BodyWords}
-use Rattle.model.proofs.Stretches.{Stands, front, behind, inside, byte-here, byte-from, word-at}
+use Rattle.model.proofs.Stretches.{Stands, front, behind, inside, byte-here, word-at}
 
 -- The command that stands at a place of a code.
 module _ {code : List ℕ} {at : ℕ} where
