@@ -12,4 +12,6 @@ pub mod Window
 pub mod Bounds
 pub mod Stretches
 pub mod Runs
+pub mod Formed
+pub mod Bytes
 pub mod Examples
