@@ -14,4 +14,5 @@ pub mod Stretches
 pub mod Runs
 pub mod Formed
 pub mod Bytes
+pub mod AlikeBytes
 pub mod Examples
