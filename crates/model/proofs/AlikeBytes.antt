@@ -1,6 +1,6 @@
 -- Two accepted schedules of one program that settle alike store the same words through the bytes of their images. Assumes nothing.
 use Prim.Native.Nat.{ℕ, suc, _-_, _/_, _<_}
-use mathlib.Core.List.{List, []}
+use mathlib.Core.List.{List}
 use mathlib.Core.Path.{_≡_, sym, ap, subst₂, _∙_}
 use lib.IntN.{ℤ, pos}
 use lib.ListN.{length, getD}
@@ -13,7 +13,6 @@ use Rattle.model.specs.Schedule.{Schedule, phaseOf}
 use Rattle.model.proofs.Alike.{Alike, sample, alike-words}
 use Rattle.model.proofs.Bounds.{Bounded}
 use Rattle.model.proofs.Bytes.{wordsOf, view, stateBy, logBy, list-shown}
-use Rattle.model.proofs.Lists.{logOf}
 use Rattle.model.proofs.Rate.{stored-some}
 
 module _ (p : Program) (s s′ : Schedule) where

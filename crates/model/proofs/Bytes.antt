@@ -232,8 +232,13 @@ module _ (p : Program) (s : Schedule) (h : ℕ) (acc : Accepted p s) (whole : Mu
         cycled state (cycleWords (imageOf p s h) state samples) (ltb (length samples) (count p))
     unfolding cycleOf _▷_ provided
     cycle-call =
-        rw (image-well-formed p s h acc whole bounded, image-count p s h, image-hyper p s h,
-        lt-ltb (count p) (length state) (ready .long), ready .position) (go (ltb (length samples) (count p)) refl)
+        rw (
+          image-well-formed p s h acc whole bounded,
+          image-count p s h,
+          image-hyper p s h,
+          lt-ltb (count p) (length state) (ready .long),
+          ready .position,
+        ) (go (ltb (length samples) (count p)) refl)
       where
         go : (b : Bool) → ltb (length samples) (count p) ≡ b →
             effect state

@@ -10,7 +10,6 @@ use lib.ListN.{length, getD, length-append}
 use lib.Seq.{take-all}
 use Rattle.model.specs.Accepted.{All, Met, Accepted, Multiple}
 use Rattle.model.specs.Image.{
-  binaryByte,
   exprCode,
   signalCode,
   codes,
@@ -68,6 +67,9 @@ use Rattle.model.proofs.Runs.{
   binary-at,
   negate-at,
   if-at,
+  binary-parts,
+  negate-parts,
+  choose-parts,
   steps,
   spare,
   code-room,
@@ -114,39 +116,30 @@ module _ (Q : Read → Type 0) (n own : ℕ) (known : (ρ : Read) → Q ρ → �
       step f at height _ (load-at _ h) ∙
       rw (lt-ltb (ρ .operands .signal) n (known ρ (q .0)), lt-ltb height 32 (omega arith))
   expr-ok (binary operator x y) f at height fit q room h =
-      let h₁ = front (exprCode x) (exprCode y ++ (binaryByte operator ∷ [])) h in
-      let g₁ = behind (exprCode x) (exprCode y ++ (binaryByte operator ∷ [])) h in
-      let h₂ = front (exprCode y) (binaryByte operator ∷ []) g₁ in
-      let g₂ = behind (exprCode y) (binaryByte operator ∷ []) g₁ in
+      let parts = binary-parts operator x y h in
       let r = all-split Q (readsOf x) (readsOf y) q in
       ap (λ (k : ℕ). codeOkFrom k code n own at height) (omega arith) ∙
-      expr-ok x (steps y + suc f) at height (fit .0) (r .0) (omega arith) h₁ ∙
-      expr-ok y (suc f) _ _ (fit .1) (r .1) (omega arith) h₂ ∙
-      step f _ _ _ (binary-at operator g₂) ∙
+      expr-ok x (steps y + suc f) at height (fit .0) (r .0) (omega arith) (parts .0) ∙
+      expr-ok y (suc f) _ _ (fit .1) (r .1) (omega arith) (parts .1) ∙
+      step f _ _ _ (binary-at operator (parts .2)) ∙
       rw (le-leb 2 (height + 1 + 1) (omega arith))
       (ap₂ (codeOkFrom f code n own) (simp length-append (omega arith)) (omega arith))
   expr-ok (negate x) f at height fit q room h =
-      let h₁ = front (exprCode x) (0x38 ∷ []) h in
-      let g₁ = behind (exprCode x) (0x38 ∷ []) h in
+      let parts = negate-parts x h in
       ap (λ (k : ℕ). codeOkFrom k code n own at height) (omega arith) ∙
-      expr-ok x (suc f) at height fit q (omega arith) h₁ ∙
-      step f _ _ _ (negate-at g₁) ∙
+      expr-ok x (suc f) at height fit q (omega arith) (parts .0) ∙
+      step f _ _ _ (negate-at (parts .1)) ∙
       rw (le-leb 1 (height + 1) (omega arith))
       (ap (λ (k : ℕ). codeOkFrom f code n own k (height + 1)) (simp length-append (omega arith)))
   expr-ok (choose x y z) f at height fit q room h =
-      let h₁ = front (exprCode x) (exprCode y ++ (exprCode z ++ (0x3A ∷ []))) h in
-      let g₁ = behind (exprCode x) (exprCode y ++ (exprCode z ++ (0x3A ∷ []))) h in
-      let h₂ = front (exprCode y) (exprCode z ++ (0x3A ∷ [])) g₁ in
-      let g₂ = behind (exprCode y) (exprCode z ++ (0x3A ∷ [])) g₁ in
-      let h₃ = front (exprCode z) (0x3A ∷ []) g₂ in
-      let g₃ = behind (exprCode z) (0x3A ∷ []) g₂ in
+      let parts = choose-parts x y z h in
       let r = all-split Q (readsOf x) (readsOf y ++ readsOf z) q in
       let t = all-split Q (readsOf y) (readsOf z) (r .1) in
       ap (λ (k : ℕ). codeOkFrom k code n own at height) (omega arith) ∙
-      expr-ok x (steps y + (steps z + suc f)) at height (fit .0) (r .0) (omega arith) h₁ ∙
-      expr-ok y (steps z + suc f) _ _ (fit .1) (t .0) (omega arith) h₂ ∙
-      expr-ok z (suc f) _ _ (fit .2) (t .1) (omega arith) h₃ ∙
-      step f _ _ _ (if-at g₃) ∙
+      expr-ok x (steps y + (steps z + suc f)) at height (fit .0) (r .0) (omega arith) (parts .0) ∙
+      expr-ok y (steps z + suc f) _ _ (fit .1) (t .0) (omega arith) (parts .1) ∙
+      expr-ok z (suc f) _ _ (fit .2) (t .1) (omega arith) (parts .2) ∙
+      step f _ _ _ (if-at (parts .3)) ∙
       rw (le-leb 3 (height + 1 + 1 + 1) (omega arith))
       (ap₂ (codeOkFrom f code n own) (simp length-append (omega arith)) (omega arith))
 
@@ -202,9 +195,16 @@ module _ (p : Program) (s : Schedule) (h : ℕ) (acc : Accepted p s) (whole : Mu
   unfolding headOk lengthOf codesAt
   head-ok =
       let n = image-length p s h in
-      rw (image-hyper p s h, image-count p s h, le-leb 4 (length (imageOf p s h)) (omega arith),
-      eq-eqb _ _ (length-bytes p s h bounded), le-leb 1 h (whole .positive), le-leb h 240 (bounded .hyper),
-      le-leb (count p) 64 (bounded .signals), le-leb (listsAt (count p) h) (length (imageOf p s h)) (omega arith))
+      rw (
+        image-hyper p s h,
+        image-count p s h,
+        le-leb 4 (length (imageOf p s h)) (omega arith),
+        eq-eqb _ _ (length-bytes p s h bounded),
+        le-leb 1 h (whole .positive),
+        le-leb h 240 (bounded .hyper),
+        le-leb (count p) 64 (bounded .signals),
+        le-leb (listsAt (count p) h) (length (imageOf p s h)) (omega arith),
+      )
 
   code-first : codeOffset (imageOf p s h) 0 ≡ codesAt p s h
   unfolding joinFrom
@@ -234,8 +234,13 @@ module _ (p : Program) (s : Schedule) (h : ℕ) (acc : Accepted p s) (whole : Mu
   lists-ok : listsOk (imageOf p s h) ≡ true
   unfolding listsOk
   lists-ok =
-      rw (image-hyper p s h, image-count p s h, eq-eqb _ _ list-first, true-all h _ (λ c lt. le-leb _ _ (list-rises c lt)),
-      eq-eqb _ _ (list-last ∙ sym code-first)) (le-leb _ _ (code-inside 0 (omega arith)))
+      rw (
+        image-hyper p s h,
+        image-count p s h,
+        eq-eqb _ _ list-first,
+        true-all h _ (λ c lt. le-leb _ _ (list-rises c lt)),
+        eq-eqb _ _ (list-last ∙ sym code-first),
+      ) (le-leb _ _ (code-inside 0 (omega arith)))
 
   list-below : (c : ℕ) → c < length (runLists p s h) → Every (_< count p) (getD (runLists p s h) c [])
   unfolding runList

@@ -70,6 +70,35 @@ module _ {code : List ℕ} {at : ℕ} where
   unfolding operatorCode
   if-at h = operator-at 0x3A h refl refl refl refl
 
+-- Where the operands and the operator stand in the code of an expression.
+module _ {code : List ℕ} {at : ℕ} where
+  pub binary-parts : (operator : Binary) (x y : Expr) → Stands code at (exprCode (binary operator x y)) →
+      Stands code at (exprCode x) × Stands code (at + length (exprCode x)) (exprCode y) ×
+      Stands code (at + length (exprCode x) + length (exprCode y)) (binaryByte operator ∷ [])
+  unfolding exprCode
+  binary-parts operator x y h =
+      let g = behind (exprCode x) (exprCode y ++ (binaryByte operator ∷ [])) h in
+      (front (exprCode x) _ h, front (exprCode y) (binaryByte operator ∷ []) g, behind (exprCode y) (binaryByte operator ∷ []) g)
+
+  pub negate-parts : (x : Expr) → Stands code at (exprCode (negate x)) →
+      Stands code at (exprCode x) × Stands code (at + length (exprCode x)) (0x38 ∷ [])
+  unfolding exprCode
+  negate-parts x h = (front (exprCode x) (0x38 ∷ []) h, behind (exprCode x) (0x38 ∷ []) h)
+
+  pub choose-parts : (x y z : Expr) → Stands code at (exprCode (choose x y z)) →
+      Stands code at (exprCode x) × Stands code (at + length (exprCode x)) (exprCode y) ×
+      Stands code (at + length (exprCode x) + length (exprCode y)) (exprCode z) ×
+      Stands code (at + length (exprCode x) + length (exprCode y) + length (exprCode z)) (0x3A ∷ [])
+  unfolding exprCode
+  choose-parts x y z h =
+      let g = behind (exprCode x) (exprCode y ++ (exprCode z ++ (0x3A ∷ []))) h in
+      let k = behind (exprCode y) (exprCode z ++ (0x3A ∷ [])) g in (
+        front (exprCode x) _ h,
+        front (exprCode y) _ g,
+        front (exprCode z) (0x3A ∷ []) k,
+        behind (exprCode z) (0x3A ∷ []) k,
+      )
+
 -- The number of commands in the code of an expression.
 abbrev pub steps : Expr → ℕ
 steps (constant w) = 1
@@ -106,35 +135,26 @@ module _ (code : List ℕ) (state samples : List ℤ) where
       ap (λ (k : ℕ). runFrom k code state samples at stack) (omega arith) ∙ step f at stack _ (load-at _ h) ∙
       ap (λ (k : ℕ). runFrom f code state samples (at + 2) (getD state k (pos 0) ∷ stack)) (add-one (ρ .operands .signal))
   run-expr (binary operator x y) f at stack fit h =
-      let h₁ = front (exprCode x) (exprCode y ++ (binaryByte operator ∷ [])) h in
-      let g₁ = behind (exprCode x) (exprCode y ++ (binaryByte operator ∷ [])) h in
-      let h₂ = front (exprCode y) (binaryByte operator ∷ []) g₁ in
-      let g₂ = behind (exprCode y) (binaryByte operator ∷ []) g₁ in
+      let parts = binary-parts operator x y h in
       ap (λ (k : ℕ). runFrom k code state samples at stack) (omega arith) ∙
-      run-expr x (steps y + suc f) at stack (fit .0) h₁ ∙
-      run-expr y (suc f) _ _ (fit .1) h₂ ∙
-      step f _ _ _ (binary-at operator g₂) ∙
+      run-expr x (steps y + suc f) at stack (fit .0) (parts .0) ∙
+      run-expr y (suc f) _ _ (fit .1) (parts .1) ∙
+      step f _ _ _ (binary-at operator (parts .2)) ∙
       ap (λ (k : ℕ). runFrom f code state samples k (binaryWord operator (value word x) (value word y) ∷ stack))
       (simp length-append (omega arith))
   run-expr (negate x) f at stack fit h =
-      let h₁ = front (exprCode x) (0x38 ∷ []) h in
-      let g₁ = behind (exprCode x) (0x38 ∷ []) h in
+      let parts = negate-parts x h in
       ap (λ (k : ℕ). runFrom k code state samples at stack) (omega arith) ∙
-      run-expr x (suc f) at stack fit h₁ ∙
-      step f _ _ _ (negate-at g₁) ∙
+      run-expr x (suc f) at stack fit (parts .0) ∙
+      step f _ _ _ (negate-at (parts .1)) ∙
       ap (λ (k : ℕ). runFrom f code state samples k (negWord (value word x) ∷ stack)) (simp length-append (omega arith))
   run-expr (choose x y z) f at stack fit h =
-      let h₁ = front (exprCode x) (exprCode y ++ (exprCode z ++ (0x3A ∷ []))) h in
-      let g₁ = behind (exprCode x) (exprCode y ++ (exprCode z ++ (0x3A ∷ []))) h in
-      let h₂ = front (exprCode y) (exprCode z ++ (0x3A ∷ [])) g₁ in
-      let g₂ = behind (exprCode y) (exprCode z ++ (0x3A ∷ [])) g₁ in
-      let h₃ = front (exprCode z) (0x3A ∷ []) g₂ in
-      let g₃ = behind (exprCode z) (0x3A ∷ []) g₂ in
+      let parts = choose-parts x y z h in
       ap (λ (k : ℕ). runFrom k code state samples at stack) (omega arith) ∙
-      run-expr x (steps y + (steps z + suc f)) at stack (fit .0) h₁ ∙
-      run-expr y (steps z + suc f) _ _ (fit .1) h₂ ∙
-      run-expr z (suc f) _ _ (fit .2) h₃ ∙
-      step f _ _ _ (if-at g₃) ∙
+      run-expr x (steps y + (steps z + suc f)) at stack (fit .0) (parts .0) ∙
+      run-expr y (steps z + suc f) _ _ (fit .1) (parts .1) ∙
+      run-expr z (suc f) _ _ (fit .2) (parts .2) ∙
+      step f _ _ _ (if-at (parts .3)) ∙
       ap (λ (k : ℕ). runFrom f code state samples k (ifWord (value word x) (value word y) (value word z) ∷ stack))
       (simp length-append (omega arith))
 
