@@ -210,14 +210,14 @@ module _ (p : Program) (s : Schedule) (h : ℕ) (acc : Accepted p s) (whole : Mu
         rw cycle-is
         (getD-set-same ran 0 (pos moved) (pos 0) (omega (arith, run-length (imageOf p s h) (runList p s at) samples state, ready .long)))
 
-    cycle-shown : wordsOf (cycleWords (imageOf p s h) state samples) ≡ turns p s (sampleOf samples) at (s .order) (wordsOf state)
+    cycle-turns : wordsOf (cycleWords (imageOf p s h) state samples) ≡ turns p s (sampleOf samples) at (s .order) (wordsOf state)
     unfolding ran runList
-    cycle-shown =
+    cycle-turns =
         ap wordsOf cycle-is ∙ set-position ran (pos moved) ∙ run-turns samples at (s .order) state (acc .only) (ready .long)
 
     cycle-view : view (cycleWords (imageOf p s h) state samples) ≡ Turns.cycle p s h (sampleOf samples) (view state)
     unfolding at moved
-    cycle-view i = record { position = ap positionOf cycle-first i; words = cycle-shown i }
+    cycle-view i = record { position = ap positionOf cycle-first i; words = cycle-turns i }
 
     cycle-ready : Ready p h (cycleWords (imageOf p s h) state samples)
     unfolding moved
@@ -275,13 +275,13 @@ module _ (p : Program) (s : Schedule) (h : ℕ) (acc : Accepted p s) (whole : Mu
         logs = refl;
       })
 
-  cycle-shows : {n : ℕ} {state : List ℤ} {st : State} {log log′ : List (List ℤ)} (samples : List ℤ) →
+  cycle-shown : {n : ℕ} {state : List ℤ} {st : State} {log log′ : List (List ℤ)} (samples : List ℤ) →
       Shown p h n state st log log′ →
       Shown p h n (cycleOf (imageOf p s h) state samples .left)
       (cond (ltb (length samples) (count p)) st (Turns.cycle p s h (sampleOf samples) st))
       (logged (cycle samples) (cycleOf (imageOf p s h) state samples .answer) log)
       (cond (ltb (length samples) (count p)) log′ (samples ∷ log′))
-  cycle-shows {n} {state} {st} {log} {log′} samples x =
+  cycle-shown {n} {state} {st} {log} {log′} samples x =
       rw (cycle-call samples state (x .ready)) (go (ltb (length samples) (count p)))
     where
       left : List ℤ
@@ -304,7 +304,7 @@ module _ (p : Program) (s : Schedule) (h : ℕ) (acc : Accepted p s) (whole : Mu
   unfolding after logAfter callOf
   calls-shown [] x = x
   calls-shown (reset ∷ cs) x = calls-shown cs (reset-shown x)
-  calls-shown (cycle samples ∷ cs) x = calls-shown cs (cycle-shows samples x)
+  calls-shown (cycle samples ∷ cs) x = calls-shown cs (cycle-shown samples x)
 
   -- In a state that is ready no reset is refused, and a cycle exactly if it is lent too few samples. The state stays ready.
   pub call-answers : (state : List ℤ) (c : Call) → Ready p h state → callOf (imageOf p s h) state c .answer ≡ answerTo p c
@@ -320,7 +320,7 @@ module _ (p : Program) (s : Schedule) (h : ℕ) (acc : Accepted p s) (whole : Mu
   pub call-keeps : (state : List ℤ) (c : Call) → Ready p h state → Ready p h (callOf (imageOf p s h) state c .left)
   unfolding callOf
   call-keeps state reset ready = reset-shown (itself ready) .ready
-  call-keeps state (cycle samples) ready = cycle-shows samples (itself ready) .ready
+  call-keeps state (cycle samples) ready = cycle-shown samples (itself ready) .ready
 
   module _ (old : List ℤ) (long : count p < length old) where
     first-shown : Shown p h (length old) (resetOf (imageOf p s h) old .left) (Turns.reset p (view old)) [] []
@@ -347,7 +347,8 @@ module _ (p : Program) (s : Schedule) (h : ℕ) (acc : Accepted p s) (whole : Mu
     calls-answer cs c = call-answers (stateBy (imageOf p s h) old cs) c (list-shown cs .ready)
 
     -- What the state is after the list.
-    machine-words : (cs : List Call) (X : ℕ → ℕ → ℤ) → After p s h X (view old) (length (logOf p [] cs)) (view (stateBy (imageOf p s h) old cs)) →
+    machine-words : (cs : List Call) (X : ℕ → ℕ → ℤ) →
+        After p s h X (view old) (length (logOf p [] cs)) (view (stateBy (imageOf p s h) old cs)) →
         Holds p s h X old (length (logOf p [] cs)) (stateBy (imageOf p s h) old cs)
     machine-words cs X a =
         let shown = list-shown cs in

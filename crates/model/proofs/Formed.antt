@@ -3,7 +3,6 @@ use Prim.Native.Nat.{ℕ, zero, suc, _+_, _-_, _*_, _≤_, _<_}
 use mathlib.Core.Bool.{Bool, true, false, cond}
 use mathlib.Core.List.{List, [], _∷_, _++_}
 use mathlib.Core.Path.{_≡_, refl, sym, ap, ap₂, subst, _∙_}
-use native.Mathlib.Numerals.{add-one}
 use native.Mathlib.Omega.{arith}
 use borrow.Author.Tests.{lt-ltb, le-leb, eq-eqb}
 use lib.ListN.{length, getD, length-append}
@@ -73,16 +72,14 @@ use Rattle.model.proofs.Runs.{
   steps,
   spare,
   code-room,
-  all-of,
 }
 use Rattle.model.proofs.Stretches.{
   Stands,
+  all-of,
   front,
   behind,
   joined-cons,
-  parts-next,
   parts-most,
-  codes-length,
   lists-length,
   list-is,
   lists-byte,
@@ -93,27 +90,29 @@ use Rattle.model.proofs.Stretches.{
   list-offset,
   code-offset,
   code-stretch,
+  list-rises,
+  code-rises,
 }
 use Rattle.model.proofs.Values.{all-split}
+
+step : (code : List ℕ) (n own f at height : ℕ) (c : Code) → codeAt code at ≡ c →
+    codeOkFrom (suc f) code n own at height ≡ commandOk (λ a h. codeOkFrom f code n own a h) (length code) n own at height c
+unfolding codeOkFrom
+step code n own f at height c d = rw d
 
 -- The code of an expression, where it reads known signals only and there is room on the stack, leaves one word more. At depth d
 -- it takes at most 2(d − 1) + 1.
 module _ (Q : Read → Type 0) (n own : ℕ) (known : (ρ : Read) → Q ρ → ρ .operands .signal < n) (code : List ℕ) where
-  step : (f at height : ℕ) (c : Code) → codeAt code at ≡ c →
-      codeOkFrom (suc f) code n own at height ≡ commandOk (λ a h. codeOkFrom f code n own a h) (length code) n own at height c
-  unfolding codeOkFrom
-  step f at height c d = rw d
-
   expr-ok : (e : Expr) (f at height : ℕ) → Words e → All Q (readsOf e) → height + 2 * depth e ≤ 33 → Stands code at (exprCode e) →
       codeOkFrom (steps e + f) code n own at height ≡ codeOkFrom f code n own (at + length (exprCode e)) (height + 1)
   unfolding exprCode readsOf commandOk wordBytes fourBytes
   expr-ok (constant w) f at height fit q room h =
       ap (λ (k : ℕ). codeOkFrom k code n own at height) (omega arith) ∙
-      step f at height _ (push-at w fit h) ∙
+      step code n own f at height _ (push-at w fit h) ∙
       rw (lt-ltb height 32 (omega arith))
   expr-ok (read ρ) f at height fit q room h =
       ap (λ (k : ℕ). codeOkFrom k code n own at height) (omega arith) ∙
-      step f at height _ (load-at _ h) ∙
+      step code n own f at height _ (load-at _ h) ∙
       rw (lt-ltb (ρ .operands .signal) n (known ρ (q .0)), lt-ltb height 32 (omega arith))
   expr-ok (binary operator x y) f at height fit q room h =
       let parts = binary-parts operator x y h in
@@ -121,14 +120,14 @@ module _ (Q : Read → Type 0) (n own : ℕ) (known : (ρ : Read) → Q ρ → �
       ap (λ (k : ℕ). codeOkFrom k code n own at height) (omega arith) ∙
       expr-ok x (steps y + suc f) at height (fit .0) (r .0) (omega arith) (parts .0) ∙
       expr-ok y (suc f) _ _ (fit .1) (r .1) (omega arith) (parts .1) ∙
-      step f _ _ _ (binary-at operator (parts .2)) ∙
+      step code n own f _ _ _ (binary-at operator (parts .2)) ∙
       rw (le-leb 2 (height + 1 + 1) (omega arith))
       (ap₂ (codeOkFrom f code n own) (simp length-append (omega arith)) (omega arith))
   expr-ok (negate x) f at height fit q room h =
       let parts = negate-parts x h in
       ap (λ (k : ℕ). codeOkFrom k code n own at height) (omega arith) ∙
       expr-ok x (suc f) at height fit q (omega arith) (parts .0) ∙
-      step f _ _ _ (negate-at (parts .1)) ∙
+      step code n own f _ _ _ (negate-at (parts .1)) ∙
       rw (le-leb 1 (height + 1) (omega arith))
       (ap (λ (k : ℕ). codeOkFrom f code n own k (height + 1)) (simp length-append (omega arith)))
   expr-ok (choose x y z) f at height fit q room h =
@@ -139,7 +138,7 @@ module _ (Q : Read → Type 0) (n own : ℕ) (known : (ρ : Read) → Q ρ → �
       expr-ok x (steps y + (steps z + suc f)) at height (fit .0) (r .0) (omega arith) (parts .0) ∙
       expr-ok y (steps z + suc f) _ _ (fit .1) (t .0) (omega arith) (parts .1) ∙
       expr-ok z (suc f) _ _ (fit .2) (t .1) (omega arith) (parts .2) ∙
-      step f _ _ _ (if-at (parts .3)) ∙
+      step code n own f _ _ _ (if-at (parts .3)) ∙
       rw (le-leb 3 (height + 1 + 1 + 1) (omega arith))
       (ap₂ (codeOkFrom f code n own) (simp length-append (omega arith)) (omega arith))
 
@@ -149,15 +148,15 @@ module _ (Q : Read → Type 0) (n x : ℕ) (known : (ρ : Read) → Q ρ → ρ 
   unfolding codeOk commandOk
   signal-ok input fit deep q =
       let code = signalCode x input in
-      step Q n x known code 3 0 0 _ (fetch-at x (front (0x52 ∷ x ∷ []) (0x5F ∷ x ∷ []) (all-of code))) ∙
+      step code n x 3 0 0 _ (fetch-at x (front (0x52 ∷ x ∷ []) (0x5F ∷ x ∷ []) (all-of code))) ∙
       rw (eq-eqb x x refl)
-      (step Q n x known code 2 2 1 _ (store-at x (behind (0x52 ∷ x ∷ []) (0x5F ∷ x ∷ []) (all-of code))) ∙
+      (step code n x 2 2 1 _ (store-at x (behind (0x52 ∷ x ∷ []) (0x5F ∷ x ∷ []) (all-of code))) ∙
       rw (eq-eqb x x refl))
   signal-ok (equation weight e) fit deep q =
       let code = signalCode x (equation weight e) in
       ap (λ (k : ℕ). codeOkFrom k code n x 0 0) (code-room e x) ∙
       expr-ok Q n x known code e (suc (spare e)) 0 0 fit q (omega arith) (front (exprCode e) (0x5F ∷ x ∷ []) (all-of code)) ∙
-      step Q n x known code (spare e) _ _ _ (store-at x (behind (exprCode e) (0x5F ∷ x ∷ []) (all-of code))) ∙
+      step code n x (spare e) _ _ _ (store-at x (behind (exprCode e) (0x5F ∷ x ∷ []) (all-of code))) ∙
       rw (eq-eqb x x refl) (eq-eqb (0 + length (exprCode e) + 2) (length code) (simp length-append (omega arith)))
 
 -- What holds of every element, of lists put together and of elements chosen.
@@ -225,12 +224,6 @@ module _ (p : Program) (s : Schedule) (h : ℕ) (acc : Accepted p s) (whole : Mu
       ap (λ (l : List (List ℕ)). listsAt (count p) h + length (joined l))
       (take-all h (runLists p s h) (omega (arith, lists-length p s h)))
 
-  list-rises : (c : ℕ) → c < h → listOffset (imageOf p s h) c ≤ listOffset (imageOf p s h) (c + 1)
-  list-rises c lt =
-      let n = lists-length p s h in
-      rw (list-offset p s h bounded c (omega arith), list-offset p s h bounded (c + 1) (omega arith), add-one c)
-      (omega (arith, parts-next (runLists p s h) c (omega arith)))
-
   lists-ok : listsOk (imageOf p s h) ≡ true
   unfolding listsOk
   lists-ok =
@@ -238,7 +231,7 @@ module _ (p : Program) (s : Schedule) (h : ℕ) (acc : Accepted p s) (whole : Mu
         image-hyper p s h,
         image-count p s h,
         eq-eqb _ _ list-first,
-        true-all h _ (λ c lt. le-leb _ _ (list-rises c lt)),
+        true-all h _ (λ c lt. le-leb _ _ (list-rises p s h bounded c lt)),
         eq-eqb _ _ (list-last ∙ sym code-first),
       ) (le-leb _ _ (code-inside 0 (omega arith)))
 
@@ -259,18 +252,12 @@ module _ (p : Program) (s : Schedule) (h : ℕ) (acc : Accepted p s) (whole : Mu
   unfolding entriesOk
   entries-ok = rw (image-hyper p s h, image-count p s h) (true-all _ _ (λ i lt. lt-ltb _ _ (entry-below i lt)))
 
-  code-rises : (x : ℕ) → x < count p → codeOffset (imageOf p s h) x ≤ codeOffset (imageOf p s h) (x + 1)
-  code-rises x lt =
-      let n = codes-length p s h in
-      rw (code-offset p s h bounded x (omega arith), code-offset p s h bounded (x + 1) (omega arith), add-one x)
-      (omega (arith, parts-next (codes p) x (omega arith)))
-
   codes-ok : codesOk (imageOf p s h) ≡ true
   unfolding codesOk
   codes-ok =
       rw (image-count p s h)
       (true-all (count p) _ (λ x lt.
-      rw (le-leb _ _ (code-rises x lt), le-leb _ _ (code-inside (x + 1) (omega arith)), code-stretch p s h bounded x lt)
+      rw (le-leb _ _ (code-rises p s h bounded x lt), le-leb _ _ (code-inside (x + 1) (omega arith)), code-stretch p s h bounded x lt)
       (signal-ok (Met p s x) (count p) x (λ ρ m. m .declared) (signalAt p x .body) (bounded .constants x lt) (bounded .depths x lt)
       (acc .met x lt))))
 

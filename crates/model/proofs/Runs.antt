@@ -1,8 +1,8 @@
 -- The code of an expression pushes its value, and the code of a signal stores its next word. Assumes nothing.
 use Prim.Native.Nat.{ℕ, suc, _+_, _-_, _≤_}
 use mathlib.Core.Bool.{true, false}
-use mathlib.Core.List.{List, [], _∷_, _++_, append-nil}
-use mathlib.Core.Path.{_≡_, refl, sym, ap, _∙_}
+use mathlib.Core.List.{List, [], _∷_, _++_}
+use mathlib.Core.Path.{_≡_, refl, ap, _∙_}
 use native.Mathlib.Numerals.{add-one}
 use native.Mathlib.Omega.{arith}
 use borrow.Author.Tests.{lt-ltb, le-leb}
@@ -21,7 +21,7 @@ use Rattle.model.specs.declared.Binary.the-variants.{Add, Sub, Mul, Less
 use Rattle.model.specs.declared.Code.{Code}
 use Rattle.model.specs.declared.Code.the-variants as Code
 use Rattle.model.proofs.Bounds.{Words, BodyWords}
-use Rattle.model.proofs.Stretches.{Stands, front, behind, inside, byte-here, word-at}
+use Rattle.model.proofs.Stretches.{Stands, all-of, front, behind, inside, byte-here, word-at}
 
 -- The command that stands at a place of a code.
 module _ {code : List ℕ} {at : ℕ} where
@@ -107,7 +107,7 @@ steps (binary operator x y) = steps x + (steps y + 1)
 steps (negate x) = steps x + 1
 steps (choose x y z) = steps x + (steps y + (steps z + 1))
 
-pub steps-most : (e : Expr) → steps e ≤ length (exprCode e)
+steps-most : (e : Expr) → steps e ≤ length (exprCode e)
 unfolding exprCode wordBytes fourBytes
 steps-most (constant w) = omega arith
 steps-most (read ρ) = omega arith
@@ -125,7 +125,7 @@ module _ (code : List ℕ) (state samples : List ℤ) where
   unfolding runFrom
   step f at stack c d = rw d
 
-  pub run-expr : (e : Expr) (f at : ℕ) (stack : List ℤ) → Words e → Stands code at (exprCode e) →
+  run-expr : (e : Expr) (f at : ℕ) (stack : List ℤ) → Words e → Stands code at (exprCode e) →
       runFrom (steps e + f) code state samples at stack ≡
       runFrom f code state samples (at + length (exprCode e)) (value word e ∷ stack)
   unfolding exprCode value runCommand wordBytes fourBytes
@@ -157,10 +157,6 @@ module _ (code : List ℕ) (state samples : List ℤ) where
       step f _ _ _ (if-at (parts .3)) ∙
       ap (λ (k : ℕ). runFrom f code state samples k (ifWord (value word x) (value word y) (value word z) ∷ stack))
       (simp length-append (omega arith))
-
--- All of a list stands at its start.
-pub all-of : (code : List ℕ) → Stands code 0 code
-all-of code = record { rest = []; is = sym (append-nil code) }
 
 -- The commands that the code of an equation has room for after its expression.
 abbrev pub spare : Expr → ℕ

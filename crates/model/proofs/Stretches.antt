@@ -2,7 +2,7 @@
 use Prim.Native.Nat.{ℕ, zero, suc, _+_, _-_, _*_, _/_, _%_, _^_, _≤_, _<_}
 use mathlib.Core.Bool.{Bool, true, false, cond}
 use mathlib.Core.List.{List, [], _∷_, _++_, append-assoc, append-nil}
-use mathlib.Core.Path.{_≡_, refl, sym, ap, _∙_}
+use mathlib.Core.Path.{_≡_, refl, sym, ap, subst, _∙_}
 use native.Mathlib.Nat.{add-zero}
 use native.Mathlib.Numerals.{add-one}
 use native.Mathlib.Omega.{arith}
@@ -40,6 +40,9 @@ pub record Stands (s : List ℕ) (at : ℕ) (part : List ℕ) : Type 0 where
   pub rest : List ℕ
   pub is : drop at s ≡ part ++ rest
 
+pub all-of : (s : List ℕ) → Stands s 0 s
+all-of s = record { rest = []; is = sym (append-nil s) }
+
 module _ {s : List ℕ} {at : ℕ} where
   pub front : (xs ys : List ℕ) → Stands s at (xs ++ ys) → Stands s at xs
   front xs ys h = record { rest = ys ++ h .rest; is = h .is ∙ append-assoc xs ys (h .rest) }
@@ -70,7 +73,7 @@ module _ {s : List ℕ} {at : ℕ} where
   pub byte-here : {b : ℕ} {part : List ℕ} → Stands s at (b ∷ part) → byteAt s at ≡ b
   byte-here {b} {part} h = ap (byteAt s) (sym (add-zero at)) ∙ byte-from {part = b ∷ part} 0 (omega arith) h
 
-pub stretch-is : {s part : List ℕ} {from : ℕ} (to : ℕ) → to ≡ from + length part → Stands s from part → stretch s from to ≡ part
+stretch-is : {s part : List ℕ} {from : ℕ} (to : ℕ) → to ≡ from + length part → Stands s from part → stretch s from to ≡ part
 stretch-is {part} {from} to e h =
     ap (take (to - from)) (h .is) ∙ take-at part (h .rest) (to - from) (omega arith)
 
@@ -162,10 +165,10 @@ joined-at (y ∷ ys) (suc x) h =
     rw (joined-cons y ys, joined-cons y (take x ys), length-append)
     (drop-append-add y (joined ys) (length (joined (take x ys))) ∙ joined-at ys x (omega arith))
 
-pub part-at : (xs : List (List ℕ)) (x : ℕ) → x < length xs → Stands (joined xs) (length (joined (take x xs))) (getD xs x [])
+part-at : (xs : List (List ℕ)) (x : ℕ) → x < length xs → Stands (joined xs) (length (joined (take x xs))) (getD xs x [])
 part-at xs x h = record { rest = joined (drop (suc x) xs); is = joined-at xs x h }
 
-pub parts-next : (xs : List (List ℕ)) (x : ℕ) → x < length xs →
+parts-next : (xs : List (List ℕ)) (x : ℕ) → x < length xs →
     length (joined (take (suc x) xs)) ≡ length (joined (take x xs)) + length (getD xs x [])
 unfolding joinFrom
 parts-next [] x h = absurd (omega arith)
@@ -180,6 +183,21 @@ parts-most xs zero = omega arith
 parts-most [] (suc x) = omega arith
 parts-most (y ∷ ys) (suc x) =
     rw (joined-cons y ys, joined-cons y (take x ys)) (simp length-append (omega (arith, parts-most ys x)))
+
+-- Parts that follow one another from `start` on, each where its offset says.
+module _ (s : List ℕ) (start : ℕ) (xs : List (List ℕ)) (offset : ℕ → ℕ)
+    (starts : (x : ℕ) → x ≤ length xs → offset x ≡ start + length (joined (take x xs))) where
+  offset-next : (x : ℕ) → x < length xs → offset (x + 1) ≡ offset x + length (getD xs x [])
+  offset-next x lt =
+      rw (starts x (omega arith), starts (x + 1) (omega arith), add-one x) (omega (arith, parts-next xs x lt))
+
+  offset-rises : (x : ℕ) → x < length xs → offset x ≤ offset (x + 1)
+  offset-rises x lt = omega (arith, offset-next x lt)
+
+  part-stretch : Stands s start (joined xs) → (x : ℕ) → x < length xs → stretch s (offset x) (offset (x + 1)) ≡ getD xs x []
+  part-stretch h x lt =
+      stretch-is (offset (x + 1)) (offset-next x lt)
+      (rw (starts x (omega arith)) (within (length (joined (take x xs))) (parts-most xs x) h (part-at xs x lt)))
 
 -- The offsets of parts.
 offsets-length : (at : ℕ) (xs : List (List ℕ)) → length (offsets at xs) ≡ suc (length xs)
@@ -254,17 +272,17 @@ ones-at f i (y ∷ ys) zero a b h = ap (λ (k : ℕ). f k y) (omega arith)
 ones-at f i (y ∷ ys) (suc x) a b h =
     ones-at f (suc i) ys x a b (omega arith) ∙ ap (λ (k : ℕ). f k (getD ys x a)) (omega arith)
 
+pub codes-length : (p : Program) → length (codes p) ≡ count p
+unfolding codes
+codes-length p = ones-length (λ x signal. signalCode x (signal .body)) 0 (p .signals)
+
+code-is : (p : Program) (x : ℕ) → x < count p → getD (codes p) x [] ≡ signalCode x (signalAt p x .body)
+unfolding codes
+code-is p x lt =
+    ones-at (λ x signal. signalCode x (signal .body)) 0 (p .signals) x noSignal [] lt ∙
+    ap (λ (k : ℕ). signalCode k (signalAt p x .body)) (omega arith)
+
 module _ (p : Program) (s : Schedule) (h : ℕ) where
-  pub codes-length : length (codes p) ≡ count p
-  unfolding codes
-  codes-length = ones-length (λ x signal. signalCode x (signal .body)) 0 (p .signals)
-
-  pub code-is : (x : ℕ) → x < count p → getD (codes p) x [] ≡ signalCode x (signalAt p x .body)
-  unfolding codes
-  code-is x lt =
-      ones-at (λ x signal. signalCode x (signal .body)) 0 (p .signals) x noSignal [] lt ∙
-      ap (λ (k : ℕ). signalCode k (signalAt p x .body)) (omega arith)
-
   pub lists-length : length (runLists p s h) ≡ h
   unfolding runLists
   lists-length = table-length h (runList p s)
@@ -293,13 +311,14 @@ module _ (p : Program) (s : Schedule) (h : ℕ) where
   codesPart : List ℕ
   codesPart = joined (codes p)
 
-  image-is : imageOf p s h ≡ (h ∷ count p ∷ twoBytes (lengthOf p s h)) ++ (recordsPart ++ (offsetsPart ++ (listsPart ++ codesPart)))
+  image-is : imageOf p s h ≡
+      (h ∷ count p ∷ twoBytes (lengthOf p s h)) ++ (recordsPart ++ (offsetsPart ++ (listsPart ++ codesPart)))
   unfolding imageOf head recordsPart offsetsPart listsPart codesPart
   image-is = refl
 
   records-part-length : length recordsPart ≡ 6 * count p
   unfolding recordsPart
-  records-part-length = records-length (p .signals) _ (omega (arith, offsets-length (codesAt p s h) (codes p), codes-length))
+  records-part-length = records-length (p .signals) _ (omega (arith, offsets-length (codesAt p s h) (codes p), codes-length p))
 
   offsets-part-length : length offsetsPart ≡ 2 * (h + 1)
   unfolding offsetsPart
@@ -307,12 +326,13 @@ module _ (p : Program) (s : Schedule) (h : ℕ) where
       pairs-length 0 (offsets (listsAt (count p) h) (runLists p s h)) ∙
       omega (arith, offsets-length (listsAt (count p) h) (runLists p s h), lists-length)
 
-  head-stands : Stands (imageOf p s h) 0 ((h ∷ count p ∷ twoBytes (lengthOf p s h)) ++ (recordsPart ++ (offsetsPart ++ (listsPart ++ codesPart))))
-  head-stands = record { rest = []; is = image-is ∙ sym (append-nil _) }
+  head-on : Stands (imageOf p s h) 0
+      ((h ∷ count p ∷ twoBytes (lengthOf p s h)) ++ (recordsPart ++ (offsetsPart ++ (listsPart ++ codesPart))))
+  head-on = subst (Stands (imageOf p s h) 0) image-is (all-of (imageOf p s h))
 
   records-on : Stands (imageOf p s h) 4 (recordsPart ++ (offsetsPart ++ (listsPart ++ codesPart)))
   unfolding twoBytes
-  records-on = behind (h ∷ count p ∷ twoBytes (lengthOf p s h)) _ head-stands
+  records-on = behind (h ∷ count p ∷ twoBytes (lengthOf p s h)) _ head-on
 
   offsets-on : Stands (imageOf p s h) (4 + 6 * count p) (offsetsPart ++ (listsPart ++ codesPart))
   offsets-on = rw records-part-length at (behind recordsPart _ records-on)
@@ -320,14 +340,17 @@ module _ (p : Program) (s : Schedule) (h : ℕ) where
   lists-on : Stands (imageOf p s h) (listsAt (count p) h) (listsPart ++ codesPart)
   lists-on = rw offsets-part-length at (behind offsetsPart _ offsets-on)
 
-  codes-stand : Stands (imageOf p s h) (codesAt p s h) codesPart
-  unfolding codesAt listsPart
+  lists-stand : Stands (imageOf p s h) (listsAt (count p) h) (joined (runLists p s h))
+  unfolding listsPart
+  lists-stand = front listsPart codesPart lists-on
+
+  codes-stand : Stands (imageOf p s h) (codesAt p s h) (joined (codes p))
+  unfolding codesAt listsPart codesPart
   codes-stand = behind listsPart codesPart lists-on
 
   pub lists-byte : (i : ℕ) → i < length (joined (runLists p s h)) →
       byteAt (imageOf p s h) (listsAt (count p) h + i) ≡ byteAt (joined (runLists p s h)) i
-  unfolding listsPart
-  lists-byte i lt = byte-from i lt (front listsPart codesPart lists-on)
+  lists-byte i lt = byte-from i lt lists-stand
 
   pub image-length : length (imageOf p s h) ≡ lengthOf p s h
   unfolding lengthOf codesAt twoBytes listsPart codesPart
@@ -345,7 +368,7 @@ module _ (p : Program) (s : Schedule) (h : ℕ) where
     pub length-bytes : twoAt (imageOf p s h) 2 ≡ length (imageOf p s h)
     length-bytes =
         two-at (lengthOf p s h) (bounded .size)
-        (behind (h ∷ count p ∷ []) _ (front (h ∷ count p ∷ twoBytes (lengthOf p s h)) _ head-stands)) ∙
+        (behind (h ∷ count p ∷ []) _ (front (h ∷ count p ∷ twoBytes (lengthOf p s h)) _ head-on)) ∙
         sym image-length
 
     -- The record of signal x.
@@ -354,7 +377,7 @@ module _ (p : Program) (s : Schedule) (h : ℕ) where
     unfolding recordsPart
     record-stands x lt =
         let os = offsets (codesAt p s h) (codes p) in
-        let n = codes-length in
+        let n = codes-length p in
         let m = offsets-length (codesAt p s h) (codes p) in
         within (6 * x) (omega (arith, records-part-length)) (front recordsPart _ records-on)
         (rw (offset-at (codesAt p s h) (codes p) x (omega arith)) at (record-at (p .signals) os x lt (omega arith)))
@@ -362,6 +385,7 @@ module _ (p : Program) (s : Schedule) (h : ℕ) where
     pub image-initial : (x : ℕ) → x < count p → wordAt (imageOf p s h) (4 + 6 * x) ≡ signalAt p x .initial
     image-initial x lt = word-at _ (bounded .initials x lt) (front (wordBytes (signalAt p x .initial)) _ (record-stands x lt))
 
+    -- The offsets that the image gives.
     pub list-offset : (c : ℕ) → c ≤ h → listOffset (imageOf p s h) c ≡ listStart c
     unfolding listOffset offsetsPart lengthOf codesAt
     list-offset c le =
@@ -388,23 +412,35 @@ module _ (p : Program) (s : Schedule) (h : ℕ) where
         go false e =
             let q : x ≡ count p = omega (arith, ltb-false x (count p) e) in
             image-length ∙
-            ap (λ (l : List (List ℕ)). codesAt p s h + length (joined l)) (sym (take-all x (codes p) (omega (arith, codes-length))))
+            ap (λ (l : List (List ℕ)). codesAt p s h + length (joined l)) (sym (take-all x (codes p) (omega (arith, codes-length p))))
 
+    lists-start : (c : ℕ) → c ≤ length (runLists p s h) → listOffset (imageOf p s h) c ≡ listStart c
+    lists-start c le = list-offset c (omega (arith, lists-length))
+
+    codes-start : (x : ℕ) → x ≤ length (codes p) → codeOffset (imageOf p s h) x ≡ codeStart x
+    codes-start x le = code-offset x (omega (arith, codes-length p))
+
+    -- The stretches between them.
     pub list-stretch : (c : ℕ) → c < h → listOf (imageOf p s h) c ≡ runList p s c
-    unfolding listOf listsPart
+    unfolding listOf
     list-stretch c lt =
-        let n = lists-length in
-        rw (list-offset c (omega arith), list-offset (c + 1) (omega arith), add-one c)
-        (stretch-is (listStart (suc c)) (omega (arith, parts-next (runLists p s h) c (omega arith)))
-        (within (length (joined (take c (runLists p s h)))) (parts-most (runLists p s h) c) (front listsPart codesPart lists-on)
-        (part-at (runLists p s h) c (omega arith))) ∙
-        list-is c lt)
+        part-stretch (imageOf p s h) (listsAt (count p) h) (runLists p s h) (listOffset (imageOf p s h)) lists-start lists-stand c
+        (omega (arith, lists-length)) ∙
+        list-is c lt
 
     pub code-stretch : (x : ℕ) → x < count p → codeOf (imageOf p s h) x ≡ signalCode x (signalAt p x .body)
-    unfolding codeOf codesPart
+    unfolding codeOf
     code-stretch x lt =
-        let n = codes-length in
-        rw (code-offset x (omega arith), code-offset (x + 1) (omega arith), add-one x)
-        (stretch-is (codeStart (suc x)) (omega (arith, parts-next (codes p) x (omega arith)))
-        (within (length (joined (take x (codes p)))) (parts-most (codes p) x) codes-stand (part-at (codes p) x (omega arith))) ∙
-        code-is x lt)
+        part-stretch (imageOf p s h) (codesAt p s h) (codes p) (codeOffset (imageOf p s h)) codes-start codes-stand x
+        (omega (arith, codes-length p)) ∙
+        code-is p x lt
+
+    pub list-rises : (c : ℕ) → c < h → listOffset (imageOf p s h) c ≤ listOffset (imageOf p s h) (c + 1)
+    list-rises c lt =
+        offset-rises (imageOf p s h) (listsAt (count p) h) (runLists p s h) (listOffset (imageOf p s h)) lists-start c
+        (omega (arith, lists-length))
+
+    pub code-rises : (x : ℕ) → x < count p → codeOffset (imageOf p s h) x ≤ codeOffset (imageOf p s h) (x + 1)
+    code-rises x lt =
+        offset-rises (imageOf p s h) (codesAt p s h) (codes p) (codeOffset (imageOf p s h)) codes-start x
+        (omega (arith, codes-length p))
