@@ -10,4 +10,9 @@ pub mod Lists
 pub mod Alike
 pub mod Window
 pub mod Bounds
+pub mod Stretches
+pub mod Runs
+pub mod Formed
+pub mod Bytes
+pub mod AlikeBytes
 pub mod Examples

@@ -1,0 +1,180 @@
+-- The code of an expression pushes its value, and the code of a signal stores its next word. Assumes nothing.
+use Prim.Native.Nat.{ℕ, suc, _+_, _-_, _≤_}
+use mathlib.Core.Bool.{true, false}
+use mathlib.Core.List.{List, [], _∷_, _++_}
+use mathlib.Core.Path.{_≡_, refl, ap, _∙_}
+use native.Mathlib.Numerals.{add-one}
+use native.Mathlib.Omega.{arith}
+use borrow.Author.Tests.{lt-ltb, le-leb}
+use lib.Dec.{leb, ltb, eqb}
+use lib.IntN.{ℤ, pos}
+use lib.ListN.{length, getD, length-append}
+use mir.Syntax.{w32}
+use mir.Val.{SFits}
+use Rattle.model.specs.Image.{binaryByte, exprCode, signalCode}
+use Rattle.model.specs.Machine.{operatorCode, codeAt, runCommand, runFrom, runCode}
+use Rattle.model.specs.Program.{Body, input, equation, Expr, constant, read, binary, negate, choose, Read}
+use Rattle.model.specs.Streams.{value, next}
+use Rattle.model.specs.Word.{fourBytes, wordBytes, binaryWord, negWord, ifWord}
+use Rattle.model.specs.declared.Binary.{Binary}
+use Rattle.model.specs.declared.Binary.the-variants.{Add, Sub, Mul, Less, Same, Min, Max}
+use Rattle.model.specs.declared.Code.{Code}
+use Rattle.model.specs.declared.Code.the-variants as Code
+use Rattle.model.proofs.Bounds.{Words, BodyWords}
+use Rattle.model.proofs.Stretches.{Stands, all-of, front, behind, inside, byte-here, word-at}
+
+-- The command that stands at a place of a code.
+module _ {code : List ℕ} {at : ℕ} where
+  in-code : {b : ℕ} {part : List ℕ} → Stands code at (b ∷ part) → ltb at (length code) ≡ true
+  in-code {b} {part} h = lt-ltb at (length code) (omega (arith, inside {part = b ∷ part} (omega arith) h))
+
+  whole : {b : ℕ} {part : List ℕ} → Stands code at (b ∷ part) → leb (at + suc (length part)) (length code) ≡ true
+  whole {b} {part} h = le-leb (at + suc (length part)) (length code) (inside {part = b ∷ part} (omega arith) h)
+
+  pub push-at : (w : ℤ) → SFits w32 w → Stands code at (0x50 ∷ wordBytes w) → codeAt code at ≡ Code.Push w
+  unfolding codeAt wordBytes fourBytes
+  push-at w f h = rw (in-code h, byte-here h, whole h) (ap Code.Push (word-at w f (behind (0x50 ∷ []) (wordBytes w) h)))
+
+  pub load-at : (x : ℕ) → Stands code at (0x51 ∷ x ∷ []) → codeAt code at ≡ Code.Load x
+  unfolding codeAt
+  load-at x h = rw (in-code h, byte-here h, whole h) (ap Code.Load (byte-here (behind (0x51 ∷ []) (x ∷ []) h)))
+
+  pub fetch-at : (x : ℕ) → Stands code at (0x52 ∷ x ∷ []) → codeAt code at ≡ Code.Fetch x
+  unfolding codeAt
+  fetch-at x h = rw (in-code h, byte-here h, whole h) (ap Code.Fetch (byte-here (behind (0x52 ∷ []) (x ∷ []) h)))
+
+  pub store-at : (x : ℕ) → Stands code at (0x5F ∷ x ∷ []) → codeAt code at ≡ Code.Store x
+  unfolding codeAt
+  store-at x h = rw (in-code h, byte-here h, whole h) (ap Code.Store (byte-here (behind (0x5F ∷ []) (x ∷ []) h)))
+
+  operator-at : (b : ℕ) → Stands code at (b ∷ []) → eqb b 0x50 ≡ false → eqb b 0x51 ≡ false → eqb b 0x52 ≡ false →
+      eqb b 0x5F ≡ false → codeAt code at ≡ operatorCode b
+  unfolding codeAt
+  operator-at b h p q r u = rw (in-code h, byte-here h, p, q, r, u)
+
+  pub binary-at : (operator : Binary) → Stands code at (binaryByte operator ∷ []) → codeAt code at ≡ Code.Binary operator
+  unfolding operatorCode
+  binary-at Add h = operator-at 0x30 h refl refl refl refl
+  binary-at Sub h = operator-at 0x31 h refl refl refl refl
+  binary-at Mul h = operator-at 0x32 h refl refl refl refl
+  binary-at Less h = operator-at 0x33 h refl refl refl refl
+  binary-at Same h = operator-at 0x34 h refl refl refl refl
+  binary-at Min h = operator-at 0x35 h refl refl refl refl
+  binary-at Max h = operator-at 0x36 h refl refl refl refl
+
+  pub negate-at : Stands code at (0x38 ∷ []) → codeAt code at ≡ Code.Negate
+  unfolding operatorCode
+  negate-at h = operator-at 0x38 h refl refl refl refl
+
+  pub if-at : Stands code at (0x3A ∷ []) → codeAt code at ≡ Code.If
+  unfolding operatorCode
+  if-at h = operator-at 0x3A h refl refl refl refl
+
+-- Where the operands and the operator stand in the code of an expression.
+module _ {code : List ℕ} {at : ℕ} where
+  pub binary-parts : (operator : Binary) (x y : Expr) → Stands code at (exprCode (binary operator x y)) →
+      Stands code at (exprCode x) × Stands code (at + length (exprCode x)) (exprCode y) ×
+      Stands code (at + length (exprCode x) + length (exprCode y)) (binaryByte operator ∷ [])
+  unfolding exprCode
+  binary-parts operator x y h =
+      let g = behind (exprCode x) (exprCode y ++ (binaryByte operator ∷ [])) h in
+      (front (exprCode x) _ h, front (exprCode y) (binaryByte operator ∷ []) g, behind (exprCode y) (binaryByte operator ∷ []) g)
+
+  pub negate-parts : (x : Expr) → Stands code at (exprCode (negate x)) →
+      Stands code at (exprCode x) × Stands code (at + length (exprCode x)) (0x38 ∷ [])
+  unfolding exprCode
+  negate-parts x h = (front (exprCode x) (0x38 ∷ []) h, behind (exprCode x) (0x38 ∷ []) h)
+
+  pub choose-parts : (x y z : Expr) → Stands code at (exprCode (choose x y z)) →
+      Stands code at (exprCode x) × Stands code (at + length (exprCode x)) (exprCode y) ×
+      Stands code (at + length (exprCode x) + length (exprCode y)) (exprCode z) ×
+      Stands code (at + length (exprCode x) + length (exprCode y) + length (exprCode z)) (0x3A ∷ [])
+  unfolding exprCode
+  choose-parts x y z h =
+      let g = behind (exprCode x) (exprCode y ++ (exprCode z ++ (0x3A ∷ []))) h in
+      let k = behind (exprCode y) (exprCode z ++ (0x3A ∷ [])) g in (
+        front (exprCode x) _ h,
+        front (exprCode y) _ g,
+        front (exprCode z) (0x3A ∷ []) k,
+        behind (exprCode z) (0x3A ∷ []) k,
+      )
+
+-- The number of commands in the code of an expression.
+abbrev pub steps : Expr → ℕ
+steps (constant w) = 1
+steps (read ρ) = 1
+steps (binary operator x y) = steps x + (steps y + 1)
+steps (negate x) = steps x + 1
+steps (choose x y z) = steps x + (steps y + (steps z + 1))
+
+steps-most : (e : Expr) → steps e ≤ length (exprCode e)
+unfolding exprCode wordBytes fourBytes
+steps-most (constant w) = omega arith
+steps-most (read ρ) = omega arith
+steps-most (binary operator x y) = simp length-append (omega (arith, steps-most x, steps-most y))
+steps-most (negate x) = simp length-append (omega (arith, steps-most x))
+steps-most (choose x y z) = simp length-append (omega (arith, steps-most x, steps-most y, steps-most z))
+
+module _ (code : List ℕ) (state samples : List ℤ) where
+  -- The word that a read finds in the state.
+  abbrev word : Read → ℤ
+  word ρ = getD state (suc (ρ .operands .signal)) (pos 0)
+
+  step : (f at : ℕ) (stack : List ℤ) (c : Code) → codeAt code at ≡ c →
+      runFrom (suc f) code state samples at stack ≡ runCommand (λ a k. runFrom f code state samples a k) state samples at stack c
+  unfolding runFrom
+  step f at stack c d = rw d
+
+  run-expr : (e : Expr) (f at : ℕ) (stack : List ℤ) → Words e → Stands code at (exprCode e) →
+      runFrom (steps e + f) code state samples at stack ≡
+      runFrom f code state samples (at + length (exprCode e)) (value word e ∷ stack)
+  unfolding exprCode value runCommand wordBytes fourBytes
+  run-expr (constant w) f at stack fit h =
+      ap (λ (k : ℕ). runFrom k code state samples at stack) (omega arith) ∙ step f at stack _ (push-at w fit h)
+  run-expr (read ρ) f at stack fit h =
+      ap (λ (k : ℕ). runFrom k code state samples at stack) (omega arith) ∙ step f at stack _ (load-at _ h) ∙
+      ap (λ (k : ℕ). runFrom f code state samples (at + 2) (getD state k (pos 0) ∷ stack)) (add-one (ρ .operands .signal))
+  run-expr (binary operator x y) f at stack fit h =
+      let parts = binary-parts operator x y h in
+      ap (λ (k : ℕ). runFrom k code state samples at stack) (omega arith) ∙
+      run-expr x (steps y + suc f) at stack (fit .0) (parts .0) ∙
+      run-expr y (suc f) _ _ (fit .1) (parts .1) ∙
+      step f _ _ _ (binary-at operator (parts .2)) ∙
+      ap (λ (k : ℕ). runFrom f code state samples k (binaryWord operator (value word x) (value word y) ∷ stack))
+      (simp length-append (omega arith))
+  run-expr (negate x) f at stack fit h =
+      let parts = negate-parts x h in
+      ap (λ (k : ℕ). runFrom k code state samples at stack) (omega arith) ∙
+      run-expr x (suc f) at stack fit (parts .0) ∙
+      step f _ _ _ (negate-at (parts .1)) ∙
+      ap (λ (k : ℕ). runFrom f code state samples k (negWord (value word x) ∷ stack)) (simp length-append (omega arith))
+  run-expr (choose x y z) f at stack fit h =
+      let parts = choose-parts x y z h in
+      ap (λ (k : ℕ). runFrom k code state samples at stack) (omega arith) ∙
+      run-expr x (steps y + (steps z + suc f)) at stack (fit .0) (parts .0) ∙
+      run-expr y (steps z + suc f) _ _ (fit .1) (parts .1) ∙
+      run-expr z (suc f) _ _ (fit .2) (parts .2) ∙
+      step f _ _ _ (if-at (parts .3)) ∙
+      ap (λ (k : ℕ). runFrom f code state samples k (ifWord (value word x) (value word y) (value word z) ∷ stack))
+      (simp length-append (omega arith))
+
+-- The commands that the code of an equation has room for after its expression.
+abbrev pub spare : Expr → ℕ
+spare e = suc (length (exprCode e)) - steps e
+
+pub code-room : (e : Expr) (x : ℕ) → length (exprCode e ++ (0x5F ∷ x ∷ [])) ≡ steps e + suc (spare e)
+code-room e x = simp length-append (omega (arith, steps-most e))
+
+pub run-signal : (x : ℕ) (body : Body) (state samples : List ℤ) → BodyWords body →
+    runCode (signalCode x body) state samples ≡
+    next (λ ρ. getD state (suc (ρ .operands .signal)) (pos 0)) (getD samples x (pos 0)) body
+unfolding runCode runCommand
+run-signal x input state samples fit =
+    let code = signalCode x input in
+    step code state samples 3 0 [] _ (fetch-at x (front (0x52 ∷ x ∷ []) (0x5F ∷ x ∷ []) (all-of code))) ∙
+    step code state samples 2 2 _ _ (store-at x (behind (0x52 ∷ x ∷ []) (0x5F ∷ x ∷ []) (all-of code)))
+run-signal x (equation weight e) state samples fit =
+    let code = signalCode x (equation weight e) in
+    ap (λ (k : ℕ). runFrom k code state samples 0 []) (code-room e x) ∙
+    run-expr code state samples e (suc (spare e)) 0 [] fit (front (exprCode e) (0x5F ∷ x ∷ []) (all-of code)) ∙
+    step code state samples (spare e) _ _ _ (store-at x (behind (exprCode e) (0x5F ∷ x ∷ []) (all-of code)))
