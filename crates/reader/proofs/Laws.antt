@@ -20,6 +20,7 @@ use Rattle.model.specs.declared.Kind.{Kind}
 use Rattle.model.specs.declared.Kind.the-variants.{Now, Last, When, LastWhen, Current}
 use Rattle.model.specs.declared.Keyword.the-variants as Keyword
 use Rattle.reader.specs.Results.{hereOf, expressionOf, linksOf, equationOf, chainOf}
+use Rattle.reader.specs.declared.Entry.the-variants as Entry
 use Rattle.reader.specs.declared.LinksRead.{LinksRead}
 use Rattle.reader.specs.declared.LinksRead.the-variants as Read
 use Rattle.reader.specs.declared.Reached.{Reached}
@@ -138,9 +139,9 @@ links-more room text at links e h = rw (eq-eqb (byteAt text at) 0x13 e, parseLin
 
 -- The step of an EQ from its expression's answer, and of a LAT from its LINKs'.
 pub equation-next : (o : Outcome (Parsed Expr)) {r : Reached} {n : ℕ} → r ≡ expressionOf o → r ≡ Reached.Next n →
-    Step.Signal n ≡ equationOf o
+    Step.Adds Entry.Signal n ≡ equationOf o
 unfolding expressionOf equationOf
-equation-next (accepted x) {r} {n} e g = let z : n ≡ x .next = cc in ap Step.Signal z
+equation-next (accepted x) {r} {n} e g = let z : n ≡ x .next = cc in ap (Step.Adds Entry.Signal) z
 equation-next (refused f) {r} {n} e g = let z : _≡_ {A = ℕ} 0 1 = cc in absurd (omega arith)
 
 pub equation-refused : (o : Outcome (Parsed Expr)) {r : Reached} {f : Fault} → r ≡ expressionOf o → r ≡ Reached.Refused f →
@@ -157,7 +158,7 @@ chain-short at (accepted x) {r} {k} {n} e g h =
 chain-short at (refused f) {r} {k} {n} e g h = let z : _≡_ {A = ℕ} 0 1 = cc in absurd (omega arith)
 
 pub chain-next : (at : ℕ) (o : Outcome (Parsed (List Link))) {r : LinksRead} {k n : ℕ} → r ≡ linksOf o → r ≡ Read.Links k n →
-    2 ≤ k → Step.Chain n k ≡ chainOf at o
+    2 ≤ k → Step.Adds (Entry.Chain k) n ≡ chainOf at o
 unfolding linksOf chainOf
 chain-next at (accepted x) {r} {k} {n} e g h =
     let z : k ≡ length (x .value) = cc in

@@ -19,6 +19,7 @@ use Rattle.model.specs.Program.{
   equation,
   withSignal,
   withChain,
+  withCap,
   commandHere,
   declare,
   parseCommands,
@@ -35,7 +36,8 @@ use Rattle.model.specs.declared.Kind.{Kind}
 use Rattle.model.specs.declared.Kind.the-variants.{Now, Last, When, LastWhen, Current}
 use Rattle.model.specs.declared.Mode.{Mode}
 use Rattle.reader.specs.Results.{equationOf, chainOf, endOf}
-use Rattle.reader.specs.Steps.{Stepped}
+use Rattle.reader.specs.Steps.{Adds, Stepped}
+use Rattle.reader.specs.declared.Entry.the-variants as Entry
 use Rattle.reader.specs.declared.Step.{Step}
 use Rattle.reader.specs.declared.Step.the-variants as Step
 use Rattle.reader.proofs.Longer.{Past, past-expression, past-links}
@@ -174,11 +176,15 @@ module _ (text : List ℕ) (at : ℕ) (p : Program) where
     -- An EQ goes on after its expression.
     equation-by : (o : Outcome (Parsed Expr)) (period : ℕ) (initial : ℤ) (weight : ℕ) → parseExpr 16 text (at + 8) ≡ o →
         Past (at + 8 + 1) o → commandAt text at ≡ Command.Equation period initial weight → Stepped text at p (equationOf o)
-    unfolding Stepped equationOf declare _▷_
+    unfolding Stepped Adds equationOf declare _▷_
     equation-by (accepted x) period initial weight h q e = (
-      record { place = at; period = period; initial = initial; body = equation weight (x .value) },
-      refl,
-      signals-below Keyword.Equation (of-command text at _ e) refl,
+      _,
+      (
+        record { place = at; period = period; initial = initial; body = equation weight (x .value) },
+        refl,
+        signals-below Keyword.Equation (of-command text at _ e) refl,
+        refl,
+      ),
       omega arith,
       λ left. declared (Command.Equation period initial weight) e left ∙ rw h,
     )
@@ -192,16 +198,20 @@ module _ (text : List ℕ) (at : ℕ) (p : Program) where
     -- A LAT goes on after its LINKs, of which there are two at least.
     chain-by : (o : Outcome (Parsed (List Link))) (mode : Mode) (bound : ℕ) → parseLinks 16 text (at + 4) [] ≡ o →
         Past (at + 4) o → commandAt text at ≡ Command.Latency mode bound → Stepped text at p (chainOf at o)
-    unfolding Stepped chainOf declare _▷_
+    unfolding Stepped Adds chainOf declare _▷_
     chain-by (accepted x) mode bound h q e = go (leb 2 (length (x .value))) refl
       where
         go : (b : Bool) → leb 2 (length (x .value)) ≡ b →
-            Stepped text at p (cond b (Step.Chain (x .next) (length (x .value))) (Step.Refused (fault 5 at)))
+            Stepped text at p (cond b (Step.Adds (Entry.Chain (length (x .value))) (x .next)) (Step.Refused (fault 5 at)))
         go true f = (
-          record { place = at; mode = mode; bound = bound; links = x .value },
-          refl,
-          refl,
-          chains-below (of-command text at _ e),
+          _,
+          (
+            record { place = at; mode = mode; bound = bound; links = x .value },
+            refl,
+            refl,
+            chains-below (of-command text at _ e),
+            refl,
+          ),
           omega arith,
           λ left. declared (Command.Latency mode bound) e left ∙ rw (h, enough (x .value) at f),
         )
@@ -212,16 +222,20 @@ module _ (text : List ℕ) (at : ℕ) (p : Program) where
         Stepped text at p (chainOf at (parseLinks 16 text (at + 4) []))
     step-chain mode bound e = chain-by (parseLinks 16 text (at + 4) []) mode bound refl (past-links 16 text (at + 4) []) e
 
-    pub step-input : (period : ℕ) (initial : ℤ) → commandAt text at ≡ Command.Input period initial → Stepped text at p (Step.Signal (at + 6))
-    unfolding Stepped declare
+    pub step-input : (period : ℕ) (initial : ℤ) → commandAt text at ≡ Command.Input period initial → Stepped text at p (Step.Adds Entry.Signal (at + 6))
+    unfolding Stepped Adds declare
     step-input period initial e = (
-      record { place = at; period = period; initial = initial; body = input },
-      refl,
-      signals-below Keyword.Input (of-command text at _ e) refl,
+      _,
+      (
+        record { place = at; period = period; initial = initial; body = input },
+        refl,
+        signals-below Keyword.Input (of-command text at _ e) refl,
+        refl,
+      ),
       omega arith,
       declared (Command.Input period initial) e,
     )
 
-    pub step-cap : (n : ℕ) → commandAt text at ≡ Command.Cap n → Stepped text at p (Step.Cap (at + 5) n)
-    unfolding Stepped declare
-    step-cap n e = (omega arith, declared (Command.Cap n) e)
+    pub step-cap : (n : ℕ) → commandAt text at ≡ Command.Cap n → Stepped text at p (Step.Adds (Entry.Cap n) (at + 5))
+    unfolding Stepped Adds declare
+    step-cap n e = (withCap p n, refl, omega arith, declared (Command.Cap n) e)

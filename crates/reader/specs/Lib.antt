@@ -1,3 +1,4 @@
 -- What the readers' answers stand for.
 pub mod Results
 pub mod Steps
+pub mod Tables

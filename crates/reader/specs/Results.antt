@@ -6,6 +6,7 @@ use lib.Dec.{leb}
 use lib.ListN.{length}
 use Rattle.model.specs.Outcome.{Outcome, accepted, refused, fault, Parsed}
 use Rattle.model.specs.Program.{Expr, Link}
+use Rattle.reader.specs.declared.Entry.the-variants as Entry
 use Rattle.reader.specs.declared.LinksRead.{LinksRead}
 use Rattle.reader.specs.declared.LinksRead.the-variants as Read
 use Rattle.reader.specs.declared.Reached.{Reached}
@@ -30,12 +31,12 @@ linksOf (refused f) = Read.Refused f
 
 -- The steps of an EQ, of a LAT at `at`, and of END, from what follows them.
 unfoldable pub equationOf : Outcome (Parsed Expr) → Step
-equationOf (accepted x) = Step.Signal (x .next)
+equationOf (accepted x) = Step.Adds Entry.Signal (x .next)
 equationOf (refused f) = Step.Refused f
 
 unfoldable pub chainOf : ℕ → Outcome (Parsed (List Link)) → Step
 chainOf at (accepted x) =
-    cond (leb 2 (length (x .value))) (Step.Chain (x .next) (length (x .value))) (Step.Refused (fault 5 at))
+    cond (leb 2 (length (x .value))) (Step.Adds (Entry.Chain (length (x .value))) (x .next)) (Step.Refused (fault 5 at))
 chainOf at (refused f) = Step.Refused f
 
 unfoldable pub endOf : Outcome (Unit {0}) → Step

@@ -16,6 +16,8 @@ use Rattle.model.specs.Program.{
   withCap,
   parseCommands,
 }
+use Rattle.reader.specs.declared.Entry.{Entry}
+use Rattle.reader.specs.declared.Entry.the-variants as Entry
 use Rattle.reader.specs.declared.Step.{Step}
 use Rattle.reader.specs.declared.Step.the-variants as Step
 
@@ -25,15 +27,16 @@ pub record Counts (p : Program) (signals chains : ℕ) (capped : Bool) : Type 0 
   pub chains-are : length (p .chains) ≡ chains
   pub cap-is : isUnlimited (p .cap) ≡ not capped
 
+-- q is p with an entry that stands at `at`.
+unfoldable pub Adds : Program → ℕ → Entry → Program → Type 0
+Adds p at Entry.Signal q = (x : Signal) × (x .place ≡ at) × (count p < 64) × (q ≡ withSignal p x)
+Adds p at (Entry.Chain k) q =
+    (c : Chain) × (c .place ≡ at) × (length (c .links) ≡ k) × (length (p .chains) < 16) × (q ≡ withChain p c)
+Adds p at (Entry.Cap m) q = q ≡ withCap p m
+
 -- What the definition makes of the command at `at`, after what p has.
 unfoldable pub Stepped : List ℕ → ℕ → Program → Step → Type 0
-Stepped text at p (Step.Signal n) =
-    (x : Signal) × (x .place ≡ at) × (count p < 64) × (at < n) ×
-    ((left : ℕ) → parseCommands (suc left) text at p ≡ parseCommands left text n (withSignal p x))
-Stepped text at p (Step.Chain n k) =
-    (c : Chain) × (c .place ≡ at) × (length (c .links) ≡ k) × (length (p .chains) < 16) × (at < n) ×
-    ((left : ℕ) → parseCommands (suc left) text at p ≡ parseCommands left text n (withChain p c))
-Stepped text at p (Step.Cap n m) =
-    (at < n) × ((left : ℕ) → parseCommands (suc left) text at p ≡ parseCommands left text n (withCap p m))
+Stepped text at p (Step.Adds e n) =
+    (q : Program) × Adds p at e q × (at < n) × ((left : ℕ) → parseCommands (suc left) text at p ≡ parseCommands left text n q)
 Stepped text at p Step.End = (left : ℕ) → parseCommands (suc left) text at p ≡ accepted p
 Stepped text at p (Step.Refused f) = (left : ℕ) → parseCommands (suc left) text at p ≡ refused f

@@ -10,9 +10,10 @@ ghost use lib.Dec.{leb};
 ghost use lib.ListN.{length};
 ghost use Rattle.model.specs.Command.{keywordAt};
 ghost use Rattle.model.specs.Outcome.{provided};
-ghost use Rattle.model.specs.Program.{Program, operatorHere, parseExpr, parseLinks, readWidth, commandHere};
+ghost use Rattle.model.specs.Program.{Program, operatorHere, parseExpr, parseLinks, readWidth, commandHere, empty, parseProgram};
 ghost use Rattle.reader.specs.Results.{hereOf, expressionOf, linksOf, chainOf, equationOf, endOf};
 ghost use Rattle.reader.specs.Steps.{Counts, Stepped};
+ghost use Rattle.reader.specs.Tables.{TablesOf, signalAdded, chainAdded, capAdded, entryAdded, Fits, judgedOf, ProgramReads};
 
 // The offset at which reading goes on, or the refusal.
 pub enum Reached {
@@ -148,12 +149,16 @@ pub fn read_links(text: &[u8], at: usize) -> LinksRead
     LinksRead::Links(count, next)
 }
 
-// What one command of the program text is: a declaration, a chain with its number of LINKs, a CAP, each with the offset after
-// it; END; or the refusal.
+// What a command adds to a program: a signal, a chain of so many LINKs, a CAP.
+pub enum Entry {
+    Signal,
+    Chain(usize),
+    Cap(u32),
+}
+
+// What one command of the program text is: an entry with the offset after it, END, or the refusal.
 pub enum Step {
-    Signal(usize),
-    Chain(usize, usize),
-    Cap(usize, u32),
+    Adds(Entry, usize),
     End,
     Refused(Fault),
 }
@@ -207,7 +212,7 @@ fn equation_step(text: &[u8], at: usize) -> Step
 {
     let reached = read_expression(text, at + 8, 16);
     match reached {
-        Reached::Next(next) => Step::Signal(next),
+        Reached::Next(next) => Step::Adds(Entry::Signal, next),
         Reached::Refused(fault) => Step::Refused(fault),
     }
 }
@@ -223,7 +228,7 @@ fn chain_step(text: &[u8], at: usize) -> Step
             if count < 2 {
                 return refuse_step(5, at);
             }
-            Step::Chain(next, count)
+            Step::Adds(Entry::Chain(count), next)
         }
         LinksRead::Refused(fault) => Step::Refused(fault),
     }
@@ -255,15 +260,164 @@ fn read_command(text: &[u8], at: usize, signals: usize, chains: usize, capped: b
         Command::Unknown => refuse_step(3, at),
         Command::OutOfRange => refuse_step(5, at),
         Command::End => end_step(text, at),
-        Command::Input(_, _) => Step::Signal(at + 6),
+        Command::Input(_, _) => Step::Adds(Entry::Signal, at + 6),
         Command::Equation(_, _, _) => equation_step(text, at),
         Command::Latency(_, _) => chain_step(text, at),
         Command::Link(_) => refuse_step(3, at),
-        Command::Cap(limit) => Step::Cap(at + 5, limit),
+        Command::Cap(limit) => Step::Adds(Entry::Cap(limit), at + 5),
         Command::Constant(_) => refuse_step(3, at),
         Command::Read(_, _) => refuse_step(3, at),
         Command::Binary(_) => refuse_step(3, at),
         Command::Negate => refuse_step(3, at),
         Command::If => refuse_step(3, at),
     }
+}
+
+// Where things stand in a program text: the offset of each IN or EQ, of each LAT with the number of its LINKs, and the CAP.
+pub struct Tables {
+    pub signals: usize,
+    pub places: [usize; 64],
+    pub chains: usize,
+    pub starts: [usize; 16],
+    pub lengths: [usize; 16],
+    pub capped: bool,
+    pub limit: u32,
+}
+
+impl Tables {
+    pub fn new() -> Self
+        ensures { λ r. ⌜ TablesOf empty r ⌝ }
+    {
+        Self {
+            signals: 0,
+            places: [0; 64],
+            chains: 0,
+            starts: [0; 16],
+            lengths: [0; 16],
+            capped: false,
+            limit: 0,
+        }
+    }
+
+    // The tables with one signal more, at `at`.
+    fn with_signal(self, at: usize) -> Self
+        requires { ⌜ self .signals < 64 ⌝ }
+        ensures { λ r. ⌜ r ≡ signalAdded self at ⌝ }
+    {
+        let index = self.signals;
+        let mut places = self.places;
+        places[index] = at;
+        let starts = self.starts;
+        let lengths = self.lengths;
+        Self {
+            signals: index + 1,
+            places: places,
+            chains: self.chains,
+            starts: starts,
+            lengths: lengths,
+            capped: self.capped,
+            limit: self.limit,
+        }
+    }
+
+    // The tables with one chain more, of so many LINKs, at `at`.
+    fn with_chain(self, at: usize, length: usize) -> Self
+        requires { ⌜ self .chains < 16 ⌝ }
+        ensures { λ r. ⌜ r ≡ chainAdded self at length ⌝ }
+    {
+        let index = self.chains;
+        let mut starts = self.starts;
+        starts[index] = at;
+        let mut lengths = self.lengths;
+        lengths[index] = length;
+        let places = self.places;
+        Self {
+            signals: self.signals,
+            places: places,
+            chains: index + 1,
+            starts: starts,
+            lengths: lengths,
+            capped: self.capped,
+            limit: self.limit,
+        }
+    }
+
+    // The tables with a CAP.
+    fn with_cap(self, limit: u32) -> Self
+        ensures { λ r. ⌜ r ≡ capAdded self limit ⌝ }
+    {
+        let places = self.places;
+        let starts = self.starts;
+        let lengths = self.lengths;
+        Self {
+            signals: self.signals,
+            places: places,
+            chains: self.chains,
+            starts: starts,
+            lengths: lengths,
+            capped: true,
+            limit: limit,
+        }
+    }
+
+    // The tables with an entry that stands at `at`.
+    fn with_entry(self, entry: Entry, at: usize) -> Self
+        requires { ⌜ Fits self entry ⌝ }
+        ensures { λ r. ⌜ r ≡ entryAdded self entry at ⌝ }
+    {
+        match entry {
+            Entry::Signal => self.with_signal(at),
+            Entry::Chain(length) => self.with_chain(at, length),
+            Entry::Cap(limit) => self.with_cap(limit),
+        }
+    }
+}
+
+// Whether a text was read to its end.
+pub enum Judged {
+    Fine,
+    Refused(Fault),
+}
+
+// What reading a program finds. The tables are of use where it is fine.
+pub struct ProgramRead {
+    pub judged: Judged,
+    pub tables: Tables,
+}
+
+// The answer at a step that adds nothing.
+fn stopped(step: Step, tables: Tables) -> ProgramRead
+    ensures { λ r. ⌜ r ≡ record { judged = judgedOf step; tables = tables } ⌝ }
+{
+    match step {
+        Step::Adds(_, _) => ProgramRead {
+            judged: Judged::Fine,
+            tables: tables,
+        },
+        Step::End => ProgramRead {
+            judged: Judged::Fine,
+            tables: tables,
+        },
+        Step::Refused(fault) => ProgramRead {
+            judged: Judged::Refused(fault),
+            tables: tables,
+        },
+    }
+}
+
+// Reads a program text to its END: 2 to 6, or the tables of the program that it is.
+pub fn read_program(text: &[u8]) -> ProgramRead
+    ensures { λ r. ⌜ ProgramReads (parseProgram (now (text .entry))) r ⌝ }
+{
+    let mut tables = Tables::new();
+    let mut at: usize = 0;
+    while at < text.len() {
+        let step = read_command(text, at, tables.signals, tables.chains, tables.capped);
+        let Step::Adds(entry, next) = step else {
+            return stopped(step, tables);
+        };
+        tables = tables.with_entry(entry, at);
+        at = next;
+    }
+    stopped(refuse_step(2, text.len()), tables)
 }

@@ -82,8 +82,8 @@ end-step-requires c κs = inside (c .before .before) _ (c .enum-told5 .given .1)
 enum-told-6 : tie.Need-enum-told-6
 enum-told-6 c = search needs
 
-add-t12 : tie.Need-add-t12
-add-t12 c = omega (arith, inside (c .before .before) _ (c .enum-told6 .given .1) (λ e. let z : _≡_ {A = ℕ} 0 1 = cc in omega arith), c .before .before .before .before .before .before .before .good .0 .1)
+add-t13 : tie.Need-add-t13
+add-t13 c = omega (arith, inside (c .before .before) _ (c .enum-told6 .given .1) (λ e. let z : _≡_ {A = ℕ} 0 1 = cc in omega arith), c .before .before .before .before .before .before .before .good .0 .1)
 
 enum-told-7 : tie.Need-enum-told-7
 enum-told-7 c = search needs
@@ -106,8 +106,8 @@ refuse-step-requires-4 c κs = search needs
 enum-known-command : tie.Need-enum-known-command
 enum-known-command c = search needs
 
-add-t13 : tie.Need-add-t13
-add-t13 c = omega (arith, inside (c .before .before .before) _ (c .before .command .given .1) (λ e. let z : _≡_ {A = ℕ} 0 1 = cc in omega arith), c .before .before .before .before .before .before .before .before .good .0 .1)
+add-t15 : tie.Need-add-t15
+add-t15 c = omega (arith, inside (c .before .before .before) _ (c .before .command .given .1) (λ e. let z : _≡_ {A = ℕ} 0 1 = cc in omega arith), c .before .before .before .before .before .before .before .before .good .0 .1)
 
 enum-told-10 : tie.Need-enum-told-10
 enum-told-10 c = search needs
@@ -208,7 +208,7 @@ read-command-spec =
     enum-told-5
     end-step-requires
     enum-told-6
-    add-t12
+    add-t13
     enum-told-7
     equation-step-requires
     enum-told-8
@@ -216,7 +216,7 @@ read-command-spec =
     enum-told-9
     refuse-step-requires-4
     enum-known-command
-    add-t13
+    add-t15
     enum-told-10
     refuse-step-requires-5
     enum-told-11
