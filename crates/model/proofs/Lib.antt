@@ -10,4 +10,6 @@ pub mod Lists
 pub mod Alike
 pub mod Window
 pub mod Bounds
+pub mod Outcomes
+pub mod Hypercycle
 pub mod Examples
