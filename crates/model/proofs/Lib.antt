@@ -12,4 +12,6 @@ pub mod Window
 pub mod Bounds
 pub mod Outcomes
 pub mod Hypercycle
+pub mod Commands
+pub mod Spelled
 pub mod Examples

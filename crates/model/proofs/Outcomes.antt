@@ -50,6 +50,34 @@ unfolding provided
 false-provided true n place e = absurd (false≢true (sym e))
 false-provided false n place e = refl
 
+-- What holds of the value, where one is accepted.
+abbrev pub Holds : {A : Type 0} → (A → Type 0) → Outcome A → Type 0
+Holds Q (accepted a) = Q a
+Holds Q (refused f) = Unit {0}
+
+pub holds-value : {A : Type 0} (Q : A → Type 0) (o : Outcome A) (a : A) → Holds Q o → o ≡ accepted a → Q a
+holds-value Q o a h e = rw e at h
+
+pub value-holds : {A : Type 0} (o : Outcome A) → Holds (λ a. o ≡ accepted a) o
+value-holds (accepted a) = refl
+value-holds (refused f) = tt
+
+pub holds-then : {A B : Type 0} (Q : A → Type 0) (R : B → Type 0) (o : Outcome A) (next : A → Outcome B) → Holds Q o →
+    ((a : A) → Q a → Holds R (next a)) → Holds R (o ▷ next)
+unfolding _▷_
+holds-then Q R (accepted a) next h g = g a h
+holds-then Q R (refused f) next h g = tt
+
+pub holds-map : {A : Type 0} (Q R : A → Type 0) (o : Outcome A) → ((a : A) → Q a → R a) → Holds Q o → Holds R o
+holds-map Q R (accepted a) g h = g a h
+holds-map Q R (refused f) g h = tt
+
+pub holds-provided : {B : Type 0} (R : B → Type 0) (t : Bool) (n place : ℕ) (o : Outcome B) → (t ≡ true → Holds R o) →
+    Holds R (provided t n place ▷ λ _. o)
+unfolding _▷_ provided
+holds-provided R true n place o g = g refl
+holds-provided R false n place o g = tt
+
 -- No fault is the lowest where there is none.
 pub lowest-none : (fs : List Fault) → lowest fs ≡ accepted tt → fs ≡ []
 unfolding lowest
