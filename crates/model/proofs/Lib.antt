@@ -14,4 +14,6 @@ pub mod Outcomes
 pub mod Hypercycle
 pub mod Commands
 pub mod Spelled
+pub mod All
+pub mod Legal
 pub mod Examples
