@@ -16,4 +16,5 @@ pub mod Commands
 pub mod Spelled
 pub mod All
 pub mod Legal
+pub mod Puts
 pub mod Examples
