@@ -17,4 +17,6 @@ pub mod Spelled
 pub mod All
 pub mod Legal
 pub mod Puts
+pub mod Links
+pub mod Verdict
 pub mod Examples
