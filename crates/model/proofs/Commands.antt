@@ -1,12 +1,11 @@
 -- What a command that is read says of the text: that its bytes are there, and the ranges of its operands. Assumes nothing.
-use Prim.Native.Nat.{ℕ, zero, suc, _+_, _*_, _≤_, _<_}
+use Prim.Native.Nat.{ℕ, _+_, _≤_, _<_}
 use mathlib.Core.Bool.{Bool, true, false, cond, _&&_, _||_, false≢true, and-eq-true-iff}
 use mathlib.Core.List.{List}
 use mathlib.Core.Path.{_≡_, refl, subst}
 use native.Mathlib.Omega.{arith}
-use borrow.Author.Tests.{leb-true, ltb-true, eqb-true, lt-ltb, le-leb}
+use borrow.Author.Tests.{leb-true, ltb-true, lt-ltb, le-leb}
 use lib.Dec.{leb, ltb, eqb}
-use lib.IntN.{ℤ}
 use lib.ListN.{length, getD}
 use mir.Facts.{sfits-toZ}
 use mir.Syntax.{w32}
@@ -64,7 +63,8 @@ index-range i n e = go (eqb i 255) (ltb i n) refl e
     go false true q t = ltb-true i n q
     go false false q t = absurd (false≢true t)
 
-operands-sound : (s i n : ℕ) → isFactor n && isIndex i n ≡ true → ReadSound (record { signal = s; factor = n; index = indexOf i })
+operands-sound : (s i n : ℕ) → isFactor n && isIndex i n ≡ true →
+    ReadSound (record { signal = s; factor = n; index = indexOf i })
 operands-sound s i n e =
     let f = and-eq-true-iff (isFactor n) (isIndex i n) .0 e in
     let g = period-bounds n (f .0) in
@@ -111,7 +111,8 @@ module _ (text : List ℕ) (at : ℕ) where
   sampled-sound kind e =
       let i = byteAt text (at + 2) in
       let n = byteAt text (at + 3) in
-      whole-sound 4 _ (λ h. ranged-sound (isFactor n && isIndex i n) _ (λ t. (operands-sound (byteAt text (at + 1)) i n t, omega arith)))
+      whole-sound 4 _ (λ h.
+      ranged-sound (isFactor n && isIndex i n) _ (λ t. (operands-sound (byteAt text (at + 1)) i n t, omega arith)))
 
   keyword-sound : (k : Keyword) → at < length text → Sound (commandOf k text at)
   unfolding commandOf
@@ -120,10 +121,10 @@ module _ (text : List ℕ) (at : ℕ) where
   keyword-sound Keyword.End lt = omega arith
   keyword-sound Keyword.Input lt =
       whole-sound 2 _ (λ h. ranged-sound _ _ (λ t. whole-sound 6 _ (λ g.
-          let f = period-bounds (byteAt text (at + 1)) t in (f .0, f .1, refl, g))))
+      let f = period-bounds (byteAt text (at + 1)) t in (f .0, f .1, refl, g))))
   keyword-sound Keyword.Equation lt =
       whole-sound 2 _ (λ h. ranged-sound _ _ (λ t. whole-sound 8 _ (λ g.
-          let f = period-bounds (byteAt text (at + 1)) t in (f .0, f .1, refl, g))))
+      let f = period-bounds (byteAt text (at + 1)) t in (f .0, f .1, refl, g))))
   keyword-sound Keyword.Latency lt =
       let mode = byteAt text (at + 1) in
       let command = Command.Latency (modeOf mode) (twoAt text (at + 2)) in

@@ -1,6 +1,6 @@
 -- The hypercycle is the least common multiple of all periods, if that is at most 240. Assumes nothing.
-use Prim.Native.Nat.{ℕ, zero, suc, _+_, _%_, _≤_, _<_, _∣_}
-use mathlib.Core.Bool.{Bool, true, false, _&&_, false≢true, and-eq-true-iff}
+use Prim.Native.Nat.{ℕ, zero, suc, _%_, _≤_, _<_, _∣_}
+use mathlib.Core.Bool.{Bool, true, false, false≢true, and-eq-true-iff}
 use mathlib.Core.List.{List, [], _∷_}
 use mathlib.Core.Logic.{_↔_}
 use mathlib.Core.Path.{_≡_, refl, sym, ap, _∙_}
@@ -11,17 +11,18 @@ use borrow.Author.Tests.{eqb-true, eq-eqb}
 use lib.Dec.{eqb}
 use lib.ListN.{length, getD}
 use Rattle.model.specs.Accepted.{Multiple}
-use Rattle.model.specs.Outcome.{Outcome, accepted, refused, refuse, fault}
-use Rattle.model.specs.Program.{Program, Signal, noSignal, count, signalAt}
+use Rattle.model.specs.Outcome.{accepted, refuse}
+use Rattle.model.specs.Program.{Program, Signal, noSignal}
 use Rattle.model.specs.Rates.{isMultiple, hypercycleOf, hypercycle}
 use Rattle.model.specs.Search.{first}
 use Rattle.model.specs.declared.Found.{Found}
 use Rattle.model.specs.declared.Found.the-variants.{At, Nowhere}
-use Rattle.model.proofs.Decide.{IsFirst, first-is, is-first}
+use Rattle.model.proofs.Decide.{is-first}
 use Rattle.model.proofs.Outcomes.{accepted≢refused}
 
 -- The test decides whether every period divides h.
-multiple-true : (xs : List Signal) (h : ℕ) → isMultiple xs h ≡ true → (x : ℕ) → x < length xs → getD xs x noSignal .period ∣ h
+multiple-true : (xs : List Signal) (h : ℕ) → isMultiple xs h ≡ true → (x : ℕ) → x < length xs →
+    getD xs x noSignal .period ∣ h
 unfolding isMultiple
 multiple-true [] h e x lt = absurd (omega arith)
 multiple-true (y ∷ ys) h e zero lt =
@@ -29,7 +30,8 @@ multiple-true (y ∷ ys) h e zero lt =
 multiple-true (y ∷ ys) h e (suc x) lt =
     multiple-true ys h (and-eq-true-iff (eqb (h % y .period) 0) (isMultiple ys h) .0 e .1) x (omega arith)
 
-true-multiple : (xs : List Signal) (h : ℕ) → ((x : ℕ) → x < length xs → getD xs x noSignal .period ∣ h) → isMultiple xs h ≡ true
+true-multiple : (xs : List Signal) (h : ℕ) → ((x : ℕ) → x < length xs → getD xs x noSignal .period ∣ h) →
+    isMultiple xs h ≡ true
 unfolding isMultiple
 true-multiple [] h g = refl
 true-multiple (y ∷ ys) h g =

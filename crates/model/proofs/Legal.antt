@@ -1,10 +1,8 @@
 -- What an accepted program text gives: where its signals and chains stand, and the bounds that they keep. Assumes nothing.
-use Prim.Native.Nat.{ℕ, zero, suc, _+_, _*_, _≤_, _<_, max}
+use Prim.Native.Nat.{ℕ, zero, suc, _+_, _*_, _≤_, _<_}
 use mathlib.Core.List.{List, [], _∷_, _++_, append-nil}
-use mathlib.Core.Path.{_≡_, refl, sym, ap, _∙_}
-use native.Mathlib.Nat.{zero-add}
+use mathlib.Core.Path.{_≡_}
 use native.Mathlib.Omega.{arith}
-use lib.IntN.{ℤ}
 use lib.ListN.{length, getD, length-append}
 use mir.Syntax.{w32}
 use mir.Val.{SFits}
@@ -15,11 +13,6 @@ use Rattle.model.specs.Outcome.{accepted}
 use Rattle.model.specs.Program.{
   Read,
   Expr,
-  constant,
-  read,
-  binary,
-  negate,
-  choose,
   Body,
   input,
   equation,
@@ -40,15 +33,14 @@ use Rattle.model.specs.Program.{
   bodyReads,
 }
 use Rattle.model.specs.Search.{joinFrom}
-use Rattle.model.specs.Word.{wordAt, wordBytes, fourBytes}
+use Rattle.model.specs.Word.{wordBytes, fourBytes}
 use Rattle.model.specs.declared.Command.the-variants as Command
 use Rattle.model.specs.declared.Kind.{Kind}
 use Rattle.model.specs.declared.Kind.the-variants.{Now, Last, When, LastWhen, Current}
-use Rattle.model.proofs.All.{all-append, all-at, all-map}
+use Rattle.model.proofs.All.{all-append, all-at}
 use Rattle.model.proofs.Bounds.{depth, bodyDepth, Words, BodyWords}
 use Rattle.model.proofs.Commands.{Bytes, word-fits, ReadSound, command-sound, link-command}
 use Rattle.model.proofs.Outcomes.{joinFrom-append}
-use Rattle.model.proofs.Spelled
 use Rattle.model.proofs.Spelled.{Spells, SpellsLinks, Declares, declared}
 
 -- A signal's command and what stands after it.

@@ -1,16 +1,15 @@
 -- The links of a chain, from the last to the first: each read on the way back is met, so that the window of runs decides the
 -- chain's constraint. Assumes nothing.
-use Prim.Native.Nat.{ℕ, zero, suc, _+_, _≤_, _<_}
-use mathlib.Core.Bool.{Bool, true, false, cond, _&&_, and-eq-true-iff}
+use Prim.Native.Nat.{ℕ, _+_, _≤_, _<_}
+use mathlib.Core.Bool.{Bool, true, false, cond, and-eq-true-iff}
 use mathlib.Core.List.{List, [], _∷_, map, reverse, reverseAux}
 use mathlib.Core.Logic.{_↔_}
-use mathlib.Core.Path.{_≡_, refl, sym, ap, _∙_}
+use mathlib.Core.Path.{_≡_, refl}
 use native.Mathlib.Omega.{arith}
 use borrow.Author.Tests.{eqb-true}
 use lib.Dec.{eqb}
-use lib.ListN.{length}
 use Rattle.model.specs.Accepted.{All, Met, Accepted, Multiple}
-use Rattle.model.specs.Latency.{noRead, readOf, readsBack, Timely, windowOf, keepsFrom, keeps}
+use Rattle.model.specs.Latency.{readOf, readsBack, Timely, keepsFrom, keeps}
 use Rattle.model.specs.Program.{Program, Link, Chain, Read, count, signalAt, bodyReads}
 use Rattle.model.specs.Rates.{countReads, isLinked}
 use Rattle.model.specs.Schedule.{Schedule}

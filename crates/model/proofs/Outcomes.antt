@@ -114,13 +114,13 @@ lowest-least d (x ∷ fs) f e = go (lowest fs) refl e (λ g q. lowest-least d fs
           index = suc (h .index);
           inside = omega (arith, h .inside);
           here = h .here ∙ q;
-          least = rw (sym q) (below);
+          least = rw (sym q) below;
         }
       where
         below : (i : ℕ) → i < length (x ∷ fs) → g .place ≤ getD (x ∷ fs) i d .place
         below zero l = omega (arith, ltb-true (g .place) (x .place) t)
         below (suc i) l = h .least i (omega arith)
-    pick g h false t q = record { index = 0; inside = omega arith; here = q; least = rw (sym q) (below) }
+    pick g h false t q = record { index = 0; inside = omega arith; here = q; least = rw (sym q) below }
       where
         below : (i : ℕ) → i < length (x ∷ fs) → x .place ≤ getD (x ∷ fs) i d .place
         below zero l = omega arith
@@ -146,8 +146,10 @@ lowest-is d fs f j inside here least only = go (lowest fs) refl
     go (accepted a) p = absurd (omega (arith, ap length (lowest-none fs p)))
     go (refused g) p =
         let h = lowest-least d fs g p in
+        let at-index = ap (λ (x : Fault). x .place) (h .here) in
+        let at-j = ap (λ (x : Fault). x .place) here in
         let same : getD fs (h .index) d .place ≡ f .place =
-            omega (arith, h .least j inside, ap (λ (x : Fault). x .place) here, ap (λ (x : Fault). x .place) (h .here), least (h .index) (h .inside)) in
+        omega (arith, h .least j inside, least (h .index) (h .inside)) in
         ap refused (sym (h .here) ∙ only (h .index) (h .inside) same)
 
 -- The first fault is the lowest if no other has a lower place.
@@ -160,14 +162,15 @@ lowest-sorted d f fs above = go (lowest fs) refl
     go (accepted a) p = refl
     go (refused g) p =
         let h = lowest-least d fs g p in
-        rw (le-ltb (g .place) (f .place) (omega (arith, above (h .index) (h .inside), ap (λ (x : Fault). x .place) (h .here)))) refl
+        let at-index = ap (λ (x : Fault). x .place) (h .here) in
+        rw (le-ltb (g .place) (f .place) (omega (arith, above (h .index) (h .inside))))
 
 -- A list of two parts is empty if both are.
 pub append-none : {A : Type 0} (xs ys : List A) → xs ++ ys ≡ [] → (xs ≡ []) × (ys ≡ [])
 append-none [] ys e = (refl, e)
 append-none (x ∷ xs) ys e = absurd (omega (arith, ap length e))
 
--- A fault that stands in the list where a test fails.
+-- A test that fails puts an element into the list.
 pub cond-none : {A : Type 0} (t : Bool) (x : A) → cond t [] (x ∷ []) ≡ [] → t ≡ true
 cond-none true x e = refl
 cond-none false x e = absurd (omega (arith, ap length e))

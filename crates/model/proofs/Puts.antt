@@ -4,10 +4,10 @@ use mathlib.Core.Bool.{Bool, true, false, cond, _||_, false≢true}
 use mathlib.Core.List.{List, [], _∷_, _++_, map, append-assoc, append-nil}
 use mathlib.Core.Path.{_≡_, refl, sym, ap, subst, _∙_}
 use native.Mathlib.Omega.{arith}
-use borrow.Author.Tests.{leb-true, ltb-true, eqb-true, eqb-false, eq-eqb, ne-eqb}
+use borrow.Author.Tests.{leb-true, ltb-true, eqb-true, eq-eqb}
 use lib.Dec.{leb, ltb, eqb}
 use lib.ListN.{length, getD, length-map}
-use Rattle.model.specs.Outcome.{Outcome, accepted, refused, fault, _▷_, provided, lowest, Parsed, parsed}
+use Rattle.model.specs.Outcome.{Outcome, accepted, fault, lowest, Parsed, parsed}
 use Rattle.model.specs.Program.{Program, count, signalAt}
 use Rattle.model.specs.Reads.{place}
 use Rattle.model.specs.Schedule.{
@@ -25,13 +25,22 @@ use Rattle.model.specs.Schedule.{
   scheduleOf,
   placed,
 }
-use Rattle.model.specs.Search.{allBelow, table}
+use Rattle.model.specs.Search.{allBelow}
 use Rattle.model.specs.Word.{byteAt}
-use Rattle.model.specs.declared.Fault.{Fault}
 use Rattle.model.specs.declared.ScheduleCommand.{ScheduleCommand}
 use Rattle.model.specs.declared.ScheduleCommand.the-variants as ScheduleCommand
 use Rattle.model.proofs.Decide.{all-true}
-use Rattle.model.proofs.Outcomes.{Holds, holds-value, value-holds, holds-then, holds-map, holds-provided, lowest-none, append-none, getD-table}
+use Rattle.model.proofs.Outcomes.{
+  Holds,
+  holds-value,
+  value-holds,
+  holds-then,
+  holds-map,
+  holds-provided,
+  lowest-none,
+  append-none,
+  getD-table,
+}
 
 -- A command that is read lies within the text.
 module _ (text : List ℕ) (at : ℕ) where
@@ -80,7 +89,7 @@ module _ (text : List ℕ) where
   reads-command next h at puts ScheduleCommand.Unknown e = tt
   reads-command next h at puts ScheduleCommand.End e =
       holds-provided (ReadsPuts at puts) (leb (length text) (at + 1)) 11 (at + 1) (parsed puts at) (λ t.
-          ([], sym (append-nil puts), ends e (leb-true (length text) (at + 1) t)))
+      ([], sym (append-nil puts), ends e (leb-true (length text) (at + 1) t)))
   reads-command next h at puts (ScheduleCommand.Put signal phase) e =
       let here : Put = record { place = at; signal = signal; phase = phase } in
       holds-map (ReadsPuts (at + 3) (puts ++ (here ∷ []))) (ReadsPuts at puts) (next (at + 3) (puts ++ (here ∷ []))) (λ o r. (
@@ -217,17 +226,17 @@ unfolding placed scheduleOf
 placed-ordered p puts s e =
     holds-value Q (placed p puts) s
     (holds-then (λ u. here ≡ accepted u) Q here _ (value-holds here) (λ u f.
-        holds-provided Q (allBelow (count p) (isPut qs)) 12 (puts .next) (accepted (scheduleOf p qs)) (λ t.
-            let h = puts-placed p [] qs (lowest-none (putsFaults p [] qs) f) in
-            let all = all-true (count p) (isPut qs) t in (
-              record {
-                phases = λ x l. rw (getD-table (putPhase qs) (count p) x 0 l) (placed-phase p [] qs h x (all x l));
-                put = λ x l. placed-put qs x (all x l);
-                once = placed-once p [] qs h;
-                only = placed-only p [] qs h;
-              },
-              length-map qs (λ q. q .signal),
-            )))) e
+    holds-provided Q (allBelow (count p) (isPut qs)) 12 (puts .next) (accepted (scheduleOf p qs)) (λ t.
+    let h = puts-placed p [] qs (lowest-none (putsFaults p [] qs) f) in
+    let all = all-true (count p) (isPut qs) t in (
+      record {
+        phases = λ x l. rw (getD-table (putPhase qs) (count p) x 0 l) (placed-phase p [] qs h x (all x l));
+        put = λ x l. placed-put qs x (all x l);
+        once = placed-once p [] qs h;
+        only = placed-only p [] qs h;
+      },
+      length-map qs (λ q. q .signal),
+    )))) e
   where
     qs : List Put
     qs = puts .value

@@ -1,16 +1,16 @@
 -- What the parser accepts, as relations between a text and a tree: inductions over an accepted text go by them.
 -- Assumes nothing.
-use Prim.Native.Nat.{ℕ, zero, suc, _+_, _*_, _≤_, _<_, max}
+use Prim.Native.Nat.{ℕ, zero, suc, _+_, _≤_, _<_}
 use mathlib.Core.Bool.{Bool, true, false, cond, false≢true}
 use mathlib.Core.List.{List, [], _∷_, _++_, append-assoc, append-nil}
-use mathlib.Core.Path.{_≡_, refl, sym, ap, subst, _∙_}
+use mathlib.Core.Path.{_≡_, refl, sym, _∙_}
 use native.Mathlib.Omega.{arith}
-use borrow.Author.Tests.{leb-true, ltb-true, eqb-true, eqb-false}
-use lib.Dec.{leb, ltb, eqb}
+use borrow.Author.Tests.{leb-true, ltb-true, eqb-true}
+use lib.Dec.{leb, eqb}
 use lib.IntN.{ℤ}
-use lib.ListN.{length, getD, length-append}
+use lib.ListN.{length}
 use Rattle.model.specs.Command.{isPeriod, modeOf, keywordAt, commandOf, commandAt}
-use Rattle.model.specs.Outcome.{Outcome, accepted, refused, refuse, _▷_, provided, Parsed, parsed}
+use Rattle.model.specs.Outcome.{Outcome, accepted, refuse, _▷_, provided, Parsed, parsed}
 use Rattle.model.specs.Program.{
   Read,
   Expr,
@@ -19,12 +19,9 @@ use Rattle.model.specs.Program.{
   binary,
   negate,
   choose,
-  Body,
   input,
   equation,
-  Signal,
   Link,
-  Chain,
   Program,
   empty,
   withSignal,
@@ -55,7 +52,16 @@ use Rattle.model.specs.declared.Kind.{Kind}
 use Rattle.model.specs.declared.Mode.{Mode}
 use Rattle.model.specs.declared.Sampled.{Sampled}
 use Rattle.model.proofs.Bounds.{depth}
-use Rattle.model.proofs.Outcomes.{Holds, holds-value, value-holds, holds-then, holds-map, holds-provided, provided-true, accepted≢refused}
+use Rattle.model.proofs.Outcomes.{
+  Holds,
+  holds-value,
+  value-holds,
+  holds-then,
+  holds-map,
+  holds-provided,
+  provided-true,
+  accepted≢refused,
+}
 
 -- The bytes from `at` up to `next` spell the expression.
 pub data Spells (text : List ℕ) : ℕ → Expr → ℕ → Type 0 where
@@ -116,15 +122,15 @@ module _ (text : List ℕ) where
   reads-node d sub h at (Command.Read kind x) e = (reads e, omega arith)
   reads-node d sub h at (Command.Binary operator) e =
       holds-then (Reads d (at + 1)) (Reads (suc d) at) (sub (at + 1)) _ (h (at + 1)) (λ x u.
-          holds-then (Reads d (x .next)) (Reads (suc d) at) (sub (x .next)) _ (h (x .next)) (λ y v.
-              (two e (u .0) (v .0), omega arith)))
+      holds-then (Reads d (x .next)) (Reads (suc d) at) (sub (x .next)) _ (h (x .next)) (λ y v.
+      (two e (u .0) (v .0), omega arith)))
   reads-node d sub h at Command.Negate e =
       holds-then (Reads d (at + 1)) (Reads (suc d) at) (sub (at + 1)) _ (h (at + 1)) (λ x u. (one e (u .0), omega arith))
   reads-node d sub h at Command.If e =
       holds-then (Reads d (at + 1)) (Reads (suc d) at) (sub (at + 1)) _ (h (at + 1)) (λ x u.
-          holds-then (Reads d (x .next)) (Reads (suc d) at) (sub (x .next)) _ (h (x .next)) (λ y v.
-              holds-then (Reads d (y .next)) (Reads (suc d) at) (sub (y .next)) _ (h (y .next)) (λ z w.
-                  (three e (u .0) (v .0) (w .0), omega arith))))
+      holds-then (Reads d (x .next)) (Reads (suc d) at) (sub (x .next)) _ (h (x .next)) (λ y v.
+      holds-then (Reads d (y .next)) (Reads (suc d) at) (sub (y .next)) _ (h (y .next)) (λ z w.
+      (three e (u .0) (v .0) (w .0), omega arith))))
 
   reads-expr : (d at : ℕ) → Holds (Reads d at) (parseExpr d text at)
   unfolding parseExpr
@@ -134,11 +140,12 @@ module _ (text : List ℕ) where
   reads-expr (suc d) at =
       let here = operatorHere text at (keywordAt text at) in
       holds-then (λ u. here ≡ accepted u) (Reads (suc d) at) here _ (value-holds here) (λ u e.
-          reads-node d (λ n. parseExpr d text n) (λ a. reads-expr d a) at (commandAt text at) refl)
+      reads-node d (λ n. parseExpr d text n) (λ a. reads-expr d a) at (commandAt text at) refl)
 
-  pub spelled : (d at : ℕ) (e : Parsed Expr) → parseExpr d text at ≡ accepted e →
-      Spells text at (e .value) (e .next) × (depth (e .value) ≤ d)
-  spelled d at e q = holds-value (Reads d at) (parseExpr d text at) e (reads-expr d at) q
+  -- An accepted expression is spelled, and nests at most d deep.
+  pub spelled : (d at : ℕ) (e : Expr) (next : ℕ) → parseExpr d text at ≡ parsed e next → Spells text at e next × (depth e ≤ d)
+  spelled d at e next q =
+      holds-value (Reads d at) (parseExpr d text at) (record { value = e; next = next }) (reads-expr d at) q
 
   -- LINKs read at `at` after those of `links`, at most `room`.
   abbrev ReadsLinks : ℕ → ℕ → List Link → Parsed (List Link) → Type 0
@@ -159,8 +166,8 @@ module _ (text : List ℕ) where
       here : Link
       here = record { place = at; signal = byteAt text (at + 1) }
 
-      go : (b : Bool) → eqb (byteAt text at) 0x13 ≡ b → 
-          Holds (ReadsLinks room (at + 2) (links ++ (here ∷ []))) (parseLinks room text (at + 2) (links ++ (here ∷ []))) → 
+      go : (b : Bool) → eqb (byteAt text at) 0x13 ≡ b →
+          Holds (ReadsLinks room (at + 2) (links ++ (here ∷ []))) (parseLinks room text (at + 2) (links ++ (here ∷ []))) →
           Holds (ReadsLinks (suc room) at links) (elim b [
             | true ↦
                 provided (leb (at + 2) (length text)) 2 (length text) ▷ λ _.
@@ -170,13 +177,13 @@ module _ (text : List ℕ) where
       go true e h =
           holds-provided (ReadsLinks (suc room) at links) (leb (at + 2) (length text)) 2 (length text)
           (parseLinks room text (at + 2) (links ++ (here ∷ []))) (λ t.
-              holds-map (ReadsLinks room (at + 2) (links ++ (here ∷ []))) (ReadsLinks (suc room) at links)
-              (parseLinks room text (at + 2) (links ++ (here ∷ []))) (λ o r. (
-                here ∷ r .0,
-                r .1 ∙ append-assoc links (here ∷ []) (r .0),
-                link (eqb-true (byteAt text at) 0x13 e) (leb-true (at + 2) (length text) t) (r .2),
-                omega arith,
-              )) h)
+          holds-map (ReadsLinks room (at + 2) (links ++ (here ∷ []))) (ReadsLinks (suc room) at links)
+          (parseLinks room text (at + 2) (links ++ (here ∷ []))) (λ o r. (
+            here ∷ r .0,
+            r .1 ∙ append-assoc links (here ∷ []) (r .0),
+            link (eqb-true (byteAt text at) 0x13 e) (leb-true (at + 2) (length text) t) (r .2),
+            omega arith,
+          )) h)
       go false e h = ([], sym (append-nil links), ends e, omega arith)
 
   -- What a command is judged by before its operands.
@@ -237,38 +244,45 @@ module _ (text : List ℕ) where
   abbrev Ended : ℕ → Program → Program → Type 0
   Ended at p q = (end : ℕ) × Declares text at p end q
 
-  module _ (next : ℕ → Program → Outcome Program) (h : (a : ℕ) (p : Program) → Holds (Ended a p) (next a p)) (at : ℕ) (p : Program) where
-    onward : (a : ℕ) (r : Program) → ((end : ℕ) (q : Program) → Declares text a r end q → Declares text at p end q) →
-        Holds (Ended at p) (next a r)
-    onward a r g = holds-map (Ended a r) (Ended at p) (next a r) (λ q x. (x .0, g (x .0) q (x .1))) (h a r)
+  -- The commands after this one are read by `next`.
+  module _
+      (next : ℕ → Program → Outcome Program)
+      (h : (a : ℕ) (p : Program) → Holds (Ended a p) (next a p))
+      (at : ℕ)
+      (p : Program)
+    where
+      onward : (a : ℕ) (r : Program) → ((end : ℕ) (q : Program) → Declares text a r end q → Declares text at p end q) →
+          Holds (Ended at p) (next a r)
+      onward a r g = holds-map (Ended a r) (Ended at p) (next a r) (λ q x. (x .0, g (x .0) q (x .1))) (h a r)
 
-    declares : (c : Command) → commandAt text at ≡ c → Room p c → Holds (Ended at p) (declare next text at p c)
-    unfolding declare
-    declares Command.EndsEarly e room = tt
-    declares Command.Unknown e room = tt
-    declares Command.OutOfRange e room = tt
-    declares Command.End e room =
-        holds-provided (Ended at p) (leb (length text) (at + 1)) 6 (at + 1) (accepted p) (λ t. (at, ends e (leb-true _ _ t)))
-    declares (Command.Input period initial) e room =
-        onward (at + 6) (withSignal p (record { place = at; period = period; initial = initial; body = input }))
-        (λ end q r. inputs room e r)
-    declares (Command.Equation period initial weight) e room =
-        holds-then (Reads 16 (at + 8)) (Ended at p) (parseExpr 16 text (at + 8)) _ (reads-expr 16 (at + 8)) (λ x u.
-            onward (x .next)
-            (withSignal p (record { place = at; period = period; initial = initial; body = equation weight (x .value) }))
-            (λ end q r. equations room e (u .0) (u .1) r))
-    declares (Command.Latency mode bound) e room =
-        holds-then (ReadsLinks 16 (at + 4) []) (Ended at p) (parseLinks 16 text (at + 4) []) _ (reads-links 16 (at + 4) []) (λ x u.
-            holds-provided (Ended at p) (leb 2 (length (x .value))) 5 at _ (λ t.
-                onward (x .next) (withChain p (record { place = at; mode = mode; bound = bound; links = x .value }))
-                (λ end q r. chains room e (rw (u .1) (u .2)) (leb-true 2 (length (x .value)) t) (rw (u .1) (u .3)) r)))
-    declares (Command.Link signal) e room = tt
-    declares (Command.Cap n) e room = onward (at + 5) (withCap p n) (λ end q r. caps room e r)
-    declares (Command.Constant w) e room = tt
-    declares (Command.Read kind x) e room = tt
-    declares (Command.Binary operator) e room = tt
-    declares Command.Negate e room = tt
-    declares Command.If e room = tt
+      declares : (c : Command) → commandAt text at ≡ c → Room p c → Holds (Ended at p) (declare next text at p c)
+      unfolding declare
+      declares Command.EndsEarly e room = tt
+      declares Command.Unknown e room = tt
+      declares Command.OutOfRange e room = tt
+      declares Command.End e room =
+          holds-provided (Ended at p) (leb (length text) (at + 1)) 6 (at + 1) (accepted p) (λ t. (at, ends e (leb-true _ _ t)))
+      declares (Command.Input period initial) e room =
+          onward (at + 6) (withSignal p (record { place = at; period = period; initial = initial; body = input }))
+          (λ end q r. inputs room e r)
+      declares (Command.Equation period initial weight) e room =
+          holds-then (Reads 16 (at + 8)) (Ended at p) (parseExpr 16 text (at + 8)) _ (reads-expr 16 (at + 8)) (λ x u.
+          onward (x .next)
+          (withSignal p (record { place = at; period = period; initial = initial; body = equation weight (x .value) }))
+          (λ end q r. equations room e (u .0) (u .1) r))
+      declares (Command.Latency mode bound) e room =
+          holds-then (ReadsLinks 16 (at + 4) []) (Ended at p) (parseLinks 16 text (at + 4) []) _
+          (reads-links 16 (at + 4) []) (λ x u.
+          holds-provided (Ended at p) (leb 2 (length (x .value))) 5 at _ (λ t.
+          onward (x .next) (withChain p (record { place = at; mode = mode; bound = bound; links = x .value }))
+          (λ end q r. chains room e (rw (u .1) (u .2)) (leb-true 2 (length (x .value)) t) (rw (u .1) (u .3)) r)))
+      declares (Command.Link signal) e room = tt
+      declares (Command.Cap n) e room = onward (at + 5) (withCap p n) (λ end q r. caps room e r)
+      declares (Command.Constant w) e room = tt
+      declares (Command.Read kind x) e room = tt
+      declares (Command.Binary operator) e room = tt
+      declares Command.Negate e room = tt
+      declares Command.If e room = tt
 
   declares-commands : (left at : ℕ) (p : Program) → Holds (Ended at p) (parseCommands left text at p)
   unfolding parseCommands commandAt
@@ -276,8 +290,8 @@ module _ (text : List ℕ) where
   declares-commands (suc left) at p =
       let here = commandHere text at p (keywordAt text at) in
       holds-then (λ u. here ≡ accepted u) (Ended at p) here _ (value-holds here) (λ u e.
-          declares (λ n q. parseCommands left text n q) (λ a q. declares-commands left a q) at p (commandAt text at) refl
-          (room-keyword at p (keywordAt text at) e))
+      declares (λ n q. parseCommands left text n q) (λ a q. declares-commands left a q) at p (commandAt text at) refl
+      (room-keyword at p (keywordAt text at) e))
 
   -- An accepted text declares its program.
   pub declared : (p : Program) → parseProgram text ≡ accepted p → (end : ℕ) × Declares text 0 empty end p

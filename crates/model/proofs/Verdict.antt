@@ -1,30 +1,29 @@
 -- What the verdict says of a pair that it accepts: the statements over all runs, and the bounds of the image. Assumes nothing.
-use Prim.Native.Nat.{ℕ, zero, suc, _+_, _*_, _≤_, _<_}
-use mathlib.Core.Bool.{Bool, true, false, cond, _&&_, and-eq-true-iff}
-use mathlib.Core.List.{List, [], _∷_, _++_}
-use mathlib.Core.Path.{_≡_, refl, sym, ap, _∙_}
+use Prim.Native.Nat.{ℕ, suc, _+_, _*_, _≤_, _<_}
+use mathlib.Core.Bool.{Bool, true, false, cond, and-eq-true-iff}
+use mathlib.Core.List.{List, [], _∷_}
+use mathlib.Core.Path.{_≡_, refl, ap, _∙_}
 use native.Mathlib.Nat.{zero-add, mul-le-mul}
 use native.Mathlib.Omega.{arith}
-use borrow.Author.Tests.{leb-true, ltb-true, le-leb}
+use borrow.Author.Tests.{leb-true, ltb-true}
 use lib.Dec.{leb, ltb}
-use lib.ListN.{length, getD}
+use lib.ListN.{length}
 use Rattle.model.specs.Accepted.{All, PeriodRule, Met, Accepted, Multiple}
 use Rattle.model.specs.Compile.{shortEnough, Pair, pairOf}
-use Rattle.model.specs.Image.{runList, runLists, joined, codes, listsAt, codesAt, lengthOf}
-use Rattle.model.specs.Latency.{noRead, keeps, timely}
+use Rattle.model.specs.Image.{runList, runLists, joined, codesAt, lengthOf}
+use Rattle.model.specs.Latency.{keeps, timely}
 use Rattle.model.specs.Load.{loaded}
-use Rattle.model.specs.Outcome.{Outcome, accepted, refused, fault, _▷_, lowest, Parsed}
-use Rattle.model.specs.Program.{Program, Signal, Read, Link, Chain, parseProgram, noSignal, count, signalAt, bodyReads}
+use Rattle.model.specs.Outcome.{Outcome, accepted, fault, _▷_, Parsed}
+use Rattle.model.specs.Program.{Program, Read, Chain, parseProgram, noSignal, count, signalAt, bodyReads}
 use Rattle.model.specs.Rates.{periodRule, readFaults, linkFaults, declaredAndRated, hypercycle, isLinked, linked}
 use Rattle.model.specs.Reads.{isMet, met}
 use Rattle.model.specs.Schedule.{Put, parseSchedule, Schedule, placed}
 use Rattle.model.specs.Search.{chosen, table, joinFrom}
-use Rattle.model.specs.declared.Fault.{Fault}
-use Rattle.model.proofs.All.{all-at, at-all, all-both, all-map, all-joined, joined-length}
+use Rattle.model.proofs.All.{at-all, all-both, all-map, all-joined, joined-length}
 use Rattle.model.proofs.Bounds.{Bounded}
 use Rattle.model.proofs.Commands.{Bytes}
 use Rattle.model.proofs.Decide.{periods-true, met-true}
-use Rattle.model.proofs.Hypercycle.{Least, hypercycle-least}
+use Rattle.model.proofs.Hypercycle.{hypercycle-least}
 use Rattle.model.proofs.Legal.{
   SpellsRead,
   Legal,
@@ -42,7 +41,6 @@ use Rattle.model.proofs.Outcomes.{
   value-holds,
   holds-then,
   provided-true,
-  true-provided,
   accepted-then,
   lowest-none,
   append-none,
@@ -77,28 +75,28 @@ pair-passed program schedule q e =
     let R = Passed program schedule in
     holds-value R (pairOf program schedule) q
     (step R (shortEnough program schedule) _ (λ u short.
-     step R (parseProgram program) _ (λ p parses.
-     step R (declaredAndRated p) _ (λ u rated.
-     step R (hypercycle p) _ (λ h hyper.
-     step R (linked p) _ (λ u links.
-     step R (parseSchedule schedule) _ (λ puts reads.
-     step R (placed p puts) _ (λ s places.
-     step R (met p s) _ (λ u meets.
-     step R (loaded p s h) _ (λ u loads.
-     step R (timely p s h) _ (λ u times.
-     record {
-       short = short;
-       parses = parses;
-       rated = rated;
-       hyper = hyper;
-       links = links;
-       puts = puts;
-       reads = reads;
-       places = places;
-       meets = meets;
-       loads = loads;
-       times = times;
-     }))))))))))) e
+    step R (parseProgram program) _ (λ p parses.
+    step R (declaredAndRated p) _ (λ u rated.
+    step R (hypercycle p) _ (λ h hyper.
+    step R (linked p) _ (λ u links.
+    step R (parseSchedule schedule) _ (λ puts reads.
+    step R (placed p puts) _ (λ s places.
+    step R (met p s) _ (λ u meets.
+    step R (loaded p s h) _ (λ u loads.
+    step R (timely p s h) _ (λ u times.
+    record {
+      short = short;
+      parses = parses;
+      rated = rated;
+      hyper = hyper;
+      links = links;
+      puts = puts;
+      reads = reads;
+      places = places;
+      meets = meets;
+      loads = loads;
+      times = times;
+    }))))))))))) e
 
 pub passed-pair : (program schedule : List ℕ) (q : Pair) → Passed program schedule q → pairOf program schedule ≡ accepted q
 unfolding pairOf
@@ -149,7 +147,8 @@ module _ (p : Program) where
       append-none (joinFrom 0 (λ s x. joinFrom 0 (λ i ρ. readFaults p x ρ) (bodyReads (x .body))) (p .signals))
       (joinFrom 0 (λ j c. joinFrom 0 (λ i l. linkFaults p l) (c .links)) (p .chains)) (lowest-none _ e)
 
-  pub reads-rated : declaredAndRated p ≡ accepted tt → (x : ℕ) → x < count p → All (Rated p x) (bodyReads (signalAt p x .body))
+  pub reads-rated : declaredAndRated p ≡ accepted tt → (x : ℕ) → x < count p →
+      All (Rated p x) (bodyReads (signalAt p x .body))
   reads-rated e x lt =
       all-joined (λ i ρ. readFaults p (signalAt p x) ρ) (Rated p x) (λ i ρ. read-rated x ρ) 0 (bodyReads (signalAt p x .body))
       (joinFrom-none (λ s y. joinFrom 0 (λ i ρ. readFaults p y ρ) (bodyReads (y .body))) 0 (p .signals) noSignal
@@ -190,7 +189,8 @@ unfolding chosen
 chosen-length test [] = omega arith
 chosen-length test (x ∷ xs) = go (test x) (chosen-length test xs)
   where
-    go : (b : Bool) → length (chosen test xs) ≤ length xs → length (cond b (x ∷ chosen test xs) (chosen test xs)) ≤ suc (length xs)
+    go : (b : Bool) → length (chosen test xs) ≤ length xs →
+        length (cond b (x ∷ chosen test xs) (chosen test xs)) ≤ suc (length xs)
     go true h = omega arith
     go false h = omega arith
 
@@ -201,8 +201,8 @@ lists-length p s h =
     rw n at
     (joined-length (length (s .order)) 0 (table h (runList p s))
     (at-all (λ x. length x ≤ length (s .order)) (table h (runList p s)) [] (λ i lt.
-        let l : i < h = omega arith in
-        rw (getD-table (runList p s) h i [] l) (chosen-length _ (s .order)))))
+    let l : i < h = omega arith in
+    rw (getD-table (runList p s) h i [] l) (chosen-length _ (s .order)))))
 
 module _ (program schedule : List ℕ) (q : Pair) (e : pairOf program schedule ≡ accepted q) where
   passed : Passed program schedule q
@@ -237,7 +237,7 @@ module _ (program schedule : List ℕ) (q : Pair) (e : pairOf program schedule �
       all-met x lt =
           let ρs = bodyReads (signalAt p x .body) in
           all-map (λ ρ. SpellsRead program ρ × (Rated p x ρ × (isMet p s x ρ ≡ true))) (Met p s x) (λ ρ h.
-              met-true p s x ρ (h .1 .0 .0) (read-sound program ρ (h .0) .range) (h .1 .0 .1) (h .1 .1)) ρs
+          met-true p s x ρ (h .1 .0 .0) (read-sound program ρ (h .0) .range) (h .1 .0 .1) (h .1 .1)) ρs
           (all-both (SpellsRead program) (λ ρ. Rated p x ρ × (isMet p s x ρ ≡ true)) ρs (signal-reads (lawful .1) x lt)
           (all-both (Rated p x) (λ ρ. isMet p s x ρ ≡ true) ρs (reads-rated p (passed .rated) x lt)
           (reads-met p s (passed .meets) x lt)))
@@ -245,7 +245,7 @@ module _ (program schedule : List ℕ) (q : Pair) (e : pairOf program schedule �
   pub pair-timely : All (KeepsTime (q .program) (q .schedule)) (q .program .chains)
   pair-timely =
       all-map (λ c. D c × (L c × K c)) (KeepsTime p s) (λ c h.
-          keeps-decides p s pair-accepted (q .hypercycle) pair-multiple c (h .1 .0) (h .0) .0 (h .1 .1)) (p .chains)
+      keeps-decides p s pair-accepted (q .hypercycle) pair-multiple c (h .1 .0) (h .0) .0 (h .1 .1)) (p .chains)
       (all-both D (λ c. L c × K c) (p .chains) (links-declared p (passed .rated))
       (all-both L K (p .chains) (chains-linked p (passed .links)) (chains-keep p s (q .hypercycle) (passed .times))))
     where
@@ -269,7 +269,7 @@ module _ (program schedule : List ℕ) (q : Pair) (e : pairOf program schedule �
   pair-bounded bytes =
       let h = hypercycle-least (q .program) (q .hypercycle) .0 (passed .hyper) .bound in
       let l = lawful .1 in
-      let short = and-eq-true-iff (leb (length program) 8192) (leb (length schedule) 193) .0 (provided-true _ 1 0 (passed .short)) in
+      let short = and-eq-true-iff (leb (length program) 8192) _ .0 (provided-true _ 1 0 (passed .short)) in
       let program-short = leb-true (length program) 8192 (short .0) in
       let schedule-short = leb-true (length schedule) 193 (short .1) in
       let puts = puts-end (puts-spelled schedule (passed .puts) (passed .reads)) in
