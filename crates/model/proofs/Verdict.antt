@@ -12,17 +12,19 @@ use Rattle.model.specs.Accepted.{All, PeriodRule, Met, Accepted, Multipl
 use Rattle.model.specs.Compile.{shortEnough, Pair, pairOf}
 use Rattle.model.specs.Image.{runList, runLists, joined, codesAt, lengthOf}
 use Rattle.model.specs.Latency.{keeps, timely}
-use Rattle.model.specs.Load.{loaded}
+use Rattle.model.specs.Load.{load, isOver, loadedOf, loaded}
 use Rattle.model.specs.Outcome.{Outcome, accepted, fault, _▷_, Parsed}
 use Rattle.model.specs.Program.{Program, Read, Chain, parseProgram, noSignal, count, signalAt, bodyReads}
 use Rattle.model.specs.Rates.{periodRule, readFaults, linkFaults, declaredAndRated, hypercycle, isLinked, linked}
 use Rattle.model.specs.Reads.{isMet, met}
 use Rattle.model.specs.Schedule.{Put, parseSchedule, Schedule, placed}
-use Rattle.model.specs.Search.{chosen, table, joinFrom}
+use Rattle.model.specs.Search.{first, chosen, table, joinFrom}
+use Rattle.model.specs.declared.Found.{Found}
+use Rattle.model.specs.declared.Found.the-variants.{At, Nowhere}
 use Rattle.model.proofs.All.{at-all, all-both, all-map, all-joined, joined-length}
 use Rattle.model.proofs.Bounds.{Bounded}
 use Rattle.model.proofs.Commands.{Bytes}
-use Rattle.model.proofs.Decide.{periods-true, met-true}
+use Rattle.model.proofs.Decide.{is-first, periods-true, met-true}
 use Rattle.model.proofs.Hypercycle.{hypercycle-least}
 use Rattle.model.proofs.Legal.{
   SpellsRead,
@@ -42,6 +44,7 @@ use Rattle.model.proofs.Outcomes.{
   holds-then,
   provided-true,
   accepted-then,
+  accepted≢refused,
   lowest-none,
   append-none,
   cond-none,
@@ -183,6 +186,18 @@ module _ (p : Program) where
       all-joined (λ j c. cond (keeps p s h c) [] (fault 16 (c .place) ∷ [])) (λ c. keeps p s h c ≡ true)
       (λ j c t. cond-none _ _ t) 0 (p .chains) (lowest-none _ e)
 
+  pub cycles-loaded : (s : Schedule) (h : ℕ) → loaded p s h ≡ accepted tt → (c : ℕ) → c < h →
+      isOver (p .cap) (load p s c) ≡ false
+  unfolding loaded
+  cycles-loaded s h e c lt = go (first h over) refl e
+    where
+      over : ℕ → Bool
+      over n = isOver (p .cap) (load p s n)
+
+      go : (f : Found) → first h over ≡ f → loadedOf f ≡ accepted tt → over c ≡ false
+      go (At n) q t = absurd (accepted≢refused _ tt _ t refl)
+      go Nowhere q t = is-first h over Nowhere q c (omega arith) (omega arith)
+
 -- A run list is no longer than the PUT order.
 chosen-length : {A : Type 0} (test : A → Bool) (xs : List A) → length (chosen test xs) ≤ length xs
 unfolding chosen
@@ -204,6 +219,7 @@ lists-length p s h =
     let l : i < h = omega arith in
     rw (getD-table (runList p s) h i [] l) (chosen-length _ (s .order)))))
 
+-- An accepted pair.
 module _ (program schedule : List ℕ) (q : Pair) (e : pairOf program schedule ≡ accepted q) where
   passed : Passed program schedule q
   passed = pair-passed program schedule q e
@@ -263,6 +279,9 @@ module _ (program schedule : List ℕ) (q : Pair) (e : pairOf program schedule �
 
       K : Chain → Type 0
       K c = keeps p s (q .hypercycle) c ≡ true
+
+  pub pair-loaded : (c : ℕ) → c < q .hypercycle → isOver (q .program .cap) (load (q .program) (q .schedule) c) ≡ false
+  pair-loaded = cycles-loaded (q .program) (q .schedule) (q .hypercycle) (passed .loads)
 
   pub pair-bounded : Bytes program → Bounded (q .program) (q .schedule) (q .hypercycle)
   unfolding shortEnough lengthOf codesAt
