@@ -15,4 +15,13 @@ pub mod Runs
 pub mod Formed
 pub mod Bytes
 pub mod AlikeBytes
+pub mod Outcomes
+pub mod Hypercycle
+pub mod Commands
+pub mod Spelled
+pub mod All
+pub mod Legal
+pub mod Puts
+pub mod Links
+pub mod Verdict
 pub mod Examples

@@ -1,0 +1,156 @@
+-- What a command that is read says of the text: that its bytes are there, and the ranges of its operands. Assumes nothing.
+use Prim.Native.Nat.{ℕ, _+_, _≤_, _<_}
+use mathlib.Core.Bool.{Bool, true, false, cond, _&&_, _||_, false≢true, and-eq-true-iff}
+use mathlib.Core.List.{List}
+use mathlib.Core.Path.{_≡_, refl, subst}
+use native.Mathlib.Omega.{arith}
+use borrow.Author.Tests.{leb-true, ltb-true, lt-ltb, le-leb}
+use lib.Dec.{leb, ltb, eqb}
+use lib.ListN.{length, getD}
+use mir.Facts.{sfits-toZ}
+use mir.Syntax.{w32}
+use mir.Val.{SFits}
+use Rattle.model.specs.Command.{
+  whole,
+  ranged,
+  isPeriod,
+  isFactor,
+  isIndex,
+  indexOf,
+  modeOf,
+  plainRead,
+  sampledRead,
+  keywordOf,
+  keywordAt,
+  commandOf,
+  commandAt,
+}
+use Rattle.model.specs.Program.{readWidth}
+use Rattle.model.specs.Word.{byteAt, twoAt, fourAt, wordOf, wordAt}
+use Rattle.model.specs.declared.Command.{Command}
+use Rattle.model.specs.declared.Command.the-variants as Command
+use Rattle.model.specs.declared.Index.{Index}
+use Rattle.model.specs.declared.Keyword.{Keyword}
+use Rattle.model.specs.declared.Keyword.the-variants as Keyword
+use Rattle.model.specs.declared.Kind.{Kind}
+use Rattle.model.specs.declared.Kind.the-variants.{Now, Last, When, LastWhen, Current}
+use Rattle.model.specs.declared.Sampled.{Sampled}
+use Rattle.model.proofs.Decide.{InRange}
+
+-- The elements of a text are bytes.
+abbrev pub Bytes : List ℕ → Type 0
+Bytes text = (i : ℕ) → getD text i 0 < 256
+
+pub word-fits : (text : List ℕ) (at : ℕ) → Bytes text → SFits w32 (wordAt text at)
+unfolding wordAt fourAt wordOf
+word-fits text at b =
+    sfits-toZ {w = w32} {n = fourAt text at} (record { fits = omega (arith, b at, b (at + 1), b (at + 2), b (at + 3)) })
+
+-- The operands of a read are in range.
+pub record ReadSound (x : Sampled) : Type 0 where
+  pub positive : 1 ≤ x .factor
+  pub bound : x .factor ≤ 240
+  pub range : InRange (x .factor) (x .index)
+
+period-bounds : (n : ℕ) → isPeriod n ≡ true → (1 ≤ n) × (n ≤ 240)
+period-bounds n e = let f = and-eq-true-iff (leb 1 n) (leb n 240) .0 e in (leb-true 1 n (f .0), leb-true n 240 (f .1))
+
+index-range : (i n : ℕ) → isIndex i n ≡ true → InRange n (indexOf i)
+index-range i n e = go (eqb i 255) (ltb i n) refl e
+  where
+    go : (b c : Bool) → ltb i n ≡ c → c || b ≡ true → InRange n (cond b Index.Open (Index.Fixed i))
+    go true c q t = tt
+    go false true q t = ltb-true i n q
+    go false false q t = absurd (false≢true t)
+
+operands-sound : (s i n : ℕ) → isFactor n && isIndex i n ≡ true →
+    ReadSound (record { signal = s; factor = n; index = indexOf i })
+operands-sound s i n e =
+    let f = and-eq-true-iff (isFactor n) (isIndex i n) .0 e in
+    let g = period-bounds n (f .0) in
+    record { positive = g .0; bound = g .1; range = index-range i n (f .1) }
+
+-- A command that is read lies within the text, and its operands are in range.
+module _ (text : List ℕ) (at : ℕ) where
+  abbrev pub Sound : Command → Type 0
+  Sound Command.EndsEarly = Unit {0}
+  Sound Command.Unknown = Unit {0}
+  Sound Command.OutOfRange = Unit {0}
+  Sound Command.End = at + 1 ≤ length text
+  Sound (Command.Input period initial) =
+      (1 ≤ period) × (period ≤ 240) × (initial ≡ wordAt text (at + 2)) × (at + 6 ≤ length text)
+  Sound (Command.Equation period initial weight) =
+      (1 ≤ period) × (period ≤ 240) × (initial ≡ wordAt text (at + 2)) × (at + 8 ≤ length text)
+  Sound (Command.Latency mode bound) = at + 4 ≤ length text
+  Sound (Command.Link signal) = at + 2 ≤ length text
+  Sound (Command.Cap n) = at + 5 ≤ length text
+  Sound (Command.Constant w) = (w ≡ wordAt text (at + 1)) × (at + 5 ≤ length text)
+  Sound (Command.Read kind x) = ReadSound x × (at + readWidth kind ≤ length text)
+  Sound (Command.Binary operator) = at + 1 ≤ length text
+  Sound Command.Negate = at + 1 ≤ length text
+  Sound Command.If = at + 1 ≤ length text
+
+  whole-sound : (n : ℕ) (c : Command) → (at + n ≤ length text → Sound c) → Sound (whole text at n c)
+  whole-sound n c h = go (leb (at + n) (length text)) refl
+    where
+      go : (b : Bool) → leb (at + n) (length text) ≡ b → Sound (cond b c Command.EndsEarly)
+      go true e = h (leb-true (at + n) (length text) e)
+      go false e = tt
+
+  ranged-sound : (b : Bool) (c : Command) → (b ≡ true → Sound c) → Sound (ranged b c)
+  ranged-sound true c h = h refl
+  ranged-sound false c h = tt
+
+  plain-sound : (kind : Kind) → readWidth kind ≡ 2 → Sound (plainRead kind text at)
+  unfolding plainRead
+  plain-sound kind e =
+      whole-sound 2 _ (λ h. (record { positive = omega arith; bound = omega arith; range = omega arith }, omega arith))
+
+  sampled-sound : (kind : Kind) → readWidth kind ≡ 4 → Sound (sampledRead kind text at)
+  unfolding sampledRead
+  sampled-sound kind e =
+      let i = byteAt text (at + 2) in
+      let n = byteAt text (at + 3) in
+      whole-sound 4 _ (λ h.
+      ranged-sound (isFactor n && isIndex i n) _ (λ t. (operands-sound (byteAt text (at + 1)) i n t, omega arith)))
+
+  keyword-sound : (k : Keyword) → at < length text → Sound (commandOf k text at)
+  unfolding commandOf
+  keyword-sound Keyword.Missing lt = tt
+  keyword-sound Keyword.Unknown lt = tt
+  keyword-sound Keyword.End lt = omega arith
+  keyword-sound Keyword.Input lt =
+      whole-sound 2 _ (λ h. ranged-sound _ _ (λ t. whole-sound 6 _ (λ g.
+      let f = period-bounds (byteAt text (at + 1)) t in (f .0, f .1, refl, g))))
+  keyword-sound Keyword.Equation lt =
+      whole-sound 2 _ (λ h. ranged-sound _ _ (λ t. whole-sound 8 _ (λ g.
+      let f = period-bounds (byteAt text (at + 1)) t in (f .0, f .1, refl, g))))
+  keyword-sound Keyword.Latency lt =
+      let mode = byteAt text (at + 1) in
+      let command = Command.Latency (modeOf mode) (twoAt text (at + 2)) in
+      whole-sound 2 _ (λ h. ranged-sound (leb mode 1) (whole text at 4 command) (λ t. whole-sound 4 command (λ g. g)))
+  keyword-sound Keyword.Link lt = whole-sound 2 _ (λ h. h)
+  keyword-sound Keyword.Cap lt = whole-sound 5 _ (λ h. h)
+  keyword-sound Keyword.Constant lt = whole-sound 5 _ (λ h. (refl, h))
+  keyword-sound (Keyword.Read Now) lt = plain-sound Now refl
+  keyword-sound (Keyword.Read Last) lt = plain-sound Last refl
+  keyword-sound (Keyword.Read When) lt = sampled-sound When refl
+  keyword-sound (Keyword.Read LastWhen) lt = sampled-sound LastWhen refl
+  keyword-sound (Keyword.Read Current) lt = sampled-sound Current refl
+  keyword-sound (Keyword.Binary operator) lt = omega arith
+  keyword-sound Keyword.Negate lt = omega arith
+  keyword-sound Keyword.If lt = omega arith
+
+  pub command-sound : (c : Command) → commandAt text at ≡ c → Sound c
+  unfolding commandAt keywordAt commandOf
+  command-sound c e = subst Sound e (go (ltb at (length text)) refl)
+    where
+      go : (b : Bool) → ltb at (length text) ≡ b →
+          Sound (commandOf (cond b (keywordOf (byteAt text at)) Keyword.Missing) text at)
+      go true t = keyword-sound (keywordOf (byteAt text at)) (ltb-true at (length text) t)
+      go false t = tt
+
+  -- A LINK.
+  pub link-command : byteAt text at ≡ 0x13 → at + 2 ≤ length text → commandAt text at ≡ Command.Link (byteAt text (at + 1))
+  unfolding commandAt keywordAt keywordOf commandOf
+  link-command e le = rw (lt-ltb at (length text) (omega arith), e, le-leb (at + 2) (length text) le)

@@ -1,0 +1,305 @@
+-- What the verdict says of a pair that it accepts: the statements over all runs, and the bounds of the image. Assumes nothing.
+use Prim.Native.Nat.{ℕ, suc, _+_, _*_, _≤_, _<_}
+use mathlib.Core.Bool.{Bool, true, false, cond, and-eq-true-iff}
+use mathlib.Core.List.{List, [], _∷_}
+use mathlib.Core.Path.{_≡_, refl, ap, _∙_}
+use native.Mathlib.Nat.{zero-add, mul-le-mul}
+use native.Mathlib.Omega.{arith}
+use borrow.Author.Tests.{leb-true, ltb-true}
+use lib.Dec.{leb, ltb}
+use lib.ListN.{length}
+use Rattle.model.specs.Accepted.{All, PeriodRule, Met, Accepted, Multiple}
+use Rattle.model.specs.Compile.{shortEnough, Pair, pairOf}
+use Rattle.model.specs.Image.{runList, runLists, joined, codesAt, lengthOf}
+use Rattle.model.specs.Latency.{keeps, timely}
+use Rattle.model.specs.Load.{load, isOver, loadedOf, loaded}
+use Rattle.model.specs.Outcome.{Outcome, accepted, fault, _▷_, Parsed}
+use Rattle.model.specs.Program.{Program, Read, Chain, parseProgram, noSignal, count, signalAt, bodyReads}
+use Rattle.model.specs.Rates.{periodRule, readFaults, linkFaults, declaredAndRated, hypercycle, isLinked, linked}
+use Rattle.model.specs.Reads.{isMet, met}
+use Rattle.model.specs.Schedule.{Put, parseSchedule, Schedule, placed}
+use Rattle.model.specs.Search.{first, chosen, table, joinFrom}
+use Rattle.model.specs.declared.Found.{Found}
+use Rattle.model.specs.declared.Found.the-variants.{At, Nowhere}
+use Rattle.model.proofs.All.{at-all, all-both, all-map, all-joined, joined-length}
+use Rattle.model.proofs.Bounds.{Bounded}
+use Rattle.model.proofs.Commands.{Bytes}
+use Rattle.model.proofs.Decide.{is-first, periods-true, met-true}
+use Rattle.model.proofs.Hypercycle.{hypercycle-least}
+use Rattle.model.proofs.Legal.{
+  SpellsRead,
+  Legal,
+  legal,
+  read-sound,
+  signal-initial,
+  signal-depth,
+  signal-words,
+  signal-reads,
+}
+use Rattle.model.proofs.Links.{KeepsTime, keeps-decides}
+use Rattle.model.proofs.Outcomes.{
+  Holds,
+  holds-value,
+  value-holds,
+  holds-then,
+  provided-true,
+  accepted-then,
+  accepted≢refused,
+  lowest-none,
+  append-none,
+  cond-none,
+  joinFrom-none,
+  length-table,
+  getD-table,
+}
+use Rattle.model.proofs.Puts.{Ordered, puts-spelled, puts-end, placed-ordered}
+
+-- Every step of the verdict.
+pub record Passed (program schedule : List ℕ) (q : Pair) : Type 0 where
+  pub short : shortEnough program schedule ≡ accepted tt
+  pub parses : parseProgram program ≡ accepted (q .program)
+  pub rated : declaredAndRated (q .program) ≡ accepted tt
+  pub hyper : hypercycle (q .program) ≡ accepted (q .hypercycle)
+  pub links : linked (q .program) ≡ accepted tt
+  pub puts : Parsed (List Put)
+  pub reads : parseSchedule schedule ≡ accepted puts
+  pub places : placed (q .program) puts ≡ accepted (q .schedule)
+  pub meets : met (q .program) (q .schedule) ≡ accepted tt
+  pub loads : loaded (q .program) (q .schedule) (q .hypercycle) ≡ accepted tt
+  pub times : timely (q .program) (q .schedule) (q .hypercycle) ≡ accepted tt
+
+step : {A B : Type 0} (R : B → Type 0) (o : Outcome A) (next : A → Outcome B) →
+    ((a : A) → o ≡ accepted a → Holds R (next a)) → Holds R (o ▷ next)
+step R o next g = holds-then (λ a. o ≡ accepted a) R o next (value-holds o) g
+
+pub pair-passed : (program schedule : List ℕ) (q : Pair) → pairOf program schedule ≡ accepted q → Passed program schedule q
+unfolding pairOf
+pair-passed program schedule q e =
+    let R = Passed program schedule in
+    holds-value R (pairOf program schedule) q
+    (step R (shortEnough program schedule) _ (λ u short.
+    step R (parseProgram program) _ (λ p parses.
+    step R (declaredAndRated p) _ (λ u rated.
+    step R (hypercycle p) _ (λ h hyper.
+    step R (linked p) _ (λ u links.
+    step R (parseSchedule schedule) _ (λ puts reads.
+    step R (placed p puts) _ (λ s places.
+    step R (met p s) _ (λ u meets.
+    step R (loaded p s h) _ (λ u loads.
+    step R (timely p s h) _ (λ u times.
+    record {
+      short = short;
+      parses = parses;
+      rated = rated;
+      hyper = hyper;
+      links = links;
+      puts = puts;
+      reads = reads;
+      places = places;
+      meets = meets;
+      loads = loads;
+      times = times;
+    }))))))))))) e
+
+pub passed-pair : (program schedule : List ℕ) (q : Pair) → Passed program schedule q → pairOf program schedule ≡ accepted q
+unfolding pairOf
+passed-pair program schedule q t =
+    accepted-then _ _ _ (t .short) ∙
+    accepted-then _ _ _ (t .parses) ∙
+    accepted-then _ _ _ (t .rated) ∙
+    accepted-then _ _ _ (t .hyper) ∙
+    accepted-then _ _ _ (t .links) ∙
+    accepted-then _ _ _ (t .reads) ∙
+    accepted-then _ _ _ (t .places) ∙
+    accepted-then _ _ _ (t .meets) ∙
+    accepted-then _ _ _ (t .loads) ∙
+    accepted-then _ _ _ (t .times)
+
+-- A read is of a declared signal, and keeps its period rule.
+abbrev pub Rated : Program → ℕ → Read → Type 0
+Rated p r ρ =
+    (ρ .operands .signal < count p) ×
+    PeriodRule (ρ .kind) (signalAt p (ρ .operands .signal) .period) (signalAt p r .period) (ρ .operands .factor)
+
+module _ (p : Program) where
+  read-rated : (r : ℕ) (ρ : Read) → readFaults p (signalAt p r) ρ ≡ [] → Rated p r ρ
+  unfolding readFaults
+  read-rated r ρ e = go (ltb (ρ .operands .signal) (count p)) (periodRule (ρ .kind) w v n) refl refl e
+    where
+      w : ℕ
+      w = signalAt p (ρ .operands .signal) .period
+
+      v : ℕ
+      v = signalAt p r .period
+
+      n : ℕ
+      n = ρ .operands .factor
+
+      go : (a b : Bool) → ltb (ρ .operands .signal) (count p) ≡ a → periodRule (ρ .kind) w v n ≡ b →
+          cond a (cond b [] (fault 8 (ρ .place) ∷ [])) (fault 7 (ρ .place) ∷ []) ≡ [] →
+          (ρ .operands .signal < count p) × PeriodRule (ρ .kind) w v n
+      go true true f g t = (ltb-true _ _ f, periods-true (ρ .kind) w v n g)
+      go true false f g t = absurd (omega (arith, ap length t))
+      go false b f g t = absurd (omega (arith, ap length t))
+
+  rated-none : declaredAndRated p ≡ accepted tt →
+      (joinFrom 0 (λ s x. joinFrom 0 (λ i ρ. readFaults p x ρ) (bodyReads (x .body))) (p .signals) ≡ []) ×
+      (joinFrom 0 (λ j c. joinFrom 0 (λ i l. linkFaults p l) (c .links)) (p .chains) ≡ [])
+  unfolding declaredAndRated
+  rated-none e =
+      append-none (joinFrom 0 (λ s x. joinFrom 0 (λ i ρ. readFaults p x ρ) (bodyReads (x .body))) (p .signals))
+      (joinFrom 0 (λ j c. joinFrom 0 (λ i l. linkFaults p l) (c .links)) (p .chains)) (lowest-none _ e)
+
+  pub reads-rated : declaredAndRated p ≡ accepted tt → (x : ℕ) → x < count p →
+      All (Rated p x) (bodyReads (signalAt p x .body))
+  reads-rated e x lt =
+      all-joined (λ i ρ. readFaults p (signalAt p x) ρ) (Rated p x) (λ i ρ. read-rated x ρ) 0 (bodyReads (signalAt p x .body))
+      (joinFrom-none (λ s y. joinFrom 0 (λ i ρ. readFaults p y ρ) (bodyReads (y .body))) 0 (p .signals) noSignal
+      (rated-none e .0) x lt)
+
+  pub links-declared : declaredAndRated p ≡ accepted tt → All (λ c. All (λ l. l .signal < count p) (c .links)) (p .chains)
+  unfolding linkFaults
+  links-declared e =
+      all-joined (λ j c. joinFrom 0 (λ i l. linkFaults p l) (c .links)) (λ c. All (λ l. l .signal < count p) (c .links))
+      (λ j c g. all-joined (λ i l. linkFaults p l) (λ l. l .signal < count p)
+      (λ i l t. ltb-true (l .signal) (count p) (cond-none _ _ t)) 0 (c .links) g) 0 (p .chains) (rated-none e .1)
+
+  pub chains-linked : linked p ≡ accepted tt → All (λ c. isLinked p (c .links) ≡ true) (p .chains)
+  unfolding linked
+  chains-linked e =
+      all-joined (λ j c. cond (isLinked p (c .links)) [] (fault 10 (c .place) ∷ [])) (λ c. isLinked p (c .links) ≡ true)
+      (λ j c t. cond-none _ _ t) 0 (p .chains) (lowest-none _ e)
+
+  pub reads-met : (s : Schedule) → met p s ≡ accepted tt → (x : ℕ) → x < count p →
+      All (λ ρ. isMet p s x ρ ≡ true) (bodyReads (signalAt p x .body))
+  unfolding met
+  reads-met s e x lt =
+      all-joined (λ i ρ. cond (isMet p s x ρ) [] (fault 14 (ρ .place) ∷ [])) (λ ρ. isMet p s x ρ ≡ true)
+      (λ i ρ t. cond-none _ _ t) 0 (bodyReads (signalAt p x .body))
+      (rw (zero-add x) at
+      (joinFrom-none (λ r y. joinFrom 0 (λ i ρ. cond (isMet p s r ρ) [] (fault 14 (ρ .place) ∷ [])) (bodyReads (y .body)))
+      0 (p .signals) noSignal (lowest-none _ e) x lt))
+
+  pub chains-keep : (s : Schedule) (h : ℕ) → timely p s h ≡ accepted tt → All (λ c. keeps p s h c ≡ true) (p .chains)
+  unfolding timely
+  chains-keep s h e =
+      all-joined (λ j c. cond (keeps p s h c) [] (fault 16 (c .place) ∷ [])) (λ c. keeps p s h c ≡ true)
+      (λ j c t. cond-none _ _ t) 0 (p .chains) (lowest-none _ e)
+
+  pub cycles-loaded : (s : Schedule) (h : ℕ) → loaded p s h ≡ accepted tt → (c : ℕ) → c < h →
+      isOver (p .cap) (load p s c) ≡ false
+  unfolding loaded
+  cycles-loaded s h e c lt = go (first h over) refl e
+    where
+      over : ℕ → Bool
+      over n = isOver (p .cap) (load p s n)
+
+      go : (f : Found) → first h over ≡ f → loadedOf f ≡ accepted tt → over c ≡ false
+      go (At n) q t = absurd (accepted≢refused _ tt _ t refl)
+      go Nowhere q t = is-first h over Nowhere q c (omega arith) (omega arith)
+
+-- A run list is no longer than the PUT order.
+chosen-length : {A : Type 0} (test : A → Bool) (xs : List A) → length (chosen test xs) ≤ length xs
+unfolding chosen
+chosen-length test [] = omega arith
+chosen-length test (x ∷ xs) = go (test x) (chosen-length test xs)
+  where
+    go : (b : Bool) → length (chosen test xs) ≤ length xs →
+        length (cond b (x ∷ chosen test xs) (chosen test xs)) ≤ suc (length xs)
+    go true h = omega arith
+    go false h = omega arith
+
+lists-length : (p : Program) (s : Schedule) (h : ℕ) → length (joined (runLists p s h)) ≤ h * length (s .order)
+unfolding runLists runList
+lists-length p s h =
+    let n = length-table (runList p s) h in
+    rw n at
+    (joined-length (length (s .order)) 0 (table h (runList p s))
+    (at-all (λ x. length x ≤ length (s .order)) (table h (runList p s)) [] (λ i lt.
+    let l : i < h = omega arith in
+    rw (getD-table (runList p s) h i [] l) (chosen-length _ (s .order)))))
+
+-- An accepted pair.
+module _ (program schedule : List ℕ) (q : Pair) (e : pairOf program schedule ≡ accepted q) where
+  passed : Passed program schedule q
+  passed = pair-passed program schedule q e
+
+  pub pair-multiple : Multiple (q .program) (q .hypercycle)
+  pair-multiple = hypercycle-least (q .program) (q .hypercycle) .0 (passed .hyper) .multiple
+
+  ordered : Ordered (q .program) (q .schedule) × (length (q .schedule .order) ≡ length (passed .puts .value))
+  ordered = placed-ordered (q .program) (passed .puts) (q .schedule) (passed .places)
+
+  lawful : (end : ℕ) × Legal program end (q .program) × (length program ≡ end + 1)
+  lawful = legal program (q .program) (passed .parses)
+
+  pub pair-accepted : Accepted (q .program) (q .schedule)
+  pair-accepted =
+      record {
+        phases = ordered .0 .phases;
+        met = all-met;
+        put = ordered .0 .put;
+        once = ordered .0 .once;
+        only = ordered .0 .only;
+      }
+    where
+      p : Program
+      p = q .program
+
+      s : Schedule
+      s = q .schedule
+
+      all-met : (x : ℕ) → x < count p → All (Met p s x) (bodyReads (signalAt p x .body))
+      all-met x lt =
+          let ρs = bodyReads (signalAt p x .body) in
+          all-map (λ ρ. SpellsRead program ρ × (Rated p x ρ × (isMet p s x ρ ≡ true))) (Met p s x) (λ ρ h.
+          met-true p s x ρ (h .1 .0 .0) (read-sound program ρ (h .0) .range) (h .1 .0 .1) (h .1 .1)) ρs
+          (all-both (SpellsRead program) (λ ρ. Rated p x ρ × (isMet p s x ρ ≡ true)) ρs (signal-reads (lawful .1) x lt)
+          (all-both (Rated p x) (λ ρ. isMet p s x ρ ≡ true) ρs (reads-rated p (passed .rated) x lt)
+          (reads-met p s (passed .meets) x lt)))
+
+  pub pair-timely : All (KeepsTime (q .program) (q .schedule)) (q .program .chains)
+  pair-timely =
+      all-map (λ c. D c × (L c × K c)) (KeepsTime p s) (λ c h.
+      keeps-decides p s pair-accepted (q .hypercycle) pair-multiple c (h .1 .0) (h .0) .0 (h .1 .1)) (p .chains)
+      (all-both D (λ c. L c × K c) (p .chains) (links-declared p (passed .rated))
+      (all-both L K (p .chains) (chains-linked p (passed .links)) (chains-keep p s (q .hypercycle) (passed .times))))
+    where
+      p : Program
+      p = q .program
+
+      s : Schedule
+      s = q .schedule
+
+      D : Chain → Type 0
+      D c = All (λ l. l .signal < count p) (c .links)
+
+      L : Chain → Type 0
+      L c = isLinked p (c .links) ≡ true
+
+      K : Chain → Type 0
+      K c = keeps p s (q .hypercycle) c ≡ true
+
+  pub pair-loaded : (c : ℕ) → c < q .hypercycle → isOver (q .program .cap) (load (q .program) (q .schedule) c) ≡ false
+  pair-loaded = cycles-loaded (q .program) (q .schedule) (q .hypercycle) (passed .loads)
+
+  pub pair-bounded : Bytes program → Bounded (q .program) (q .schedule) (q .hypercycle)
+  unfolding shortEnough lengthOf codesAt
+  pair-bounded bytes =
+      let h = hypercycle-least (q .program) (q .hypercycle) .0 (passed .hyper) .bound in
+      let l = lawful .1 in
+      let short = and-eq-true-iff (leb (length program) 8192) _ .0 (provided-true _ 1 0 (passed .short)) in
+      let program-short = leb-true (length program) 8192 (short .0) in
+      let schedule-short = leb-true (length schedule) 193 (short .1) in
+      let puts = puts-end (puts-spelled schedule (passed .puts) (passed .reads)) in
+      let few : length (q .schedule .order) ≤ 64 = omega (arith, ordered .1) in
+      let lists = lists-length (q .program) (q .schedule) (q .hypercycle) in
+      let area : q .hypercycle * length (q .schedule .order) ≤ 240 * 64 = mul-le-mul h few in
+      record {
+        hyper = h;
+        signals = l .fewSignals;
+        initials = λ x lt. signal-initial l x lt bytes;
+        depths = signal-depth l;
+        constants = λ x lt. signal-words l x lt bytes;
+        size = omega (arith, l .fewSignals, l .code, lawful .2);
+      }
