@@ -5,7 +5,9 @@ use mathlib.Core.List.{List, []}
 use mathlib.Core.Path.{_≡_}
 use lib.ListN.{length, getD, set}
 use Rattle.model.specs.Outcome.{Outcome, accepted, refused}
-use Rattle.model.specs.Program.{Program, Chain, Limit, unlimited, limit, count, signalAt}
+use Rattle.model.specs.Program.{Program, Chain, Limit, unlimited, limit, count, signalAt, weightOf}
+use Rattle.model.specs.Reads.{place}
+use Rattle.model.specs.Schedule.{Schedule, phaseOf}
 use Rattle.model.specs.declared.Mode.the-variants.{Exists}
 use Rattle.reader.specs.Steps.{Counts}
 use Rattle.reader.specs.declared.Entry.{Entry}
@@ -36,6 +38,20 @@ pub record TablesOf (p : Program) (t : Tables) : Type 0 where
   pub cap : p .cap ≡ capOf (t .capped) (t .limit)
   -- how many entries they have space for
   pub space : (length (t .places) ≡ 64) × (length (t .starts) ≡ 16) × (length (t .lengths) ≡ 16)
+
+-- A table has the period of every signal by its number, or its weight.
+abbrev pub PeriodsOf : Program → List ℕ → Type 0
+PeriodsOf p periods = (x : ℕ) → x < count p → getD periods x 0 ≡ signalAt p x .period
+
+abbrev pub WeightsOf : Program → List ℕ → Type 0
+WeightsOf p weights = (x : ℕ) → x < count p → getD weights x 0 ≡ weightOf (signalAt p x .body)
+
+-- The tables of a schedule: the signals in PUT order, and by signal the phase and the place in that order.
+pub record SlotsOf (p : Program) (s : Schedule) (order phases ranks : List ℕ) : Type 0 where
+  pub order-is : (j : ℕ) → j < length (s .order) → getD order j 0 ≡ getD (s .order) j 0
+  pub phases-are : (x : ℕ) → x < count p → getD phases x 0 ≡ phaseOf s x
+  pub ranks-are : (x : ℕ) → x < count p → getD ranks x 0 ≡ place (s .order) x
+  pub all-put : length (s .order) ≡ count p
 
 -- The tables with one entry more.
 abbrev pub signalAdded : Tables → ℕ → Tables
