@@ -1,0 +1,2 @@
+-- What the answers of the schedule reader stand for.
+pub mod Slots
