@@ -2,11 +2,7 @@
 use mathlib.Core.Path.{_≡_, refl, sym, ap, _∙_}
 use mathlib.Core.List.{List, [], _∷_}
 use types.Run.{OneOf, miss}
-use Prim.Native.Nat.{ℕ, _+_, _<_}
-use native.Mathlib.Decide.{decLt}
-use native.Mathlib.Omega.{arith}
-use lib.ListN.{length, getD, set}
-use lib.Seq.{getD-set-same, getD-set-other}
+use Prim.Native.Nat.{ℕ, _<_}
 use denote.Enum.Declared.{tagOf, declared}
 use Rattle.model.specs.Command.{commandAt}
 use Rattle.model.specs.Outcome.{accepted}
@@ -74,12 +70,3 @@ module _ (text : List ℕ) (p : Program) (e : parseProgram text ≡ accepted p) 
 
   pub weight-is : weightIn (commandAt text (signalAt p x .place)) ≡ weightOf (signalAt p x .body)
   weight-is = body-weight text (signalAt p x) (signalAt p x .body) (signal-spelled (legal text p e .1) x lt)
-
--- A table filled up to x, and one more.
-pub filled : (f : ℕ → ℕ) (table : List ℕ) (x v : ℕ) → x < length table → v ≡ f x →
-    ((y : ℕ) → y < x → getD table y 0 ≡ f y) → (y : ℕ) → y < x + 1 → getD (set table x v) y 0 ≡ f y
-filled f table x v lt e h y ly = go (decLt y x)
-  where
-    go : Dec (y < x) → getD (set table x v) y 0 ≡ f y
-    go (yes q) = getD-set-other table x y v 0 (λ z. omega arith) ∙ h y q
-    go (no q) = let z : y ≡ x = omega arith in rw z (getD-set-same table x v 0 lt ∙ e)

@@ -4,10 +4,9 @@ use mathlib.Core.Bool.{Bool, true, false}
 use mathlib.Core.List.{List, [], _∷_, _++_}
 use types.Run.{OneOf, miss}
 use Prim.Native.Nat.{ℕ, zero, suc, _+_, _≤_, _<_}
-use native.Mathlib.Decide.{decLt}
 use native.Mathlib.Omega.{arith}
 use lib.ListN.{length, getD, set, length-append, length-set, List·getD-append}
-use lib.Seq.{getD-set-same, getD-set-other, getD-append-seam}
+use lib.Seq.{getD-append-seam}
 use denote.Enum.Declared.{tagOf, declared}
 use borrow.Author.Tests.{le-ltb}
 use Rattle.model.specs.Command.{keywordAt}
@@ -23,23 +22,18 @@ use Rattle.reader.specs.declared.ProgramRead.{ProgramRead}
 use Rattle.reader.specs.declared.Step.{Step}
 use Rattle.reader.specs.declared.Step.the-variants as Step
 use Rattle.reader.specs.declared.Tables.{Tables}
+use Rattle.reader.proofs.Filled.{filled}
 use Rattle.reader.proofs.Step.{enum}
 
 -- A table of a value of each element, with one element more.
-module _ {A : Type 0} (f : A → ℕ) (d : A) where
-  one-more : (xs : List A) (x : A) (table : List ℕ) (n k : ℕ) → length xs ≡ n → n < length table → f x ≡ k →
-      ((y : ℕ) → y < length xs → getD table y 0 ≡ f (getD xs y d)) →
-      (y : ℕ) → y < length (xs ++ (x ∷ [])) → getD (set table n k) y 0 ≡ f (getD (xs ++ (x ∷ [])) y d)
-  one-more xs x table n k e lt v h y ly = go (decLt y (length xs))
-    where
-      go : Dec (y < length xs) → getD (set table n k) y 0 ≡ f (getD (xs ++ (x ∷ [])) y d)
-      go (yes q) =
-          getD-set-other table n y k 0 (λ z. omega arith) ∙ h y q ∙ ap f (sym (List·getD-append xs (x ∷ []) d y q))
-      go (no q) =
-          let z : y ≡ n = omega (arith, length-append xs (x ∷ [])) in
-          let w : length xs ≡ y = e ∙ sym z in
-          rw z (getD-set-same table n k 0 lt) ∙ sym v ∙
-          ap f (sym (getD-append-seam xs x [] d) ∙ ap (λ i. getD (xs ++ (x ∷ [])) i d) w)
+one-more : {A : Type 0} (f : A → ℕ) (d : A) (xs : List A) (x : A) (table : List ℕ) (n k : ℕ) → length xs ≡ n → n < length table →
+    f x ≡ k → ((y : ℕ) → y < length xs → getD table y 0 ≡ f (getD xs y d)) →
+    (y : ℕ) → y < length (xs ++ (x ∷ [])) → getD (set table n k) y 0 ≡ f (getD (xs ++ (x ∷ [])) y d)
+one-more f d xs x table n k e lt v h y ly =
+    filled (λ i. f (getD (xs ++ (x ∷ [])) i d)) table n k lt
+    (sym v ∙ ap f (sym (getD-append-seam xs x [] d) ∙ ap (λ i. getD (xs ++ (x ∷ [])) i d) e))
+    (λ i li. h i (omega arith) ∙ ap f (sym (List·getD-append xs (x ∷ []) d i (omega arith)))) y
+    (omega (arith, length-append xs (x ∷ [])))
 
 snoc-length : {A : Type 0} (xs : List A) (x : A) (n : ℕ) → length xs ≡ n → length (xs ++ (x ∷ [])) ≡ n + 1
 snoc-length xs x n e = length-append xs (x ∷ []) ∙ ap (_+ 1) e

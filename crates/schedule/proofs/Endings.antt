@@ -1,5 +1,5 @@
 -- How the reading of PUTs ends and goes on. Assumes nothing.
-use mathlib.Core.Path.{_≡_, refl, sym, ap, _∙_}
+use mathlib.Core.Path.{_≡_, refl, sym, ap, subst, _∙_}
 use mathlib.Core.Bool.{Bool, true, false, cond}
 use mathlib.Core.List.{List, [], _∷_, _++_}
 use types.Run.{OneOf, miss}
@@ -48,3 +48,7 @@ pub puts-more : (left : ℕ) (text : List ℕ) (at : ℕ) (puts : List Put) (sig
     parsePuts left text (at + 3) (puts ++ (record { place = at; signal = signal; phase = phase } ∷ []))
 unfolding parsePuts scheduleCommand
 puts-more left text at puts signal phase e = rw e
+
+-- What is no PUT is none.
+pub not-put : (c : ScheduleCommand) (signal phase : ℕ) → OneOf stops (tagOf (declared enum) c) → c ≡ ScheduleCommand.Put signal phase → ⊥
+not-put c signal phase k e = miss stops 3 tt (subst (λ x. OneOf stops (tagOf (declared enum) x)) e k)

@@ -47,7 +47,7 @@ pub order-length : (order : List ℕ) (n : ℕ) → ((x : ℕ) → x < n → pla
     length order ≡ n
 order-length order n put once only =
     let a = pigeons n (length order) (λ j. getD order j 0) only
-        (λ i j li lj e. sym (once i li) ∙ ap (place order) e ∙ once j lj) in
+    (λ i j li lj e. sym (once i li) ∙ ap (place order) e ∙ once j lj) in
     let b = pigeons (length order) n (place order) put
-        (λ x y lx ly e. sym (place-at order x (put x lx)) ∙ ap (λ j. getD order j 0) e ∙ place-at order y (put y ly)) in
+    (λ x y lx ly e. sym (place-at order x (put x lx)) ∙ ap (λ j. getD order j 0) e ∙ place-at order y (put y ly)) in
     omega arith

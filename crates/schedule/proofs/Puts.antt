@@ -5,7 +5,7 @@ use mathlib.Core.List.{List, [], _∷_, _++_, map, append-assoc, append-nil}
 use Prim.Native.Nat.{ℕ, zero, suc, _+_, _*_, _≤_, _<_}
 use native.Mathlib.Omega.{arith}
 use lib.Dec.{ltb, eqb}
-use lib.ListN.{length, getD, set, length-append, length-set, length-map}
+use lib.ListN.{length, getD, set, length-append, length-set, length-map, replicate, getD-replicate}
 use lib.Seq.{getD-set-same, getD-set-other}
 use borrow.Author.Tests.{eqb-true, eqb-false, eq-eqb, ne-eqb, lt-ltb, le-ltb, ltb-true, ltb-false}
 use Rattle.model.specs.Accepted.{All}
@@ -23,6 +23,7 @@ use Rattle.model.specs.Schedule.{
   scheduleOf,
   placed,
   phaseOf,
+  parseSchedule,
 }
 use Rattle.model.specs.Search.{allBelow}
 use Rattle.model.specs.declared.Fault.{Fault}
@@ -31,12 +32,12 @@ use Rattle.model.specs.declared.ScheduleCommand.the-variants as ScheduleCommand
 use Rattle.model.proofs.All.{all-at, all-append}
 use Rattle.model.proofs.Decide.{all-true, true-all}
 use Rattle.model.proofs.Outcomes.{lowest-sorted, getD-table}
-use Rattle.model.proofs.Puts.{SpellsPuts, puts-end, placed-ordered}
+use Rattle.model.proofs.Puts.{SpellsPuts, puts-end, puts-spelled, placed-ordered}
 use Rattle.reader.specs.Tables.{PeriodsOf, SlotsOf}
 use Rattle.reader.specs.declared.Judged.{Judged}
 use Rattle.reader.specs.declared.Judged.the-variants as Judged
-use Rattle.lookup.proofs.Laws.{filled}
-use Rattle.schedule.specs.Slots.{signalsOf, SlotsAfter, putAdded, judgedBy, allRanked, ScheduledAs}
+use Rattle.reader.proofs.Filled.{filled}
+use Rattle.schedule.specs.Slots.{signalsOf, SlotsAfter, putAdded, judgedBy, PutJudged, allRanked, ScheduledAs}
 use Rattle.schedule.specs.declared.Placing.{Placing}
 use Rattle.schedule.specs.declared.Slots.{Slots}
 use Rattle.schedule.proofs.Pigeons.{order-length}
@@ -307,10 +308,10 @@ module _ (text : List ℕ) (p : Program) (o : Parsed (List Put)) (at signal phas
       let q = one-fault p (g .done) here f e in
       let fs = putsFaults p (g .done ++ (here ∷ [])) (h .0) in
       let z : putsFaults p [] (o .value) ≡ f ∷ fs =
-          g .faults ∙ ap (putsFaults p (g .done)) (h .1) ∙ ap (_++ fs) (q .0) in
+      g .faults ∙ ap (putsFaults p (g .done)) (h .1) ∙ ap (_++ fs) (q .0) in
       let l : lowest (f ∷ fs) ≡ refused f =
-          lowest-sorted f f fs
-          (λ j lj. omega (arith, q .1, all-at (At at) fs f (puts-at p (h .2) (g .done ++ (here ∷ [])) at (omega arith)) j lj)) in
+      lowest-sorted f f fs
+      (λ j lj. omega (arith, q .1, all-at (At at) fs f (puts-at p (h .2) (g .done ++ (here ∷ [])) at (omega arith)) j lj)) in
       rw (z, l)
 
   -- Where it is fine, one more is done.
@@ -373,3 +374,89 @@ module _ (text : List ℕ) (p : Program) (o : Parsed (List Put)) (at : ℕ) (t :
           all-put = order-length (s .order) (count p) (ok .put) (ok .once) (ok .only);
         },
       )
+
+-- The judgement of a PUT, by what a test of it found.
+module _ (t : Slots) (periods : List ℕ) (n : ℕ) (q : Put) where
+  abbrev refusal : ℕ → Judged
+  refusal number = Judged.Refused (fault number (q .place))
+
+  pub put-undeclared : n ≤ q .signal → PutJudged t periods n q (refusal 12)
+  unfolding putFaults
+  put-undeclared le =
+      record {
+        judged = λ p done c per after few. rw (le-ltb (q .signal) (count p) (omega arith));
+        declared = λ e. absurd (fine-refused e);
+      }
+
+  module _ (lt : q .signal < n) (most : n ≤ 64) where
+    put-or-not : (b : Bool) → not (eqb (getD (t .ranks) (q .signal) 0) 64) ≡ b → (done : List Put) → SlotsAfter done t →
+        length done < 64 → isPut done (q .signal) ≡ b
+    put-or-not b e done after few = sym (ranked done t after (omega arith) (q .signal) (omega arith)) ∙ e
+
+    pub put-twice : (getD (t .ranks) (q .signal) 0 ≡ 64 → ⊥) → PutJudged t periods n q (refusal 12)
+    unfolding putFaults
+    put-twice h =
+        record {
+          judged = λ p done c per after few.
+              rw (lt-ltb (q .signal) (count p) (omega arith), put-or-not true (rw (ne-eqb _ 64 h)) done after few);
+          declared = λ e. absurd (fine-refused e);
+        }
+
+    module _ (h : getD (t .ranks) (q .signal) 0 ≡ 64) where
+      unput-yet : (done : List Put) → SlotsAfter done t → length done < 64 → isPut done (q .signal) ≡ false
+      unput-yet done after few = put-or-not false (rw (eq-eqb _ 64 h)) done after few
+
+      pub put-late : getD periods (q .signal) 0 ≤ q .phase → PutJudged t periods n q (refusal 13)
+      unfolding putFaults
+      put-late le =
+          record {
+            judged = λ p done c per after few.
+                rw (
+                  lt-ltb (q .signal) (count p) (omega arith),
+                  unput-yet done after few,
+                  le-ltb (q .phase) (signalAt p (q .signal) .period) (omega (arith, per (q .signal) (omega arith))),
+                );
+            declared = λ e. absurd (fine-refused e);
+          }
+
+      pub put-good : q .phase < getD periods (q .signal) 0 → PutJudged t periods n q Judged.Fine
+      unfolding putFaults
+      put-good gt =
+          record {
+            judged = λ p done c per after few.
+                rw (
+                  lt-ltb (q .signal) (count p) (omega arith),
+                  unput-yet done after few,
+                  lt-ltb (q .phase) (signalAt p (q .signal) .period) (omega (arith, per (q .signal) (omega arith))),
+                );
+            declared = λ e. lt;
+          }
+
+-- Every entry of a table of 64 numbers that are 64.
+pub unranked : (x : ℕ) → x < 64 → _≡_ {A = ℕ} (getD (replicate 64 64) x 0) 64
+unranked x lt = getD-replicate 64 x 64 0 lt
+
+-- One that fails.
+pub not-all : (n : ℕ) (f : ℕ → Bool) (x : ℕ) → x < n → f x ≡ false → allBelow n f ≡ false
+not-all n f x lt e = go (allBelow n f) refl
+  where
+    go : (b : Bool) → allBelow n f ≡ b → b ≡ false
+    go true h = absurd (false≢true (sym e ∙ all-true n f h x lt))
+    go false h = refl
+
+-- At the start nothing is done.
+pub progress-start : (text : List ℕ) (p : Program) (o : Parsed (List Put)) (t : Slots) → parseSchedule text ≡ accepted o →
+    SlotsAfter [] t → Progress text p o 0 t
+progress-start text p o t e h =
+    record { done = []; rest = o .value; whole = refl; spelled = puts-spelled text o e; faults = refl; after = h }
+
+-- The answers.
+pub scheduled-refused : (p : Program) (o : Outcome Schedule) (r : Placing) (f : Fault) → o ≡ refused f → r .judged ≡ Judged.Refused f →
+    ScheduledAs p o r
+unfolding ScheduledAs
+scheduled-refused p o r f e h = rw e h
+
+pub scheduled-fine : (p : Program) (o : Outcome Schedule) (r : Placing) (s : Schedule) → o ≡ accepted s → r .judged ≡ Judged.Fine →
+    (r .slots .puts ≡ length (s .order)) × SlotsOf p s (r .slots .order) (r .slots .phases) (r .slots .ranks) → ScheduledAs p o r
+unfolding ScheduledAs
+scheduled-fine p o r s e h g = rw e (h, g .0, g .1)

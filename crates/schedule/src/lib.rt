@@ -2,7 +2,6 @@
 use model::Fault;
 use model::ScheduleCommand;
 use reader::Judged;
-
 ghost use mathlib.Core.Path.{_≡_};
 ghost use mathlib.Core.List.{List, []};
 ghost use Prim.Native.Nat.{_≤_, _<_};
@@ -114,7 +113,14 @@ fn refuse(number: u8, place: usize) -> Judged
 }
 
 // One PUT, after those that have a rank: 12 and 13.
-fn judge_put(slots: Slots, periods: &[u8; 64], signals: usize, signal: u8, phase: u8, at: usize) -> Judged
+fn judge_put(
+    slots: Slots,
+    periods: &[u8; 64],
+    signals: usize,
+    signal: u8,
+    phase: u8,
+    at: usize,
+) -> Judged
     requires { ⌜ signals ≤ 64 ⌝ }
     ensures { λ r. ⌜ PutJudged slots (now (periods .entry)) signals (record { place = at; signal = signal; phase = phase }) r ⌝ }
 {
@@ -163,18 +169,30 @@ pub fn place_signals(text: &[u8], end: usize, signals: usize, periods: &[u8; 64]
     while at < end {
         let command = commands::schedule_command_at(text, at);
         let ScheduleCommand::Put(signal, phase) = command else {
-            return Placing { judged: Judged::Fine, slots: slots };
+            return Placing {
+                judged: Judged::Fine,
+                slots: slots,
+            };
         };
         let judged = judge_put(slots, periods, signals, signal, phase, at);
         let Judged::Fine = judged else {
-            return Placing { judged: judged, slots: slots };
+            return Placing {
+                judged: judged,
+                slots: slots,
+            };
         };
         slots = slots.with_put(signal, phase);
         at = at + 3;
     }
     let ranks = slots.ranks;
     if all_put(ranks, signals) {
-        return Placing { judged: Judged::Fine, slots: slots };
+        return Placing {
+            judged: Judged::Fine,
+            slots: slots,
+        };
     }
-    Placing { judged: refuse(12, end), slots: slots }
+    Placing {
+        judged: refuse(12, end),
+        slots: slots,
+    }
 }

@@ -7,7 +7,8 @@ use native.Mathlib.Omega.{arith}
 use borrow.Author.Needs.{needs}
 use Rattle.model.specs.Command.{commandAt}
 use Rattle.lookup.specs.Signals.{periodIn, weightIn}
-use Rattle.lookup.proofs.Laws.{period-is, weight-is, filled}
+use Rattle.lookup.proofs.Laws.{period-is, weight-is}
+use Rattle.reader.proofs.Filled.{filled}
 use Rattle.lookup.proofs.read_signals.Statement.{statement}
 use Rattle.lookup.proofs.read_signals.Tie as tie
 

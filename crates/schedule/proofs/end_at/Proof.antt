@@ -1,61 +1,61 @@
+-- `schedule::end_at` meets its contract. Assumes nothing.
+use Rattle.schedule.specs.Slots.{endedOf}
+use borrow.Author.Tests.{le-leb, lt-leb}
+use denote.Ref.{now}
+use lib.ListN.{length}
+use Prim.Native.Nat.{_+_}
+use native.Mathlib.Omega.{arith}
 use borrow.Author.Needs.{needs}
 use Rattle.schedule.proofs.end_at.Statement.{statement}
 use Rattle.schedule.proofs.end_at.Tie as tie
-use Rattle.schedule.proofs.end_at.Reads as reads
-use Rattle.schedule.proofs.end_at.Lts as lts
-use Rattle.schedule.proofs.refuse_end.Reads as refuse-end-reads
 
--- src/lib.rt:37:50
 enum-told : tie.Need-enum-told
 enum-told c = search needs
 
--- src/lib.rt:37:39
 refuse-end-requires : tie.Need-refuse-end-requires
 refuse-end-requires c κs = search needs
 
--- src/lib.rt:38:37
 enum-told-2 : tie.Need-enum-told-2
 enum-told-2 c = search needs
 
--- src/lib.rt:38:37
 refuse-end-requires-2 : tie.Need-refuse-end-requires-2
 refuse-end-requires-2 c κs = search needs
 
--- src/lib.rt:40:24
 enum-told-3 : tie.Need-enum-told-3
 enum-told-3 c = search needs
 
--- src/lib.rt:40:24
 add-next : tie.Need-add-next
 add-next c = search needs
 
--- src/lib.rt:42:17
 refuse-end-requires-3 : tie.Need-refuse-end-requires-3
 refuse-end-requires-3 c κs = search needs
 
--- src/lib.rt:42:17
 returns : tie.Need-returns
-returns c = ?
+unfolding endedOf
+returns c =
+    let a = c .before .before .before .before .before .args in
+    rw (c .before .before .enum-told3 .given .1, lt-leb (length (now (a .text))) (a .at + 1) (omega arith)) (c .refuse-end3 .ensures)
 
--- src/lib.rt:46:39
 enum-told-4 : tie.Need-enum-told-4
 enum-told-4 c = search needs
 
--- src/lib.rt:32:1
 returns-2 : tie.Need-returns-2
-returns-2 c = ?
+unfolding endedOf
+returns-2 c = rw (c .before .enum-told .given .1) (c .refuse-end .ensures)
 
--- src/lib.rt:32:1
 returns-3 : tie.Need-returns-3
-returns-3 c = ?
+unfolding endedOf
+returns-3 c = rw (c .before .enum-told2 .given .1) (c .refuse-end2 .ensures)
 
--- src/lib.rt:32:1
 returns-4 : tie.Need-returns-4
-returns-4 c = ?
+unfolding endedOf
+returns-4 c =
+    let a = c .before .before .before .before .args in
+    rw (c .before .enum-told3 .given .1, le-leb (length (now (a .text))) (a .at + 1) (omega arith))
 
--- src/lib.rt:32:1
 returns-5 : tie.Need-returns-5
-returns-5 c = ?
+unfolding endedOf
+returns-5 c = rw (c .enum-told4 .given .1)
 
 pub end-at-spec : {M : Type 1} → statement M
 end-at-spec =
