@@ -1,0 +1,2 @@
+// Whether an image is well formed, for any bytes.
+mod code;
