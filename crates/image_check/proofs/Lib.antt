@@ -1,3 +1,5 @@
--- Laws that the proofs of several functions cite.
+-- Laws that the proofs of several functions cite, and laws of well-formed images for the crates that stand on this one.
 pub mod Table
 pub mod Turns
+pub mod All
+pub mod Parts
