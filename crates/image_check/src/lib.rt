@@ -1,5 +1,4 @@
 // Whether an image is well formed, for any bytes. Nothing is written.
-mod code;
 ghost use mathlib.Core.Path.{_≡_};
 ghost use mathlib.Core.Bool.{true};
 ghost use Prim.Native.Nat.{ℕ, _+_, _*_, _<_, _≤_};
@@ -122,7 +121,7 @@ fn codes_ok(image: &[u8], n: u8) -> bool
     requires { ⌜ (headOk (now image) ≡ true) × (n ≡ countOf (now image)) ⌝ }
     ensures { λ r. ⌜ r ≡ codesOk (now (image .entry)) ⌝ }
 {
-    let table = code::shapes();
+    let table = code_check::shapes();
     let count = wide(n);
     let mut from = code_offset(image, count, 0);
     let mut x: u8 = 0;
@@ -134,7 +133,7 @@ fn codes_ok(image: &[u8], n: u8) -> bool
         if image.len() < to {
             return false;
         }
-        if !code::code_ok(&image[from..to], n, x, &table) {
+        if !code_check::code_ok(&image[from..to], n, x, &table) {
             return false;
         }
         from = to;

@@ -1,31 +1,24 @@
+-- `image_check::code_offset` meets its contract. Assumes nothing.
 use native.Mathlib.Omega.{arith}
 use borrow.Author.Tests.{lt-ltb, le-ltb}
 use Rattle.model.specs.Machine.{codeOffset}
 use Rattle.image_check.proofs.Parts.{head}
 use Rattle.image_check.proofs.code_offset.Statement.{statement}
 use Rattle.image_check.proofs.code_offset.Tie as tie
-use Rattle.image_check.proofs.code_offset.Reads as reads
-use Rattle.image_check.proofs.code_offset.Lts as lts
-use Rattle.image_check.proofs.offset_at.Reads as offset-at-reads
 
--- src/lib.rt:39:37
 mul-offset-at : tie.Need-mul-offset-at
 mul-offset-at c = omega (arith, head _ (c .before .before .pre .0) .signals, head _ (c .before .before .pre .0) .fixed)
 
--- src/lib.rt:39:33
 add-offset-at : tie.Need-add-offset-at
 add-offset-at c = omega (arith, head _ (c .before .before .pre .0) .signals, head _ (c .before .before .pre .0) .fixed)
 
--- src/lib.rt:39:16
 offset-at-requires : tie.Need-offset-at-requires
 offset-at-requires c κs = omega (arith, head _ (c .before .before .pre .0) .signals, head _ (c .before .before .pre .0) .fixed)
 
--- src/lib.rt:35:1
 returns : tie.Need-returns
 unfolding codeOffset
 returns c = let t = c .before in rw (lt-ltb _ _ (rw (t .before .before .pre .1) at (t .if1 .taken))) (c .offset-at .ensures)
 
--- src/lib.rt:35:1
 returns-2 : tie.Need-returns-2
 unfolding codeOffset
 returns-2 c = rw (le-ltb _ _ (rw (c .before .before .pre .1) at (c .if1 .left)))

@@ -1,7 +1,8 @@
-use mathlib.Core.Path.{_≡_, refl, sym, ap, _∙_}
+-- `image_check::codes_ok` meets its contract. Assumes nothing.
+use mathlib.Core.Path.{_≡_, sym, ap, _∙_}
 use mathlib.Core.Bool.{Bool, true, false, _&&_}
 use mathlib.Core.List.{List}
-use Prim.Native.Nat.{ℕ, _+_, _-_, _≤_, _<_}
+use Prim.Native.Nat.{ℕ, _+_, _-_, _≤_}
 use native.Mathlib.Omega.{arith}
 use borrow.Author.Needs.{needs}
 use borrow.Author.Tests.{le-leb, lt-leb, not-true, not-false}
@@ -12,12 +13,6 @@ use Rattle.model.specs.Search.{allBelow}
 use Rattle.image_check.proofs.All.{all-none, all-more, all-fails}
 use Rattle.image_check.proofs.codes_ok.Statement.{statement}
 use Rattle.image_check.proofs.codes_ok.Tie as tie
-use Rattle.image_check.proofs.codes_ok.Reads as reads
-use Rattle.image_check.proofs.codes_ok.Lts as lts
-use Rattle.image_check.proofs.code.code_ok.Reads as code-ok-reads
-use Rattle.image_check.proofs.code.shapes.Reads as shapes-reads
-use Rattle.image_check.proofs.code_offset.Reads as code-offset-reads
-use Rattle.image_check.proofs.wide.Reads as wide-reads
 
 -- the code of signal x is a stretch of the image, and well formed
 abbrev good : List ℕ → ℕ → Bool
@@ -54,61 +49,48 @@ code k e =
     let o = k .before .before .before .before .before in
     rw (← (turn o .loop .inv .2), ← (ends o), ← (start (turn o) .pre .1)) (sym (k .code-ok .ensures) ∙ e)
 
--- src/lib.rt:125:17
 shapes-requires : tie.Need-shapes-requires Inv-loop μ-loop
 shapes-requires c κs = search needs
 
--- src/lib.rt:126:9
 wide-requires : tie.Need-wide-requires Inv-loop μ-loop
 wide-requires c κs = search needs
 
--- src/lib.rt:127:9
 code-offset-requires : tie.Need-code-offset-requires Inv-loop μ-loop
 code-offset-requires c κs = let s = c .before .before .before in (s .pre .0, c .wide .ensures .0 ∙ s .pre .1)
 
--- src/lib.rt:129:5
 loop-holds : tie.Need-loop-holds Inv-loop μ-loop
 loop-holds c = (all-none _, omega arith, c .code-offset .ensures)
 
--- src/lib.rt:130:44
 wide-requires-2 : tie.Need-wide-requires-2 Inv-loop μ-loop
 wide-requires-2 c κs = search needs
 
--- src/lib.rt:130:44
 add-code-offset : tie.Need-add-code-offset Inv-loop μ-loop
 add-code-offset c = omega (arith, c .wide2 .ensures .1)
 
--- src/lib.rt:130:13
 code-offset-requires-2 : tie.Need-code-offset-requires-2 Inv-loop μ-loop
 code-offset-requires-2 c κs = let l = c .before .before in (start l .pre .0, l .before .before .wide .ensures .0 ∙ start l .pre .1)
 
--- src/lib.rt:132:13
 returns : tie.Need-returns Inv-loop μ-loop
 unfolding codesOk
 returns c =
     let o = c .before in
     fails o (rw (← (turn o .loop .inv .2), ← (ends o), lt-leb _ _ (c .if1 .taken)))
 
--- src/lib.rt:135:13
 returns-2 : tie.Need-returns-2 Inv-loop μ-loop
 unfolding codesOk
 returns-2 c =
     let o = c .before .before in
     fails o (rw (← (turn o .loop .inv .2), ← (ends o), le-leb _ _ (c .before .if1 .left), lt-leb _ _ (c .if2 .taken)))
 
--- src/lib.rt:137:27
 part-code-ok-start : tie.Need-part-code-ok-start Inv-loop μ-loop
 part-code-ok-start c = c .before .if1 .left
 
--- src/lib.rt:137:27
 part-code-ok-end : tie.Need-part-code-ok-end Inv-loop μ-loop
 part-code-ok-end c = c .if2 .left
 
--- src/lib.rt:137:13
 code-ok-requires : tie.Need-code-ok-requires Inv-loop μ-loop
 code-ok-requires c κs = (c .before .before .before .before .before .before .before .before .before .before .shapes .ensures, c .before .before .before .before .before .before .loop-test .taken)
 
--- src/lib.rt:138:13
 returns-3 : tie.Need-returns-3 Inv-loop μ-loop
 unfolding codesOk
 returns-3 c =
@@ -116,15 +98,12 @@ returns-3 c =
     let e = k .before .before .before in
     fails (e .before .before) (rw (← (turn (e .before .before) .loop .inv .2), ← (ends (e .before .before)), le-leb _ _ (e .before .if1 .left), le-leb _ _ (e .if2 .left)) (code k (not-true _ (c .if3 .taken))))
 
--- src/lib.rt:141:13
 add-x : tie.Need-add-x Inv-loop μ-loop
 add-x c = omega arith
 
--- src/lib.rt:129:5
 loop-less : tie.Need-loop-less Inv-loop μ-loop
 loop-less c = omega arith
 
--- src/lib.rt:129:5
 loop-again : tie.Need-loop-again Inv-loop μ-loop
 loop-again c =
     let k = c .before in
@@ -137,7 +116,6 @@ loop-again c =
       ends o,
     )
 
--- src/lib.rt:121:1
 returns-4 : tie.Need-returns-4 Inv-loop μ-loop
 unfolding codesOk
 returns-4 c =

@@ -1,3 +1,4 @@
+-- `image_check::entries_ok` meets its contract. Assumes nothing.
 use mathlib.Core.Path.{_≡_, sym, _∙_}
 use Prim.Native.Nat.{_+_, _*_, _≤_}
 use native.Mathlib.Omega.{arith}
@@ -7,11 +8,6 @@ use Rattle.image_check.proofs.Parts.{Lists, head, lists, room, entries-
 use borrow.Author.Needs.{needs}
 use Rattle.image_check.proofs.entries_ok.Statement.{statement}
 use Rattle.image_check.proofs.entries_ok.Tie as tie
-use Rattle.image_check.proofs.entries_ok.Reads as reads
-use Rattle.image_check.proofs.entries_ok.Lts as lts
-use Rattle.image_check.proofs.code_offset.Reads as code-offset-reads
-use Rattle.image_check.proofs.greatest.Reads as greatest-reads
-use Rattle.image_check.proofs.wide.Reads as wide-reads
 
 abbrev start : tie.After-code-offset → tie.Start
 start o = o .before .before .before
@@ -27,35 +23,27 @@ begins w = let s = w .before .before in rw (w .wide .ensures .0, s .pre .2, s .p
 holds : (o : tie.After-code-offset) → 4 + 6 * o .before .wide .result + 2 * (start o .args .h + 1) ≤ o .code-offset .result
 holds o = rw (begins (o .before), o .code-offset .ensures) (room _ (listed (start o)))
 
--- src/lib.rt:111:9
 wide-requires : tie.Need-wide-requires
 wide-requires c κs = search needs
 
--- src/lib.rt:112:21
 mul-start : tie.Need-mul-start
 mul-start c = search needs
 
--- src/lib.rt:112:17
 add-start : tie.Need-add-start
 add-start c = search needs
 
--- src/lib.rt:112:38
 add-start-2 : tie.Need-add-start-2
 add-start-2 c = let s = c .before .before in omega (arith, s .pre .3, head _ (s .pre .0) .hyper, c .wide .ensures .1)
 
--- src/lib.rt:112:33
 mul-start-2 : tie.Need-mul-start-2
 mul-start-2 c = let s = c .before .before in omega (arith, s .pre .3, head _ (s .pre .0) .hyper, c .wide .ensures .1)
 
--- src/lib.rt:112:17
 add-start-3 : tie.Need-add-start-3
 add-start-3 c = let s = c .before .before in omega (arith, s .pre .3, head _ (s .pre .0) .hyper, c .wide .ensures .1)
 
--- src/lib.rt:113:9
 code-offset-requires : tie.Need-code-offset-requires
 code-offset-requires c κs = search needs
 
--- src/lib.rt:115:9
 returns : tie.Need-returns
 returns c =
     let o = c .before in
@@ -63,23 +51,18 @@ returns c =
     let none : countOf (s .args .image .now) ≡ 0 = sym (s .pre .2) ∙ c .if1 .taken in
     rw (begins (o .before), o .code-offset .ensures) (entries-none _ (listed s) none)
 
--- src/lib.rt:117:14
 sub-greatest : tie.Need-sub-greatest
 sub-greatest c = holds (c .before)
 
--- src/lib.rt:117:14
 part-greatest-start : tie.Need-part-greatest-start
 part-greatest-start c = holds (c .before)
 
--- src/lib.rt:117:14
 part-greatest-end : tie.Need-part-greatest-end
 part-greatest-end c = let o = c .before in rw (o .code-offset .ensures) (listed (start o) .end)
 
--- src/lib.rt:117:5
 greatest-requires : tie.Need-greatest-requires
 greatest-requires c κs = search needs
 
--- src/lib.rt:107:1
 returns-2 : tie.Need-returns-2
 returns-2 c =
     let e = c .before .before in

@@ -1,4 +1,5 @@
-use mathlib.Core.Path.{_≡_, refl, sym, ap, _∙_}
+-- `image_check::greatest` meets its contract. Assumes nothing.
+use mathlib.Core.Path.{_≡_, sym, ap, _∙_}
 use mathlib.Core.Logic.{⊎-elim}
 use mathlib.Core.Bool.{_&&_}
 use Prim.Native.Nat.{ℕ, _+_, _-_, _≤_, _<_}
@@ -11,8 +12,6 @@ use Rattle.model.specs.Word.{byteAt}
 use Rattle.image_check.proofs.All.{all-none, all-one, below-greater, below-least}
 use Rattle.image_check.proofs.greatest.Statement.{statement}
 use Rattle.image_check.proofs.greatest.Tie as tie
-use Rattle.image_check.proofs.greatest.Reads as reads
-use Rattle.image_check.proofs.greatest.Lts as lts
 
 abbrev Inv-loop : tie.InvT-loop
 Inv-loop list most₀ i₀ most i = ((n : ℕ) → 0 < n → allBelow i (λ k. ltb (byteAt list k) n) ≡ ltb most n) × (i ≤ length list)
@@ -20,23 +19,18 @@ Inv-loop list most₀ i₀ most i = ((n : ℕ) → 0 < n → allBelow i (λ k. l
 abbrev μ-loop : tie.MeasureT-loop
 μ-loop list most₀ i₀ most i = length list - i
 
--- src/lib.rt:96:5
 loop-holds : tie.Need-loop-holds Inv-loop μ-loop
 loop-holds c = ((λ n h. all-none _ ∙ sym (lt-ltb 0 n h)), omega arith)
 
--- src/lib.rt:97:17
 shared-slice-read-x : tie.Need-shared-slice-read-x Inv-loop μ-loop
 shared-slice-read-x c = omega arith
 
--- src/lib.rt:101:13
 add-i : tie.Need-add-i Inv-loop μ-loop
 add-i c = omega arith
 
--- src/lib.rt:96:5
 loop-less : tie.Need-loop-less Inv-loop μ-loop
 loop-less c = omega arith
 
--- src/lib.rt:96:5
 loop-again : tie.Need-loop-again Inv-loop μ-loop
 loop-again c =
     let l = c .before .before .before in
@@ -50,7 +44,6 @@ loop-again c =
       omega arith,
     )
 
--- src/lib.rt:91:1
 returns : tie.Need-returns Inv-loop μ-loop
 returns c = λ n h.
     let l = c .before in

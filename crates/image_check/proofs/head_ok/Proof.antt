@@ -1,45 +1,34 @@
+-- `image_check::head_ok` meets its contract. Assumes nothing.
 use mathlib.Core.Path.{sym, _∙_}
 use borrow.Author.Tests.{le-leb, lt-leb, eq-eqb, ne-eqb}
 use Rattle.model.specs.Machine.{headOk}
 use borrow.Author.Needs.{needs}
 use Rattle.image_check.proofs.head_ok.Statement.{statement}
 use Rattle.image_check.proofs.head_ok.Tie as tie
-use Rattle.image_check.proofs.head_ok.Reads as reads
-use Rattle.image_check.proofs.head_ok.Lts as lts
-use Rattle.image_check.proofs.offset_at.Reads as offset-at-reads
-use Rattle.image_check.proofs.wide.Reads as wide-reads
 
--- src/lib.rt:47:9
 returns : tie.Need-returns
 unfolding headOk
 returns c = rw (lt-leb 4 _ (c .if1 .taken))
 
--- src/lib.rt:49:8
 offset-at-requires : tie.Need-offset-at-requires
 offset-at-requires c κs = search needs
 
--- src/lib.rt:50:9
 returns-2 : tie.Need-returns-2
 unfolding headOk
 returns-2 c = let o = c .before in rw (le-leb 4 _ (o .before .if1 .left), ne-eqb _ _ (λ e. c .if2 .taken (o .offset-at .ensures ∙ e)))
 
--- src/lib.rt:52:18
 shared-slice-read-wide : tie.Need-shared-slice-read-wide
 shared-slice-read-wide c = search needs
 
--- src/lib.rt:52:9
 wide-requires : tie.Need-wide-requires
 wide-requires c κs = search needs
 
--- src/lib.rt:53:18
 shared-slice-read-wide-2 : tie.Need-shared-slice-read-wide-2
 shared-slice-read-wide-2 c = search needs
 
--- src/lib.rt:53:9
 wide-requires-2 : tie.Need-wide-requires-2
 wide-requires-2 c κs = search needs
 
--- src/lib.rt:55:9
 returns-3 : tie.Need-returns-3
 unfolding headOk
 returns-3 c =
@@ -54,7 +43,6 @@ returns-3 c =
       lt-leb 1 _ (c .if3 .taken),
     )
 
--- src/lib.rt:58:9
 returns-4 : tie.Need-returns-4
 unfolding headOk
 returns-4 c =
@@ -70,7 +58,6 @@ returns-4 c =
       lt-leb _ 240 (c .if4 .taken),
     )
 
--- src/lib.rt:61:9
 returns-5 : tie.Need-returns-5
 unfolding headOk
 returns-5 c =
@@ -88,27 +75,21 @@ returns-5 c =
       lt-leb _ 64 (c .if5 .taken),
     )
 
--- src/lib.rt:63:9
 mul-result : tie.Need-mul-result
 mul-result c = search needs
 
--- src/lib.rt:63:5
 add-result : tie.Need-add-result
 add-result c = search needs
 
--- src/lib.rt:63:22
 add-result-2 : tie.Need-add-result-2
 add-result-2 c = search needs
 
--- src/lib.rt:63:17
 mul-result-2 : tie.Need-mul-result-2
 mul-result-2 c = search needs
 
--- src/lib.rt:63:5
 add-result-3 : tie.Need-add-result-3
 add-result-3 c = search needs
 
--- src/lib.rt:43:1
 returns-6 : tie.Need-returns-6
 unfolding headOk
 returns-6 c =

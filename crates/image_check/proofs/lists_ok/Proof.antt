@@ -1,11 +1,11 @@
-use mathlib.Core.Path.{_≡_, refl, sym, ap, _∙_}
+-- `image_check::lists_ok` meets its contract. Assumes nothing.
+use mathlib.Core.Path.{_≡_, sym, ap, _∙_}
 use mathlib.Core.Bool.{Bool, true, false}
 use mathlib.Core.List.{List}
-use Prim.Native.Nat.{ℕ, _+_, _-_, _*_, _≤_, _<_}
+use Prim.Native.Nat.{ℕ, _+_, _-_, _*_, _≤_}
 use native.Mathlib.Omega.{arith}
 use borrow.Author.Tests.{le-leb, lt-leb, eq-eqb, ne-eqb}
 use lib.Dec.{leb, eqb}
-use lib.ListN.{length}
 use Rattle.model.specs.Image.{listsAt}
 use Rattle.model.specs.Machine.{hyperOf, countOf, listOffset, codeOffset, listsOk}
 use Rattle.model.specs.Search.{allBelow}
@@ -13,10 +13,6 @@ use Rattle.image_check.proofs.All.{all-none, all-more, all-fails}
 use Rattle.image_check.proofs.Parts.{head}
 use Rattle.image_check.proofs.lists_ok.Statement.{statement}
 use Rattle.image_check.proofs.lists_ok.Tie as tie
-use Rattle.image_check.proofs.lists_ok.Reads as reads
-use Rattle.image_check.proofs.lists_ok.Lts as lts
-use Rattle.image_check.proofs.code_offset.Reads as code-offset-reads
-use Rattle.image_check.proofs.list_offset.Reads as list-offset-reads
 
 -- list c starts where it ends, or before
 abbrev rising : List ℕ → ℕ → Bool
@@ -50,31 +46,24 @@ rose a = ap (λ (k : ℕ). allBelow k (rising (start (a .before) .args .image .n
 ends : (a : tie.After-loop Inv-loop μ-loop) → let image = start (a .before) .args .image .now in a .before .loop .last ≡ listOffset image (hyperOf image)
 ends a = a .before .loop .inv .2 ∙ ap (listOffset (start (a .before) .args .image .now)) (done a)
 
--- src/lib.rt:71:9
 list-offset-requires : tie.Need-list-offset-requires Inv-loop μ-loop
 list-offset-requires c κs = (c .before .pre .0, c .before .pre .1, omega arith)
 
--- src/lib.rt:72:20
 mul-if1 : tie.Need-mul-if1 Inv-loop μ-loop
 mul-if1 c = let s = c .before .before in omega (arith, s .pre .1, s .pre .2, head _ (s .pre .0) .signals, head _ (s .pre .0) .hyper)
 
--- src/lib.rt:72:16
 add-if1 : tie.Need-add-if1 Inv-loop μ-loop
 add-if1 c = let s = c .before .before in omega (arith, s .pre .1, s .pre .2, head _ (s .pre .0) .signals, head _ (s .pre .0) .hyper)
 
--- src/lib.rt:72:33
 add-if1-2 : tie.Need-add-if1-2 Inv-loop μ-loop
 add-if1-2 c = let s = c .before .before in omega (arith, s .pre .1, s .pre .2, head _ (s .pre .0) .signals, head _ (s .pre .0) .hyper)
 
--- src/lib.rt:72:28
 mul-if1-2 : tie.Need-mul-if1-2 Inv-loop μ-loop
 mul-if1-2 c = let s = c .before .before in omega (arith, s .pre .1, s .pre .2, head _ (s .pre .0) .signals, head _ (s .pre .0) .hyper)
 
--- src/lib.rt:72:16
 add-if1-3 : tie.Need-add-if1-3 Inv-loop μ-loop
 add-if1-3 c = let s = c .before .before in omega (arith, s .pre .1, s .pre .2, head _ (s .pre .0) .signals, head _ (s .pre .0) .hyper)
 
--- src/lib.rt:73:9
 returns : tie.Need-returns Inv-loop μ-loop
 unfolding listsOk
 returns c =
@@ -82,19 +71,15 @@ returns c =
     let s = o .before .before in
     rw (ne-eqb (listOffset (s .args .image .now) 0) _ (λ e. c .if1 .taken (o .list-offset .ensures ∙ e ∙ sym (starts s))))
 
--- src/lib.rt:76:5
 loop-holds : tie.Need-loop-holds Inv-loop μ-loop
 loop-holds c = (all-none _, omega arith, c .before .list-offset .ensures)
 
--- src/lib.rt:77:42
 add-list-offset : tie.Need-add-list-offset Inv-loop μ-loop
 add-list-offset c = omega arith
 
--- src/lib.rt:77:13
 list-offset-requires-2 : tie.Need-list-offset-requires-2 Inv-loop μ-loop
 list-offset-requires-2 c κs = let s = c .before .before .before .before .before in (s .pre .0, s .pre .1, omega (arith, s .pre .2))
 
--- src/lib.rt:79:13
 returns-2 : tie.Need-returns-2 Inv-loop μ-loop
 unfolding listsOk
 returns-2 c =
@@ -107,15 +92,12 @@ returns-2 c =
     (rw (← (l .loop .inv .2), ← (o .list-offset2 .ensures)) (lt-leb _ _ (c .if2 .taken))) in
     rw (first i, falls)
 
--- src/lib.rt:82:13
 add-c : tie.Need-add-c Inv-loop μ-loop
 add-c c = omega arith
 
--- src/lib.rt:76:5
 loop-less : tie.Need-loop-less Inv-loop μ-loop
 loop-less c = omega arith
 
--- src/lib.rt:76:5
 loop-again : tie.Need-loop-again Inv-loop μ-loop
 loop-again c =
     let o = c .before in
@@ -125,11 +107,9 @@ loop-again c =
       o .list-offset2 .ensures,
     )
 
--- src/lib.rt:84:16
 code-offset-requires : tie.Need-code-offset-requires Inv-loop μ-loop
 code-offset-requires c κs = let s = start (c .before) in (s .pre .0, s .pre .1)
 
--- src/lib.rt:85:9
 returns-3 : tie.Need-returns-3 Inv-loop μ-loop
 unfolding listsOk
 returns-3 c =
@@ -138,7 +118,6 @@ returns-3 c =
     let image = start l .args .image .now in
     rw (first (l .before), rose (o .before), ne-eqb (listOffset image (hyperOf image)) _ (λ e. c .if3 .taken (ends (o .before) ∙ e ∙ sym (o .code-offset .ensures))))
 
--- src/lib.rt:67:1
 returns-4 : tie.Need-returns-4 Inv-loop μ-loop
 unfolding listsOk
 returns-4 c =

@@ -1,3 +1,4 @@
+-- `image_check::well_formed` meets its contract. Assumes nothing.
 use mathlib.Core.Path.{_≡_, refl, sym, _∙_}
 use mathlib.Core.Bool.{true}
 use native.Mathlib.Omega.{arith}
@@ -7,13 +8,6 @@ use Rattle.image_check.proofs.Parts.{head, without-head, without-lists,
 use borrow.Author.Needs.{needs}
 use Rattle.image_check.proofs.well_formed.Statement.{statement}
 use Rattle.image_check.proofs.well_formed.Tie as tie
-use Rattle.image_check.proofs.well_formed.Reads as reads
-use Rattle.image_check.proofs.well_formed.Lts as lts
-use Rattle.image_check.proofs.codes_ok.Reads as codes-ok-reads
-use Rattle.image_check.proofs.entries_ok.Reads as entries-ok-reads
-use Rattle.image_check.proofs.head_ok.Reads as head-ok-reads
-use Rattle.image_check.proofs.lists_ok.Reads as lists-ok-reads
-use Rattle.image_check.proofs.wide.Reads as wide-reads
 
 good : (e : tie.Else1) → headOk (e .before .before .before .args .image .now) ≡ true
 good e = sym (e .before .head-ok .ensures) ∙ not-false _ (e .if1 .left)
@@ -21,53 +15,41 @@ good e = sym (e .before .head-ok .ensures) ∙ not-false _ (e .if1 .left)
 listed : (e : tie.Else2) → listsOk (e .before .before .before .before .before .before .before .before .before .args .image .now) ≡ true
 listed e = sym (e .before .lists-ok .ensures) ∙ not-false _ (e .if2 .left)
 
--- src/lib.rt:150:9
 head-ok-requires : tie.Need-head-ok-requires
 head-ok-requires c κs = search needs
 
--- src/lib.rt:151:9
 returns : tie.Need-returns
 returns c = sym (without-head _ (sym (c .before .head-ok .ensures) ∙ not-true _ (c .if1 .taken)))
 
--- src/lib.rt:153:18
 shared-slice-read-wide : tie.Need-shared-slice-read-wide
 shared-slice-read-wide c = omega (arith, head _ (good (c .before)) .four)
 
--- src/lib.rt:153:9
 wide-requires : tie.Need-wide-requires
 wide-requires c κs = search needs
 
--- src/lib.rt:154:13
 shared-slice-read-n : tie.Need-shared-slice-read-n
 shared-slice-read-n c = omega (arith, head _ (good (c .before .before .before)) .four)
 
--- src/lib.rt:155:25
 wide-requires-2 : tie.Need-wide-requires-2
 wide-requires-2 c κs = search needs
 
--- src/lib.rt:155:9
 lists-ok-requires : tie.Need-lists-ok-requires
 lists-ok-requires c κs = let w = c .before .before in (good (w .before .before), c .wide2 .ensures .0, w .wide .ensures .0)
 
--- src/lib.rt:156:9
 returns-2 : tie.Need-returns-2
 returns-2 c = let l = c .before in sym (without-lists _ (good (l .before .before .before .before .before)) (sym (l .lists-ok .ensures) ∙ not-true _ (c .if2 .taken)))
 
--- src/lib.rt:158:9
 entries-ok-requires : tie.Need-entries-ok-requires
 entries-ok-requires c κs = (good (c .before .before .before .before .before .before), listed c, refl, c .before .before .before .before .wide .ensures .0)
 
--- src/lib.rt:159:9
 returns-3 : tie.Need-returns-3
 returns-3 c =
     let e = c .before .before in
     sym (with-lists _ (good (e .before .before .before .before .before .before)) (listed e) ∙ rw (sym (c .before .entries-ok .ensures) ∙ not-true _ (c .if3 .taken)))
 
--- src/lib.rt:161:5
 codes-ok-requires : tie.Need-codes-ok-requires
 codes-ok-requires c κs = (good (c .before .before .before .before .before .before .before .before), refl)
 
--- src/lib.rt:147:1
 returns-4 : tie.Need-returns-4
 returns-4 c =
     let n = c .before in

@@ -1,30 +1,23 @@
+-- `machine::cycle` meets its contract. Assumes nothing.
 use mathlib.Core.Path.{_≡_, refl, sym, ap, ap₂, _∙_}
 use mathlib.Core.Bool.{true}
 use mathlib.Core.List.{List}
-use Prim.Native.Nat.{ℕ, _+_, _≤_, _<_}
+use Prim.Native.Nat.{ℕ, _<_}
 use native.Mathlib.Omega.{arith}
 use borrow.Author.Tests.{not-true, not-false, lt-ltb, le-ltb, le-leb, lt-leb}
-use lib.Dec.{leb, ltb}
+use lib.Dec.{ltb}
 use lib.IntN.{ℤ, pos, natAbs}
 use lib.ListN.{length, getD, set}
 use mir.Syntax.{w32}
 use mir.Val.{toZ, ofZ}
 use Rattle.model.specs.Machine.{hyperOf, countOf, wellFormed, listOf, runSignals, isPosition, positionOf, nextPosition, cycleWords, cycleOf}
 use Rattle.word.proofs.Laws.{kept}
-use Rattle.image_check.proofs.Parts.{Head, head, lists, entries, Formed, formed}
+use Rattle.image_check.proofs.Parts.{head, lists, entries, formed}
 use Rattle.machine.proofs.Laws.{Position, position, no-position}
 use Rattle.machine.proofs.Answers.{done, gives-refusal, gives-done, cycle-image, cycle-state, cycle-position, cycle-samples, cycle-done}
 use borrow.Author.Needs.{needs}
 use Rattle.machine.proofs.cycle.Statement.{statement}
 use Rattle.machine.proofs.cycle.Tie as tie
-use Rattle.machine.proofs.cycle.Reads as reads
-use Rattle.machine.proofs.cycle.Lts as lts
-use Rattle.image_check.proofs.well_formed.Reads as well-formed-reads
-use Rattle.machine.proofs.next_position.Reads as next-position-reads
-use Rattle.machine.proofs.refused.Reads as refused-reads
-use Rattle.machine.proofs.run_list.Reads as run-list-reads
-use Rattle.machine.proofs.run_signals.Reads as run-signals-reads
-use Rattle.machine.proofs.wide.Reads as wide-reads
 
 -- what the tests on the way have shown
 well : (e : tie.Else1) → wellFormed (e .before .before .before .args .image .now) ≡ true
@@ -85,41 +78,32 @@ left g =
     let a = start (at2 e) .args in
     g .run-signals .ensures ∙ ap (λ (l : List ℕ). runSignals (image e) l (a .samples .now) (a .state .now)) (list-is r)
 
--- src/lib.rt:100:9
 well-formed-requires : tie.Need-well-formed-requires
 well-formed-requires c κs = search needs
 
--- src/lib.rt:101:9
 refused-requires : tie.Need-refused-requires
 refused-requires c κs = search needs
 
--- src/lib.rt:101:9
 returns : tie.Need-returns
 returns c =
     let w = c .before .before in
     gives-refusal (cycle-image _ _ _ (sym (w .well-formed .ensures) ∙ not-true _ (c .before .if1 .taken))) (c .refused .ensures)
 
--- src/lib.rt:103:18
 shared-slice-read-wide : tie.Need-shared-slice-read-wide
 shared-slice-read-wide c = omega (arith, head _ (formed _ (well (c .before)) .good) .four)
 
--- src/lib.rt:103:9
 wide-requires : tie.Need-wide-requires
 wide-requires c κs = search needs
 
--- src/lib.rt:104:13
 shared-slice-read-n : tie.Need-shared-slice-read-n
 shared-slice-read-n c = omega (arith, head _ (formed _ (well (c .before .before .before)) .good) .four)
 
--- src/lib.rt:105:9
 wide-requires-2 : tie.Need-wide-requires-2
 wide-requires-2 c κs = search needs
 
--- src/lib.rt:107:9
 refused-requires-2 : tie.Need-refused-requires-2
 refused-requires-2 c κs = search needs
 
--- src/lib.rt:107:9
 returns-2 : tie.Need-returns-2
 returns-2 c =
     let t = c .before in
@@ -130,15 +114,12 @@ returns-2 c =
     (cycle-state _ _ _ (well e) (le-ltb (countOf (s .args .image .now)) (length (s .args .state .now)) (omega (arith, w .wide2 .ensures .0, t .if2 .taken))))
     (c .refused2 .ensures)
 
--- src/lib.rt:109:20
 slice-copy-out-position : tie.Need-slice-copy-out-position
 slice-copy-out-position c = omega arith
 
--- src/lib.rt:111:9
 refused-requires-3 : tie.Need-refused-requires-3
 refused-requires-3 c κs = search needs
 
--- src/lib.rt:111:9
 returns-3 : tie.Need-returns-3
 returns-3 c =
     let t = c .before in
@@ -149,15 +130,12 @@ returns-3 c =
     (no-position (getD (s .args .state .now) 0 (pos 0)) (hyperOf (s .args .image .now)) (t .before .position .given) (t .if3 .taken)))
     (c .refused3 .ensures)
 
--- src/lib.rt:113:13
 cast-c : tie.Need-cast-c
 cast-c c = rw (here c .back) (tt, record { fits = omega (arith, here c .small) })
 
--- src/lib.rt:115:9
 refused-requires-4 : tie.Need-refused-requires-4
 refused-requires-4 c κs = search needs
 
--- src/lib.rt:115:9
 returns-4 : tie.Need-returns-4
 returns-4 c =
     let t = c .before in
@@ -168,11 +146,9 @@ returns-4 c =
     (here q .test _ ∙ le-ltb (positionOf (word q)) (hyperOf (start e .args .image .now)) (omega (arith, hyper e, rw (here q .back) at (t .if4 .taken)))))
     (c .refused4 .ensures)
 
--- src/lib.rt:118:9
 refused-requires-5 : tie.Need-refused-requires-5
 refused-requires-5 c κs = search needs
 
--- src/lib.rt:118:9
 returns-5 : tie.Need-returns-5
 returns-5 c =
     let t = c .before in
@@ -183,11 +159,9 @@ returns-5 c =
     (lt-leb (countOf (start e .args .image .now)) (length (start e .args .samples .now)) (omega (arith, e .before .wide2 .ensures .0, t .if5 .taken))))
     (c .refused5 .ensures)
 
--- src/lib.rt:120:17
 run-list-requires : tie.Need-run-list-requires
 run-list-requires c κs = (well (checked (at2 c)), rw (place c) (below (c .before)))
 
--- src/lib.rt:120:5
 run-signals-requires : tie.Need-run-signals-requires
 run-signals-requires c κs =
     let r = c .before in
@@ -200,7 +174,6 @@ run-signals-requires c κs =
       ),
     )
 
--- src/lib.rt:121:9
 next-position-requires : tie.Need-next-position-requires
 next-position-requires c κs =
     let e = c .before .before .before .before in (
@@ -208,15 +181,12 @@ next-position-requires c κs =
       omega (arith, hyper (at2 e), head _ (formed _ (well (checked (at2 e))) .good) .hyper),
     )
 
--- src/lib.rt:122:5
 slice-set-from-next : tie.Need-slice-set-from-next
 slice-set-from-next c = search needs
 
--- src/lib.rt:96:1
 same-length : tie.Need-same-length
 same-length c = search needs
 
--- src/lib.rt:96:1
 returns-6 : tie.Need-returns-6
 unfolding cycleWords
 returns-6 c =

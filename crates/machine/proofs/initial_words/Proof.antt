@@ -1,6 +1,7 @@
+-- `machine::initial_words` meets its contract. Assumes nothing.
 use mir.Syntax.{w32}
 use mir.Val.{toZ, ofZ}
-use mathlib.Core.Path.{_≡_, refl, sym, ap, ap₂, _∙_}
+use mathlib.Core.Path.{_≡_, refl, ap, ap₂, _∙_}
 use Prim.Native.Nat.{ℕ, _+_, _-_, _*_, _≤_, _<_}
 use native.Mathlib.Omega.{arith}
 use lib.IntN.{ℤ, pos}
@@ -13,10 +14,7 @@ use Rattle.image_check.proofs.Parts.{Head, head, formed}
 use Rattle.machine.proofs.Laws.{begun, begun-none, begun-more, begun-all}
 use Rattle.machine.proofs.initial_words.Statement.{statement}
 use Rattle.machine.proofs.initial_words.Tie as tie
-use Rattle.machine.proofs.initial_words.Reads as reads
-use Rattle.machine.proofs.initial_words.Lts as lts
 use mathlib.Core.List.{List}
-use Rattle.word.proofs.word_at.Reads as word-at-reads
 
 abbrev Inv-loop : tie.InvT-loop
 Inv-loop image n state₀ x₀ state x = (state ≡ begun image x state₀) × (length state ≡ length state₀) × (x ≤ n)
@@ -33,43 +31,33 @@ top s = head _ (formed _ (s .pre .0) .good)
 long : (l : tie.At-loop Inv-loop μ-loop) → length (l .loop .state) ≡ length (start l .args .state .now)
 long l = l .loop .inv .1 ∙ length-set (start l .args .state .now) 0 (pos 0)
 
--- src/lib.rt:70:5
 slice-set-of-state : tie.Need-slice-set-of-state Inv-loop μ-loop
 slice-set-of-state c = omega arith
 
--- src/lib.rt:72:5
 loop-holds : tie.Need-loop-holds Inv-loop μ-loop
 loop-holds c = let s = c .before in (begun-none (s .args .image .now) (s .args .state .now) (omega (arith, s .pre .2)), refl, omega arith)
 
--- src/lib.rt:73:42
 mul-word-at : tie.Need-mul-word-at Inv-loop μ-loop
 mul-word-at c = omega (arith, top (start (c .before)) .signals)
 
--- src/lib.rt:73:38
 add-word-at : tie.Need-add-word-at Inv-loop μ-loop
 add-word-at c = omega (arith, top (start (c .before)) .signals)
 
--- src/lib.rt:73:13
 word-at-requires : tie.Need-word-at-requires Inv-loop μ-loop
 word-at-requires c κs = let s = start (c .before) in omega (arith, s .pre .1, top s .fixed)
 
--- src/lib.rt:74:13
 add-x : tie.Need-add-x Inv-loop μ-loop
 add-x c = omega (arith, top (start (c .before .before)) .signals)
 
--- src/lib.rt:75:9
 mul-w : tie.Need-mul-w Inv-loop μ-loop
 mul-w c = omega (arith, top (start (c .before .before)) .signals)
 
--- src/lib.rt:75:9
 slice-set-from-w : tie.Need-slice-set-from-w Inv-loop μ-loop
 slice-set-from-w c = let l = c .before .before in omega (arith, long l, start l .pre .2)
 
--- src/lib.rt:72:5
 loop-less : tie.Need-loop-less Inv-loop μ-loop
 loop-less c = omega arith
 
--- src/lib.rt:72:5
 loop-again : tie.Need-loop-again Inv-loop μ-loop
 loop-again c =
     let l = c .before .before in
@@ -83,11 +71,9 @@ loop-again c =
       omega arith,
     )
 
--- src/lib.rt:66:1
 same-length : tie.Need-same-length Inv-loop μ-loop
 same-length c = long (c .before)
 
--- src/lib.rt:66:1
 returns : tie.Need-returns Inv-loop μ-loop
 returns c =
     let l = c .before in

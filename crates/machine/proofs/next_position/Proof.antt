@@ -1,3 +1,4 @@
+-- `machine::next_position` meets its contract. Assumes nothing.
 use Prim.Native.Nat.{_+_}
 use native.Mathlib.Omega.{arith}
 use borrow.Author.Tests.{eq-eqb, ne-eqb}
@@ -7,27 +8,20 @@ use Rattle.model.specs.Machine.{nextPosition}
 use borrow.Author.Needs.{needs}
 use Rattle.machine.proofs.next_position.Statement.{statement}
 use Rattle.machine.proofs.next_position.Tie as tie
-use Rattle.machine.proofs.next_position.Reads as reads
-use Rattle.machine.proofs.next_position.Lts as lts
 
--- src/lib.rt:62:8
 add-if1 : tie.Need-add-if1
 add-if1 c = search needs
 
--- src/lib.rt:62:33
 add-result : tie.Need-add-result
 add-result c = search needs
 
--- src/lib.rt:62:32
 cast-result : tie.Need-cast-result
 cast-result c = search needs
 
--- src/lib.rt:58:1
 returns : tie.Need-returns
 unfolding nextPosition
 returns c = rw (eq-eqb _ _ (c .if1 .taken))
 
--- src/lib.rt:58:1
 returns-2 : tie.Need-returns-2
 unfolding nextPosition
 returns-2 c = rw (ne-eqb _ _ (c .if1 .left)) (toZ-pos w32 (c .before .args .c + 1) (omega arith))

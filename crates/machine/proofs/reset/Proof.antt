@@ -1,3 +1,4 @@
+-- `machine::reset` meets its contract. Assumes nothing.
 use mathlib.Core.Path.{_≡_, sym, _∙_}
 use mathlib.Core.Bool.{true}
 use native.Mathlib.Omega.{arith}
@@ -9,12 +10,6 @@ use Rattle.machine.proofs.Answers.{gives-refusal, gives-done, reset-ima
 use borrow.Author.Needs.{needs}
 use Rattle.machine.proofs.reset.Statement.{statement}
 use Rattle.machine.proofs.reset.Tie as tie
-use Rattle.machine.proofs.reset.Reads as reads
-use Rattle.machine.proofs.reset.Lts as lts
-use Rattle.image_check.proofs.well_formed.Reads as well-formed-reads
-use Rattle.machine.proofs.initial_words.Reads as initial-words-reads
-use Rattle.machine.proofs.refused.Reads as refused-reads
-use Rattle.machine.proofs.wide.Reads as wide-reads
 
 well : (e : tie.Else1) → wellFormed (e .before .before .before .args .image .now) ≡ true
 well e = sym (e .before .well-formed .ensures) ∙ not-false _ (e .if1 .left)
@@ -22,33 +17,26 @@ well e = sym (e .before .well-formed .ensures) ∙ not-false _ (e .if1 .left)
 abbrev start : tie.After-wide → tie.Start
 start w = w .before .before .before .before .before
 
--- src/lib.rt:84:9
 well-formed-requires : tie.Need-well-formed-requires
 well-formed-requires c κs = search needs
 
--- src/lib.rt:85:9
 refused-requires : tie.Need-refused-requires
 refused-requires c κs = search needs
 
--- src/lib.rt:85:9
 returns : tie.Need-returns
 returns c =
     let w = c .before .before in
     gives-refusal (reset-image _ _ (sym (w .well-formed .ensures) ∙ not-true _ (c .before .if1 .taken))) (c .refused .ensures)
 
--- src/lib.rt:87:18
 shared-slice-read-wide : tie.Need-shared-slice-read-wide
 shared-slice-read-wide c = omega (arith, head _ (formed _ (well (c .before)) .good) .four)
 
--- src/lib.rt:87:9
 wide-requires : tie.Need-wide-requires
 wide-requires c κs = search needs
 
--- src/lib.rt:89:9
 refused-requires-2 : tie.Need-refused-requires-2
 refused-requires-2 c κs = search needs
 
--- src/lib.rt:89:9
 returns-2 : tie.Need-returns-2
 returns-2 c =
     let t = c .before in
@@ -58,15 +46,12 @@ returns-2 c =
     (reset-state _ _ (well (w .before .before)) (le-ltb (countOf (s .args .image .now)) (length (s .args .state .now)) (omega (arith, w .wide .ensures .0, t .if2 .taken))))
     (c .refused2 .ensures)
 
--- src/lib.rt:91:5
 initial-words-requires : tie.Need-initial-words-requires
 initial-words-requires c κs = let e = c .before in let w = e .before in (well (w .before .before), w .wide .ensures .0, e .if2 .left)
 
--- src/lib.rt:80:1
 same-length : tie.Need-same-length
 same-length c = search needs
 
--- src/lib.rt:80:1
 returns-3 : tie.Need-returns-3
 returns-3 c =
     let e = c .before .before .before in

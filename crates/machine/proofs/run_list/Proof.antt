@@ -1,4 +1,5 @@
-use mathlib.Core.Path.{_≡_, refl, sym, ap, _∙_}
+-- `machine::run_list` meets its contract. Assumes nothing.
+use mathlib.Core.Path.{refl}
 use Prim.Native.Nat.{_+_, _≤_}
 use native.Mathlib.Omega.{arith}
 use Rattle.model.specs.Machine.{listOf}
@@ -6,10 +7,6 @@ use Rattle.image_check.proofs.Parts.{Head, Lists, head, lists, inside, formed}
 use borrow.Author.Needs.{needs}
 use Rattle.machine.proofs.run_list.Statement.{statement}
 use Rattle.machine.proofs.run_list.Tie as tie
-use Rattle.machine.proofs.run_list.Reads as reads
-use Rattle.machine.proofs.run_list.Lts as lts
-use Rattle.image_check.proofs.list_offset.Reads as list-offset-reads
-use Rattle.machine.proofs.wide.Reads as wide-reads
 
 abbrev start : tie.After-list-offset2 → tie.Start
 start o = o .before .before .before .before .before
@@ -23,39 +20,30 @@ listed s = lists _ (formed _ (s .pre .0) .listed)
 rises : (o : tie.After-list-offset2) → o .before .list-offset .result ≤ o .list-offset2 .result
 rises o = let s = start o in rw (o .before .list-offset .ensures, o .list-offset2 .ensures) (listed s .rising (s .args .c) (s .pre .1))
 
--- src/lib.rt:31:18
 shared-slice-read-wide : tie.Need-shared-slice-read-wide
 shared-slice-read-wide c = omega (arith, top (c .before .before) .four)
 
--- src/lib.rt:31:9
 wide-requires : tie.Need-wide-requires
 wide-requires c κs = search needs
 
--- src/lib.rt:32:9
 list-offset-requires : tie.Need-list-offset-requires
 list-offset-requires c κs = let s = c .before .before .before in (formed _ (s .pre .0) .good, c .wide .ensures .0, omega (arith, s .pre .1))
 
--- src/lib.rt:33:49
 add-list-offset : tie.Need-add-list-offset
 add-list-offset c = let s = c .before .before .before .before in omega (arith, s .pre .1, top s .hyper)
 
--- src/lib.rt:33:9
 list-offset-requires-2 : tie.Need-list-offset-requires-2
 list-offset-requires-2 c κs = let s = c .before .before .before .before in (formed _ (s .pre .0) .good, c .before .wide .ensures .0, omega (arith, s .pre .1))
 
--- src/lib.rt:34:5
 sub-result : tie.Need-sub-result
 sub-result c = rises c
 
--- src/lib.rt:34:5
 part-result-start : tie.Need-part-result-start
 part-result-start c = rises c
 
--- src/lib.rt:34:5
 part-result-end : tie.Need-part-result-end
 part-result-end c = let s = start c in rw (c .list-offset2 .ensures) (inside _ (listed s) (s .args .c + 1) (omega (arith, s .pre .1)))
 
--- src/lib.rt:27:1
 returns : tie.Need-returns
 unfolding listOf
 returns c = let o = c .before in rw (← (o .list-offset2 .ensures), ← (o .before .list-offset .ensures)) refl

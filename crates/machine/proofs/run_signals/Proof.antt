@@ -1,3 +1,4 @@
+-- `machine::run_signals` meets its contract. Assumes nothing.
 use mathlib.Core.Path.{_≡_, refl, sym, ap, ap₂, _∙_}
 use mathlib.Core.Bool.{true}
 use mathlib.Core.List.{List}
@@ -15,11 +16,6 @@ use Rattle.image_check.proofs.Parts.{CodePart, codes, formed}
 use Rattle.machine.proofs.Laws.{signals-next, signals-done}
 use Rattle.machine.proofs.run_signals.Statement.{statement}
 use Rattle.machine.proofs.run_signals.Tie as tie
-use Rattle.machine.proofs.run_signals.Reads as reads
-use Rattle.machine.proofs.run_signals.Lts as lts
-use Rattle.image_check.proofs.code_offset.Reads as code-offset-reads
-use Rattle.machine.proofs.wide.Reads as wide-reads
-use Rattle.runner.proofs.run_code.Reads as run-code-reads
 
 abbrev Inv-loop : tie.InvT-loop
 Inv-loop list image n state₀ samples count i₀ state i =
@@ -64,47 +60,36 @@ this o =
     (o .before .code-offset .ensures ∙ ap (codeOffset image) own)
     (o .code-offset2 .ensures ∙ ap (λ (k : ℕ). codeOffset image (k + 1)) own)
 
--- src/lib.rt:44:9
 wide-requires : tie.Need-wide-requires Inv-loop μ-loop
 wide-requires c κs = search needs
 
--- src/lib.rt:46:5
 loop-holds : tie.Need-loop-holds Inv-loop μ-loop
 loop-holds c = (refl, refl, omega arith)
 
--- src/lib.rt:47:17
 shared-slice-read-x : tie.Need-shared-slice-read-x Inv-loop μ-loop
 shared-slice-read-x c = omega arith
 
--- src/lib.rt:48:13
 wide-requires-2 : tie.Need-wide-requires-2 Inv-loop μ-loop
 wide-requires-2 c κs = search needs
 
--- src/lib.rt:49:13
 code-offset-requires : tie.Need-code-offset-requires Inv-loop μ-loop
 code-offset-requires c κs = let l = c .before .before .before in let s = start l in (good s, l .before .wide .ensures .0 ∙ s .pre .0 .1)
 
--- src/lib.rt:50:57
 add-code-offset : tie.Need-add-code-offset Inv-loop μ-loop
 add-code-offset c = omega (arith, c .before .wide2 .ensures .1)
 
--- src/lib.rt:50:13
 code-offset-requires-2 : tie.Need-code-offset-requires-2 Inv-loop μ-loop
 code-offset-requires-2 c κs = let l = c .before .before .before .before in let s = start l in (good s, l .before .wide .ensures .0 ∙ s .pre .0 .1)
 
--- src/lib.rt:51:34
 sub-run-code : tie.Need-sub-run-code Inv-loop μ-loop
 sub-run-code c = this c .ordered
 
--- src/lib.rt:51:34
 part-run-code-start : tie.Need-part-run-code-start Inv-loop μ-loop
 part-run-code-start c = this c .ordered
 
--- src/lib.rt:51:34
 part-run-code-end : tie.Need-part-run-code-end Inv-loop μ-loop
 part-run-code-end c = this c .within
 
--- src/lib.rt:51:13
 run-code-requires : tie.Need-run-code-requires Inv-loop μ-loop
 run-code-requires c κs =
     let o = c .before .before in
@@ -112,15 +97,12 @@ run-code-requires c κs =
     let s = start l in
     (this o .formed, omega (arith, l .loop .inv .1, s .pre .1 .1 .0), s .pre .1 .1 .1, s .pre .1 .0 (l .loop .i) (taken o))
 
--- src/lib.rt:52:15
 add-w : tie.Need-add-w Inv-loop μ-loop
 add-w c = let o = c .before .before .before in omega (arith, o .before .before .wide2 .ensures .1)
 
--- src/lib.rt:52:9
 mul-w : tie.Need-mul-w Inv-loop μ-loop
 mul-w c = let o = c .before .before .before in omega (arith, o .before .before .wide2 .ensures .1)
 
--- src/lib.rt:52:9
 slice-set-from-w : tie.Need-slice-set-from-w Inv-loop μ-loop
 slice-set-from-w c =
     let o = c .before .before .before in
@@ -128,15 +110,12 @@ slice-set-from-w c =
     let s = start l in
     omega (arith, o .before .before .wide2 .ensures .0, l .loop .inv .1, s .pre .1 .1 .0, s .pre .1 .0 (l .loop .i) (taken o))
 
--- src/lib.rt:53:13
 add-i : tie.Need-add-i Inv-loop μ-loop
 add-i c = omega arith
 
--- src/lib.rt:46:5
 loop-less : tie.Need-loop-less Inv-loop μ-loop
 loop-less c = omega arith
 
--- src/lib.rt:46:5
 loop-again : tie.Need-loop-again Inv-loop μ-loop
 loop-again c =
     let o = c .before .before .before in
@@ -151,11 +130,9 @@ loop-again c =
       omega arith,
     )
 
--- src/lib.rt:38:1
 same-length : tie.Need-same-length Inv-loop μ-loop
 same-length c = c .before .loop .inv .1
 
--- src/lib.rt:38:1
 returns : tie.Need-returns Inv-loop μ-loop
 returns c =
     let l = c .before in

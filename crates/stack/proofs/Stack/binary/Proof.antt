@@ -1,3 +1,4 @@
+-- `stack::Stack::binary` meets its contract. Assumes nothing.
 use mathlib.Core.Path.{_≡_, ap₂, _∙_}
 use Prim.Native.Nat.{_-_}
 use lib.IntN.{pos}
@@ -10,27 +11,19 @@ use Rattle.stack.proofs.Laws.{view-two}
 use borrow.Author.Needs.{needs}
 use Rattle.stack.proofs.Stack.binary.Statement.{statement}
 use Rattle.stack.proofs.Stack.binary.Tie as tie
-use Rattle.stack.proofs.Stack.binary.Reads as reads
-use Rattle.stack.proofs.Stack.binary.Lts as lts
-use Rattle.word.proofs.binary.Reads as binary-reads
 
--- src/lib.rt:83:18
 sub-at : tie.Need-sub-at
 sub-at c = search needs
 
--- src/lib.rt:85:21
 mul-first : tie.Need-mul-first
 mul-first c = search needs
 
--- src/lib.rt:85:21
 array-copy-out-first : tie.Need-array-copy-out-first
 array-copy-out-first c = search needs
 
--- src/lib.rt:86:13
 binary-requires : tie.Need-binary-requires
 binary-requires c κs = search needs
 
--- src/lib.rt:79:5
 returns : tie.Need-returns
 returns c =
     let a = c .before .before .before .before .before .args in

@@ -1,3 +1,4 @@
+-- `stack::Stack::choose` meets its contract. Assumes nothing.
 use mathlib.Core.Path.{_≡_, _∙_}
 use Prim.Native.Nat.{_+_, _-_}
 use lib.IntN.{pos}
@@ -10,39 +11,28 @@ use Rattle.stack.proofs.Laws.{view-three}
 use borrow.Author.Needs.{needs}
 use Rattle.stack.proofs.Stack.choose.Statement.{statement}
 use Rattle.stack.proofs.Stack.choose.Tie as tie
-use Rattle.stack.proofs.Stack.choose.Reads as reads
-use Rattle.stack.proofs.Stack.choose.Lts as lts
-use Rattle.word.proofs.choose.Reads as choose-reads
 
--- src/lib.rt:99:18
 sub-at : tie.Need-sub-at
 sub-at c = search needs
 
--- src/lib.rt:101:25
 mul-condition : tie.Need-mul-condition
 mul-condition c = search needs
 
--- src/lib.rt:101:25
 array-copy-out-condition : tie.Need-array-copy-out-condition
 array-copy-out-condition c = search needs
 
--- src/lib.rt:102:26
 add-then : tie.Need-add-then
 add-then c = search needs
 
--- src/lib.rt:102:20
 mul-then : tie.Need-mul-then
 mul-then c = search needs
 
--- src/lib.rt:102:20
 array-copy-out-then : tie.Need-array-copy-out-then
 array-copy-out-then c = search needs
 
--- src/lib.rt:103:13
 choose-requires : tie.Need-choose-requires
 choose-requires c κs = search needs
 
--- src/lib.rt:95:5
 returns : tie.Need-returns
 returns c =
     let a = c .before .before .before .before .before .before .args in

@@ -1,3 +1,4 @@
+-- `stack::Stack::negate` meets its contract. Assumes nothing.
 use mathlib.Core.Path.{_≡_, refl, ap, _∙_}
 use mir.Syntax.{w32}
 use mir.Val.{toZ, ofZ}
@@ -7,15 +8,10 @@ use Rattle.stack.proofs.Laws.{view-one}
 use borrow.Author.Needs.{needs}
 use Rattle.stack.proofs.Stack.negate.Statement.{statement}
 use Rattle.stack.proofs.Stack.negate.Tie as tie
-use Rattle.stack.proofs.Stack.negate.Reads as reads
-use Rattle.stack.proofs.Stack.negate.Lts as lts
-use Rattle.word.proofs.neg.Reads as neg-reads
 
--- src/lib.rt:71:13
 neg-requires : tie.Need-neg-requires
 neg-requires c κs = search needs
 
--- src/lib.rt:66:5
 returns : tie.Need-returns
 returns c =
     let a = c .before .before .before .args in

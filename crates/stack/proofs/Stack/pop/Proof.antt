@@ -1,3 +1,4 @@
+-- `stack::Stack::pop` meets its contract. Assumes nothing.
 use mathlib.Core.Path.{_≡_}
 use Prim.Native.Nat.{_-_}
 use lib.IntN.{pos}
@@ -9,22 +10,16 @@ use Rattle.stack.proofs.Laws.{view-pop}
 use borrow.Author.Needs.{needs}
 use Rattle.stack.proofs.Stack.pop.Statement.{statement}
 use Rattle.stack.proofs.Stack.pop.Tie as tie
-use Rattle.stack.proofs.Stack.pop.Reads as reads
-use Rattle.stack.proofs.Stack.pop.Lts as lts
 
--- src/lib.rt:53:18
 sub-at : tie.Need-sub-at
 sub-at c = search needs
 
--- src/lib.rt:55:19
 mul-top : tie.Need-mul-top
 mul-top c = search needs
 
--- src/lib.rt:55:19
 array-copy-out-top : tie.Need-array-copy-out-top
 array-copy-out-top c = search needs
 
--- src/lib.rt:49:5
 returns : tie.Need-returns
 returns c =
     let a = c .before .before .before .before .args in

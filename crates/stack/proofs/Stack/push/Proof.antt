@@ -1,3 +1,4 @@
+-- `stack::Stack::push` meets its contract. Assumes nothing.
 use mathlib.Core.Path.{_≡_, refl}
 use mir.Syntax.{w32}
 use mir.Val.{toZ, ofZ}
@@ -7,22 +8,16 @@ use Rattle.stack.proofs.Laws.{view-push}
 use borrow.Author.Needs.{needs}
 use Rattle.stack.proofs.Stack.push.Statement.{statement}
 use Rattle.stack.proofs.Stack.push.Tie as tie
-use Rattle.stack.proofs.Stack.push.Reads as reads
-use Rattle.stack.proofs.Stack.push.Lts as lts
 
--- src/lib.rt:41:9
 mul-below : tie.Need-mul-below
 mul-below c = search needs
 
--- src/lib.rt:41:9
 array-set-from-below : tie.Need-array-set-from-below
 array-set-from-below c = search needs
 
--- src/lib.rt:45:21
 add-t6 : tie.Need-add-t6
 add-t6 c = search needs
 
--- src/lib.rt:34:5
 returns : tie.Need-returns
 returns c =
     let a = c .before .before .args in

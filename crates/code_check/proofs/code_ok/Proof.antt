@@ -1,16 +1,17 @@
+-- `code_check::code_ok` meets its contract. Assumes nothing.
 use mathlib.Core.Path.{_≡_, refl, sym, ap, _∙_}
-use mathlib.Core.Bool.{Bool, true, false, cond, _&&_}
+use mathlib.Core.Bool.{false, cond, _&&_}
 use Prim.Native.Nat.{ℕ, _+_, _-_, _≤_, _<_}
 use native.Mathlib.Omega.{arith}
 use borrow.Author.Needs.{needs}
-use borrow.Author.Tests.{eq-eqb, ne-eqb, lt-ltb, le-ltb}
+use borrow.Author.Tests.{lt-ltb, le-ltb}
 use lib.Dec.{eqb, ltb}
 use lib.ListN.{length, getD}
 use Rattle.model.specs.Machine.{codeOkFrom, codeOk}
-use Rattle.image_check.specs.Shape.{shapeOf, lengthOf, afterOf, lastOf}
-use Rattle.image_check.proofs.Turns.{turn, goes, stops, short, shape-most, length-some, step, commandOf}
-use Rattle.image_check.proofs.code.code_ok.Statement.{statement}
-use Rattle.image_check.proofs.code.code_ok.Tie as tie
+use Rattle.code_check.specs.Shape.{shapeOf, lengthOf, afterOf, lastOf}
+use Rattle.code_check.proofs.Turns.{turn, goes, stops, short, shape-most, length-some, step, commandOf}
+use Rattle.code_check.proofs.code_ok.Statement.{statement}
+use Rattle.code_check.proofs.code_ok.Tie as tie
 
 abbrev Inv-loop : tie.InvT-loop
 Inv-loop code n own table at₀ h₀ at h =

@@ -1,26 +1,20 @@
+-- `code_check::shape` meets its contract. Assumes nothing.
 use mathlib.Core.Path.{ap, _∙_}
 use Prim.Native.Nat.{ℕ, _<_}
 use lib.ListN.{getD}
 use borrow.Author.Needs.{needs}
-use Rattle.image_check.proofs.code.shape.Statement.{statement}
-use Rattle.image_check.proofs.code.shape.Tie as tie
-use Rattle.image_check.proofs.code.shape.Reads as reads
-use Rattle.image_check.proofs.code.shape.Lts as lts
-use Rattle.image_check.proofs.code.wide.Reads as wide-reads
+use Rattle.code_check.proofs.shape.Statement.{statement}
+use Rattle.code_check.proofs.shape.Tie as tie
 
--- src/code.rt:37:9
 wide-requires : tie.Need-wide-requires
 wide-requires c κs = search needs
 
--- src/code.rt:38:10
 element-copy-out-wide : tie.Need-element-copy-out-wide
 element-copy-out-wide c = search needs
 
--- src/code.rt:38:5
 wide-requires-2 : tie.Need-wide-requires-2
 wide-requires-2 c κs = search needs
 
--- src/code.rt:33:1
 returns : tie.Need-returns
 returns c =
     let w = c .before .before in

@@ -1,7 +1,7 @@
 // Whether the code of a signal is well formed: one turn for a command, by a table of what each byte commands.
 ghost use mathlib.Core.Path.{_≡_};
 ghost use Prim.Native.Nat.{_<_, _≤_};
-ghost use Rattle.image_check.specs.Shape.{shapeOf, Shapes, lengthOf, afterOf, lastOf};
+ghost use Rattle.code_check.specs.Shape.{shapeOf, Shapes, lengthOf, afterOf, lastOf};
 ghost use Rattle.model.specs.Machine.{codeOk};
 
 fn wide(byte: u8) -> usize

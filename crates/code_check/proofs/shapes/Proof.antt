@@ -1,66 +1,52 @@
+-- `code_check::shapes` meets its contract. Assumes nothing.
 use Prim.Native.Nat.{ℕ}
 use mathlib.Core.Bool.{Bool}
 use lib.Dec.{T, eqb, eqb→eq}
 use lib.ListN.{length, getD}
 use mathlib.Core.Path.{_≡_, refl}
 use mathlib.Core.List.{List}
-use Rattle.image_check.specs.Shape.{shapeOf, Shapes}
-use Rattle.image_check.proofs.Table.{every, at}
+use Rattle.code_check.specs.Shape.{shapeOf, Shapes}
+use Rattle.code_check.proofs.Table.{every, at}
 use borrow.Author.Needs.{needs}
-use Rattle.image_check.proofs.code.shapes.Statement.{statement}
-use Rattle.image_check.proofs.code.shapes.Tie as tie
-use Rattle.image_check.proofs.code.shapes.Reads as reads
-use Rattle.image_check.proofs.code.shapes.Lts as lts
+use Rattle.code_check.proofs.shapes.Statement.{statement}
+use Rattle.code_check.proofs.shapes.Tie as tie
 
--- src/code.rt:18:5
 array-write-table : tie.Need-array-write-table
 array-write-table c = search needs
 
--- src/code.rt:19:5
 array-write-table-2 : tie.Need-array-write-table-2
 array-write-table-2 c = search needs
 
--- src/code.rt:20:5
 array-write-table-3 : tie.Need-array-write-table-3
 array-write-table-3 c = search needs
 
--- src/code.rt:21:5
 array-write-table-4 : tie.Need-array-write-table-4
 array-write-table-4 c = search needs
 
--- src/code.rt:22:5
 array-write-table-5 : tie.Need-array-write-table-5
 array-write-table-5 c = search needs
 
--- src/code.rt:23:5
 array-write-table-6 : tie.Need-array-write-table-6
 array-write-table-6 c = search needs
 
--- src/code.rt:24:5
 array-write-table-7 : tie.Need-array-write-table-7
 array-write-table-7 c = search needs
 
--- src/code.rt:25:5
 array-write-table-8 : tie.Need-array-write-table-8
 array-write-table-8 c = search needs
 
--- src/code.rt:26:5
 array-write-table-9 : tie.Need-array-write-table-9
 array-write-table-9 c = search needs
 
--- src/code.rt:27:5
 array-write-table-10 : tie.Need-array-write-table-10
 array-write-table-10 c = search needs
 
--- src/code.rt:28:5
 array-write-table-11 : tie.Need-array-write-table-11
 array-write-table-11 c = search needs
 
--- src/code.rt:29:5
 array-write-table-12 : tie.Need-array-write-table-12
 array-write-table-12 c = search needs
 
--- src/code.rt:14:1
 -- an entry of the table is right
 right : ℕ → ℕ → Bool
 right b x = eqb x (shapeOf b)

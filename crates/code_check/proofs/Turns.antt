@@ -14,7 +14,7 @@ use Rattle.model.specs.declared.Binary.{Binary}
 use Rattle.model.specs.declared.Binary.the-variants.{Add, Sub, Mul, Less, Same, Min, Max}
 use Rattle.model.specs.declared.Code.{Code}
 use Rattle.model.specs.declared.Code.the-variants as Code
-use Rattle.image_check.specs.Shape.{shapeOf, lengthOf, afterOf, lastOf}
+use Rattle.code_check.specs.Shape.{shapeOf, lengthOf, afterOf, lastOf}
 
 -- a choice by how a test came out
 by : {X : Type 0} (b : Bool) → (b ≡ true → X) → (b ≡ false → X) → X
