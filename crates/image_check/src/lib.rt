@@ -35,7 +35,11 @@ pub fn code_offset(image: &[u8], n: usize, x: usize) -> usize
     requires { ⌜ (headOk (now image) ≡ true) × (n ≡ countOf (now image)) ⌝ }
     ensures { λ r. ⌜ r ≡ codeOffset (now (image .entry)) x ⌝ }
 {
-    if x < n { offset_at(image, 8 + 6 * x) } else { image.len() }
+    if x < n {
+        offset_at(image, 8 + 6 * x)
+    } else {
+        image.len()
+    }
 }
 
 // L, H and N, and that the fixed areas are there.

@@ -11,6 +11,15 @@ ghost use Rattle.model.specs.Machine.{Effect, ranOf, resetOf, cycleOf};
 ghost use Rattle.model.specs.Outcome.{refuse};
 ghost use Rattle.model.specs.Word.{byteAt};
 
+// The numbers of the refusals, in their order.
+const BAD_IMAGE: u8 = 20;
+
+const SHORT_STATE: u8 = 21;
+
+const BAD_POSITION: u8 = 22;
+
+const FEW_SAMPLES: u8 = 23;
+
 fn wide(byte: u8) -> usize
     ensures { λ r. ⌜ (r ≡ byte) × (r < 256) ⌝ }
 {
@@ -82,11 +91,11 @@ pub fn reset(image: &[u8], state: &mut [i32]) -> Ran
     ensures left { λ _. ⌜ now (state .exit) ≡ resetOf (now (image .entry)) (now (state .entry)) .left ⌝ }
 {
     if !image_check::well_formed(image) {
-        return refused(20);
+        return refused(BAD_IMAGE);
     }
     let n = wide(image[1]);
     if state.len() <= n {
-        return refused(21);
+        return refused(SHORT_STATE);
     }
     initial_words(image, n, &mut state[..]);
     Ran::Done
@@ -98,24 +107,24 @@ pub fn cycle(image: &[u8], state: &mut [i32], samples: &[i32]) -> Ran
     ensures left { λ _. ⌜ now (state .exit) ≡ cycleOf (now (image .entry)) (now (state .entry)) (now (samples .entry)) .left ⌝ }
 {
     if !image_check::well_formed(image) {
-        return refused(20);
+        return refused(BAD_IMAGE);
     }
     let h = wide(image[0]);
     let n = image[1];
     let count = wide(n);
     if state.len() <= count {
-        return refused(21);
+        return refused(SHORT_STATE);
     }
     let position = state[0];
     if position < 0 {
-        return refused(22);
+        return refused(BAD_POSITION);
     }
     let c = position as usize;
     if h <= c {
-        return refused(22);
+        return refused(BAD_POSITION);
     }
     if samples.len() < count {
-        return refused(23);
+        return refused(FEW_SAMPLES);
     }
     run_signals(run_list(image, c), image, n, &mut state[..], samples);
     let next = next_position(h, c);

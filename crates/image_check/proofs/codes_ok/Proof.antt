@@ -111,7 +111,7 @@ loop-again c =
     let o = e .before .before in
     let l = turn o in (
       all-more (l .loop .x) (good (start l .args .image .now)) (l .loop .inv .0)
-      (rw (← (l .loop .inv .2), ← (ends o), le-leb _ _ (e .before .if1 .left), le-leb _ _ (e .if2 .left)) (code k (not-false _ (c .if3 .left)))),
+          (rw (← (l .loop .inv .2), ← (ends o), le-leb _ _ (e .before .if1 .left), le-leb _ _ (e .if2 .left)) (code k (not-false _ (c .if3 .left)))),
       omega arith,
       ends o,
     )

@@ -124,8 +124,8 @@ loop-again c =
     let word : toZ w32 (ofZ w32 (c .run-code .result)) ≡ runCode (codeOf (a .image .now) (signal o)) (l .loop .state) (a .samples .now) =
     kept _ (c .run-code .ok) ∙ c .run-code .ensures ∙ ap (λ (x : List ℕ). runCode x (l .loop .state) (a .samples .now)) (this o .part) in (
       ap₂ (λ (k : ℕ) (w : ℤ). runSignals (a .image .now) (drop (l .loop .i + 1) (a .list .now)) (a .samples .now) (set (l .loop .state) (k + 1) w))
-      (o .before .before .wide2 .ensures .0) word
-      ∙ sym (signals-next (a .image .now) (a .list .now) (l .loop .i) (a .samples .now) (l .loop .state) (taken o)) ∙ l .loop .inv .0,
+          (o .before .before .wide2 .ensures .0) word
+          ∙ sym (signals-next (a .image .now) (a .list .now) (l .loop .i) (a .samples .now) (l .loop .state) (taken o)) ∙ l .loop .inv .0,
       simp length-set (l .loop .inv .1),
       omega arith,
     )
