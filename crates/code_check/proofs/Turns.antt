@@ -2,11 +2,10 @@
 use mathlib.Core.Path.{_≡_, refl, sym, ap, _∙_, subst}
 use mathlib.Core.Bool.{Bool, true, false, cond, _&&_}
 use mathlib.Core.List.{List}
-use mathlib.Core.Logic.{_⊎_, ⊎-elim}
 use Prim.Native.Nat.{ℕ, zero, suc, _+_, _-_, _*_, _%_, _/_, _≤_, _<_}
 use native.Mathlib.Omega.{arith}
 use native.Mathlib.Numerals.{unary-clauses}
-use borrow.Author.Tests.{eqb-true, ne-eqb, leb-true, leb-false, ltb-true, ltb-false, le-leb, lt-leb, lt-ltb, le-ltb}
+use borrow.Author.Tests.{eqb-true, leb-true, leb-false, ltb-true, ltb-false, le-leb, lt-leb, lt-ltb, le-ltb}
 use lib.Dec.{leb, ltb, eqb}
 use lib.ListN.{length}
 use Rattle.model.specs.Machine.{operatorCode, wholeCode, codeAt, commandOk, codeOkFrom}
@@ -80,18 +79,6 @@ no-shape o =
       o .others .0,
       o .others .1,
     )
-
--- and at a byte outside the table
-pub no-entry : (b : ℕ) → (b < 0x30) ⊎ (0x5F < b) → shapeOf b ≡ 0
-no-entry b o =
-    let no : (k : ℕ) → 0x30 ≤ k → k ≤ 0x5F → eqb b k ≡ false = λ k l h. ne-eqb b k (λ e. ⊎-elim (λ p. omega arith) (λ p. omega arith) o) in
-    let in-table : (k : ℕ) → leb 0x30 k ≡ true → leb k 0x5F ≡ true → eqb b k ≡ false = λ k l h. no k (leb-true 0x30 k l) (leb-true k 0x5F h) in
-    no-shape (record {
-      leaves = (in-table 0x50 refl refl, in-table 0x51 refl refl, in-table 0x52 refl refl, in-table 0x5F refl refl);
-      sums = (in-table 0x30 refl refl, in-table 0x31 refl refl, in-table 0x32 refl refl);
-      tests = (in-table 0x33 refl refl, in-table 0x34 refl refl, in-table 0x35 refl refl, in-table 0x36 refl refl);
-      others = (in-table 0x38 refl refl, in-table 0x3A refl refl);
-    })
 
 no-command : {b : ℕ} (code : List ℕ) (at : ℕ) → Other b → commandOf b code at ≡ Code.Unknown
 unfolding operatorCode

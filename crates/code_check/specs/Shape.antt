@@ -23,9 +23,9 @@ shapeOf b =
     (cond (eqb b 0x38) 2
     (cond (eqb b 0x3A) 4 0))))))))))))
 
--- A table of them, from byte 0x30 to byte 0x5F.
+-- A table of them.
 pub record Shapes (table : List ℕ) : Type 0 where
-  pub entry : (i : ℕ) → i < 48 → byteAt table i ≡ shapeOf (0x30 + i)
+  pub entry : (b : ℕ) → b < 256 → byteAt table b ≡ shapeOf b
 
 -- The bytes of a command that is not STORE.
 unfoldable pub lengthOf : ℕ → ℕ

@@ -10,37 +10,31 @@ fn wide(byte: u8) -> usize
     byte as usize
 }
 
-// By byte, from 0x30 on. 0: no command, or STORE; else 1 and the words that it takes off the stack, and 8 more for LOAD.
-pub fn shapes() -> [u8; 48]
+// 0: no command, or STORE; else 1 and the words that it takes off the stack, and 8 more for LOAD.
+pub fn shapes() -> [u8; 256]
     ensures { λ r. ⌜ Shapes r ⌝ }
 {
-    let mut table = [0; 48];
-    table[0x00] = 3;
-    table[0x01] = 3;
-    table[0x02] = 3;
-    table[0x03] = 3;
-    table[0x04] = 3;
-    table[0x05] = 3;
-    table[0x06] = 3;
-    table[0x08] = 2;
-    table[0x0A] = 4;
-    table[0x20] = 1;
-    table[0x21] = 9;
-    table[0x22] = 1;
+    let mut table = [0; 256];
+    table[0x30] = 3;
+    table[0x31] = 3;
+    table[0x32] = 3;
+    table[0x33] = 3;
+    table[0x34] = 3;
+    table[0x35] = 3;
+    table[0x36] = 3;
+    table[0x38] = 2;
+    table[0x3A] = 4;
+    table[0x50] = 1;
+    table[0x51] = 9;
+    table[0x52] = 1;
     table
 }
 
-fn shape(table: &[u8; 48], byte: u8) -> usize
+fn shape(table: &[u8; 256], byte: u8) -> usize
     requires { ⌜ Shapes (now table) ⌝ }
     ensures { λ r. ⌜ r ≡ shapeOf byte ⌝ }
 {
-    if byte < 0x30 {
-        return 0;
-    }
-    if 0x5F < byte {
-        return 0;
-    }
-    let i = wide(byte) - 0x30;
+    let i = wide(byte);
     wide(table[i])
 }
 
@@ -92,7 +86,7 @@ fn is_last(byte: u8, x: u8, own: u8, h: usize) -> bool
 }
 
 // Whether the code of signal `own` is well formed in an image of n signals.
-pub fn code_ok(code: &[u8], n: u8, own: u8, table: &[u8; 48]) -> bool
+pub fn code_ok(code: &[u8], n: u8, own: u8, table: &[u8; 256]) -> bool
     requires { ⌜ Shapes (now table) × (own < n) ⌝ }
     ensures { λ r. ⌜ r ≡ codeOk (now (code .entry)) n own ⌝ }
 {

@@ -1,5 +1,5 @@
 -- `code_check::shapes` meets its contract. Assumes nothing.
-use Prim.Native.Nat.{ℕ, _+_}
+use Prim.Native.Nat.{ℕ}
 use mathlib.Core.Bool.{Bool}
 use lib.Dec.{T, eqb, eqb→eq}
 use lib.ListN.{length, getD}
@@ -49,11 +49,11 @@ array-write-table-12 c = search needs
 
 -- an entry of the table is right
 right : ℕ → ℕ → Bool
-right i x = eqb x (shapeOf (0x30 + i))
+right b x = eqb x (shapeOf b)
 
-whole : (table : List ℕ) → T (every right 0 table) → length table ≡ 48 → Shapes table
+whole : (table : List ℕ) → T (every right 0 table) → length table ≡ 256 → Shapes table
 unfolding right
-whole table t e = record { entry = λ i h. eqb→eq (getD table i 0) (shapeOf (0x30 + i)) (at right table t i (rw e h)) }
+whole table t e = record { entry = λ b h. eqb→eq (getD table b 0) (shapeOf b) (at right table t b (rw e h)) }
 
 returns : tie.Need-returns
 unfolding right shapeOf
