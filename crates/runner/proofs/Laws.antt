@@ -5,12 +5,13 @@ use mathlib.Core.List.{List, [], _∷_}
 use mathlib.Core.Logic.{_⊎_, ⊎-elim, inl, inr}
 use Prim.Native.Nat.{ℕ, zero, suc, _+_, _-_, _≤_, _<_}
 use native.Mathlib.Omega.{arith}
-use borrow.Author.Tests.{ltb-true, ltb-false, leb-true, eqb-true, eq-eqb, ne-eqb, lt-ltb, le-ltb}
+use borrow.Author.Tests.{ltb-true, ltb-false, leb-true, eqb-true, eqb-false, eq-eqb, ne-eqb, lt-ltb, le-ltb, le-leb}
 use lib.Dec.{leb, ltb, eqb}
 use lib.IntN.{ℤ, pos}
 use lib.ListN.{length, getD}
 use Rattle.model.specs.Machine.{operatorCode, codeAt, wholeCode, commandOk, codeOkFrom, runCommand, runFrom, onOne, onTwo, onThree}
 use Rattle.model.specs.Word.{byteAt, wordAt, binaryWord, negWord, ifWord}
+use Rattle.runner.specs.Leaf.{leafWord, leafOk, leafLength}
 use Rattle.model.specs.declared.Binary.{Binary}
 use Rattle.model.specs.declared.Code.{Code}
 use Rattle.model.specs.declared.Code.the-variants as Code
@@ -25,24 +26,24 @@ pub both : (a b : Bool) → (a && b) ≡ true → (a ≡ true) × (b ≡ true)
 both true b h = (refl, h)
 both false b h = never h
 
-by : {X : Type 0} (b : Bool) → (b ≡ true → X) → (b ≡ false → X) → X
+pub by : {X : Type 0} (b : Bool) → (b ≡ true → X) → (b ≡ false → X) → X
 by true f g = f refl
 by false f g = g refl
 
 -- The command at an offset within a code, by its byte.
 module _ (code : List ℕ) (at : ℕ) (here : at < length code) where
-  inside : ltb at (length code) ≡ true
+  pub inside : ltb at (length code) ≡ true
   inside = lt-ltb at (length code) here
 
-  is-push : byteAt code at ≡ 0x50 → codeAt code at ≡ wholeCode code at 5 (Code.Push (wordAt code (at + 1)))
+  pub is-push : byteAt code at ≡ 0x50 → codeAt code at ≡ wholeCode code at 5 (Code.Push (wordAt code (at + 1)))
   unfolding codeAt
   is-push e = rw (inside, e)
 
-  is-load : byteAt code at ≡ 0x51 → codeAt code at ≡ wholeCode code at 2 (Code.Load (byteAt code (at + 1)))
+  pub is-load : byteAt code at ≡ 0x51 → codeAt code at ≡ wholeCode code at 2 (Code.Load (byteAt code (at + 1)))
   unfolding codeAt
   is-load e = rw (inside, e)
 
-  is-fetch : byteAt code at ≡ 0x52 → codeAt code at ≡ wholeCode code at 2 (Code.Fetch (byteAt code (at + 1)))
+  pub is-fetch : byteAt code at ≡ 0x52 → codeAt code at ≡ wholeCode code at 2 (Code.Fetch (byteAt code (at + 1)))
   unfolding codeAt
   is-fetch e = rw (inside, e)
 
@@ -161,10 +162,18 @@ module _ (code : List ℕ) (n own : ℕ) (state samples : List ℤ) where
     pub moved : {next : List ℤ} {high : ℕ} → next ≡ stack → high ≡ height → Goes stored at stack height → Goes stored at next high
     moved e h g = rw (e, h) g
 
+    -- and for its place
+    pub shifted : {place : ℕ} {next : List ℤ} → place ≡ at → next ≡ stack → Goes stored at stack height → Goes stored place next height
+    shifted p e g = rw (p, e) g
+
     -- past its end no code is well formed
     pub ended : {X : Type 0} → length code ≤ at → Goes stored at stack height → X
     unfolding commandOk
     ended e g = never (seen (is-end code at e) (command g) .judged)
+
+    -- the next command is there
+    pub more : Goes stored at stack height → at < length code
+    more g = by (ltb at (length code)) (λ t. ltb-true _ _ t) (λ t. ended (ltb-false at (length code) t) g)
 
     -- what each command does
     pub pushed : {w : ℤ} → Command stored at stack height (Code.Push w) → (height < 32) × Goes stored (at + 5) (w ∷ stack) (height + 1)
@@ -203,3 +212,63 @@ module _ (code : List ℕ) (n own : ℕ) (state samples : List ℤ) where
     unfolding commandOk runCommand
     combined c = let p = both (leb 2 height) _ (c .judged) in let m = c .few in
         (leb-true 2 height (p .0), record { left = c .fewer; good = p .1; runs = c .does; most = omega arith })
+
+  -- a leaf: its word, and what follows it
+  pub record Leaf (stored : ℤ) (at : ℕ) (stack : List ℤ) (height : ℕ) : Type 0 where
+    pub high : height < 32
+    pub reads : leafOk state samples (codeAt code at) ≡ true
+    pub next : Goes stored (at + leafLength (byteAt code at)) (leafWord state samples (codeAt code at) ∷ stack) (height + 1)
+
+  module _ {stored : ℤ} {at height : ℕ} {stack : List ℤ} (here : at < length code) (g : Goes stored at stack height)
+      (long : n < length state) (many : n ≤ length samples) (mine : own < n) where
+    at-push : byteAt code at ≡ 0x50 → Leaf stored at stack height
+    at-push e =
+        let c = push here g e in
+        let k : codeAt code at ≡ Code.Push (wordAt code (at + 1)) = is-push code at here e ∙ rw (le-leb (at + 5) (length code) (c .0)) in
+        let p = pushed (c .1) in
+        record { high = p .0; reads = rw k; next = rw (e, k) (p .1) }
+
+    at-load : byteAt code at ≡ 0x51 → Leaf stored at stack height
+    at-load e =
+        let c = load here g e in
+        let k : codeAt code at ≡ Code.Load (byteAt code (at + 1)) = is-load code at here e ∙ rw (le-leb (at + 2) (length code) (c .0)) in
+        let p = loaded (c .1) in
+        record { high = p .1; reads = rw k (lt-ltb (byteAt code (at + 1) + 1) (length state) (omega (arith, p .0))); next = rw (e, k) (p .2) }
+
+    at-fetch : byteAt code at ≡ 0x52 → Leaf stored at stack height
+    at-fetch e =
+        let c = fetch here g e in
+        let k : codeAt code at ≡ Code.Fetch (byteAt code (at + 1)) = is-fetch code at here e ∙ rw (le-leb (at + 2) (length code) (c .0)) in
+        let p = fetched (c .1) in
+        record { high = p .1; reads = rw k (lt-ltb (byteAt code (at + 1)) (length samples) (omega (arith, p .0))); next = rw (e, k) (p .2) }
+
+    pub leaf : 0x50 ≤ byteAt code at → byteAt code at ≤ 0x52 → Leaf stored at stack height
+    leaf l m =
+        let b = byteAt code at in
+        by (eqb b 0x50) (λ t. at-push (eqb-true b 0x50 t)) (λ f. by (eqb b 0x51) (λ t. at-load (eqb-true b 0x51 t))
+        (λ e. at-fetch (omega (arith, eqb-false b 0x50 f, eqb-false b 0x51 e))))
+
+-- the leaf at an offset, by its byte
+module _ (code : List ℕ) (at : ℕ) (state samples : List ℤ) (reads : leafOk state samples (codeAt code at) ≡ true) where
+  pub within : at < length code
+  within = by (ltb at (length code)) (λ t. ltb-true _ _ t) (λ t. never (rw (is-end code at (ltb-false at (length code) t)) at reads))
+
+  cut : (size : ℕ) (k : Code) → codeAt code at ≡ wholeCode code at size k → (at + size ≤ length code) × (codeAt code at ≡ k)
+  cut size k e =
+      by (leb (at + size) (length code))
+      (λ t. (leb-true _ _ t, e ∙ rw t))
+      (λ t. let none : codeAt code at ≡ Code.EndsEarly = e ∙ rw t in never (rw none at reads))
+
+  pub push-leaf : byteAt code at ≡ 0x50 → (at + 5 ≤ length code) × (codeAt code at ≡ Code.Push (wordAt code (at + 1)))
+  push-leaf e = cut 5 _ (is-push code at within e)
+
+  pub load-leaf : byteAt code at ≡ 0x51
+      → (at + 2 ≤ length code) × (byteAt code (at + 1) + 1 < length state) × (codeAt code at ≡ Code.Load (byteAt code (at + 1)))
+  load-leaf e = let c = cut 2 _ (is-load code at within e) in (c .0, ltb-true _ _ (rw (c .1) at reads), c .1)
+
+  pub fetch-leaf : byteAt code at ≡ 0x52
+      → (at + 2 ≤ length code) × (byteAt code (at + 1) < length samples) × (codeAt code at ≡ Code.Fetch (byteAt code (at + 1)))
+  fetch-leaf e = let c = cut 2 _ (is-fetch code at within e) in (c .0, ltb-true _ _ (rw (c .1) at reads), c .1)
+
+pub leaf-some : (b : ℕ) → 2 ≤ leafLength b
+leaf-some b = by (eqb b 0x50) (λ t. rw t (omega arith)) (λ t. rw t (omega arith))

@@ -42,6 +42,11 @@ view-two f t ws zero p = let e : ⊥ = omega (arith, p) in absurd e
 view-two f t ws (suc zero) p = let e : ⊥ = omega (arith, p) in absurd e
 view-two f t ws (suc (suc n)) p = simp unary-clauses refl
 
+pub view-with : (f : ℤ → ℤ → ℤ) (t w : ℤ) (ws : List ℤ) (h : ℕ) → 1 ≤ h → viewOf (f t w) ws h ≡ onTwo f (w ∷ viewOf t ws h)
+unfolding viewOf
+view-with f t w ws zero p = let e : ⊥ = omega (arith, p) in absurd e
+view-with f t w ws (suc n) p = refl
+
 pub view-three : (f : ℤ → ℤ → ℤ → ℤ) (t : ℤ) (ws : List ℤ) (h : ℕ) → 3 ≤ h
     → viewOf (f (getD ws (h - 2) (pos 0)) (getD ws (h - 2 + 1) (pos 0)) t) ws (h - 2) ≡ onThree f (viewOf t ws h)
 unfolding under viewOf

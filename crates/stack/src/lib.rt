@@ -91,6 +91,20 @@ impl Stack {
         }
     }
 
+    // The operator on the top word and w: what `push` of w and then `binary` give.
+    pub fn binary_with(self, operator: Binary, w: i32) -> Self
+        requires { ⌜ (1 ≤ self .height) × (self .height ≤ 32) ⌝ }
+        ensures { λ r. ⌜ (view r ≡ onTwo (binaryWord operator) (w ∷ view self)) × (r .height ≡ self .height) ⌝ }
+    {
+        let below = self.below;
+        let top = word::binary(operator, self.top, w);
+        Self {
+            top,
+            below,
+            height: self.height,
+        }
+    }
+
     // The condition lies deepest, then the word for a condition that is not 0.
     pub fn choose(self) -> Self
         requires { ⌜ (3 ≤ self .height) × (self .height ≤ 32) ⌝ }

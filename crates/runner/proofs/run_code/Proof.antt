@@ -1,18 +1,19 @@
 -- `runner::run_code` meets its contract. Assumes nothing.
-use mathlib.Core.Path.{sym, ap, _∙_}
+use mathlib.Core.Path.{_≡_, sym, ap, _∙_}
 use mathlib.Core.List.{List, _∷_}
-use Prim.Native.Nat.{ℕ, _+_, _-_, _≤_}
+use mathlib.Core.Logic.{⊎-elim}
+use Prim.Native.Nat.{ℕ, _+_, _-_, _≤_, _<_}
 use native.Mathlib.Omega.{arith}
 use borrow.Author.Needs.{needs}
 use lib.IntN.{ℤ, pos}
 use lib.ListN.{length, getD}
-use Rattle.model.specs.Machine.{operatorCode, codeOk, runFrom, runCode}
-use Rattle.model.specs.Word.{byteAt, wordAt}
+use Rattle.model.specs.Machine.{operatorCode, codeOk, runFrom, runCode, onTwo}
+use Rattle.model.specs.Word.{byteAt, binaryWord}
 use Rattle.model.specs.declared.Code.{Code}
 use Rattle.model.specs.declared.Code.the-variants as Code
 use Rattle.stack.specs.View.{view}
 use Rattle.word.proofs.Laws.{kept}
-use Rattle.runner.proofs.Laws.{Goes, Command, moved, push, load, fetch, store, negate, choose, combine, ended, pushed, loaded, fetched, last, negated, chosen, combined}
+use Rattle.runner.proofs.Laws.{Goes, Command, Leaf, leaf, leaf-some, moved, shifted, more, store, negate, choose, combine, ended, last, negated, chosen, combined}
 use Rattle.runner.proofs.run_code.Statement.{statement}
 use Rattle.runner.proofs.run_code.Tie as tie
 
@@ -29,47 +30,83 @@ start l = l .before .before .before
 abbrev code : tie.At-loop Inv-loop μ-loop → List ℕ
 code l = start l .args .code .now
 
-abbrev next : tie.At-loop Inv-loop μ-loop → ℕ
-next l = byteAt (code l) (l .loop .at + 1)
+abbrev stored : tie.At-loop Inv-loop μ-loop → ℤ
+stored l = runCode (code l) (start l .args .state .now) (start l .args .samples .now)
 
 abbrev Here : tie.At-loop Inv-loop μ-loop → Code → Type 0
 Here l k =
     let a = start l .args in
-    Command (code l) (a .n) (a .own) (a .state .now) (a .samples .now) (runCode (code l) (a .state .now) (a .samples .now)) (l .loop .at)
-    (view (l .loop .stack)) (l .loop .stack .height) k
+    Command (code l) (a .n) (a .own) (a .state .now) (a .samples .now) (stored l) (l .loop .at) (view (l .loop .stack)) (l .loop .stack .height) k
 
-at-push : (m : tie.At-match-keys1 Inv-loop μ-loop)
-    → let l = m .before .before .before in (l .loop .at + 5 ≤ length (code l)) × Here l (Code.Push (wordAt (code l) (l .loop .at + 1)))
-at-push m = push _ _ _ _ _ (m .before .before .loop-test .taken) (m .before .before .before .loop .inv) (m .match .keys1)
+at-store : (m : tie.At-match-keys1 Inv-loop μ-loop)
+    → let l = m .before .before .before in (l .loop .at + 2 ≤ length (code l)) × Here l (Code.Store (byteAt (code l) (l .loop .at + 1)))
+at-store m = store _ _ _ _ _ (m .before .before .loop-test .taken) (m .before .before .before .loop .inv) (m .match .keys1)
 
-at-load : (m : tie.At-match-keys2 Inv-loop μ-loop)
-    → let l = m .before .before .before in (l .loop .at + 2 ≤ length (code l)) × Here l (Code.Load (next l))
-at-load m = load _ _ _ _ _ (m .before .before .loop-test .taken) (m .before .before .before .loop .inv) (m .match .keys2)
+at-negate : (m : tie.At-match-keys2 Inv-loop μ-loop) → Here (m .before .before .before) Code.Negate
+at-negate m = negate _ _ _ _ _ (m .before .before .loop-test .taken) (m .before .before .before .loop .inv) (m .match .keys2)
 
-at-fetch : (m : tie.At-match-keys3 Inv-loop μ-loop)
-    → let l = m .before .before .before in (l .loop .at + 2 ≤ length (code l)) × Here l (Code.Fetch (next l))
-at-fetch m = fetch _ _ _ _ _ (m .before .before .loop-test .taken) (m .before .before .before .loop .inv) (m .match .keys3)
+at-if : (m : tie.At-match-keys3 Inv-loop μ-loop) → Here (m .before .before .before) Code.If
+at-if m = choose _ _ _ _ _ (m .before .before .loop-test .taken) (m .before .before .before .loop .inv) (m .match .keys3)
 
-at-store : (m : tie.At-match-keys4 Inv-loop μ-loop)
-    → let l = m .before .before .before in (l .loop .at + 2 ≤ length (code l)) × Here l (Code.Store (next l))
-at-store m = store _ _ _ _ _ (m .before .before .loop-test .taken) (m .before .before .before .loop .inv) (m .match .keys4)
+-- no leaf
+other : (j : tie.Joined1 Inv-loop μ-loop) (k : ℕ) → 0x50 ≤ k → k < 0x53
+    → let l = j .before .before .before .before in byteAt (code l) (l .loop .at) ≡ k → ⊥
+other j k lo hi e = ⊎-elim (λ t. omega (arith, t .taken)) (λ w. omega (arith, w .1 .left)) (j .if1 .came)
 
-at-negate : (m : tie.At-match-keys5 Inv-loop μ-loop) → Here (m .before .before .before) Code.Negate
-at-negate m = negate _ _ _ _ _ (m .before .before .loop-test .taken) (m .before .before .before .loop .inv) (m .match .keys5)
-
-at-if : (m : tie.At-match-keys6 Inv-loop μ-loop) → Here (m .before .before .before) Code.If
-at-if m = choose _ _ _ _ _ (m .before .before .loop-test .taken) (m .before .before .before .loop .inv) (m .match .keys6)
-
-at-binary : (m : tie.At-match-rest Inv-loop μ-loop)
-    → let l = m .before .before .before in let b = byteAt (code l) (l .loop .at) in (0x30 ≤ b) × (b ≤ 0x36) × Here l (operatorCode b)
-at-binary m =
-    let r = m .match .rest in
-    combine _ _ _ _ _ (m .before .before .loop-test .taken) (m .before .before .before .loop .inv)
-    (r .0 .0 .0 .0 .0 .1) (r .0 .0 .0 .0 .1) (r .0 .0 .0 .1) (r .0 .0 .1) (r .0 .1) (r .1)
+at-binary : (j : tie.Joined1 Inv-loop μ-loop)
+    → let l = j .before .before .before .before in let b = byteAt (code l) (l .loop .at) in (0x30 ≤ b) × (b ≤ 0x36) × Here l (operatorCode b)
+at-binary j =
+    let r = j .before .match .rest in
+    let t = j .before .before .before in
+    combine _ _ _ _ _ (t .loop-test .taken) (t .before .loop .inv) (other j 0x50 (omega arith) (omega arith)) (other j 0x51 (omega arith) (omega arith))
+    (other j 0x52 (omega arith) (omega arith)) (r .0 .0 .1) (r .0 .1) (r .1)
 
 -- the operator is the one that the byte commands
-at-operator : (o : tie.After-operator Inv-loop μ-loop) → Here (o .before .before .before .before) (Code.Binary (o .operator .result))
-at-operator o = rw (o .operator .ensures) at (at-binary (o .before) .2)
+at-operator : (o : tie.After-operator2 Inv-loop μ-loop) → Here (o .before .before .before .before .before) (Code.Binary (o .operator2 .result))
+at-operator o = rw (o .operator2 .ensures) at (at-binary (o .before) .2)
+
+-- a leaf
+abbrev turn : tie.Then2 Inv-loop μ-loop → tie.At-loop Inv-loop μ-loop
+turn t = t .before .before .before .before .before
+
+at-leaf : (t : tie.Then2 Inv-loop μ-loop) → let l = turn t in let a = start l .args in
+    Leaf (code l) (a .n) (a .own) (a .state .now) (a .samples .now) (stored l) (l .loop .at) (view (l .loop .stack)) (l .loop .stack .height)
+at-leaf t =
+    let l = turn t in
+    let s = start l in
+    leaf _ _ _ _ _ (t .before .before .before .before .loop-test .taken) (l .loop .inv) (s .pre .1) (s .pre .2) (s .pre .3) (t .before .if1 .left) (omega (arith, t .if2 .taken))
+
+-- what follows it
+abbrev leaf-of : tie.After-leaf-length Inv-loop μ-loop → tie.Then2 Inv-loop μ-loop
+leaf-of o = o .before .before
+
+abbrev Follows : tie.After-leaf-length Inv-loop μ-loop → Code → Type 0
+Follows o k =
+    let l = turn (leaf-of o) in
+    let a = start l .args in
+    Command (code l) (a .n) (a .own) (a .state .now) (a .samples .now) (stored l) (l .loop .at + o .leaf-length .result)
+    (o .before .leaf-word .result ∷ view (l .loop .stack)) (l .loop .stack .height + 1) k
+
+follows : (o : tie.After-leaf-length Inv-loop μ-loop) → let l = turn (leaf-of o) in let a = start l .args in
+    Goes (code l) (a .n) (a .own) (a .state .now) (a .samples .now) (stored l) (l .loop .at + o .leaf-length .result)
+    (o .before .leaf-word .result ∷ view (l .loop .stack)) (l .loop .stack .height + 1)
+follows o =
+    let l = turn (leaf-of o) in
+    shifted _ _ _ _ _ (ap (λ (k : ℕ). l .loop .at + k) (o .leaf-length .ensures)) (ap (λ (w : ℤ). w ∷ view (l .loop .stack)) (o .before .leaf-word .ensures))
+    (at-leaf (leaf-of o) .next)
+
+inside : (o : tie.After-leaf-length Inv-loop μ-loop) → turn (leaf-of o) .loop .at + o .leaf-length .result < length (code (turn (leaf-of o)))
+inside o = more _ _ _ _ _ (follows o)
+
+then-binary : (t : tie.Then4 Inv-loop μ-loop) → let o = t .before .before .before in
+    let l = turn (leaf-of o) in let b = byteAt (code l) (l .loop .at + o .leaf-length .result) in (0x30 ≤ b) × (b ≤ 0x36) × Follows o (operatorCode b)
+then-binary t =
+    let o = t .before .before .before in
+    combine _ _ _ _ _ (inside o) (follows o) (λ e. omega (arith, t .if4 .taken)) (λ e. omega (arith, t .if4 .taken)) (λ e. omega (arith, t .if4 .taken))
+    (λ e. omega (arith, t .if4 .taken)) (λ e. omega (arith, t .if4 .taken)) (λ e. omega (arith, t .if4 .taken))
+
+then-operator : (o : tie.After-operator Inv-loop μ-loop) → Follows (o .before .before .before .before) (Code.Binary (o .operator .result))
+then-operator o = rw (o .operator .ensures) at (then-binary (o .before) .2)
 
 new-requires : tie.Need-new-requires Inv-loop μ-loop
 new-requires c κs = search needs
@@ -89,103 +126,6 @@ loop-holds c =
 shared-slice-read-byte : tie.Need-shared-slice-read-byte Inv-loop μ-loop
 shared-slice-read-byte c = search needs
 
-add-word-at : tie.Need-add-word-at Inv-loop μ-loop
-add-word-at c = omega (arith, at-push c .0)
-
-word-at-requires : tie.Need-word-at-requires Inv-loop μ-loop
-word-at-requires c κs = omega (arith, at-push c .0)
-
-push-requires : tie.Need-push-requires Inv-loop μ-loop
-push-requires c κs = pushed _ _ _ _ _ (at-push (c .before) .1) .0
-
-add-at : tie.Need-add-at Inv-loop μ-loop
-add-at c = omega (arith, at-push (c .before .before) .0)
-
-loop-less : tie.Need-loop-less Inv-loop μ-loop
-loop-less c = omega (arith, at-push (c .before .before) .0)
-
-loop-again : tie.Need-loop-again Inv-loop μ-loop
-loop-again c =
-    let w = c .before in
-    moved _ _ _ _ _ (c .push .ensures .0 ∙ ap (λ (z : ℤ). z ∷ view (w .before .before .before .before .loop .stack)) (kept _ (w .word-at .ok) ∙ w .word-at .ensures))
-    (c .push .ensures .1) (pushed _ _ _ _ _ (at-push (w .before) .1) .1)
-
-add-wide : tie.Need-add-wide Inv-loop μ-loop
-add-wide c = omega (arith, at-load c .0)
-
-shared-slice-read-wide : tie.Need-shared-slice-read-wide Inv-loop μ-loop
-shared-slice-read-wide c = omega (arith, at-load (c .before) .0)
-
-wide-requires : tie.Need-wide-requires Inv-loop μ-loop
-wide-requires c κs = search needs
-
-add-push : tie.Need-add-push Inv-loop μ-loop
-add-push c = omega (arith, c .wide .ensures .1)
-
-mul-push : tie.Need-mul-push Inv-loop μ-loop
-mul-push c = omega (arith, c .wide .ensures .1)
-
-shared-slice-copy-out-push : tie.Need-shared-slice-copy-out-push Inv-loop μ-loop
-shared-slice-copy-out-push c =
-    let m = c .before .before in
-    omega (arith, c .wide .ensures .0, loaded _ _ _ _ _ (at-load m .1) .0, start (m .before .before .before) .pre .1)
-
-push-requires-2 : tie.Need-push-requires-2 Inv-loop μ-loop
-push-requires-2 c κs = loaded _ _ _ _ _ (at-load (c .before .before .before) .1) .1
-
-add-at-2 : tie.Need-add-at-2 Inv-loop μ-loop
-add-at-2 c = omega (arith, at-load (c .before .before .before .before) .0)
-
-loop-less-2 : tie.Need-loop-less-2 Inv-loop μ-loop
-loop-less-2 c = omega (arith, at-load (c .before .before .before .before) .0)
-
-loop-again-2 : tie.Need-loop-again-2 Inv-loop μ-loop
-loop-again-2 c =
-    let g = c .before in
-    let w = g .before in
-    let m = w .before .before in
-    let l = m .before .before .before in
-    moved _ _ _ _ _
-    (c .push2 .ensures .0 ∙ ap (λ (z : ℤ). z ∷ view (l .loop .stack)) (kept _ (g .push-arg .given) ∙ ap (λ (x : ℕ). getD (start l .args .state .now) (x + 1) (pos 0)) (w .wide .ensures .0)))
-    (c .push2 .ensures .1) (loaded _ _ _ _ _ (at-load m .1) .2)
-
-add-wide-2 : tie.Need-add-wide-2 Inv-loop μ-loop
-add-wide-2 c = omega (arith, at-fetch c .0)
-
-shared-slice-read-wide-2 : tie.Need-shared-slice-read-wide-2 Inv-loop μ-loop
-shared-slice-read-wide-2 c = omega (arith, at-fetch (c .before) .0)
-
-wide-requires-2 : tie.Need-wide-requires-2 Inv-loop μ-loop
-wide-requires-2 c κs = search needs
-
-mul-push-2 : tie.Need-mul-push-2 Inv-loop μ-loop
-mul-push-2 c = omega (arith, c .wide2 .ensures .1)
-
-shared-slice-copy-out-push-2 : tie.Need-shared-slice-copy-out-push-2 Inv-loop μ-loop
-shared-slice-copy-out-push-2 c =
-    let m = c .before .before in
-    let s = start (m .before .before .before) in
-    omega (arith, c .wide2 .ensures .0, fetched _ _ _ _ _ (at-fetch m .1) .0, s .pre .2, s .pre .3)
-
-push-requires-3 : tie.Need-push-requires-3 Inv-loop μ-loop
-push-requires-3 c κs = fetched _ _ _ _ _ (at-fetch (c .before .before .before) .1) .1
-
-add-at-3 : tie.Need-add-at-3 Inv-loop μ-loop
-add-at-3 c = omega (arith, at-fetch (c .before .before .before .before) .0)
-
-loop-less-3 : tie.Need-loop-less-3 Inv-loop μ-loop
-loop-less-3 c = omega (arith, at-fetch (c .before .before .before .before) .0)
-
-loop-again-3 : tie.Need-loop-again-3 Inv-loop μ-loop
-loop-again-3 c =
-    let g = c .before in
-    let w = g .before in
-    let m = w .before .before in
-    let l = m .before .before .before in
-    moved _ _ _ _ _
-    (c .push3 .ensures .0 ∙ ap (λ (z : ℤ). z ∷ view (l .loop .stack)) (kept _ (g .push-arg2 .given) ∙ ap (λ (x : ℕ). getD (start l .args .samples .now) x (pos 0)) (w .wide2 .ensures .0)))
-    (c .push3 .ensures .1) (fetched _ _ _ _ _ (at-fetch m .1) .2)
-
 pop-requires : tie.Need-pop-requires Inv-loop μ-loop
 pop-requires c κs = (omega (arith, last _ _ _ _ _ (at-store c .1) .0), c .before .before .before .loop .inv .most)
 
@@ -197,44 +137,95 @@ returns c =
 negate-requires : tie.Need-negate-requires Inv-loop μ-loop
 negate-requires c κs = (negated _ _ _ _ _ (at-negate c) .0, c .before .before .before .loop .inv .most)
 
-add-at-4 : tie.Need-add-at-4 Inv-loop μ-loop
-add-at-4 c = omega arith
+add-at : tie.Need-add-at Inv-loop μ-loop
+add-at c = omega arith
 
-loop-less-4 : tie.Need-loop-less-4 Inv-loop μ-loop
-loop-less-4 c = omega arith
+loop-less : tie.Need-loop-less Inv-loop μ-loop
+loop-less c = omega arith
 
-loop-again-4 : tie.Need-loop-again-4 Inv-loop μ-loop
-loop-again-4 c = moved _ _ _ _ _ (c .negate .ensures .0) (c .negate .ensures .1) (negated _ _ _ _ _ (at-negate (c .before)) .1)
+loop-again : tie.Need-loop-again Inv-loop μ-loop
+loop-again c = moved _ _ _ _ _ (c .negate .ensures .0) (c .negate .ensures .1) (negated _ _ _ _ _ (at-negate (c .before)) .1)
 
 choose-requires : tie.Need-choose-requires Inv-loop μ-loop
 choose-requires c κs = (chosen _ _ _ _ _ (at-if c) .0, c .before .before .before .loop .inv .most)
 
-add-at-5 : tie.Need-add-at-5 Inv-loop μ-loop
-add-at-5 c = omega arith
+add-at-2 : tie.Need-add-at-2 Inv-loop μ-loop
+add-at-2 c = omega arith
+
+loop-less-2 : tie.Need-loop-less-2 Inv-loop μ-loop
+loop-less-2 c = omega arith
+
+loop-again-2 : tie.Need-loop-again-2 Inv-loop μ-loop
+loop-again-2 c = moved _ _ _ _ _ (c .choose .ensures .0) (omega (arith, c .choose .ensures .1)) (chosen _ _ _ _ _ (at-if (c .before)) .1)
+
+leaf-word-requires : tie.Need-leaf-word-requires Inv-loop μ-loop
+leaf-word-requires c κs = (c .before .if1 .left, omega (arith, c .if2 .taken), at-leaf c .reads)
+
+leaf-length-requires : tie.Need-leaf-length-requires Inv-loop μ-loop
+leaf-length-requires c κs = tt
+
+add-after : tie.Need-add-after Inv-loop μ-loop
+add-after c = omega (arith, inside c)
+
+shared-slice-read-next : tie.Need-shared-slice-read-next Inv-loop μ-loop
+shared-slice-read-next c = inside (c .before)
+
+returns-2 : tie.Need-returns-2 Inv-loop μ-loop
+returns-2 c =
+    let o = c .before .before in
+    kept _ (o .before .leaf-word .ok) ∙ last _ _ _ _ _ (store _ _ _ _ _ (inside o) (follows o) (c .if3 .taken) .1) .1
+
+operator-requires : tie.Need-operator-requires Inv-loop μ-loop
+operator-requires c κs = (then-binary c .0, then-binary c .1)
+
+binary-with-requires : tie.Need-binary-with-requires Inv-loop μ-loop
+binary-with-requires c κs = (omega (arith, combined _ _ _ _ _ (then-operator c) .0), turn (leaf-of (c .before .before .before .before)) .loop .inv .most)
+
+add-at-3 : tie.Need-add-at-3 Inv-loop μ-loop
+add-at-3 c = omega (arith, inside (c .before .before .before .before .before))
+
+push-requires : tie.Need-push-requires Inv-loop μ-loop
+push-requires c κs = at-leaf (leaf-of (c .before .before .before)) .high
+
+loop-less-3 : tie.Need-loop-less-3 Inv-loop μ-loop
+loop-less-3 c = omega (arith, inside (c .before .before .before .before .before))
+
+loop-again-3 : tie.Need-loop-again-3 Inv-loop μ-loop
+loop-again-3 c =
+    let p = c .before in
+    let o = p .before .before .before .before in
+    let w = o .before in
+    moved _ _ _ _ _ (c .binary-with .ensures .0 ∙ ap (λ (z : ℤ). onTwo (binaryWord (p .operator .result)) (z ∷ view (turn (leaf-of o) .loop .stack))) (kept _ (w .leaf-word .ok)))
+    (omega (arith, c .binary-with .ensures .1)) (combined _ _ _ _ _ (then-operator p) .1)
+
+loop-less-4 : tie.Need-loop-less-4 Inv-loop μ-loop
+loop-less-4 c =
+    let o = c .before .before .before .before in
+    let l = turn (leaf-of o) in
+    omega (arith, inside o, o .leaf-length .ensures, leaf-some (byteAt (code l) (l .loop .at)))
+
+loop-again-4 : tie.Need-loop-again-4 Inv-loop μ-loop
+loop-again-4 c =
+    let o = c .before .before .before .before in
+    moved _ _ _ _ _ (c .push .ensures .0 ∙ ap (λ (z : ℤ). z ∷ view (turn (leaf-of o) .loop .stack)) (kept _ (o .before .leaf-word .ok))) (c .push .ensures .1) (follows o)
+
+operator-requires-2 : tie.Need-operator-requires-2 Inv-loop μ-loop
+operator-requires-2 c κs = (at-binary c .0, at-binary c .1)
+
+binary-requires : tie.Need-binary-requires Inv-loop μ-loop
+binary-requires c κs = (combined _ _ _ _ _ (at-operator c) .0, c .before .before .before .before .before .loop .inv .most)
+
+add-at-4 : tie.Need-add-at-4 Inv-loop μ-loop
+add-at-4 c = omega arith
 
 loop-less-5 : tie.Need-loop-less-5 Inv-loop μ-loop
 loop-less-5 c = omega arith
 
 loop-again-5 : tie.Need-loop-again-5 Inv-loop μ-loop
-loop-again-5 c = moved _ _ _ _ _ (c .choose .ensures .0) (omega (arith, c .choose .ensures .1)) (chosen _ _ _ _ _ (at-if (c .before)) .1)
+loop-again-5 c = moved _ _ _ _ _ (c .binary .ensures .0) (omega (arith, c .binary .ensures .1)) (combined _ _ _ _ _ (at-operator (c .before)) .1)
 
-operator-requires : tie.Need-operator-requires Inv-loop μ-loop
-operator-requires c κs = (at-binary c .0, at-binary c .1)
-
-binary-requires : tie.Need-binary-requires Inv-loop μ-loop
-binary-requires c κs = (combined _ _ _ _ _ (at-operator c) .0, c .before .before .before .before .loop .inv .most)
-
-add-at-6 : tie.Need-add-at-6 Inv-loop μ-loop
-add-at-6 c = omega arith
-
-loop-less-6 : tie.Need-loop-less-6 Inv-loop μ-loop
-loop-less-6 c = omega arith
-
-loop-again-6 : tie.Need-loop-again-6 Inv-loop μ-loop
-loop-again-6 c = moved _ _ _ _ _ (c .binary .ensures .0) (omega (arith, c .binary .ensures .1)) (combined _ _ _ _ _ (at-operator (c .before)) .1)
-
-returns-2 : tie.Need-returns-2 Inv-loop μ-loop
-returns-2 c = ended _ _ _ _ _ (c .loop-test .left) (c .before .loop .inv)
+returns-3 : tie.Need-returns-3 Inv-loop μ-loop
+returns-3 c = ended _ _ _ _ _ (c .loop-test .left) (c .before .loop .inv)
 
 pub run-code-spec : {M : Type 1} → statement M
 run-code-spec =
@@ -245,44 +236,32 @@ run-code-spec =
     new-requires
     loop-holds
     shared-slice-read-byte
-    add-word-at
-    word-at-requires
-    push-requires
-    add-at
-    loop-less
-    loop-again
-    add-wide
-    shared-slice-read-wide
-    wide-requires
-    add-push
-    mul-push
-    shared-slice-copy-out-push
-    push-requires-2
-    add-at-2
-    loop-less-2
-    loop-again-2
-    add-wide-2
-    shared-slice-read-wide-2
-    wide-requires-2
-    mul-push-2
-    shared-slice-copy-out-push-2
-    push-requires-3
-    add-at-3
-    loop-less-3
-    loop-again-3
     pop-requires
     returns
     negate-requires
-    add-at-4
+    add-at
+    loop-less
+    loop-again
+    choose-requires
+    add-at-2
+    loop-less-2
+    loop-again-2
+    leaf-word-requires
+    leaf-length-requires
+    add-after
+    shared-slice-read-next
+    returns-2
+    operator-requires
+    binary-with-requires
+    add-at-3
+    push-requires
+    loop-less-3
+    loop-again-3
     loop-less-4
     loop-again-4
-    choose-requires
-    add-at-5
+    operator-requires-2
+    binary-requires
+    add-at-4
     loop-less-5
     loop-again-5
-    operator-requires
-    binary-requires
-    add-at-6
-    loop-less-6
-    loop-again-6
-    returns-2)
+    returns-3)
