@@ -1,0 +1,62 @@
+-- What reset and cycle answer and leave, by their tests. Assumes nothing.
+use mathlib.Core.Path.{_≡_, sym, ap, _∙_}
+use mathlib.Core.Bool.{true, false}
+use mathlib.Core.List.{List}
+use Prim.Native.Nat.{ℕ}
+use lib.Dec.{leb, ltb}
+use lib.IntN.{ℤ, pos}
+use lib.ListN.{length, getD}
+use Rattle.model.specs.Machine.{hyperOf, countOf, wellFormed, isPosition, resetWords, cycleWords, Effect, effect, resetOf, cycleOf}
+use Rattle.model.specs.Outcome.{Outcome, accepted, refuse, _▷_, provided}
+
+-- a refusal leaves the state as it was
+abbrev pub refusal : ℕ → List ℤ → Effect ℤ
+refusal number state = record { answer = refuse number 0; left = state }
+
+abbrev pub done : List ℤ → Effect ℤ
+done state = record { answer = accepted 0; left = state }
+
+-- what a call that was refused, or has done its job, hands back
+pub gives-refusal : {e : Effect ℤ} {number : ℕ} {state : List ℤ} {a : Outcome ℕ} → e ≡ refusal number state → a ≡ refuse number 0
+    → (a ≡ e .answer) × (state ≡ e .left)
+gives-refusal q h = (h ∙ sym (ap (λ (e : Effect ℤ). e .answer) q), sym (ap (λ (e : Effect ℤ). e .left) q))
+
+pub gives-done : {e : Effect ℤ} {state after : List ℤ} → e ≡ done state → after ≡ state → (accepted 0 ≡ e .answer) × (after ≡ e .left)
+gives-done q h = (sym (ap (λ (e : Effect ℤ). e .answer) q), h ∙ sym (ap (λ (e : Effect ℤ). e .left) q))
+
+module _ (image : List ℕ) (state : List ℤ) where
+  pub reset-image : wellFormed image ≡ false → resetOf image state ≡ refusal 20 state
+  unfolding resetOf provided _▷_
+  reset-image a = rw a
+
+  pub reset-state : wellFormed image ≡ true → ltb (countOf image) (length state) ≡ false → resetOf image state ≡ refusal 21 state
+  unfolding resetOf provided _▷_
+  reset-state a b = rw (a, b)
+
+  pub reset-done : wellFormed image ≡ true → ltb (countOf image) (length state) ≡ true → resetOf image state ≡ done (resetWords image state)
+  unfolding resetOf provided _▷_
+  reset-done a b = rw (a, b)
+
+module _ (image : List ℕ) (state samples : List ℤ) where
+  pub cycle-image : wellFormed image ≡ false → cycleOf image state samples ≡ refusal 20 state
+  unfolding cycleOf provided _▷_
+  cycle-image a = rw a
+
+  pub cycle-state : wellFormed image ≡ true → ltb (countOf image) (length state) ≡ false → cycleOf image state samples ≡ refusal 21 state
+  unfolding cycleOf provided _▷_
+  cycle-state a b = rw (a, b)
+
+  pub cycle-position : wellFormed image ≡ true → ltb (countOf image) (length state) ≡ true → isPosition (hyperOf image) (getD state 0 (pos 0)) ≡ false
+      → cycleOf image state samples ≡ refusal 22 state
+  unfolding cycleOf provided _▷_
+  cycle-position a b c = rw (a, b, c)
+
+  pub cycle-samples : wellFormed image ≡ true → ltb (countOf image) (length state) ≡ true → isPosition (hyperOf image) (getD state 0 (pos 0)) ≡ true
+      → leb (countOf image) (length samples) ≡ false → cycleOf image state samples ≡ refusal 23 state
+  unfolding cycleOf provided _▷_
+  cycle-samples a b c d = rw (a, b, c, d)
+
+  pub cycle-done : wellFormed image ≡ true → ltb (countOf image) (length state) ≡ true → isPosition (hyperOf image) (getD state 0 (pos 0)) ≡ true
+      → leb (countOf image) (length samples) ≡ true → cycleOf image state samples ≡ done (cycleWords image state samples)
+  unfolding cycleOf provided _▷_
+  cycle-done a b c d = rw (a, b, c, d)

@@ -1,0 +1,77 @@
+-- `machine::reset` meets its contract. Assumes nothing.
+use mathlib.Core.Path.{_≡_, sym, _∙_}
+use mathlib.Core.Bool.{true}
+use native.Mathlib.Omega.{arith}
+use borrow.Author.Tests.{not-true, not-false, lt-ltb, le-ltb}
+use lib.ListN.{length}
+use Rattle.model.specs.Machine.{countOf, wellFormed}
+use Rattle.image_check.proofs.Parts.{head, formed}
+use Rattle.machine.proofs.Answers.{gives-refusal, gives-done, reset-image, reset-state, reset-done}
+use borrow.Author.Needs.{needs}
+use Rattle.machine.proofs.reset.Statement.{statement}
+use Rattle.machine.proofs.reset.Tie as tie
+
+well : (e : tie.Else1) → wellFormed (e .before .before .before .args .image .now) ≡ true
+well e = sym (e .before .well-formed .ensures) ∙ not-false _ (e .if1 .left)
+
+abbrev start : tie.After-wide → tie.Start
+start w = w .before .before .before .before .before
+
+well-formed-requires : tie.Need-well-formed-requires
+well-formed-requires c κs = search needs
+
+refused-requires : tie.Need-refused-requires
+refused-requires c κs = search needs
+
+returns : tie.Need-returns
+returns c =
+    let w = c .before .before in
+    gives-refusal (reset-image _ _ (sym (w .well-formed .ensures) ∙ not-true _ (c .before .if1 .taken))) (c .refused .ensures)
+
+shared-slice-read-wide : tie.Need-shared-slice-read-wide
+shared-slice-read-wide c = omega (arith, head _ (formed _ (well (c .before)) .good) .four)
+
+wide-requires : tie.Need-wide-requires
+wide-requires c κs = search needs
+
+refused-requires-2 : tie.Need-refused-requires-2
+refused-requires-2 c κs = search needs
+
+returns-2 : tie.Need-returns-2
+returns-2 c =
+    let t = c .before in
+    let w = t .before in
+    let s = start w in
+    gives-refusal
+    (reset-state _ _ (well (w .before .before)) (le-ltb (countOf (s .args .image .now)) (length (s .args .state .now)) (omega (arith, w .wide .ensures .0, t .if2 .taken))))
+    (c .refused2 .ensures)
+
+initial-words-requires : tie.Need-initial-words-requires
+initial-words-requires c κs = let e = c .before in let w = e .before in (well (w .before .before), w .wide .ensures .0, e .if2 .left)
+
+same-length : tie.Need-same-length
+same-length c = search needs
+
+returns-3 : tie.Need-returns-3
+returns-3 c =
+    let e = c .before .before .before in
+    let w = e .before in
+    let s = start w in
+    gives-done
+    (reset-done _ _ (well (w .before .before)) (lt-ltb (countOf (s .args .image .now)) (length (s .args .state .now)) (omega (arith, w .wide .ensures .0, e .if2 .left))))
+    (c .before .initial-words .ensures)
+
+pub reset-spec : {M : Type 1} → statement M
+reset-spec =
+    tie.close
+    (tie.spec
+    well-formed-requires
+    refused-requires
+    returns
+    shared-slice-read-wide
+    wide-requires
+    refused-requires-2
+    returns-2
+    initial-words-requires
+    same-length
+    returns-3)

@@ -1,0 +1,166 @@
+-- `machine::run_signals` meets its contract. Assumes nothing.
+use mathlib.Core.Path.{_≡_, refl, sym, ap, ap₂, _∙_}
+use mathlib.Core.Bool.{true}
+use mathlib.Core.List.{List}
+use Prim.Native.Nat.{ℕ, _+_, _-_, _≤_, _<_}
+use native.Mathlib.Omega.{arith}
+use borrow.Author.Needs.{needs}
+use lib.IntN.{ℤ}
+use lib.ListN.{length, drop, set, length-set}
+use mir.Syntax.{w32}
+use mir.Val.{toZ, ofZ}
+use Rattle.model.specs.Machine.{stretch, countOf, codeOffset, headOk, codeOf, codeOk, runCode, runSignals}
+use Rattle.model.specs.Word.{byteAt}
+use Rattle.word.proofs.Laws.{kept}
+use Rattle.image_check.proofs.Parts.{CodePart, codes, formed}
+use Rattle.machine.proofs.Laws.{signals-next, signals-done}
+use Rattle.machine.proofs.run_signals.Statement.{statement}
+use Rattle.machine.proofs.run_signals.Tie as tie
+
+abbrev Inv-loop : tie.InvT-loop
+Inv-loop list image n state₀ samples count i₀ state i =
+    (runSignals image (drop i list) samples state ≡ runSignals image list samples state₀) × (length state ≡ length state₀) × (i ≤ length list)
+
+abbrev μ-loop : tie.MeasureT-loop
+μ-loop list image n state₀ samples count i₀ state i = length list - i
+
+abbrev start : tie.At-loop Inv-loop μ-loop → tie.Start Inv-loop μ-loop
+start l = l .before .before .before .before
+
+good : (s : tie.Start Inv-loop μ-loop) → headOk (s .args .image .now) ≡ true
+good s = formed _ (s .pre .0 .0) .good
+
+abbrev turn : tie.After-code-offset2 Inv-loop μ-loop → tie.At-loop Inv-loop μ-loop
+turn o = o .before .before .before .before .before
+
+-- the signal of the turn, and its code: a stretch of the image, and well formed
+abbrev signal : tie.After-code-offset2 Inv-loop μ-loop → ℕ
+signal o = byteAt (start (turn o) .args .list .now) (turn o .loop .i)
+
+taken : (o : tie.After-code-offset2 Inv-loop μ-loop) → turn o .loop .i < length (start (turn o) .args .list .now)
+taken o = o .before .before .before .before .loop-test .taken
+
+record Part (image : List ℕ) (n x from to : ℕ) : Type 0 where
+  ordered : from ≤ to
+  within : to ≤ length image
+  formed : codeOk (stretch image from to) n x ≡ true
+  part : stretch image from to ≡ codeOf image x
+
+part : (image : List ℕ) (n x from to : ℕ) → CodePart image x → n ≡ countOf image → from ≡ codeOffset image x → to ≡ codeOffset image (x + 1) → Part image n x from to
+unfolding codeOf
+part image n x from to p e f t = record { ordered = rw (f, t) (p .ordered); within = rw t (p .within); formed = rw (e, f, t) (p .formed); part = rw (f, t) }
+
+this : (o : tie.After-code-offset2 Inv-loop μ-loop)
+    → Part (start (turn o) .args .image .now) (start (turn o) .args .n) (signal o) (o .before .code-offset .result) (o .code-offset2 .result)
+this o =
+    let s = start (turn o) in
+    let image = s .args .image .now in
+    let own = o .before .before .wide2 .ensures .0 in
+    part _ _ _ _ _ (codes image (formed image (s .pre .0 .0) .coded) (signal o) (rw (← (s .pre .0 .1)) (s .pre .1 .0 (turn o .loop .i) (taken o)))) (s .pre .0 .1)
+    (o .before .code-offset .ensures ∙ ap (codeOffset image) own)
+    (o .code-offset2 .ensures ∙ ap (λ (k : ℕ). codeOffset image (k + 1)) own)
+
+wide-requires : tie.Need-wide-requires Inv-loop μ-loop
+wide-requires c κs = search needs
+
+loop-holds : tie.Need-loop-holds Inv-loop μ-loop
+loop-holds c = (refl, refl, omega arith)
+
+shared-slice-read-x : tie.Need-shared-slice-read-x Inv-loop μ-loop
+shared-slice-read-x c = omega arith
+
+wide-requires-2 : tie.Need-wide-requires-2 Inv-loop μ-loop
+wide-requires-2 c κs = search needs
+
+code-offset-requires : tie.Need-code-offset-requires Inv-loop μ-loop
+code-offset-requires c κs = let l = c .before .before .before in let s = start l in (good s, l .before .wide .ensures .0 ∙ s .pre .0 .1)
+
+add-code-offset : tie.Need-add-code-offset Inv-loop μ-loop
+add-code-offset c = omega (arith, c .before .wide2 .ensures .1)
+
+code-offset-requires-2 : tie.Need-code-offset-requires-2 Inv-loop μ-loop
+code-offset-requires-2 c κs = let l = c .before .before .before .before in let s = start l in (good s, l .before .wide .ensures .0 ∙ s .pre .0 .1)
+
+sub-run-code : tie.Need-sub-run-code Inv-loop μ-loop
+sub-run-code c = this c .ordered
+
+part-run-code-start : tie.Need-part-run-code-start Inv-loop μ-loop
+part-run-code-start c = this c .ordered
+
+part-run-code-end : tie.Need-part-run-code-end Inv-loop μ-loop
+part-run-code-end c = this c .within
+
+run-code-requires : tie.Need-run-code-requires Inv-loop μ-loop
+run-code-requires c κs =
+    let o = c .before .before in
+    let l = turn o in
+    let s = start l in
+    (this o .formed, omega (arith, l .loop .inv .1, s .pre .1 .1 .0), s .pre .1 .1 .1, s .pre .1 .0 (l .loop .i) (taken o))
+
+add-w : tie.Need-add-w Inv-loop μ-loop
+add-w c = let o = c .before .before .before in omega (arith, o .before .before .wide2 .ensures .1)
+
+mul-w : tie.Need-mul-w Inv-loop μ-loop
+mul-w c = let o = c .before .before .before in omega (arith, o .before .before .wide2 .ensures .1)
+
+slice-set-from-w : tie.Need-slice-set-from-w Inv-loop μ-loop
+slice-set-from-w c =
+    let o = c .before .before .before in
+    let l = turn o in
+    let s = start l in
+    omega (arith, o .before .before .wide2 .ensures .0, l .loop .inv .1, s .pre .1 .1 .0, s .pre .1 .0 (l .loop .i) (taken o))
+
+add-i : tie.Need-add-i Inv-loop μ-loop
+add-i c = omega arith
+
+loop-less : tie.Need-loop-less Inv-loop μ-loop
+loop-less c = omega arith
+
+loop-again : tie.Need-loop-again Inv-loop μ-loop
+loop-again c =
+    let o = c .before .before .before in
+    let l = turn o in
+    let a = start l .args in
+    let word : toZ w32 (ofZ w32 (c .run-code .result)) ≡ runCode (codeOf (a .image .now) (signal o)) (l .loop .state) (a .samples .now) =
+    kept _ (c .run-code .ok) ∙ c .run-code .ensures ∙ ap (λ (x : List ℕ). runCode x (l .loop .state) (a .samples .now)) (this o .part) in (
+      ap₂ (λ (k : ℕ) (w : ℤ). runSignals (a .image .now) (drop (l .loop .i + 1) (a .list .now)) (a .samples .now) (set (l .loop .state) (k + 1) w))
+          (o .before .before .wide2 .ensures .0) word
+          ∙ sym (signals-next (a .image .now) (a .list .now) (l .loop .i) (a .samples .now) (l .loop .state) (taken o)) ∙ l .loop .inv .0,
+      simp length-set (l .loop .inv .1),
+      omega arith,
+    )
+
+same-length : tie.Need-same-length Inv-loop μ-loop
+same-length c = c .before .loop .inv .1
+
+returns : tie.Need-returns Inv-loop μ-loop
+returns c =
+    let l = c .before in
+    let a = start l .args in
+    sym (signals-done (a .image .now) (a .list .now) (l .loop .i) (a .samples .now) (l .loop .state) (c .loop-test .left)) ∙ l .loop .inv .0
+
+pub run-signals-spec : {M : Type 1} → statement M
+run-signals-spec =
+    tie.close
+    (tie.spec
+    Inv-loop
+    μ-loop
+    wide-requires
+    loop-holds
+    shared-slice-read-x
+    wide-requires-2
+    code-offset-requires
+    add-code-offset
+    code-offset-requires-2
+    sub-run-code
+    part-run-code-start
+    part-run-code-end
+    run-code-requires
+    add-w
+    mul-w
+    slice-set-from-w
+    add-i
+    loop-less
+    loop-again
+    same-length
+    returns)

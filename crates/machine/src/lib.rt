@@ -1,0 +1,133 @@
+// Reset and cycle, on any image, state and samples. A refused call changes nothing.
+use model::Fault;
+use model::Ran;
+ghost use mathlib.Core.Path.{_≡_};
+ghost use mathlib.Core.Bool.{true};
+ghost use Prim.Native.Nat.{ℕ, _+_, _<_, _≤_};
+ghost use lib.IntN.{pos};
+ghost use lib.ListN.{length};
+ghost use Rattle.model.specs.Machine.{hyperOf, countOf, wellFormed, listOf, runSignals, nextPosition, resetWords};
+ghost use Rattle.model.specs.Machine.{Effect, ranOf, resetOf, cycleOf};
+ghost use Rattle.model.specs.Outcome.{refuse};
+ghost use Rattle.model.specs.Word.{byteAt};
+
+// The numbers of the refusals, in their order.
+const BAD_IMAGE: u8 = 20;
+
+const SHORT_STATE: u8 = 21;
+
+const BAD_POSITION: u8 = 22;
+
+const FEW_SAMPLES: u8 = 23;
+
+fn wide(byte: u8) -> usize
+    ensures { λ r. ⌜ (r ≡ byte) × (r < 256) ⌝ }
+{
+    byte as usize
+}
+
+fn refused(number: u8) -> Ran
+    ensures { λ r. ⌜ ranOf r ≡ refuse number 0 ⌝ }
+{
+    Ran::Refused(Fault { number, place: 0 })
+}
+
+// The run list of cycle c: a stretch of the lent image.
+pub fn run_list(image: &[u8], c: usize) -> &[u8]
+    requires { ⌜ (wellFormed (now image) ≡ true) × (c < hyperOf (now image)) ⌝ }
+    ensures { λ r. ⌜ now r ≡ listOf (now (image .entry)) c ⌝ }
+{
+    let n = wide(image[1]);
+    let from = image_check::list_offset(image, n, c);
+    let to = image_check::list_offset(image, n, c + 1);
+    &image[from..to]
+}
+
+// Runs the signals of a list in order: the word of each is stored.
+fn run_signals(list: &[u8], image: &[u8], n: u8, state: &mut [i32], samples: &[i32])
+    requires { ⌜ (wellFormed (now image) ≡ true) × (n ≡ countOf (now image)) ⌝ }
+    requires { ⌜ ((k : ℕ) → k < length (now list) → byteAt (now list) k < n) ⌝ }
+    requires { ⌜ (n < length (now state)) × (n ≤ length (now samples)) ⌝ }
+    ensures { λ _. ⌜ now (state .exit) ≡ runSignals (now (image .entry)) (now (list .entry)) (now (samples .entry)) (now (state .entry)) ⌝ }
+{
+    let count = wide(n);
+    let mut i: usize = 0;
+    while i < list.len() {
+        let x = list[i];
+        let own = wide(x);
+        let from = image_check::code_offset(image, count, own);
+        let to = image_check::code_offset(image, count, own + 1);
+        let w = runner::run_code(&image[from..to], n, x, &state[..], samples);
+        state[own + 1] = w;
+        i = i + 1;
+    }
+}
+
+// The position after c, as a word.
+fn next_position(h: usize, c: usize) -> i32
+    requires { ⌜ (c < h) × (h ≤ 240) ⌝ }
+    ensures { λ r. ⌜ r ≡ pos (nextPosition h c) ⌝ }
+{
+    if c + 1 == h { 0 } else { (c + 1) as i32 }
+}
+
+// 0 in word 0 and each signal's initial word after it.
+fn initial_words(image: &[u8], n: usize, state: &mut [i32])
+    requires { ⌜ (wellFormed (now image) ≡ true) × (n ≡ countOf (now image)) × (n < length (now state)) ⌝ }
+    ensures { λ _. ⌜ now (state .exit) ≡ resetWords (now (image .entry)) (now (state .entry)) ⌝ }
+{
+    state[0] = 0;
+    let mut x: usize = 0;
+    while x < n {
+        let w = word::word_at(image, 4 + 6 * x);
+        x = x + 1;
+        state[x] = w;
+    }
+}
+
+// Puts a state into its first cycle.
+pub fn reset(image: &[u8], state: &mut [i32]) -> Ran
+    ensures answer { λ r. ⌜ ranOf r ≡ resetOf (now (image .entry)) (now (state .entry)) .answer ⌝ }
+    ensures left { λ _. ⌜ now (state .exit) ≡ resetOf (now (image .entry)) (now (state .entry)) .left ⌝ }
+{
+    if !image_check::well_formed(image) {
+        return refused(BAD_IMAGE);
+    }
+    let n = wide(image[1]);
+    if state.len() <= n {
+        return refused(SHORT_STATE);
+    }
+    initial_words(image, n, &mut state[..]);
+    Ran::Done
+}
+
+// Runs one cycle: the list of the state's position, and then the position moves on.
+pub fn cycle(image: &[u8], state: &mut [i32], samples: &[i32]) -> Ran
+    ensures answer { λ r. ⌜ ranOf r ≡ cycleOf (now (image .entry)) (now (state .entry)) (now (samples .entry)) .answer ⌝ }
+    ensures left { λ _. ⌜ now (state .exit) ≡ cycleOf (now (image .entry)) (now (state .entry)) (now (samples .entry)) .left ⌝ }
+{
+    if !image_check::well_formed(image) {
+        return refused(BAD_IMAGE);
+    }
+    let h = wide(image[0]);
+    let n = image[1];
+    let count = wide(n);
+    if state.len() <= count {
+        return refused(SHORT_STATE);
+    }
+    let position = state[0];
+    if position < 0 {
+        return refused(BAD_POSITION);
+    }
+    let c = position as usize;
+    if h <= c {
+        return refused(BAD_POSITION);
+    }
+    if samples.len() < count {
+        return refused(FEW_SAMPLES);
+    }
+    run_signals(run_list(image, c), image, n, &mut state[..], samples);
+    let next = next_position(h, c);
+    state[0] = next;
+    Ran::Done
+}

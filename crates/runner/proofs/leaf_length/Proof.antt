@@ -1,0 +1,13 @@
+-- `runner::leaf_length` meets its contract. Assumes nothing.
+use borrow.Author.Tests.{eq-eqb, ne-eqb}
+use Rattle.runner.proofs.leaf_length.Statement.{statement}
+use Rattle.runner.proofs.leaf_length.Tie as tie
+
+returns : tie.Need-returns
+returns c = rw (eq-eqb _ _ (c .if1 .taken))
+
+returns-2 : tie.Need-returns-2
+returns-2 c = rw (ne-eqb _ _ (c .if1 .left))
+
+pub leaf-length-spec : {M : Type 1} → statement M
+leaf-length-spec = tie.close (tie.spec returns returns-2)

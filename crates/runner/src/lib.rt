@@ -1,0 +1,102 @@
+// Runs the code of one signal. The code is known to be well formed, so nothing is checked again here.
+use model::Binary;
+use model::Code;
+use stack::Stack;
+ghost use mathlib.Core.Path.{_≡_};
+ghost use mathlib.Core.Bool.{true};
+ghost use Prim.Native.Nat.{_<_, _≤_};
+ghost use lib.ListN.{length};
+ghost use Rattle.model.specs.Machine.{operatorCode, codeAt, codeOk, runCode};
+ghost use Rattle.model.specs.Word.{byteAt};
+ghost use Rattle.runner.specs.Leaf.{leafWord, leafOk, leafLength};
+
+fn wide(byte: u8) -> usize
+    ensures { λ r. ⌜ (r ≡ byte) × (r < 256) ⌝ }
+{
+    byte as usize
+}
+
+// The operator with two operands that a byte commands.
+fn operator(byte: u8) -> Binary
+    requires { ⌜ (0x30 ≤ byte) × (byte ≤ 0x36) ⌝ }
+    ensures { λ r. ⌜ operatorCode byte ≡ Code.Binary r ⌝ }
+{
+    match byte {
+        0x30 => Binary::Add,
+        0x31 => Binary::Sub,
+        0x32 => Binary::Mul,
+        0x33 => Binary::Less,
+        0x34 => Binary::Same,
+        0x35 => Binary::Min,
+        _ => Binary::Max,
+    }
+}
+
+// The word that the leaf at `at` pushes: its operand, a signal's word or a sample.
+fn leaf_word(code: &[u8], at: usize, state: &[i32], samples: &[i32]) -> i32
+    requires { ⌜ (0x50 ≤ byteAt (now code) at) × (byteAt (now code) at ≤ 0x52) × (leafOk (now state) (now samples) (codeAt (now code) at) ≡ true) ⌝ }
+    ensures { λ r. ⌜ r ≡ leafWord (now (state .entry)) (now (samples .entry)) (codeAt (now (code .entry)) at) ⌝ }
+{
+    let byte = code[at];
+    if byte == 0x50 {
+        return word::word_at(code, at + 1);
+    }
+    let x = wide(code[at + 1]);
+    if byte == 0x51 {
+        return state[x + 1];
+    }
+    samples[x]
+}
+
+fn leaf_length(byte: u8) -> usize
+    ensures { λ r. ⌜ r ≡ leafLength byte ⌝ }
+{
+    if byte == 0x50 { 5 } else { 2 }
+}
+
+// The word that the code of signal `own` stores, in an image of n signals. A leaf and the operator or STORE that follows it
+// are run in one turn: its word is not pushed.
+pub fn run_code(code: &[u8], n: u8, own: u8, state: &[i32], samples: &[i32]) -> i32
+    requires { ⌜ (codeOk (now code) n own ≡ true) × (n < length (now state)) × (n ≤ length (now samples)) × (own < n) ⌝ }
+    ensures { λ r. ⌜ r ≡ runCode (now (code .entry)) (now (state .entry)) (now (samples .entry)) ⌝ }
+{
+    let mut at: usize = 0;
+    let mut stack = Stack::new();
+    while at < code.len() {
+        let byte = code[at];
+        match byte {
+            0x50..=0x52 => {
+                let w = leaf_word(code, at, state, samples);
+                let after = at + leaf_length(byte);
+                let next = code[after];
+                if next == 0x5F {
+                    return w;
+                }
+                if next < 0x37 {
+                    stack = stack.binary_with(operator(next), w);
+                    at = after + 1;
+                } else {
+                    stack = stack.push(w);
+                    at = after;
+                }
+            }
+            0x5F => {
+                let popped = stack.pop();
+                return popped.word;
+            }
+            0x38 => {
+                stack = stack.negate();
+                at = at + 1;
+            }
+            0x3A => {
+                stack = stack.choose();
+                at = at + 1;
+            }
+            _ => {
+                stack = stack.binary(operator(byte));
+                at = at + 1;
+            }
+        }
+    }
+    0
+}
