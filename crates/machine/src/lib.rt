@@ -3,11 +3,11 @@ use model::Fault;
 use model::Ran;
 ghost use mathlib.Core.Path.{_≡_};
 ghost use mathlib.Core.Bool.{true};
-ghost use Prim.Native.Nat.{ℕ, _+_, _<_, _≤_};
+ghost use Prim.Native.Nat.{ℕ, _<_, _≤_};
 ghost use lib.IntN.{pos};
 ghost use lib.ListN.{length};
 ghost use Rattle.model.specs.Machine.{hyperOf, countOf, wellFormed, listOf, runSignals, nextPosition, resetWords};
-ghost use Rattle.model.specs.Machine.{Effect, ranOf, resetOf, cycleOf};
+ghost use Rattle.model.specs.Machine.{ranOf, resetOf, cycleOf};
 ghost use Rattle.model.specs.Outcome.{refuse};
 ghost use Rattle.model.specs.Word.{byteAt};
 

@@ -63,39 +63,31 @@ pub fn run_code(code: &[u8], n: u8, own: u8, state: &[i32], samples: &[i32]) -> 
     let mut at: usize = 0;
     let mut stack = Stack::new();
     while at < code.len() {
-        let byte = code[at];
+        let here = at;
+        let byte = code[here];
+        at = here + 1;
         match byte {
             0x50..=0x52 => {
-                let w = leaf_word(code, at, state, samples);
-                let after = at + leaf_length(byte);
-                let next = code[after];
+                let w = leaf_word(code, here, state, samples);
+                at = here + leaf_length(byte);
+                let next = code[at];
                 if next == 0x5F {
                     return w;
                 }
                 if next < 0x37 {
                     stack = stack.binary_with(operator(next), w);
-                    at = after + 1;
+                    at = at + 1;
                 } else {
                     stack = stack.push(w);
-                    at = after;
                 }
             }
             0x5F => {
                 let popped = stack.pop();
                 return popped.word;
             }
-            0x38 => {
-                stack = stack.negate();
-                at = at + 1;
-            }
-            0x3A => {
-                stack = stack.choose();
-                at = at + 1;
-            }
-            _ => {
-                stack = stack.binary(operator(byte));
-                at = at + 1;
-            }
+            0x38 => stack = stack.negate(),
+            0x3A => stack = stack.choose(),
+            _ => stack = stack.binary(operator(byte)),
         }
     }
     0

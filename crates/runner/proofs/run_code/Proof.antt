@@ -126,6 +126,9 @@ loop-holds c =
 shared-slice-read-byte : tie.Need-shared-slice-read-byte Inv-loop μ-loop
 shared-slice-read-byte c = search needs
 
+add-at : tie.Need-add-at Inv-loop μ-loop
+add-at c = search needs
+
 pop-requires : tie.Need-pop-requires Inv-loop μ-loop
 pop-requires c κs = (omega (arith, last _ _ _ _ _ (at-store c .1) .0), c .before .before .before .loop .inv .most)
 
@@ -137,9 +140,6 @@ returns c =
 negate-requires : tie.Need-negate-requires Inv-loop μ-loop
 negate-requires c κs = (negated _ _ _ _ _ (at-negate c) .0, c .before .before .before .loop .inv .most)
 
-add-at : tie.Need-add-at Inv-loop μ-loop
-add-at c = omega arith
-
 loop-less : tie.Need-loop-less Inv-loop μ-loop
 loop-less c = omega arith
 
@@ -148,9 +148,6 @@ loop-again c = moved _ _ _ _ _ (c .negate .ensures .0) (c .negate .ensures .1) (
 
 choose-requires : tie.Need-choose-requires Inv-loop μ-loop
 choose-requires c κs = (chosen _ _ _ _ _ (at-if c) .0, c .before .before .before .loop .inv .most)
-
-add-at-2 : tie.Need-add-at-2 Inv-loop μ-loop
-add-at-2 c = omega arith
 
 loop-less-2 : tie.Need-loop-less-2 Inv-loop μ-loop
 loop-less-2 c = omega arith
@@ -164,8 +161,8 @@ leaf-word-requires c κs = (c .before .if1 .left, omega (arith, c .if2 .taken), 
 leaf-length-requires : tie.Need-leaf-length-requires Inv-loop μ-loop
 leaf-length-requires c κs = tt
 
-add-after : tie.Need-add-after Inv-loop μ-loop
-add-after c = omega (arith, inside c)
+add-at-2 : tie.Need-add-at-2 Inv-loop μ-loop
+add-at-2 c = omega (arith, inside c)
 
 shared-slice-read-next : tie.Need-shared-slice-read-next Inv-loop μ-loop
 shared-slice-read-next c = inside (c .before)
@@ -215,9 +212,6 @@ operator-requires-2 c κs = (at-binary c .0, at-binary c .1)
 binary-requires : tie.Need-binary-requires Inv-loop μ-loop
 binary-requires c κs = (combined _ _ _ _ _ (at-operator c) .0, c .before .before .before .before .before .loop .inv .most)
 
-add-at-4 : tie.Need-add-at-4 Inv-loop μ-loop
-add-at-4 c = omega arith
-
 loop-less-5 : tie.Need-loop-less-5 Inv-loop μ-loop
 loop-less-5 c = omega arith
 
@@ -236,19 +230,18 @@ run-code-spec =
     new-requires
     loop-holds
     shared-slice-read-byte
+    add-at
     pop-requires
     returns
     negate-requires
-    add-at
     loop-less
     loop-again
     choose-requires
-    add-at-2
     loop-less-2
     loop-again-2
     leaf-word-requires
     leaf-length-requires
-    add-after
+    add-at-2
     shared-slice-read-next
     returns-2
     operator-requires
@@ -261,7 +254,6 @@ run-code-spec =
     loop-again-4
     operator-requires-2
     binary-requires
-    add-at-4
     loop-less-5
     loop-again-5
     returns-3)
