@@ -1,0 +1,5 @@
+-- Laws that the proofs of several functions cite.
+pub mod Joined
+pub mod Rated
+pub mod Turns
+pub mod Walk
