@@ -31,6 +31,7 @@ use Rattle.rates.specs.Walk.{
   chainsAfter,
   Numbered,
   numbered,
+  anyPart,
   readsHere,
   linksHere,
   Walk,
@@ -138,7 +139,7 @@ pub record Ahead (text : List ℕ) (p : Program) (at s : ℕ) : Type 0 where
   pub chains : ℕ
   pub reads : List (Numbered Read)
   pub links : List (Numbered Link)
-  pub walk : Walk text (length text) at s chains reads links
+  pub walk : Walk anyPart text (length text) at s chains reads links
   pub readers : All (λ m. m .number < count p) reads
   pub left : declaredAndRated p ≡ rest p reads links
 
@@ -148,7 +149,7 @@ Says text p at s w x Judged.Fine = Ahead text p (at + w) (signalsAfter s x)
 Says text p at s w x (Judged.Refused f) = declaredAndRated p ≡ refused f
 
 says : (text : List ℕ) (p : Program) (at s w : ℕ) (x : Part) (rs : List (Numbered Read)) (ls : List (Numbered Link)) (k : ℕ) →
-    Walk text (length text) (at + w) (signalsAfter s x) k rs ls → All (λ m. m .number < count p) rs → (j : Judged) →
+    Walk anyPart text (length text) (at + w) (signalsAfter s x) k rs ls → All (λ m. m .number < count p) rs → (j : Judged) →
     declaredAndRated p ≡ after j (rest p rs ls) → Says text p at s w x j
 says text p at s w x rs ls k u n Judged.Fine r =
     record { chains = k; reads = rs; links = ls; walk = u; readers = n; left = r }

@@ -1,5 +1,6 @@
 -- An accepted text is walked from its start to its end, and what is mentioned on the way is the program's. Assumes nothing.
 use Prim.Native.Nat.{ℕ, zero, suc, _+_, _-_, _≤_, _<_}
+use mathlib.Core.Bool.{Bool, true}
 use mathlib.Core.List.{List, [], _∷_, _++_, map, map-append, append-assoc, append-nil}
 use mathlib.Core.Path.{_≡_, refl, sym, ap, subst, _∙_}
 use native.Mathlib.Nat.{add-zero, zero-add, add-suc, suc-add}
@@ -29,6 +30,7 @@ use Rattle.model.specs.declared.Command.{Command}
 use Rattle.model.specs.declared.Command.the-variants as Command
 use Rattle.model.specs.declared.Kind.{Kind}
 use Rattle.model.specs.declared.Kind.the-variants.{Now, Last, When, LastWhen, Current}
+use Rattle.model.specs.declared.Sampled.{Sampled}
 use Rattle.model.proofs.All.{all-map}
 use Rattle.model.proofs.Commands.{Sound, command-sound, link-command}
 use Rattle.model.proofs.Outcomes.{joinFrom-append}
@@ -40,6 +42,7 @@ use Rattle.rates.specs.Walk.{
   chainsAfter,
   Numbered,
   numbered,
+  anyPart,
   readsHere,
   linksHere,
   Walk,
@@ -81,30 +84,35 @@ width-moves text at c w q e h =
     let g : 0 < w = omega arith in
     (g, omega (arith, sound-inside text at c (command-sound text at c (sym q)) (omega arith)))
 
-module _ {text : List ℕ} {end : ℕ} where
-  pub walk-within : {at s k : ℕ} {rs : List (Numbered Read)} {ls : List (Numbered Link)} → Walk text end at s k rs ls → at ≤ end
+module _ {only : Part → Bool} {text : List ℕ} {end : ℕ} where
+  pub walk-within : {at s k : ℕ} {rs : List (Numbered Read)} {ls : List (Numbered Link)} → Walk only text end at s k rs ls → at ≤ end
   walk-within (done e) = omega arith
-  walk-within (step c e h w) = omega (arith, walk-within w)
+  walk-within (step c e o h w) = omega (arith, walk-within w)
 
   -- The commands of an expression, and those that follow it.
-  pub walk-expr : {at n s k : ℕ} {e : Expr} {rs : List (Numbered Read)} {ls : List (Numbered Link)} → Spells text at e n →
-      Walk text end n s k rs ls → Walk text end at s k (map (numbered (s - 1)) (readsOf e) ++ rs) ls
-  unfolding readsOf
-  walk-expr (Spells.constants e) w = step _ e (omega arith) w
-  walk-expr (Spells.reads {kind = kind} e) w = step _ e (read-width kind) w
-  walk-expr (Spells.two e u v) w = rw (map-append, append-assoc) (step _ e (omega arith) (walk-expr u (walk-expr v w)))
-  walk-expr (Spells.one e u) w = step _ e (omega arith) (walk-expr u w)
-  walk-expr (Spells.three e u v x) w =
-      simp (map-append, append-assoc) (step _ e (omega arith) (walk-expr u (walk-expr v (walk-expr x w))))
+  module _ (operand : only Part.Operand ≡ true) (reading : (kind : Kind) (x : Sampled) → only (Part.Read kind x) ≡ true) where
+    pub walk-expr : {at n s k : ℕ} {e : Expr} {rs : List (Numbered Read)} {ls : List (Numbered Link)} → Spells text at e n →
+        Walk only text end n s k rs ls → Walk only text end at s k (map (numbered (s - 1)) (readsOf e) ++ rs) ls
+    unfolding readsOf
+    walk-expr (Spells.constants e) w = step _ e operand (omega arith) w
+    walk-expr (Spells.reads {kind = kind} {x = x} e) w = step _ e (reading kind x) (read-width kind) w
+    walk-expr (Spells.two e u v) w =
+        rw (map-append, append-assoc) (step _ e operand (omega arith) (walk-expr u (walk-expr v w)))
+    walk-expr (Spells.one e u) w = step _ e operand (omega arith) (walk-expr u w)
+    walk-expr (Spells.three e u v x) w =
+        simp (map-append, append-assoc) (step _ e operand (omega arith) (walk-expr u (walk-expr v (walk-expr x w))))
 
   -- The LINKs of a chain, and the commands that follow them.
-  pub walk-links : {at n s k : ℕ} {xs : List Link} {rs : List (Numbered Read)} {ls : List (Numbered Link)} →
-      SpellsLinks text at xs n → Walk text end n s k rs ls → Walk text end at s k rs (map (numbered (k - 1)) xs ++ ls)
-  walk-links (SpellsLinks.ends e) w = w
-  walk-links (SpellsLinks.link {at = at} e le r) w = step _ (link-command text at e le) (omega arith) (walk-links r w)
+  walk-links : ((signal : ℕ) → only (Part.Link signal) ≡ true) → {at n s k : ℕ} {xs : List Link} {rs : List (Numbered Read)}
+      {ls : List (Numbered Link)} → SpellsLinks text at xs n → Walk only text end n s k rs ls →
+      Walk only text end at s k rs (map (numbered (k - 1)) xs ++ ls)
+  walk-links linking (SpellsLinks.ends e) w = w
+  walk-links linking (SpellsLinks.link {at = at} e le r) w =
+      step _ (link-command text at e le) (linking _) (omega arith) (walk-links linking r w)
 
 -- One command of a walk that has not ended.
 pub record Turn
+    (only : Part → Bool)
     (text : List ℕ)
     (end at s k : ℕ)
     (rs : List (Numbered Read))
@@ -113,7 +121,8 @@ pub record Turn
   : Type 0 where
     pub reads : List (Numbered Read)
     pub links : List (Numbered Link)
-    pub onward : Walk text end (at + widthOf c) (signalsAfter s (partOf c)) (chainsAfter k (partOf c)) reads links
+    pub onward : Walk only text end (at + widthOf c) (signalsAfter s (partOf c)) (chainsAfter k (partOf c)) reads links
+    pub such : only (partOf c) ≡ true
     pub moves : 0 < widthOf c
     pub reads-are : rs ≡ readsHere at s (partOf c) ++ reads
     pub links-are : ls ≡ linksHere at k (partOf c) ++ links
@@ -137,25 +146,25 @@ after-here at s k (Part.Link signal) rs ls h = (h .0, (omega arith, h .1))
 after-here at s k Part.Operand rs ls h = h
 after-here at s k (Part.Read kind x) rs ls h = ((omega arith, h .0), h .1)
 
-module _ {text : List ℕ} {end : ℕ} where
-  pub turn : {at s k : ℕ} {rs : List (Numbered Read)} {ls : List (Numbered Link)} → Walk text end at s k rs ls → at < end →
-      (c : Command) → commandAt text at ≡ c → Turn text end at s k rs ls c
+module _ {only : Part → Bool} {text : List ℕ} {end : ℕ} where
+  pub turn : {at s k : ℕ} {rs : List (Numbered Read)} {ls : List (Numbered Link)} → Walk only text end at s k rs ls → at < end →
+      (c : Command) → commandAt text at ≡ c → Turn only text end at s k rs ls c
   turn (done e) lt c q = absurd (omega arith)
-  turn {at} {s} {k} (step {rs = rs} {ls = ls} d e h w) lt c q =
-      subst (Turn text end at s k (readsHere at s (partOf d) ++ rs) (linksHere at k (partOf d) ++ ls)) (sym e ∙ q)
-      (record { reads = rs; links = ls; onward = w; moves = h; reads-are = refl; links-are = refl })
+  turn {at} {s} {k} (step {rs = rs} {ls = ls} d e o h w) lt c q =
+      subst (Turn only text end at s k (readsHere at s (partOf d) ++ rs) (linksHere at k (partOf d) ++ ls)) (sym e ∙ q)
+      (record { reads = rs; links = ls; onward = w; such = o; moves = h; reads-are = refl; links-are = refl })
 
   -- At the end nothing is left.
-  pub over : {at s k : ℕ} {rs : List (Numbered Read)} {ls : List (Numbered Link)} → Walk text end at s k rs ls → end ≤ at →
+  pub over : {at s k : ℕ} {rs : List (Numbered Read)} {ls : List (Numbered Link)} → Walk only text end at s k rs ls → end ≤ at →
       (rs ≡ []) × (ls ≡ [])
   over (done e) le = (refl, refl)
-  over (step c e h w) le = absurd (omega (arith, walk-within w))
+  over (step c e o h w) le = absurd (omega (arith, walk-within w))
 
   -- Places ascend.
-  pub walk-after : {at s k : ℕ} {rs : List (Numbered Read)} {ls : List (Numbered Link)} → Walk text end at s k rs ls →
+  pub walk-after : {at s k : ℕ} {rs : List (Numbered Read)} {ls : List (Numbered Link)} → Walk only text end at s k rs ls →
       After at rs ls
   walk-after (done e) = (tt, tt)
-  walk-after {at} {s} {k} (step {rs = rs} {ls = ls} c e h w) =
+  walk-after {at} {s} {k} (step {rs = rs} {ls = ls} c e o h w) =
       after-here at s k (partOf c) rs ls (after-less at (at + widthOf c) rs ls (omega arith) (walk-after w))
 
 -- What one signal or one chain more adds to what is mentioned.
@@ -174,7 +183,7 @@ links-more p x = rw (joinFrom-append (λ j c. map (numbered j) (c .links)) 0 (p 
 record Walks (text : List ℕ) (at : ℕ) (p q : Program) : Type 0 where
   reads : List (Numbered Read)
   links : List (Numbered Link)
-  walk : Walk text (length text) at (count p) (length (p .chains)) reads links
+  walk : Walk anyPart text (length text) at (count p) (length (p .chains)) reads links
   reads-are : allReads q ≡ allReads p ++ reads
   links-are : allLinks q ≡ allLinks p ++ links
 
@@ -191,7 +200,7 @@ module _ {text : List ℕ} where
       record {
         reads = [];
         links = [];
-        walk = step _ e (omega arith) (done {at = at + 1} (omega (arith, command-sound text at _ e)));
+        walk = step _ e refl (omega arith) (done {at = at + 1} (omega (arith, command-sound text at _ e)));
         reads-are = sym (append-nil _);
         links-are = sym (append-nil _);
       }
@@ -200,7 +209,7 @@ module _ {text : List ℕ} where
       record {
         reads = h .reads;
         links = h .links;
-        walk = step _ e (omega arith) (rw snoc-length at (h .walk));
+        walk = step _ e refl (omega arith) (rw snoc-length at (h .walk));
         reads-are = h .reads-are ∙ rw (reads-more p, append-nil);
         links-are = h .links-are;
       }
@@ -209,7 +218,7 @@ module _ {text : List ℕ} where
       record {
         reads = _;
         links = h .links;
-        walk = step _ e (omega arith) (walk-expr u (rw snoc-length at (h .walk)));
+        walk = step _ e refl (omega arith) (walk-expr refl (λ kind x. refl) u (rw snoc-length at (h .walk)));
         reads-are = h .reads-are ∙ rw (reads-more p, append-assoc, last);
         links-are = h .links-are;
       }
@@ -218,7 +227,7 @@ module _ {text : List ℕ} where
       record {
         reads = h .reads;
         links = _;
-        walk = step _ e (omega arith) (walk-links u (rw snoc-length at (h .walk)));
+        walk = step _ e refl (omega arith) (walk-links (λ signal. refl) u (rw snoc-length at (h .walk)));
         reads-are = h .reads-are;
         links-are = h .links-are ∙ rw (links-more p, append-assoc, last);
       }
@@ -227,14 +236,14 @@ module _ {text : List ℕ} where
       record {
         reads = h .reads;
         links = h .links;
-        walk = step _ e (omega arith) (h .walk);
+        walk = step _ e refl (omega arith) (h .walk);
         reads-are = h .reads-are;
         links-are = h .links-are;
       }
 
 -- An accepted text is walked from its start to its end, past all reads and LINKs of its program.
 pub walked : (text : List ℕ) (p : Program) → parseProgram text ≡ accepted p →
-    Walk text (length text) 0 0 0 (allReads p) (allLinks p)
+    Walk anyPart text (length text) 0 0 0 (allReads p) (allLinks p)
 unfolding allReads allLinks joinFrom
 walked text p e =
     let h = walks (declared text p e .1) in

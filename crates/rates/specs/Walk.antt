@@ -1,5 +1,6 @@
 -- The flat walk over the commands of a program text, and what they mention.
 use Prim.Native.Nat.{ℕ, _+_, _-_, _<_}
+use mathlib.Core.Bool.{Bool, true, false}
 use mathlib.Core.List.{List, [], _∷_, _++_, map}
 use mathlib.Core.Path.{_≡_}
 use Rattle.model.specs.Command.{commandAt}
@@ -86,13 +87,27 @@ linksHere at k (Part.Link signal) = numbered (k - 1) (record { place = at; signa
 linksHere at k Part.Operand = []
 linksHere at k (Part.Read kind x) = []
 
--- From `at`, after s signals and k chains, commands follow one another up to `end`, and these are the reads and LINKs that
--- they mention.
-pub data Walk (text : List ℕ) (end : ℕ) : ℕ → ℕ → ℕ → List (Numbered Read) → List (Numbered Link) → Type 0 where
-  done : {at s k : ℕ} → at ≡ end → Walk text end at s k [] []
-  step : {at s k : ℕ} {rs : List (Numbered Read)} {ls : List (Numbered Link)} (c : Command) → commandAt text at ≡ c →
-      0 < widthOf c → Walk text end (at + widthOf c) (signalsAfter s (partOf c)) (chainsAfter k (partOf c)) rs ls →
-      Walk text end at s k (readsHere at s (partOf c) ++ rs) (linksHere at k (partOf c) ++ ls)
+-- Any part of a text, and those of expressions.
+abbrev pub anyPart : Part → Bool
+anyPart x = true
+
+abbrev pub isOperand : Part → Bool
+isOperand Part.Other = false
+isOperand Part.Signal = false
+isOperand Part.Chain = false
+isOperand (Part.Link signal) = false
+isOperand Part.Operand = true
+isOperand (Part.Read kind x) = true
+
+-- From `at`, after s signals and k chains, commands follow one another up to `end`, all of them such parts, and these are
+-- the reads and LINKs that they mention.
+pub data Walk (only : Part → Bool) (text : List ℕ) (end : ℕ)
+  : ℕ → ℕ → ℕ → List (Numbered Read) → List (Numbered Link) → Type 0 where
+    done : {at s k : ℕ} → at ≡ end → Walk only text end at s k [] []
+    step : {at s k : ℕ} {rs : List (Numbered Read)} {ls : List (Numbered Link)} (c : Command) → commandAt text at ≡ c →
+        only (partOf c) ≡ true → 0 < widthOf c →
+        Walk only text end (at + widthOf c) (signalsAfter s (partOf c)) (chainsAfter k (partOf c)) rs ls →
+        Walk only text end at s k (readsHere at s (partOf c) ++ rs) (linksHere at k (partOf c) ++ ls)
 
 -- The reads of all signals, and the LINKs of all chains, in order.
 unfoldable pub allReads : Program → List (Numbered Read)
