@@ -183,8 +183,8 @@ module _ (text : List ℕ) (p : Program) (e : parseProgram text ≡ accepted p) 
       (reads-beyond p at (t .reads) (v .0)) (links-beyond p at (t .links) (v .1)) in (
         t .moves,
         says text p at s (widthOf c) (partOf c) (t .reads) (t .links) _ (t .onward)
-        (all-later (λ m. m .number < count p) (readsHere at s (partOf c)) (t .reads) n)
-        (partJudged (count p) periods at s (partOf c)) r,
+            (all-later (λ m. m .number < count p) (readsHere at s (partOf c)) (t .reads) n)
+            (partJudged (count p) periods at s (partOf c)) r,
       )
 
   -- By what is known of the command: its width, its part, and its judgement.

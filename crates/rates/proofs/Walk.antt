@@ -118,14 +118,14 @@ pub record Turn
     (rs : List (Numbered Read))
     (ls : List (Numbered Link))
     (c : Command)
-  : Type 0 where
-    pub reads : List (Numbered Read)
-    pub links : List (Numbered Link)
-    pub onward : Walk only text end (at + widthOf c) (signalsAfter s (partOf c)) (chainsAfter k (partOf c)) reads links
-    pub such : only (partOf c) ≡ true
-    pub moves : 0 < widthOf c
-    pub reads-are : rs ≡ readsHere at s (partOf c) ++ reads
-    pub links-are : ls ≡ linksHere at k (partOf c) ++ links
+    : Type 0 where
+  pub reads : List (Numbered Read)
+  pub links : List (Numbered Link)
+  pub onward : Walk only text end (at + widthOf c) (signalsAfter s (partOf c)) (chainsAfter k (partOf c)) reads links
+  pub such : only (partOf c) ≡ true
+  pub moves : 0 < widthOf c
+  pub reads-are : rs ≡ readsHere at s (partOf c) ++ reads
+  pub links-are : ls ≡ linksHere at k (partOf c) ++ links
 
 -- What is mentioned stands at `at` or after.
 abbrev pub After : ℕ → List (Numbered Read) → List (Numbered Link) → Type 0

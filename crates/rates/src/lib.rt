@@ -69,7 +69,7 @@ pub fn part_of(command: Command) -> Part
 }
 
 // How many signals a part declares.
-fn signals_here(part: Part) -> usize
+pub fn signals_here(part: Part) -> usize
     ensures { λ r. ⌜ ((s : ℕ) → signalsAfter s part ≡ s + r) × (r ≤ 1) ⌝ }
 {
     match part {
@@ -83,7 +83,7 @@ fn signals_here(part: Part) -> usize
 }
 
 // The number of the signal declared last.
-fn last_of(signals: usize) -> usize
+pub fn last_of(signals: usize) -> usize
     ensures { λ r. ⌜ r ≡ signals - 1 ⌝ }
 {
     if signals == 0 { 0 } else { signals - 1 }
@@ -138,7 +138,14 @@ fn judge_link(count: usize, at: usize, signal: u8) -> Judged
 }
 
 // 7 at a read of an undeclared signal, else 8 where its period rule is broken.
-fn judge_read(count: usize, periods: &[u8; 64], at: usize, reader: usize, kind: Kind, operands: Sampled) -> Judged
+fn judge_read(
+    count: usize,
+    periods: &[u8; 64],
+    at: usize,
+    reader: usize,
+    kind: Kind,
+    operands: Sampled,
+) -> Judged
     ensures { λ r. ⌜ r ≡ readJudged count (now (periods .entry)) at reader kind operands ⌝ }
 {
     let signal = wide(operands.signal);
@@ -163,7 +170,14 @@ fn judge_part(count: usize, periods: &[u8; 64], at: usize, signals: usize, part:
         Part::Chain => Judged::Fine,
         Part::Link(signal) => judge_link(count, at, signal),
         Part::Operand => Judged::Fine,
-        Part::Read(kind, operands) => judge_read(count, periods, at, last_of(signals), kind, operands),
+        Part::Read(kind, operands) => judge_read(
+            count,
+            periods,
+            at,
+            last_of(signals),
+            kind,
+            operands,
+        ),
     }
 }
 

@@ -64,43 +64,43 @@ module _ (c : tie.After-width-of Inv-loop μ-loop) where
 
 -- src/lib.rt:181:5
 loop-holds : tie.Need-loop-holds Inv-loop μ-loop
-loop-holds c =     (omega arith, omega arith, λ p e n t. start _ p e)
+loop-holds c = (omega arith, omega arith, λ p e n t. start _ p e)
 
 -- src/lib.rt:182:13
 command-at-requires : tie.Need-command-at-requires Inv-loop μ-loop
-command-at-requires c κs =     search needs
+command-at-requires c κs = search needs
 
 -- src/lib.rt:183:13
 width-of-requires : tie.Need-width-of-requires Inv-loop μ-loop
-width-of-requires c κs =     search needs
+width-of-requires c κs = search needs
 
 -- src/lib.rt:185:13
 returns : tie.Need-returns Inv-loop μ-loop
-returns c =     λ p e n t. absurd (omega (arith, on (c .before) p e n t _ _ refl refl .0))
+returns c = λ p e n t. absurd (omega (arith, on (c .before) p e n t _ _ refl refl .0))
 
 -- src/lib.rt:187:13
 part-of-requires : tie.Need-part-of-requires Inv-loop μ-loop
-part-of-requires c κs =     search needs
+part-of-requires c κs = search needs
 
 -- src/lib.rt:188:13
 judge-part-requires : tie.Need-judge-part-requires Inv-loop μ-loop
-judge-part-requires c κs =     search needs
+judge-part-requires c κs = search needs
 
 enum-told : tie.Need-enum-told Inv-loop μ-loop
-enum-told c =     search needs
+enum-told c = search needs
 
 -- src/lib.rt:190:13
 enum-told-2 : tie.Need-enum-told-2 Inv-loop μ-loop
-enum-told-2 c =     search needs
+enum-told-2 c = search needs
 
 -- src/lib.rt:190:13
 returns-2 : tie.Need-returns-2 Inv-loop μ-loop
 unfolding judgementOf
-returns-2 c =     λ p e n t. c .enum-told2 .given .1 ∙ sym (ap judgementOf (on (c .before .before .before .before .before) p e n t _ (Judged.Refused _) (c .before .before .before .part-of .ensures) (sym (c .enum-told2 .given .1) ∙ c .before .before .judge-part .ensures) .1))
+returns-2 c = λ p e n t. c .enum-told2 .given .1 ∙ sym (ap judgementOf (on (c .before .before .before .before .before) p e n t _ (Judged.Refused _) (c .before .before .before .part-of .ensures) (sym (c .enum-told2 .given .1) ∙ c .before .before .judge-part .ensures) .1))
 
 -- src/lib.rt:192:29
 signals-here-requires : tie.Need-signals-here-requires Inv-loop μ-loop
-signals-here-requires c κs =     search needs
+signals-here-requires c κs = search needs
 
 -- src/lib.rt:192:19
 add-signals : tie.Need-add-signals Inv-loop μ-loop
@@ -133,7 +133,7 @@ loop-again c =
 -- src/lib.rt:176:1
 returns-3 : tie.Need-returns-3 Inv-loop μ-loop
 unfolding judgementOf
-returns-3 c =     λ p e n t. sym (ap judgementOf (ended _ p e _ _ (c .before .loop .inv .2 p e n t) (c .loop-test .left)))
+returns-3 c = λ p e n t. sym (ap judgementOf (ended _ p e _ _ (c .before .loop .inv .2 p e n t) (c .loop-test .left)))
 
 pub declared-and-rated-spec : {M : Type 1} → statement M
 declared-and-rated-spec =

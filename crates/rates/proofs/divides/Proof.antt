@@ -25,7 +25,7 @@ rem-result c = search needs
 
 -- src/lib.rt:200:1
 returns-2 : tie.Need-returns-2
-returns-2 c =     ap (λ d. eqb (c .before .before .args .h % d) 0) (c .before .wide .ensures .0)
+returns-2 c = ap (λ d. eqb (c .before .before .args .h % d) 0) (c .before .wide .ensures .0)
 
 pub divides-spec : {M : Type 1} → statement M
 divides-spec = tie.close (tie.spec wide-requires returns rem-result returns-2)

@@ -25,15 +25,15 @@ abbrev μ-loop : tie.MeasureT-loop
 
 -- src/lib.rt:231:5
 loop-holds : tie.Need-loop-holds Inv-loop μ-loop
-loop-holds c =     (omega arith, λ p n t. cycle-start p)
+loop-holds c = (omega arith, λ p n t. cycle-start p)
 
 -- src/lib.rt:232:20
 add-next : tie.Need-add-next Inv-loop μ-loop
-add-next c =     omega arith
+add-next c = omega arith
 
 -- src/lib.rt:233:12
 is-multiple-requires : tie.Need-is-multiple-requires Inv-loop μ-loop
-is-multiple-requires c κs =     search needs
+is-multiple-requires c κs = search needs
 
 -- src/lib.rt:234:13
 returns : tie.Need-returns Inv-loop μ-loop
@@ -44,7 +44,7 @@ returns c =
 
 -- src/lib.rt:231:5
 loop-less : tie.Need-loop-less Inv-loop μ-loop
-loop-less c =     omega arith
+loop-less c = omega arith
 
 -- src/lib.rt:231:5
 loop-again : tie.Need-loop-again Inv-loop μ-loop

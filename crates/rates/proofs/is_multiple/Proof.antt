@@ -40,35 +40,35 @@ here c p n t =
 
 -- src/lib.rt:216:5
 loop-holds : tie.Need-loop-holds Inv-loop μ-loop
-loop-holds c =     (omega arith, λ p n t. refl)
+loop-holds c = (omega arith, λ p n t. refl)
 
 -- src/lib.rt:217:21
 element-copy-out-divides : tie.Need-element-copy-out-divides Inv-loop μ-loop
-element-copy-out-divides c =     omega arith
+element-copy-out-divides c = omega arith
 
 -- src/lib.rt:217:13
 divides-requires : tie.Need-divides-requires Inv-loop μ-loop
-divides-requires c κs =     search needs
+divides-requires c κs = search needs
 
 -- src/lib.rt:218:13
 returns : tie.Need-returns Inv-loop μ-loop
-returns c =     λ p n t. sym (here (c .before) p n t ∙ rw (not-true (c .before .divides .result) (c .if1 .taken)))
+returns c = λ p n t. sym (here (c .before) p n t ∙ rw (not-true (c .before .divides .result) (c .if1 .taken)))
 
 -- src/lib.rt:220:13
 add-s : tie.Need-add-s Inv-loop μ-loop
-add-s c =     omega arith
+add-s c = omega arith
 
 -- src/lib.rt:216:5
 loop-less : tie.Need-loop-less Inv-loop μ-loop
-loop-less c =     omega arith
+loop-less c = omega arith
 
 -- src/lib.rt:216:5
 loop-again : tie.Need-loop-again Inv-loop μ-loop
-loop-again c =     (omega arith, λ p n t. here (c .before) p n t ∙ rw (not-false (c .before .divides .result) (c .if1 .left)))
+loop-again c = (omega arith, λ p n t. here (c .before) p n t ∙ rw (not-false (c .before .divides .result) (c .if1 .left)))
 
 -- src/lib.rt:211:1
 returns-2 : tie.Need-returns-2 Inv-loop μ-loop
-returns-2 c =     λ p n t. sym (c .before .loop .inv .1 p n t ∙ multiple-over (p .signals) (c .before .loop .s) _ (omega (arith, c .loop-test .left)))
+returns-2 c = λ p n t. sym (c .before .loop .inv .1 p n t ∙ multiple-over (p .signals) (c .before .loop .s) _ (omega (arith, c .loop-test .left)))
 
 pub is-multiple-spec : {M : Type 1} → statement M
 is-multiple-spec =

@@ -48,32 +48,32 @@ judge-read-requires c κs = search needs
 -- src/lib.rt:154:1
 returns : tie.Need-returns
 unfolding partJudged
-returns c =     rw (c .enum-told .given .1)
+returns c = rw (c .enum-told .given .1)
 
 -- src/lib.rt:154:1
 returns-2 : tie.Need-returns-2
 unfolding partJudged
-returns-2 c =     rw (c .enum-told2 .given .1)
+returns-2 c = rw (c .enum-told2 .given .1)
 
 -- src/lib.rt:154:1
 returns-3 : tie.Need-returns-3
 unfolding partJudged
-returns-3 c =     rw (c .enum-told3 .given .1)
+returns-3 c = rw (c .enum-told3 .given .1)
 
 -- src/lib.rt:154:1
 returns-4 : tie.Need-returns-4
 unfolding partJudged
-returns-4 c =     rw (c .before .before .part .given .1) (c .judge-link .ensures)
+returns-4 c = rw (c .before .before .part .given .1) (c .judge-link .ensures)
 
 -- src/lib.rt:154:1
 returns-5 : tie.Need-returns-5
 unfolding partJudged
-returns-5 c =     rw (c .enum-told4 .given .1)
+returns-5 c = rw (c .enum-told4 .given .1)
 
 -- src/lib.rt:154:1
 returns-6 : tie.Need-returns-6
 unfolding partJudged
-returns-6 c =     rw (c .before .before .before .part2 .given .1) (rw (c .before .last-of .ensures) at (c .judge-read .ensures))
+returns-6 c = rw (c .before .before .before .part2 .given .1) (rw (c .before .last-of .ensures) at (c .judge-read .ensures))
 
 pub judge-part-spec : {M : Type 1} → statement M
 judge-part-spec =

@@ -13,12 +13,12 @@ element-copy-out-result c = search needs
 -- src/lib.rt:88:1
 returns : tie.Need-returns
 unfolding periodAt
-returns c =     rw (lt-ltb (c .before .before .args .signal) 64 (c .before .if1 .taken))
+returns c = rw (lt-ltb (c .before .before .args .signal) 64 (c .before .if1 .taken))
 
 -- src/lib.rt:88:1
 returns-2 : tie.Need-returns-2
 unfolding periodAt
-returns-2 c =     rw (le-ltb (c .before .args .signal) 64 (c .if1 .left))
+returns-2 c = rw (le-ltb (c .before .args .signal) 64 (c .if1 .left))
 
 pub period-at-spec : {M : Type 1} → statement M
 period-at-spec = tie.close (tie.spec element-copy-out-result returns returns-2)

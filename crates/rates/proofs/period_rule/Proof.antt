@@ -63,23 +63,23 @@ mul-result-3 c =
 
 -- src/lib.rt:103:1
 returns : tie.Need-returns
-returns c =     rw (c .enum-told .given .1, c .before .before .before .wide2 .ensures .0, c .before .before .before .before .wide .ensures .0)
+returns c = rw (c .enum-told .given .1, c .before .before .before .wide2 .ensures .0, c .before .before .before .before .wide .ensures .0)
 
 -- src/lib.rt:103:1
 returns-2 : tie.Need-returns-2
-returns-2 c =     rw (c .enum-told2 .given .1, c .before .before .before .wide2 .ensures .0, c .before .before .before .before .wide .ensures .0)
+returns-2 c = rw (c .enum-told2 .given .1, c .before .before .before .wide2 .ensures .0, c .before .before .before .before .wide .ensures .0)
 
 -- src/lib.rt:103:1
 returns-3 : tie.Need-returns-3
-returns-3 c =     rw (c .enum-told3 .given .1, c .before .before .wide3 .ensures .0, c .before .before .before .wide2 .ensures .0, c .before .before .before .before .wide .ensures .0)
+returns-3 c = rw (c .enum-told3 .given .1, c .before .before .wide3 .ensures .0, c .before .before .before .wide2 .ensures .0, c .before .before .before .before .wide .ensures .0)
 
 -- src/lib.rt:103:1
 returns-4 : tie.Need-returns-4
-returns-4 c =     rw (c .enum-told4 .given .1, c .before .before .wide3 .ensures .0, c .before .before .before .wide2 .ensures .0, c .before .before .before .before .wide .ensures .0)
+returns-4 c = rw (c .enum-told4 .given .1, c .before .before .wide3 .ensures .0, c .before .before .before .wide2 .ensures .0, c .before .before .before .before .wide .ensures .0)
 
 -- src/lib.rt:103:1
 returns-5 : tie.Need-returns-5
-returns-5 c =     rw (c .enum-told5 .given .1, c .before .before .wide3 .ensures .0, c .before .before .before .wide2 .ensures .0, c .before .before .before .before .wide .ensures .0)
+returns-5 c = rw (c .enum-told5 .given .1, c .before .before .wide3 .ensures .0, c .before .before .before .wide2 .ensures .0, c .before .before .before .before .wide .ensures .0)
 
 pub period-rule-spec : {M : Type 1} → statement M
 period-rule-spec =

@@ -31,27 +31,27 @@ enum-told-6 c = search needs
 
 -- src/lib.rt:68:1
 returns : tie.Need-returns
-returns c =     rw (c .enum-told .given .1) (λ s. omega arith, omega arith)
+returns c = rw (c .enum-told .given .1) (λ s. omega arith, omega arith)
 
 -- src/lib.rt:68:1
 returns-2 : tie.Need-returns-2
-returns-2 c =     rw (c .enum-told2 .given .1) (λ s. omega arith, omega arith)
+returns-2 c = rw (c .enum-told2 .given .1) (λ s. omega arith, omega arith)
 
 -- src/lib.rt:68:1
 returns-3 : tie.Need-returns-3
-returns-3 c =     rw (c .enum-told3 .given .1) (λ s. omega arith, omega arith)
+returns-3 c = rw (c .enum-told3 .given .1) (λ s. omega arith, omega arith)
 
 -- src/lib.rt:68:1
 returns-4 : tie.Need-returns-4
-returns-4 c =     rw (c .enum-told4 .given .1) (λ s. omega arith, omega arith)
+returns-4 c = rw (c .enum-told4 .given .1) (λ s. omega arith, omega arith)
 
 -- src/lib.rt:68:1
 returns-5 : tie.Need-returns-5
-returns-5 c =     rw (c .enum-told5 .given .1) (λ s. omega arith, omega arith)
+returns-5 c = rw (c .enum-told5 .given .1) (λ s. omega arith, omega arith)
 
 -- src/lib.rt:68:1
 returns-6 : tie.Need-returns-6
-returns-6 c =     rw (c .enum-told6 .given .1) (λ s. omega arith, omega arith)
+returns-6 c = rw (c .enum-told6 .given .1) (λ s. omega arith, omega arith)
 
 pub signals-here-spec : {M : Type 1} → statement M
 signals-here-spec =
