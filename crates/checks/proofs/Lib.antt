@@ -1,0 +1,1 @@
+-- Each function's proof stands in a folder of its name.

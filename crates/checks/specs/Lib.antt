@@ -1,0 +1,1 @@
+-- The checks are stated by the names of the crates below.

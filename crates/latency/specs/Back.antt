@@ -1,0 +1,66 @@
+-- Going back over the reads of a chain, by a table of hops.
+use Prim.Native.Nat.{ℕ, zero, suc, _-_, _≤_, _<_}
+use mathlib.Core.Bool.{Bool, true, false, not}
+use mathlib.Core.List.{List}
+use mathlib.Core.Path.{_≡_}
+use lib.Dec.{leb, ltb}
+use lib.ListN.{getD}
+use Rattle.model.specs.Latency.{onward}
+use Rattle.model.specs.Reads.{Rate, runCycle, uses}
+use Rattle.model.specs.Search.{first, isFound, allBelow}
+use Rattle.model.specs.declared.Found.{Found}
+use Rattle.model.specs.declared.Found.the-variants.{At, Nowhere}
+use Rattle.model.specs.declared.Kind.the-variants.{Now}
+use Rattle.model.specs.declared.Mode.{Mode}
+use Rattle.model.specs.declared.Mode.the-variants.{Exists, Backward}
+use Rattle.latency.specs.declared.Hop.{Hop}
+
+abbrev pub noHop : Hop
+noHop = record { kind = Now; factor = 0; index = 0 }
+
+-- The history entry that element k uses at a hop.
+unfoldable pub entryBy : Hop → ℕ → ℕ
+entryBy h k = uses (h .kind) (h .factor) (h .index) k
+
+-- The element at which one ends that goes back from element k over the n hops from j on.
+unfoldable pub backBy : List Hop → ℕ → ℕ → ℕ → Found
+backBy hops j zero k = At k
+backBy hops j (suc n) k = onward (λ m. backBy hops (suc j) n m) (entryBy (getD hops j noHop) k)
+
+-- Every index is below its factor.
+abbrev pub Sound : List Hop → ℕ → Type 0
+Sound hops n = (j : ℕ) → j < n → getD hops j noHop .index < getD hops j noHop .factor
+
+-- No element on the way is over a million, so that nothing overflows.
+abbrev pub onwardSmall : (ℕ → Type 0) → ℕ → Type 0
+onwardSmall go zero = Unit {0}
+onwardSmall go (suc m) = go m
+
+unfoldable pub Small : List Hop → ℕ → ℕ → ℕ → Type 0
+Small hops j zero k = k ≤ 1000000
+Small hops j (suc n) k = (k ≤ 1000000) × onwardSmall (λ m. Small hops (suc j) n m) (entryBy (getD hops j noHop) k)
+
+abbrev pub SmallFound : Found → Type 0
+SmallFound (At m) = m ≤ 1000000
+SmallFound Nowhere = Unit {0}
+
+-- The latency of run k of the last link, if the run counts.
+abbrev pub latencyBy : Rate → Rate → ℕ → Found → Found
+latencyBy last source k (At m) = At (runCycle last k - runCycle source m)
+latencyBy last source k Nowhere = Nowhere
+
+unfoldable pub runLatencyBy : List Hop → ℕ → Rate → Rate → ℕ → Found
+runLatencyBy hops n last source k = latencyBy last source k (backBy hops 0 n k)
+
+abbrev pub lateBy : ℕ → Found → Bool
+lateBy bound (At l) = ltb bound l
+lateBy bound Nowhere = false
+
+abbrev pub inTimeBy : ℕ → Found → Bool
+inTimeBy bound (At l) = leb l bound
+inTimeBy bound Nowhere = false
+
+-- Whether the runs of a window keep the bound.
+unfoldable pub timelyBy : Mode → ℕ → List Hop → ℕ → Rate → Rate → ℕ → Bool
+timelyBy Backward bound hops n last source window = allBelow window (λ k. not (lateBy bound (runLatencyBy hops n last source k)))
+timelyBy Exists bound hops n last source window = isFound (first window (λ k. inTimeBy bound (runLatencyBy hops n last source k)))

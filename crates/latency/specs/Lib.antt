@@ -1,0 +1,2 @@
+-- What the functions of latency stand for.
+pub mod Back

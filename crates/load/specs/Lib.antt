@@ -1,0 +1,2 @@
+-- What the load's functions stand for.
+pub mod Load

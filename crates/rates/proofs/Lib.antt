@@ -1,0 +1,6 @@
+-- Laws that the proofs of several functions cite.
+pub mod Joined
+pub mod Multiples
+pub mod Rated
+pub mod Turns
+pub mod Walk

@@ -1,0 +1,103 @@
+use mathlib.Core.Path.{sym, _∙_}
+use native.Mathlib.Omega.{arith}
+use Rattle.rates.proofs.Rated.{small-product}
+use borrow.Author.Needs.{needs}
+use Rattle.rates.proofs.period_rule.Statement.{statement}
+use Rattle.rates.proofs.period_rule.Tie as tie
+use Rattle.rates.proofs.period_rule.Reads as reads
+use Rattle.rates.proofs.period_rule.Lts as lts
+use Rattle.rates.proofs.wide.Reads as wide-reads
+
+-- src/lib.rt:106:9
+wide-requires : tie.Need-wide-requires
+wide-requires c κs = search needs
+
+-- src/lib.rt:107:9
+wide-requires-2 : tie.Need-wide-requires-2
+wide-requires-2 c κs = search needs
+
+-- src/lib.rt:108:9
+wide-requires-3 : tie.Need-wide-requires-3
+wide-requires-3 c κs = search needs
+
+-- src/lib.rt:110:22
+enum-told : tie.Need-enum-told
+enum-told c = search needs
+
+-- src/lib.rt:111:23
+enum-told-2 : tie.Need-enum-told-2
+enum-told-2 c = search needs
+
+-- src/lib.rt:112:33
+enum-told-3 : tie.Need-enum-told-3
+enum-told-3 c = search needs
+
+-- src/lib.rt:112:33
+mul-result : tie.Need-mul-result
+mul-result c =
+    let n = c .before .before .wide3 in
+    let w = c .before .before .before .before .wide in
+    omega (arith, small-product (n .result) (w .result) (n .ensures .1) (w .ensures .1))
+
+-- src/lib.rt:113:37
+enum-told-4 : tie.Need-enum-told-4
+enum-told-4 c = search needs
+
+-- src/lib.rt:113:37
+mul-result-2 : tie.Need-mul-result-2
+mul-result-2 c =
+    let n = c .before .before .wide3 in
+    let w = c .before .before .before .before .wide in
+    omega (arith, small-product (n .result) (w .result) (n .ensures .1) (w .ensures .1))
+
+-- src/lib.rt:114:34
+enum-told-5 : tie.Need-enum-told-5
+enum-told-5 c = search needs
+
+-- src/lib.rt:114:34
+mul-result-3 : tie.Need-mul-result-3
+mul-result-3 c =
+    let n = c .before .before .wide3 in
+    let r = c .before .before .before .wide2 in
+    omega (arith, small-product (n .result) (r .result) (n .ensures .1) (r .ensures .1))
+
+-- src/lib.rt:103:1
+returns : tie.Need-returns
+returns c = rw (c .enum-told .given .1, c .before .before .before .wide2 .ensures .0, c .before .before .before .before .wide .ensures .0)
+
+-- src/lib.rt:103:1
+returns-2 : tie.Need-returns-2
+returns-2 c = rw (c .enum-told2 .given .1, c .before .before .before .wide2 .ensures .0, c .before .before .before .before .wide .ensures .0)
+
+-- src/lib.rt:103:1
+returns-3 : tie.Need-returns-3
+returns-3 c = rw (c .enum-told3 .given .1, c .before .before .wide3 .ensures .0, c .before .before .before .wide2 .ensures .0, c .before .before .before .before .wide .ensures .0)
+
+-- src/lib.rt:103:1
+returns-4 : tie.Need-returns-4
+returns-4 c = rw (c .enum-told4 .given .1, c .before .before .wide3 .ensures .0, c .before .before .before .wide2 .ensures .0, c .before .before .before .before .wide .ensures .0)
+
+-- src/lib.rt:103:1
+returns-5 : tie.Need-returns-5
+returns-5 c = rw (c .enum-told5 .given .1, c .before .before .wide3 .ensures .0, c .before .before .before .wide2 .ensures .0, c .before .before .before .before .wide .ensures .0)
+
+pub period-rule-spec : {M : Type 1} → statement M
+period-rule-spec =
+    tie.close
+    (tie.spec
+    wide-requires
+    wide-requires-2
+    wide-requires-3
+    enum-told
+    enum-told-2
+    enum-told-3
+    mul-result
+    enum-told-4
+    mul-result-2
+    enum-told-5
+    mul-result-3
+    returns
+    returns-2
+    returns-3
+    returns-4
+    returns-5)

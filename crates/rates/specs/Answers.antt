@@ -1,0 +1,51 @@
+-- What the answers of the checks stand for.
+use Prim.Native.Nat.{ℕ, _-_}
+use mathlib.Core.Bool.{cond}
+use mathlib.Core.List.{List}
+use lib.Dec.{ltb}
+use lib.ListN.{getD}
+use Rattle.model.specs.Outcome.{Outcome, accepted, refused, fault}
+use Rattle.model.specs.Rates.{periodRule}
+use Rattle.model.specs.declared.Kind.{Kind}
+use Rattle.model.specs.declared.Sampled.{Sampled}
+use Rattle.rates.specs.declared.Cycles.{Cycles}
+use Rattle.rates.specs.declared.Cycles.the-variants as Cycles
+use Rattle.rates.specs.declared.Part.{Part}
+use Rattle.rates.specs.declared.Part.the-variants as Part
+use Rattle.reader.specs.declared.Judged.{Judged}
+use Rattle.reader.specs.declared.Judged.the-variants as Judged
+
+-- The judgement of a check.
+unfoldable pub judgementOf : Outcome (Unit {0}) → Judged
+judgementOf (accepted a) = Judged.Fine
+judgementOf (refused f) = Judged.Refused f
+
+-- The hypercycle, or its refusal.
+unfoldable pub cyclesOf : Outcome ℕ → Cycles
+cyclesOf (accepted h) = Cycles.Least h
+cyclesOf (refused f) = Cycles.Refused f
+
+-- A LINK of a signal, by the number of signals: 7.
+unfoldable pub linkJudged : ℕ → ℕ → ℕ → Judged
+linkJudged count at signal = cond (ltb signal count) Judged.Fine (Judged.Refused (fault 7 at))
+
+-- The period of signal s in a table of 64.
+unfoldable pub periodAt : List ℕ → ℕ → ℕ
+periodAt periods s = cond (ltb s 64) (getD periods s 0) 0
+
+-- A read, by the number of signals and their periods: 7, then 8.
+unfoldable pub readJudged : ℕ → List ℕ → ℕ → ℕ → Kind → Sampled → Judged
+readJudged count periods at reader kind x =
+    cond (ltb (x .signal) count)
+    (cond (periodRule kind (periodAt periods (x .signal)) (periodAt periods reader) (x .factor)) Judged.Fine
+    (Judged.Refused (fault 8 at)))
+    (Judged.Refused (fault 7 at))
+
+-- A command after s signals.
+unfoldable pub partJudged : ℕ → List ℕ → ℕ → ℕ → Part → Judged
+partJudged count periods at s Part.Other = Judged.Fine
+partJudged count periods at s Part.Signal = Judged.Fine
+partJudged count periods at s Part.Chain = Judged.Fine
+partJudged count periods at s (Part.Link signal) = linkJudged count at signal
+partJudged count periods at s Part.Operand = Judged.Fine
+partJudged count periods at s (Part.Read kind x) = readJudged count periods at (s - 1) kind x

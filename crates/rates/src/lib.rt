@@ -1,0 +1,256 @@
+// The checks of rates and links: refusals 7 to 10.
+use model::Command;
+use model::Fault;
+use model::Kind;
+use model::Sampled;
+use reader::Judged;
+ghost use mathlib.Core.Path.{_≡_};
+ghost use Prim.Native.Nat.{ℕ, _+_, _-_, _%_, _≤_, _<_};
+ghost use lib.Dec.{eqb};
+ghost use lib.ListN.{length};
+ghost use Rattle.model.specs.Outcome.{accepted};
+ghost use Rattle.model.specs.Program.{Program, parseProgram};
+ghost use Rattle.model.specs.Rates.{periodRule, declaredAndRated, isMultiple, hypercycle};
+ghost use Rattle.reader.specs.Tables.{PeriodsOf};
+ghost use Rattle.rates.specs.Answers.{judgementOf, cyclesOf, periodAt, linkJudged, readJudged, partJudged};
+ghost use Rattle.rates.specs.Walk.{widthOf, partOf, signalsAfter};
+
+// The bytes of a command without the expression or the LINKs that follow it.
+pub fn width_of(command: Command) -> usize
+    ensures { λ r. ⌜ r ≡ widthOf command ⌝ }
+{
+    match command {
+        Command::EndsEarly => 0,
+        Command::Unknown => 0,
+        Command::OutOfRange => 0,
+        Command::End => 1,
+        Command::Input(_, _) => 6,
+        Command::Equation(_, _, _) => 8,
+        Command::Latency(_, _) => 4,
+        Command::Link(_) => 2,
+        Command::Cap(_) => 5,
+        Command::Constant(_) => 5,
+        Command::Read(kind, _) => reader::read_width(kind),
+        Command::Binary(_) => 1,
+        Command::Negate => 1,
+        Command::If => 1,
+    }
+}
+
+// What a command is to a walk over the text: IN or EQ, LAT, LINK, a read, another command of an expression, or another one.
+pub enum Part {
+    Other,
+    Signal,
+    Chain,
+    Link(u8),
+    Operand,
+    Read(Kind, Sampled),
+}
+
+pub fn part_of(command: Command) -> Part
+    ensures { λ r. ⌜ r ≡ partOf command ⌝ }
+{
+    match command {
+        Command::EndsEarly => Part::Other,
+        Command::Unknown => Part::Other,
+        Command::OutOfRange => Part::Other,
+        Command::End => Part::Other,
+        Command::Input(_, _) => Part::Signal,
+        Command::Equation(_, _, _) => Part::Signal,
+        Command::Latency(_, _) => Part::Chain,
+        Command::Link(signal) => Part::Link(signal),
+        Command::Cap(_) => Part::Other,
+        Command::Constant(_) => Part::Operand,
+        Command::Read(kind, operands) => Part::Read(kind, operands),
+        Command::Binary(_) => Part::Operand,
+        Command::Negate => Part::Operand,
+        Command::If => Part::Operand,
+    }
+}
+
+// How many signals a part declares.
+pub fn signals_here(part: Part) -> usize
+    ensures { λ r. ⌜ ((s : ℕ) → signalsAfter s part ≡ s + r) × (r ≤ 1) ⌝ }
+{
+    match part {
+        Part::Other => 0,
+        Part::Signal => 1,
+        Part::Chain => 0,
+        Part::Link(_) => 0,
+        Part::Operand => 0,
+        Part::Read(_, _) => 0,
+    }
+}
+
+// The number of the signal declared last.
+pub fn last_of(signals: usize) -> usize
+    ensures { λ r. ⌜ r ≡ signals - 1 ⌝ }
+{
+    if signals == 0 { 0 } else { signals - 1 }
+}
+
+// The period of a signal by the table; 0 past its end.
+fn period_at(periods: &[u8; 64], signal: usize) -> u8
+    ensures { λ r. ⌜ r ≡ periodAt (now (periods .entry)) signal ⌝ }
+{
+    if signal < 64 { periods[signal] } else { 0 }
+}
+
+fn wide(byte: u8) -> usize
+    ensures { λ r. ⌜ (r ≡ byte) × (r < 256) ⌝ }
+{
+    byte as usize
+}
+
+// The period rule of a read with factor n: w is the period of the signal read, r the reader's.
+fn period_rule(kind: Kind, w: u8, r: u8, n: u8) -> bool
+    ensures { λ x. ⌜ x ≡ periodRule kind w r n ⌝ }
+{
+    let read = wide(w);
+    let reader = wide(r);
+    let factor = wide(n);
+    match kind {
+        Kind::Now => reader == read,
+        Kind::Last => reader == read,
+        Kind::When => reader == factor * read,
+        Kind::LastWhen => reader == factor * read,
+        Kind::Current => read == factor * reader,
+    }
+}
+
+fn refuse(number: u8, place: usize) -> Judged
+    ensures { λ r. ⌜ r ≡ Judged.Refused (record { number = number; place = place }) ⌝ }
+{
+    Judged::Refused(Fault {
+        number: number,
+        place: place,
+    })
+}
+
+// 7 at a LINK of an undeclared signal.
+fn judge_link(count: usize, at: usize, signal: u8) -> Judged
+    ensures { λ r. ⌜ r ≡ linkJudged count at signal ⌝ }
+{
+    if count <= wide(signal) {
+        return refuse(7, at);
+    }
+    Judged::Fine
+}
+
+// 7 at a read of an undeclared signal, else 8 where its period rule is broken.
+fn judge_read(
+    count: usize,
+    periods: &[u8; 64],
+    at: usize,
+    reader: usize,
+    kind: Kind,
+    operands: Sampled,
+) -> Judged
+    ensures { λ r. ⌜ r ≡ readJudged count (now (periods .entry)) at reader kind operands ⌝ }
+{
+    let signal = wide(operands.signal);
+    if count <= signal {
+        return refuse(7, at);
+    }
+    let w = period_at(periods, signal);
+    let r = period_at(periods, reader);
+    if !period_rule(kind, w, r, operands.factor) {
+        return refuse(8, at);
+    }
+    Judged::Fine
+}
+
+// 7 and 8 at one command after so many signals.
+fn judge_part(count: usize, periods: &[u8; 64], at: usize, signals: usize, part: Part) -> Judged
+    ensures { λ r. ⌜ r ≡ partJudged count (now (periods .entry)) at signals part ⌝ }
+{
+    match part {
+        Part::Other => Judged::Fine,
+        Part::Signal => Judged::Fine,
+        Part::Chain => Judged::Fine,
+        Part::Link(signal) => judge_link(count, at, signal),
+        Part::Operand => Judged::Fine,
+        Part::Read(kind, operands) => judge_read(
+            count,
+            periods,
+            at,
+            last_of(signals),
+            kind,
+            operands,
+        ),
+    }
+}
+
+// The hypercycle, or its refusal.
+pub enum Cycles {
+    Least(usize),
+    Refused(Fault),
+}
+
+// 7 and 8 in order of offset, by one walk over the text.
+pub fn declared_and_rated(text: &[u8], count: usize, periods: &[u8; 64]) -> Judged
+    ensures { λ r. ⌜ ((p : Program) → parseProgram (now (text .entry)) ≡ accepted p → length (p .signals) ≡ count → PeriodsOf p (now (periods .entry)) → r ≡ judgementOf (declaredAndRated p)) ⌝ }
+{
+    let mut at: usize = 0;
+    let mut signals: usize = 0;
+    while at < text.len() {
+        let command = commands::command_at(text, at);
+        let width = width_of(command);
+        if width == 0 {
+            return Judged::Fine;
+        }
+        let part = part_of(command);
+        let judged = judge_part(count, periods, at, signals, part);
+        let Judged::Fine = judged else {
+            return judged;
+        };
+        signals = signals + signals_here(part);
+        at = at + width;
+    }
+    Judged::Fine
+}
+
+// Whether a period divides h.
+fn divides(period: u8, h: usize) -> bool
+    ensures { λ r. ⌜ r ≡ eqb (h % period) 0 ⌝ }
+{
+    let d = wide(period);
+    if d == 0 {
+        return h == 0;
+    }
+    h % d == 0
+}
+
+// Whether every period divides h.
+fn is_multiple(count: usize, periods: &[u8; 64], h: usize) -> bool
+    requires { ⌜ count ≤ 64 ⌝ }
+    ensures { λ r. ⌜ ((p : Program) → length (p .signals) ≡ count → PeriodsOf p (now (periods .entry)) → r ≡ isMultiple (p .signals) h) ⌝ }
+{
+    let mut s: usize = 0;
+    while s < count {
+        if !divides(periods[s], h) {
+            return false;
+        }
+        s = s + 1;
+    }
+    true
+}
+
+// The hypercycle: the least number from 1 to 240 that every period divides, else 9. (Signals × hypercycle.)
+pub fn hypercycle(count: usize, periods: &[u8; 64]) -> Cycles
+    requires { ⌜ count ≤ 64 ⌝ }
+    ensures { λ r. ⌜ ((p : Program) → length (p .signals) ≡ count → PeriodsOf p (now (periods .entry)) → r ≡ cyclesOf (hypercycle p)) ⌝ }
+{
+    let mut h: usize = 0;
+    while h < 240 {
+        let next = h + 1;
+        if is_multiple(count, periods, next) {
+            return Cycles::Least(next);
+        }
+        h = next;
+    }
+    Cycles::Refused(Fault {
+        number: 9,
+        place: 0,
+    })
+}

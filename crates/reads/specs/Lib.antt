@@ -1,0 +1,2 @@
+-- What the functions on one read stand for.
+pub mod Reads
