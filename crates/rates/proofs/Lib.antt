@@ -1,4 +1,5 @@
 -- Laws that the proofs of several functions cite.
+pub mod Counting
 pub mod Joined
 pub mod Multiples
 pub mod Rated

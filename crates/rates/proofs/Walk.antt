@@ -54,7 +54,7 @@ use Rattle.rates.specs.Walk.{
 use Rattle.rates.specs.declared.Part.{Part}
 use Rattle.rates.specs.declared.Part.the-variants as Part
 
-read-width : (kind : Kind) → 0 < readWidth kind
+pub read-width : (kind : Kind) → 0 < readWidth kind
 read-width Now = omega arith
 read-width Last = omega arith
 read-width When = omega arith

@@ -2,9 +2,11 @@
 use Prim.Native.Nat.{ℕ, _-_}
 use mathlib.Core.Bool.{cond}
 use mathlib.Core.List.{List}
-use lib.Dec.{ltb}
+use mathlib.Core.Path.{_≡_}
+use lib.Dec.{ltb, eqb}
 use lib.ListN.{getD}
 use Rattle.model.specs.Outcome.{Outcome, accepted, refused, fault}
+use Rattle.model.specs.Program.{Program, parseProgram}
 use Rattle.model.specs.Rates.{periodRule}
 use Rattle.model.specs.declared.Kind.{Kind}
 use Rattle.model.specs.declared.Sampled.{Sampled}
@@ -12,8 +14,10 @@ use Rattle.rates.specs.declared.Cycles.{Cycles}
 use Rattle.rates.specs.declared.Cycles.the-variants as Cycles
 use Rattle.rates.specs.declared.Part.{Part}
 use Rattle.rates.specs.declared.Part.the-variants as Part
+use Rattle.reader.specs.Tables.{TablesOf}
 use Rattle.reader.specs.declared.Judged.{Judged}
 use Rattle.reader.specs.declared.Judged.the-variants as Judged
+use Rattle.reader.specs.declared.Tables.{Tables}
 
 -- The judgement of a check.
 unfoldable pub judgementOf : Outcome (Unit {0}) → Judged
@@ -49,3 +53,16 @@ partJudged count periods at s Part.Chain = Judged.Fine
 partJudged count periods at s (Part.Link signal) = linkJudged count at signal
 partJudged count periods at s Part.Operand = Judged.Fine
 partJudged count periods at s (Part.Read kind x) = readJudged count periods at (s - 1) kind x
+
+-- 1 for a read of w.
+abbrev pub countedOf : ℕ → Part → ℕ
+countedOf w Part.Other = 0
+countedOf w Part.Signal = 0
+countedOf w Part.Chain = 0
+countedOf w (Part.Link signal) = 0
+countedOf w Part.Operand = 0
+countedOf w (Part.Read kind x) = cond (eqb (x .signal) w) 1 0
+
+-- The tables are those of the program that the text is.
+abbrev pub ReadAs : List ℕ → Tables → Type 0
+ReadAs text tables = (p : Program) × (parseProgram text ≡ accepted p) × TablesOf p tables

@@ -4,16 +4,18 @@ use model::Fault;
 use model::Kind;
 use model::Sampled;
 use reader::Judged;
+use reader::Tables;
+ghost use mathlib.Core.Bool.{cond};
 ghost use mathlib.Core.Path.{_≡_};
 ghost use Prim.Native.Nat.{ℕ, _+_, _-_, _%_, _≤_, _<_};
 ghost use lib.Dec.{eqb};
 ghost use lib.ListN.{length};
 ghost use Rattle.model.specs.Outcome.{accepted};
-ghost use Rattle.model.specs.Program.{Program, parseProgram};
-ghost use Rattle.model.specs.Rates.{periodRule, declaredAndRated, isMultiple, hypercycle};
-ghost use Rattle.reader.specs.Tables.{PeriodsOf};
-ghost use Rattle.rates.specs.Answers.{judgementOf, cyclesOf, periodAt, linkJudged, readJudged, partJudged};
-ghost use Rattle.rates.specs.Walk.{widthOf, partOf, signalsAfter};
+ghost use Rattle.model.specs.Program.{Program, Expr, equation, signalAt, parseProgram, readsOf, bodyReads};
+ghost use Rattle.model.specs.Rates.{periodRule, declaredAndRated, isMultiple, hypercycle, countReads};
+ghost use Rattle.reader.specs.Tables.{TablesOf, PeriodsOf};
+ghost use Rattle.rates.specs.Answers.{judgementOf, cyclesOf, periodAt, linkJudged, readJudged, partJudged, countedOf};
+ghost use Rattle.rates.specs.Walk.{widthOf, partOf, signalsAfter, isOperand};
 
 // The bytes of a command without the expression or the LINKs that follow it.
 pub fn width_of(command: Command) -> usize
@@ -239,4 +241,80 @@ pub fn hypercycle(count: usize, periods: &[u8; 64]) -> Cycles
         number: 9,
         place: 0,
     })
+}
+
+// Whether a part belongs to an expression.
+fn is_operand(part: Part) -> bool
+    ensures { λ r. ⌜ r ≡ isOperand part ⌝ }
+{
+    match part {
+        Part::Other => false,
+        Part::Signal => false,
+        Part::Chain => false,
+        Part::Link(_) => false,
+        Part::Operand => true,
+        Part::Read(_, _) => true,
+    }
+}
+
+fn one_if_same(a: u8, b: u8) -> usize
+    ensures { λ r. ⌜ r ≡ cond (eqb a b) 1 0 ⌝ }
+{
+    if a == b { 1 } else { 0 }
+}
+
+// 1 for a read of `signal`, else 0.
+fn counted(part: Part, signal: u8) -> usize
+    ensures { λ r. ⌜ r ≡ countedOf signal part ⌝ }
+{
+    match part {
+        Part::Other => 0,
+        Part::Signal => 0,
+        Part::Chain => 0,
+        Part::Link(_) => 0,
+        Part::Operand => 0,
+        Part::Read(_, operands) => one_if_same(operands.signal, signal),
+    }
+}
+
+// How many reads of `signal` the expression at `from` has, which ends at the first command that belongs to none.
+fn count_from(text: &[u8], from: usize, signal: u8) -> usize
+    ensures { λ r. ⌜ ((p : Program) (x weight : ℕ) (e : Expr) → parseProgram (now (text .entry)) ≡ accepted p → x < length (p .signals) → signalAt p x .body ≡ equation weight e → from ≡ signalAt p x .place + 8 → r ≡ countReads signal (readsOf e)) ⌝ }
+{
+    let mut at = from;
+    let mut count: usize = 0;
+    while at < text.len() {
+        let command = commands::command_at(text, at);
+        let part = part_of(command);
+        if !is_operand(part) {
+            return count;
+        }
+        count = count + counted(part, signal);
+        at = at + width_of(command);
+    }
+    count
+}
+
+// How many reads of `signal` stand in the equation at `place`; an input has none.
+pub fn count_reads(text: &[u8], place: usize, signal: u8) -> usize
+    ensures { λ r. ⌜ ((p : Program) (x : ℕ) → parseProgram (now (text .entry)) ≡ accepted p → x < length (p .signals) → place ≡ signalAt p x .place → r ≡ countReads signal (bodyReads (signalAt p x .body))) ⌝ }
+{
+    let command = commands::command_at(text, place);
+    let Command::Equation(_, _, _) = command else {
+        return 0;
+    };
+    count_from(text, place + 8, signal)
+}
+
+// How many reads of `before` stand in the equation of `signal`.
+fn reads_between(text: &[u8], tables: Tables, before: u8, signal: u8) -> usize
+    requires { ⌜ tables .signals ≤ 64 ⌝ }
+    ensures { λ r. ⌜ ((p : Program) → parseProgram (now (text .entry)) ≡ accepted p → TablesOf p tables → r ≡ countReads before (bodyReads (signalAt p signal .body))) ⌝ }
+{
+    let index = wide(signal);
+    if tables.signals <= index {
+        return 0;
+    }
+    let places = tables.places;
+    count_reads(text, places[index], before)
 }
