@@ -8,7 +8,7 @@ use native.Mathlib.Decide.{decLt}
 use native.Mathlib.Omega.{arith}
 use lib.Dec.{ltb, eqb}
 use lib.IntN.{ℤ}
-use lib.ListN.{length}
+use lib.ListN.{length, List·getD-eq-default}
 use types.Run.{OneOf, miss}
 use denote.Enum.Declared.{tagOf, declared as sum}
 use borrow.Author.Tests.{le-ltb}
@@ -229,3 +229,8 @@ module _ (text : List ℕ) (w : ℕ) (p : Program) (x : ℕ) (q : parseProgram t
       go : (b : Body) → signalAt p x .body ≡ b → Closed text (signalAt p x) b → r ≡ countReads w (bodyReads b)
       go input s k = let z : _≡_ {A = ℕ} 0 1 = cc (sym e ∙ k .1) in absurd (omega arith)
       go (equation n d) s k = h n d s
+
+-- A signal that is not declared has no reads.
+pub count-far : (w : ℕ) (p : Program) (x : ℕ) → count p ≤ x → 0 ≡ countReads w (bodyReads (signalAt p x .body))
+unfolding countReads
+count-far w p x le = rw (List·getD-eq-default (p .signals) noSignal le)

@@ -82,3 +82,9 @@ unfolding lowest
 lowest-inside f [] ys h g =
     lowest-sorted f f ys (λ j l. let e = all-at (λ x. f .place < x .place) ys f g j l in omega arith)
 lowest-inside f (x ∷ xs) ys h g = rw (lowest-inside f xs ys (h .1) g, lt-ltb (f .place) (x .place) (h .0))
+
+-- Joined lists whose numbers do not matter.
+pub join-each : {A B : Type 0} (f : A → List B) (i : ℕ) (xs : List A) → joinFrom i (λ j x. f x) xs ≡ each f xs
+unfolding joinFrom each
+join-each f i [] = refl
+join-each f i (x ∷ xs) = ap (f x ++_) (join-each f (suc i) xs)

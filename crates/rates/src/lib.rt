@@ -12,9 +12,9 @@ ghost use lib.Dec.{eqb};
 ghost use lib.ListN.{length};
 ghost use Rattle.model.specs.Outcome.{accepted};
 ghost use Rattle.model.specs.Program.{Program, Expr, equation, signalAt, parseProgram, readsOf, bodyReads};
-ghost use Rattle.model.specs.Rates.{periodRule, declaredAndRated, isMultiple, hypercycle, countReads};
-ghost use Rattle.reader.specs.Tables.{TablesOf, PeriodsOf};
-ghost use Rattle.rates.specs.Answers.{judgementOf, cyclesOf, periodAt, linkJudged, readJudged, partJudged, countedOf};
+ghost use Rattle.model.specs.Rates.{periodRule, declaredAndRated, isMultiple, hypercycle, countReads, isLinked, linked};
+ghost use Rattle.reader.specs.Tables.{TablesOf, PeriodsOf, chainAt};
+ghost use Rattle.rates.specs.Answers.{judgementOf, cyclesOf, periodAt, linkJudged, readJudged, partJudged, countedOf, ReadAs};
 ghost use Rattle.rates.specs.Walk.{widthOf, partOf, signalsAfter, isOperand};
 
 // The bytes of a command without the expression or the LINKs that follow it.
@@ -317,4 +317,42 @@ fn reads_between(text: &[u8], tables: Tables, before: u8, signal: u8) -> usize
     }
     let places = tables.places;
     count_reads(text, places[index], before)
+}
+
+// Whether the equation of each link of a chain after the first has exactly one read of the link before.
+fn is_linked(text: &[u8], tables: Tables, chain: usize) -> bool
+    requires { ⌜ ReadAs (now text) tables × (chain < tables .chains) ⌝ }
+    ensures { λ r. ⌜ ((p : Program) → parseProgram (now (text .entry)) ≡ accepted p → TablesOf p tables → r ≡ isLinked p (chainAt p chain .links)) ⌝ }
+{
+    let starts = tables.starts;
+    let lengths = tables.lengths;
+    let mut at = starts[chain] + 4;
+    let mut left = lengths[chain];
+    while 1 < left {
+        let second = at + 2;
+        let before = text[at + 1];
+        let signal = text[second + 1];
+        if reads_between(text, tables, before, signal) != 1 {
+            return false;
+        }
+        at = second;
+        left = left - 1;
+    }
+    true
+}
+
+// 10 at the lowest LAT whose links are not linked. (Links × the text of their equations.)
+pub fn linked(text: &[u8], tables: Tables) -> Judged
+    requires { ⌜ ReadAs (now text) tables ⌝ }
+    ensures { λ r. ⌜ ((p : Program) → parseProgram (now (text .entry)) ≡ accepted p → TablesOf p tables → r ≡ judgementOf (linked p)) ⌝ }
+{
+    let starts = tables.starts;
+    let mut chain: usize = 0;
+    while chain < tables.chains {
+        if !is_linked(text, tables, chain) {
+            return refuse(10, starts[chain]);
+        }
+        chain = chain + 1;
+    }
+    Judged::Fine
 }

@@ -1,3 +1,8 @@
+use Prim.Native.Nat.{ℕ, _+_, _≤_, _<_}
+use mathlib.Core.Path.{_≡_, refl, sym, ap, subst, _∙_}
+use native.Mathlib.Omega.{arith}
+use lib.ListN.{length, getD}
+use Rattle.rates.proofs.Counting.{count-far}
 use borrow.Author.Needs.{needs}
 use Rattle.rates.proofs.reads_between.Statement.{statement}
 use Rattle.rates.proofs.reads_between.Tie as tie
@@ -12,7 +17,7 @@ wide-requires c κs = search needs
 
 -- src/lib.rt:316:9
 returns : tie.Need-returns
-returns c = ?
+returns c =     λ p q t. count-far _ p _ (omega (arith, c .if1 .taken, c .before .before .wide .ensures, t .counts .signals-are))
 
 -- src/lib.rt:319:23
 mul-count-reads : tie.Need-mul-count-reads
@@ -28,7 +33,12 @@ count-reads-requires c κs = search needs
 
 -- src/lib.rt:310:1
 returns-2 : tie.Need-returns-2
-returns-2 c = ?
+returns-2 c =
+    let a = c .before .before .before .before .before .before .args in
+    let w = c .before .before .before .before .wide in
+    λ p q t.
+    let lt : a .signal < length (p .signals) = omega (arith, c .before .before .if1 .left, w .ensures, t .counts .signals-are) in
+    c .count-reads .ensures p (a .signal) q lt (ap (λ n. getD (a .tables .places) n 0) (w .ensures .0) ∙ t .places (a .signal) lt)
 
 pub reads-between-spec : {M : Type 1} → statement M
 reads-between-spec =
