@@ -3,6 +3,5 @@ pub mod Counting
 pub mod Joined
 pub mod Linking
 pub mod Multiples
-pub mod Rated
 pub mod Turns
 pub mod Walk

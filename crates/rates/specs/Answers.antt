@@ -1,6 +1,6 @@
 -- What the answers of the checks stand for.
 use Prim.Native.Nat.{ℕ, _-_}
-use mathlib.Core.Bool.{cond}
+use mathlib.Core.Bool.{Bool, true, false, cond}
 use mathlib.Core.List.{List}
 use mathlib.Core.Path.{_≡_}
 use lib.Dec.{ltb, eqb}
@@ -29,28 +29,28 @@ unfoldable pub cyclesOf : Outcome ℕ → Cycles
 cyclesOf (accepted h) = Cycles.Least h
 cyclesOf (refused f) = Cycles.Refused f
 
--- A LINK of a signal, by the number of signals: 7.
-unfoldable pub linkJudged : ℕ → ℕ → ℕ → Judged
-linkJudged count at signal = cond (ltb signal count) Judged.Fine (Judged.Refused (fault 7 at))
+-- 7 at a read or LINK of a signal that is not declared, then 8 at a read that breaks its period rule.
+unfoldable pub rateJudged : Bool → Bool → ℕ → Judged
+rateJudged true true at = Judged.Fine
+rateJudged true false at = Judged.Refused (fault 8 at)
+rateJudged false kept at = Judged.Refused (fault 7 at)
 
 -- The period of signal s in a table of 64.
 unfoldable pub periodAt : List ℕ → ℕ → ℕ
 periodAt periods s = cond (ltb s 64) (getD periods s 0) 0
 
--- A read, by the number of signals and their periods: 7, then 8.
+-- A read, by the number of signals and their periods.
 unfoldable pub readJudged : ℕ → List ℕ → ℕ → ℕ → Kind → Sampled → Judged
 readJudged count periods at reader kind x =
-    cond (ltb (x .signal) count)
-    (cond (periodRule kind (periodAt periods (x .signal)) (periodAt periods reader) (x .factor)) Judged.Fine
-    (Judged.Refused (fault 8 at)))
-    (Judged.Refused (fault 7 at))
+    rateJudged (ltb (x .signal) count)
+    (periodRule kind (periodAt periods (x .signal)) (periodAt periods reader) (x .factor)) at
 
 -- A command after s signals.
-unfoldable pub partJudged : ℕ → List ℕ → ℕ → ℕ → Part → Judged
+abbrev pub partJudged : ℕ → List ℕ → ℕ → ℕ → Part → Judged
 partJudged count periods at s Part.Other = Judged.Fine
 partJudged count periods at s Part.Signal = Judged.Fine
 partJudged count periods at s Part.Chain = Judged.Fine
-partJudged count periods at s (Part.Link signal) = linkJudged count at signal
+partJudged count periods at s (Part.Link signal) = rateJudged (ltb signal count) true at
 partJudged count periods at s Part.Operand = Judged.Fine
 partJudged count periods at s (Part.Read kind x) = readJudged count periods at (s - 1) kind x
 

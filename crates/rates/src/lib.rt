@@ -14,7 +14,7 @@ ghost use Rattle.model.specs.Outcome.{accepted};
 ghost use Rattle.model.specs.Program.{Program, Expr, equation, signalAt, parseProgram, readsOf, bodyReads};
 ghost use Rattle.model.specs.Rates.{periodRule, declaredAndRated, isMultiple, hypercycle, countReads, isLinked, linked};
 ghost use Rattle.reader.specs.Tables.{TablesOf, PeriodsOf, chainAt};
-ghost use Rattle.rates.specs.Answers.{judgementOf, cyclesOf, periodAt, linkJudged, readJudged, partJudged, countedOf, ReadAs};
+ghost use Rattle.rates.specs.Answers.{judgementOf, cyclesOf, periodAt, rateJudged, readJudged, partJudged, countedOf, ReadAs};
 ghost use Rattle.rates.specs.Walk.{widthOf, partOf, signalsAfter, isOperand};
 
 // The bytes of a command without the expression or the LINKs that follow it.
@@ -129,30 +129,27 @@ fn refuse(number: u8, place: usize) -> Judged
     })
 }
 
-// 7 at a LINK of an undeclared signal.
-fn judge_link(count: usize, at: usize, signal: u8) -> Judged
-    ensures { λ r. ⌜ r ≡ linkJudged count at signal ⌝ }
+// 7 at a read or LINK of a signal that is not declared, then 8 at a read that breaks its period rule.
+fn judge_rate(declared: bool, kept: bool, place: usize) -> Judged
+    ensures { λ r. ⌜ r ≡ rateJudged declared kept place ⌝ }
 {
-    if count <= wide(signal) {
-        return refuse(7, at);
+    if !declared {
+        return refuse(7, place);
+    }
+    if !kept {
+        return refuse(8, place);
     }
     Judged::Fine
 }
 
-// 7 at a read of an undeclared signal, else 8 where its period rule is broken.
 fn judge_read(count: usize, periods: &[u8; 64], at: usize, reader: usize, kind: Kind, operands: Sampled) -> Judged
     ensures { λ r. ⌜ r ≡ readJudged count (now (periods .entry)) at reader kind operands ⌝ }
 {
     let signal = wide(operands.signal);
-    if count <= signal {
-        return refuse(7, at);
-    }
     let w = period_at(periods, signal);
     let r = period_at(periods, reader);
-    if !period_rule(kind, w, r, operands.factor) {
-        return refuse(8, at);
-    }
-    Judged::Fine
+    let kept = period_rule(kind, w, r, operands.factor);
+    judge_rate(signal < count, kept, at)
 }
 
 // 7 and 8 at one command after so many signals.
@@ -163,7 +160,7 @@ fn judge_part(count: usize, periods: &[u8; 64], at: usize, signals: usize, part:
         Part::Other => Judged::Fine,
         Part::Signal => Judged::Fine,
         Part::Chain => Judged::Fine,
-        Part::Link(signal) => judge_link(count, at, signal),
+        Part::Link(signal) => judge_rate(wide(signal) < count, true, at),
         Part::Operand => Judged::Fine,
         Part::Read(kind, operands) => judge_read(count, periods, at, last_of(signals), kind, operands),
     }

@@ -1,12 +1,17 @@
 use mathlib.Core.Path.{sym, _∙_}
 use native.Mathlib.Omega.{arith}
-use Rattle.rates.proofs.Rated.{small-product}
+use Prim.Native.Nat.{ℕ, _*_, _≤_, _<_}
+use native.Mathlib.Nat.{mul-le-mul-right}
 use borrow.Author.Needs.{needs}
 use Rattle.rates.proofs.period_rule.Statement.{statement}
 use Rattle.rates.proofs.period_rule.Tie as tie
 use Rattle.rates.proofs.period_rule.Reads as reads
 use Rattle.rates.proofs.period_rule.Lts as lts
 use Rattle.rates.proofs.wide.Reads as wide-reads
+
+-- the product of two bytes
+small-product : (a b : ℕ) → a < 256 → b < 256 → a * b ≤ 65025
+small-product a b h g = let f : a * b ≤ 255 * b = mul-le-mul-right b (omega arith) in omega arith
 
 -- src/lib.rt:106:9
 wide-requires : tie.Need-wide-requires
