@@ -1,12 +1,12 @@
 -- The reads of one signal in an equation, counted by a walk over its expression. Assumes nothing.
-use Prim.Native.Nat.{ℕ, zero, suc, _+_, _-_, _≤_, _<_}
+use Prim.Native.Nat.{ℕ, _+_, _-_, _≤_, _<_}
 use mathlib.Core.Bool.{Bool, true, false, cond, false≢true}
-use mathlib.Core.List.{List, [], _∷_, _++_, map, append-nil}
+use mathlib.Core.List.{List, [], _∷_, _++_, map}
 use mathlib.Core.Path.{_≡_, refl, sym, ap, subst, _∙_}
 use native.Mathlib.Nat.{zero-add}
 use native.Mathlib.Decide.{decLt}
 use native.Mathlib.Omega.{arith}
-use lib.Dec.{ltb, eqb}
+use lib.Dec.{eqb}
 use lib.IntN.{ℤ}
 use lib.ListN.{length, List·getD-eq-default}
 use types.Run.{OneOf, miss}
@@ -15,31 +15,15 @@ use borrow.Author.Tests.{le-ltb}
 use Rattle.model.specs.Accepted.{All}
 use Rattle.model.specs.Command.{keywordAt, commandOf, commandAt}
 use Rattle.model.specs.Outcome.{accepted}
-use Rattle.model.specs.Program.{
-  Read,
-  Expr,
-  Body,
-  input,
-  equation,
-  Link,
-  Program,
-  Signal,
-  empty,
-  noSignal,
-  count,
-  signalAt,
-  parseProgram,
-  readsOf,
-  bodyReads,
-}
+use Rattle.model.specs.Program.{Read, Expr, Body, input, equation, Link, Program, Signal, noSignal, count, signalAt, parseProgram, readsOf, bodyReads}
 use Rattle.model.specs.Rates.{countReads}
 use Rattle.model.specs.declared.Command.{Command}
 use Rattle.model.specs.declared.Command.the-variants as Command
 use Rattle.model.proofs.All.{all-append, all-at}
 use Rattle.model.proofs.Command.{enum}
-use Rattle.model.proofs.Spelled.{Spells, SpellsLinks, Declares, declared}
+use Rattle.model.proofs.Spelled.{Spells, Declares, declared}
 use Rattle.rates.specs.Answers.{countedOf}
-use Rattle.rates.specs.Walk.{widthOf, partOf, signalsAfter, chainsAfter, Numbered, numbered, readsHere, linksHere, isOperand, Walk, done}
+use Rattle.rates.specs.Walk.{widthOf, partOf, Numbered, numbered, readsHere, isOperand, Walk, done}
 use Rattle.rates.specs.declared.Part.{Part}
 use Rattle.rates.specs.declared.Part.the-variants as Part
 use Rattle.rates.proofs.Walk.{read-width, width-moves, walk-within, walk-expr, turn, over}

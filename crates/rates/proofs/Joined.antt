@@ -1,16 +1,16 @@
 -- Lists joined from numbered items, and the lowest of joined faults. Assumes nothing.
-use Prim.Native.Nat.{ℕ, zero, suc, _+_, _≤_, _<_}
+use Prim.Native.Nat.{ℕ, suc, _+_, _<_}
 use mathlib.Core.List.{List, [], _∷_, _++_, map, append-assoc}
 use mathlib.Core.Path.{_≡_, refl, sym, ap, _∙_}
 use native.Mathlib.Nat.{add-zero, add-suc, suc-add}
 use native.Mathlib.Omega.{arith}
 use lib.ListN.{length, getD}
-use borrow.Author.Tests.{le-ltb, lt-ltb}
+use borrow.Author.Tests.{lt-ltb}
 use Rattle.model.specs.Accepted.{All}
-use Rattle.model.specs.Outcome.{Outcome, accepted, refused, lower, lowest}
+use Rattle.model.specs.Outcome.{refused, lowest}
 use Rattle.model.specs.Search.{joinFrom}
 use Rattle.model.specs.declared.Fault.{Fault}
-use Rattle.model.proofs.All.{all-append, all-at, all-map, all-of-map}
+use Rattle.model.proofs.All.{all-append, all-at, all-map}
 use Rattle.model.proofs.Outcomes.{lowest-sorted}
 use Rattle.rates.specs.Walk.{Numbered, numbered}
 

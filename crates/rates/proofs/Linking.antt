@@ -1,28 +1,27 @@
 -- The links of chains (10), chain after chain and link after link. Assumes nothing.
-use Prim.Native.Nat.{ℕ, zero, suc, _+_, _-_, _*_, _≤_, _<_}
+use Prim.Native.Nat.{ℕ, zero, suc, _+_, _-_, _≤_, _<_}
 use mathlib.Core.Bool.{Bool, true, false, cond, _&&_}
 use mathlib.Core.List.{List, [], _∷_, _++_}
-use mathlib.Core.Path.{_≡_, refl, sym, ap, subst, _∙_}
+use mathlib.Core.Path.{_≡_, refl, sym, ap, _∙_}
 use native.Mathlib.Numerals.{add-one}
 use native.Mathlib.Omega.{arith}
 use lib.Dec.{eqb}
 use lib.ListN.{length, getD, drop, drop-of-length-le}
 use lib.Seq.{drop-cons}
 use Rattle.model.specs.Accepted.{All}
-use Rattle.model.specs.Command.{commandAt}
 use Rattle.model.specs.Outcome.{Outcome, accepted, refused, fault, lowest}
-use Rattle.model.specs.Program.{Link, Chain, Program, empty, signalAt, parseProgram, bodyReads}
+use Rattle.model.specs.Program.{Link, Chain, Program, signalAt, parseProgram, bodyReads}
 use Rattle.model.specs.Rates.{countReads, isLinked, linked}
 use Rattle.model.specs.Word.{byteAt}
 use Rattle.model.specs.declared.Fault.{Fault}
 use Rattle.model.proofs.All.{all-append, all-at, all-map}
 use Rattle.model.proofs.Commands.{command-sound}
 use Rattle.model.proofs.Legal.{legal, links-end, SpellsChain}
-use Rattle.model.proofs.Spelled.{Spells, SpellsLinks, Declares, declared}
+use Rattle.model.proofs.Spelled.{SpellsLinks, Declares, declared}
 use Rattle.reader.specs.Tables.{noChain, chainAt, TablesOf}
 use Rattle.reader.specs.declared.Tables.{Tables}
 use Rattle.rates.specs.Answers.{ReadAs}
-use Rattle.rates.specs.Walk.{anyPart, Walk, done}
+use Rattle.rates.specs.Walk.{anyPart, done}
 use Rattle.rates.proofs.Joined.{each, join-each, Beyond, lowest-inside}
 use Rattle.rates.proofs.Walk.{walk-within, walk-expr}
 
@@ -41,8 +40,8 @@ record Two (text : List ℕ) (p : Program) (links : List Link) (at end : ℕ) : 
   fewer : length links ≡ suc (length rest)
   inside : at + 4 ≤ length text
   judged :
-    isLinked p links ≡
-    eqb (countReads (byteAt text (at + 1)) (bodyReads (signalAt p (byteAt text (at + 2 + 1)) .body))) 1 && isLinked p rest
+      isLinked p links ≡
+      eqb (countReads (byteAt text (at + 1)) (bodyReads (signalAt p (byteAt text (at + 2 + 1)) .body))) 1 && isLinked p rest
 
 module _ (text : List ℕ) (p : Program) where
   two : (links : List Link) (at end : ℕ) → SpellsLinks text at links end → 2 ≤ length links → Two text p links at end

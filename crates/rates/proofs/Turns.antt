@@ -1,12 +1,12 @@
 -- What is left of 7 and 8 from a command on. Assumes nothing.
-use Prim.Native.Nat.{ℕ, zero, suc, _+_, _-_, _≤_, _<_}
+use Prim.Native.Nat.{ℕ, suc, _+_, _-_, _≤_, _<_}
 use mathlib.Core.Bool.{Bool, true, false, cond}
-use mathlib.Core.List.{List, [], _∷_, _++_, append-assoc}
+use mathlib.Core.List.{List, [], _∷_, _++_}
 use mathlib.Core.Path.{_≡_, refl, sym, ap, subst, _∙_}
 use native.Mathlib.Nat.{zero-add}
 use native.Mathlib.Omega.{arith}
 use lib.Dec.{ltb}
-use lib.ListN.{length, getD}
+use lib.ListN.{length}
 use borrow.Author.Tests.{ltb-true, lt-ltb}
 use Rattle.model.specs.Accepted.{All}
 use Rattle.model.specs.Command.{commandAt}
@@ -16,28 +16,13 @@ use Rattle.model.specs.Rates.{periodRule, readFaults, linkFaults, declaredAndRa
 use Rattle.model.specs.Search.{joinFrom}
 use Rattle.model.specs.declared.Command.{Command}
 use Rattle.model.specs.declared.Fault.{Fault}
-use Rattle.model.specs.declared.Kind.{Kind}
-use Rattle.model.specs.declared.Sampled.{Sampled}
 use Rattle.model.proofs.All.{all-append}
 use Rattle.model.proofs.Legal.{legal}
 use Rattle.reader.specs.Tables.{PeriodsOf}
 use Rattle.reader.specs.declared.Judged.{Judged}
 use Rattle.reader.specs.declared.Judged.the-variants as Judged
 use Rattle.rates.specs.Answers.{periodAt, rateJudged, readJudged, partJudged}
-use Rattle.rates.specs.Walk.{
-  widthOf,
-  partOf,
-  signalsAfter,
-  chainsAfter,
-  Numbered,
-  numbered,
-  anyPart,
-  readsHere,
-  linksHere,
-  Walk,
-  allReads,
-  allLinks,
-}
+use Rattle.rates.specs.Walk.{widthOf, partOf, signalsAfter, Numbered, anyPart, readsHere, linksHere, Walk, allReads, allLinks}
 use Rattle.rates.specs.declared.Part.{Part}
 use Rattle.rates.specs.declared.Part.the-variants as Part
 use Rattle.rates.proofs.Joined.{each, each-joined, join-same, numbers-below, all-later, Beyond, lowest-inside}
@@ -180,8 +165,8 @@ module _ (text : List ℕ) (p : Program) (e : parseProgram text ≡ accepted p) 
       (reads-beyond p at (t .reads) (v .0)) (links-beyond p at (t .links) (v .1)) in (
         t .moves,
         says text p at s (widthOf c) (partOf c) (t .reads) (t .links) _ (t .onward)
-        (all-later (λ m. m .number < count p) (readsHere at s (partOf c)) (t .reads) n)
-        (partJudged (count p) periods at s (partOf c)) r,
+            (all-later (λ m. m .number < count p) (readsHere at s (partOf c)) (t .reads) n)
+            (partJudged (count p) periods at s (partOf c)) r,
       )
 
   -- By what is known of the command: its width, its part, and its judgement.

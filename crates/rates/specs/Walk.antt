@@ -102,12 +102,12 @@ isOperand (Part.Read kind x) = true
 -- From `at`, after s signals and k chains, commands follow one another up to `end`, all of them such parts, and these are
 -- the reads and LINKs that they mention.
 pub data Walk (only : Part → Bool) (text : List ℕ) (end : ℕ)
-  : ℕ → ℕ → ℕ → List (Numbered Read) → List (Numbered Link) → Type 0 where
-    done : {at s k : ℕ} → at ≡ end → Walk only text end at s k [] []
-    step : {at s k : ℕ} {rs : List (Numbered Read)} {ls : List (Numbered Link)} (c : Command) → commandAt text at ≡ c →
-        only (partOf c) ≡ true → 0 < widthOf c →
-        Walk only text end (at + widthOf c) (signalsAfter s (partOf c)) (chainsAfter k (partOf c)) rs ls →
-        Walk only text end at s k (readsHere at s (partOf c) ++ rs) (linksHere at k (partOf c) ++ ls)
+    : ℕ → ℕ → ℕ → List (Numbered Read) → List (Numbered Link) → Type 0 where
+  done : {at s k : ℕ} → at ≡ end → Walk only text end at s k [] []
+  step : {at s k : ℕ} {rs : List (Numbered Read)} {ls : List (Numbered Link)} (c : Command) → commandAt text at ≡ c →
+      only (partOf c) ≡ true → 0 < widthOf c →
+      Walk only text end (at + widthOf c) (signalsAfter s (partOf c)) (chainsAfter k (partOf c)) rs ls →
+      Walk only text end at s k (readsHere at s (partOf c) ++ rs) (linksHere at k (partOf c) ++ ls)
 
 -- The reads of all signals, and the LINKs of all chains, in order.
 unfoldable pub allReads : Program → List (Numbered Read)

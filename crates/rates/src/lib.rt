@@ -142,7 +142,14 @@ fn judge_rate(declared: bool, kept: bool, place: usize) -> Judged
     Judged::Fine
 }
 
-fn judge_read(count: usize, periods: &[u8; 64], at: usize, reader: usize, kind: Kind, operands: Sampled) -> Judged
+fn judge_read(
+    count: usize,
+    periods: &[u8; 64],
+    at: usize,
+    reader: usize,
+    kind: Kind,
+    operands: Sampled,
+) -> Judged
     ensures { λ r. ⌜ r ≡ readJudged count (now (periods .entry)) at reader kind operands ⌝ }
 {
     let signal = wide(operands.signal);
@@ -162,7 +169,14 @@ fn judge_part(count: usize, periods: &[u8; 64], at: usize, signals: usize, part:
         Part::Chain => Judged::Fine,
         Part::Link(signal) => judge_rate(wide(signal) < count, true, at),
         Part::Operand => Judged::Fine,
-        Part::Read(kind, operands) => judge_read(count, periods, at, last_of(signals), kind, operands),
+        Part::Read(kind, operands) => judge_read(
+            count,
+            periods,
+            at,
+            last_of(signals),
+            kind,
+            operands,
+        ),
     }
 }
 

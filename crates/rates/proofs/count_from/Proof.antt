@@ -1,5 +1,6 @@
+-- `rates::count_from` meets its contract. Assumes nothing.
 use Prim.Native.Nat.{ℕ, _+_, _-_, _≤_, _<_}
-use mathlib.Core.Path.{_≡_, refl, sym, ap, _∙_}
+use mathlib.Core.Path.{_≡_, sym, ap, _∙_}
 use native.Mathlib.Omega.{arith}
 use denote.Ref.{now}
 use lib.ListN.{length}
@@ -12,13 +13,6 @@ use Rattle.rates.specs.Walk.{partOf, isOperand}
 use Rattle.rates.proofs.Counting.{Left, count-start, count-stop, count-moves, counted-most, stops-past, operand-moves}
 use Rattle.rates.proofs.count_from.Statement.{statement}
 use Rattle.rates.proofs.count_from.Tie as tie
-use Rattle.rates.proofs.count_from.Reads as reads
-use Rattle.rates.proofs.count_from.Lts as lts
-use Rattle.commands.proofs.command_at.Reads as command-at-reads
-use Rattle.rates.proofs.counted.Reads as counted-reads
-use Rattle.rates.proofs.is_operand.Reads as is-operand-reads
-use Rattle.rates.proofs.part_of.Reads as part-of-reads
-use Rattle.rates.proofs.width_of.Reads as width-of-reads
 
 abbrev Inv-loop : tie.InvT-loop
 Inv-loop text from signal at₀ count₀ at count =
@@ -40,23 +34,18 @@ moves c =
     operand-moves _ _ _ _ _ (b .before .before .command-at .ensures) (b .before .part-of .ensures) (c .width-of .ensures)
     (sym (b .is-operand .ensures) ∙ not-false (b .is-operand .result) (c .before .before .if1 .left))
 
--- src/lib.rt:285:5
 loop-holds : tie.Need-loop-holds Inv-loop μ-loop
-loop-holds c =     (omega arith, λ p x weight e q lt b f. count-start _ _ p x weight e _ q lt b f)
+loop-holds c = (omega arith, λ p x weight e q lt b f. count-start _ _ p x weight e _ q lt b f)
 
--- src/lib.rt:286:13
 command-at-requires : tie.Need-command-at-requires Inv-loop μ-loop
-command-at-requires c κs =     search needs
+command-at-requires c κs = search needs
 
--- src/lib.rt:287:13
 part-of-requires : tie.Need-part-of-requires Inv-loop μ-loop
-part-of-requires c κs =     search needs
+part-of-requires c κs = search needs
 
--- src/lib.rt:288:13
 is-operand-requires : tie.Need-is-operand-requires Inv-loop μ-loop
-is-operand-requires c κs =     search needs
+is-operand-requires c κs = search needs
 
--- src/lib.rt:289:13
 returns : tie.Need-returns Inv-loop μ-loop
 returns c =
     let b = c .before in
@@ -64,40 +53,32 @@ returns c =
     count-stop _ _ _ _ _ (b .before .before .before .before .loop .inv .1 p x weight e q lt d f)
     (ap (λ k. isOperand (partOf k)) (sym (b .before .before .command-at .ensures)) ∙ ap isOperand (sym (b .before .part-of .ensures)) ∙ sym (b .is-operand .ensures) ∙ not-true (b .is-operand .result) (c .if1 .taken))
 
--- src/lib.rt:291:25
 counted-requires : tie.Need-counted-requires Inv-loop μ-loop
-counted-requires c κs =     search needs
+counted-requires c κs = search needs
 
--- src/lib.rt:291:17
 add-count : tie.Need-add-count Inv-loop μ-loop
-add-count c =     omega (arith, c .counted .ensures, counted-most (c .before .before .before .before .before .before .before .before .args .signal) (c .before .before .before .part-of .result))
+add-count c = omega (arith, c .counted .ensures, counted-most (c .before .before .before .before .before .before .before .before .args .signal) (c .before .before .before .part-of .result))
 
--- src/lib.rt:292:19
 width-of-requires : tie.Need-width-of-requires Inv-loop μ-loop
-width-of-requires c κs =     search needs
+width-of-requires c κs = search needs
 
--- src/lib.rt:292:14
 add-at : tie.Need-add-at Inv-loop μ-loop
-add-at c =     omega (arith, moves c)
+add-at c = omega (arith, moves c)
 
--- src/lib.rt:285:5
 loop-less : tie.Need-loop-less Inv-loop μ-loop
-loop-less c =     omega (arith, moves c)
+loop-less c = omega (arith, moves c)
 
--- src/lib.rt:285:5
 loop-again : tie.Need-loop-again Inv-loop μ-loop
 loop-again c =
     let b = c .before .before .before in
-    let a = b .before .before .before .before .before .before .args in
-    (
+    let a = b .before .before .before .before .before .before .args in (
       omega (arith, moves c, c .before .counted .ensures, counted-most (a .signal) (b .before .part-of .result)),
       λ p x weight e q lt d f.
-      count-moves _ _ _ _ _ (b .before .before .before .before .loop .inv .1 p x weight e q lt d f) _ _ _ _
-      (b .before .before .command-at .ensures) (b .before .part-of .ensures) (c .width-of .ensures) (c .before .counted .ensures)
-      (sym (b .is-operand .ensures) ∙ not-false (b .is-operand .result) (c .before .before .if1 .left)),
+          count-moves _ _ _ _ _ (b .before .before .before .before .loop .inv .1 p x weight e q lt d f) _ _ _ _
+          (b .before .before .command-at .ensures) (b .before .part-of .ensures) (c .width-of .ensures) (c .before .counted .ensures)
+          (sym (b .is-operand .ensures) ∙ not-false (b .is-operand .result) (c .before .before .if1 .left)),
     )
 
--- src/lib.rt:280:1
 returns-2 : tie.Need-returns-2 Inv-loop μ-loop
 returns-2 c =
     λ p x weight e q lt d f.

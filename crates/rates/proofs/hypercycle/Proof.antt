@@ -1,6 +1,6 @@
-use Prim.Native.Nat.{ℕ, _+_, _-_, _≤_, _<_}
-use mathlib.Core.Bool.{true, false}
-use mathlib.Core.Path.{_≡_, refl, sym, ap, _∙_}
+-- `rates::hypercycle` meets its contract. Assumes nothing.
+use Prim.Native.Nat.{_-_, _≤_}
+use mathlib.Core.Path.{_≡_, sym, ap, _∙_}
 use native.Mathlib.Omega.{arith}
 use lib.ListN.{length}
 use borrow.Author.Needs.{needs}
@@ -11,9 +11,6 @@ use Rattle.rates.specs.Answers.{cyclesOf}
 use Rattle.rates.proofs.Multiples.{leftFrom, cycle-start, cycle-here, cycle-later, cycle-over}
 use Rattle.rates.proofs.hypercycle.Statement.{statement}
 use Rattle.rates.proofs.hypercycle.Tie as tie
-use Rattle.rates.proofs.hypercycle.Reads as reads
-use Rattle.rates.proofs.hypercycle.Lts as lts
-use Rattle.rates.proofs.is_multiple.Reads as is-multiple-reads
 
 abbrev Inv-loop : tie.InvT-loop
 Inv-loop count periods h₀ h =
@@ -23,36 +20,29 @@ Inv-loop count periods h₀ h =
 abbrev μ-loop : tie.MeasureT-loop
 μ-loop count periods h₀ h = 240 - h
 
--- src/lib.rt:231:5
 loop-holds : tie.Need-loop-holds Inv-loop μ-loop
-loop-holds c =     (omega arith, λ p n t. cycle-start p)
+loop-holds c = (omega arith, λ p n t. cycle-start p)
 
--- src/lib.rt:232:20
 add-next : tie.Need-add-next Inv-loop μ-loop
-add-next c =     omega arith
+add-next c = omega arith
 
--- src/lib.rt:233:12
 is-multiple-requires : tie.Need-is-multiple-requires Inv-loop μ-loop
-is-multiple-requires c κs =     search needs
+is-multiple-requires c κs = search needs
 
--- src/lib.rt:234:13
 returns : tie.Need-returns Inv-loop μ-loop
 unfolding cyclesOf
 returns c =
     let l = c .before .before .before .loop in
     λ p n t. sym (ap cyclesOf (l .inv .1 p n t ∙ cycle-here p (l .h) (c .before .before .loop-test .taken) (sym (c .before .is-multiple .ensures p n t) ∙ c .if1 .taken)))
 
--- src/lib.rt:231:5
 loop-less : tie.Need-loop-less Inv-loop μ-loop
-loop-less c =     omega arith
+loop-less c = omega arith
 
--- src/lib.rt:231:5
 loop-again : tie.Need-loop-again Inv-loop μ-loop
 loop-again c =
     let l = c .before .before .before .loop in
     (omega (arith, c .before .before .loop-test .taken), λ p n t. l .inv .1 p n t ∙ ap hypercycleOf (cycle-later p (l .h) (c .before .before .loop-test .taken) (sym (c .before .is-multiple .ensures p n t) ∙ c .if1 .left)))
 
--- src/lib.rt:226:1
 returns-2 : tie.Need-returns-2 Inv-loop μ-loop
 unfolding cyclesOf
 returns-2 c =

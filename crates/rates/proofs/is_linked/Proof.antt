@@ -1,9 +1,9 @@
-use Prim.Native.Nat.{ℕ, _+_, _-_, _≤_, _<_}
-use mathlib.Core.Path.{_≡_, refl, sym, ap, _∙_}
+-- `rates::is_linked` meets its contract. Assumes nothing.
+use Prim.Native.Nat.{_+_, _≤_, _<_}
+use mathlib.Core.Path.{_≡_, sym}
 use native.Mathlib.Omega.{arith}
 use denote.Ref.{now}
 use lib.ListN.{length}
-use borrow.Author.Needs.{needs}
 use borrow.Author.Tests.{eq-eqb, ne-eqb}
 use Rattle.model.specs.Outcome.{accepted}
 use Rattle.model.specs.Program.{Program, parseProgram}
@@ -11,9 +11,6 @@ use Rattle.reader.specs.Tables.{TablesOf, chainAt}
 use Rattle.rates.proofs.Linking.{LinksLeft, link-inside, link-broken, link-on, link-over, few-signals, few-chains, chain-begins, chain-inside}
 use Rattle.rates.proofs.is_linked.Statement.{statement}
 use Rattle.rates.proofs.is_linked.Tie as tie
-use Rattle.rates.proofs.is_linked.Reads as reads
-use Rattle.rates.proofs.is_linked.Lts as lts
-use Rattle.rates.proofs.reads_between.Reads as reads-between-reads
 
 abbrev Inv-loop : tie.InvT-loop
 Inv-loop text tables chain at₀ left₀ at left =
@@ -32,81 +29,64 @@ inside c =
 few : (c : tie.After-lengths Inv-loop μ-loop) → c .before .before .before .args .chain < 16
 few c = omega (arith, c .before .before .before .pre .1, few-chains _ _ (c .before .before .before .pre .0))
 
--- src/lib.rt:329:18
 mul-at : tie.Need-mul-at Inv-loop μ-loop
-mul-at c =     omega (arith, few c)
+mul-at c = omega (arith, few c)
 
--- src/lib.rt:329:18
 array-read-at : tie.Need-array-read-at Inv-loop μ-loop
-array-read-at c =     few c
+array-read-at c = few c
 
--- src/lib.rt:329:18
 add-at : tie.Need-add-at Inv-loop μ-loop
 add-at c =
     let s = c .before .before .before in
     omega (arith, chain-inside _ _ _ (s .pre .1) (s .pre .0))
 
--- src/lib.rt:330:20
 mul-left : tie.Need-mul-left Inv-loop μ-loop
-mul-left c =     omega (arith, few c)
+mul-left c = omega (arith, few c)
 
--- src/lib.rt:330:20
 array-read-left : tie.Need-array-read-left Inv-loop μ-loop
-array-read-left c =     few c
+array-read-left c = few c
 
--- src/lib.rt:331:5
 loop-holds : tie.Need-loop-holds Inv-loop μ-loop
 loop-holds c =
     let s = c .before .before .before in
     λ p q t. chain-begins _ _ _ (s .pre .1) p q t
 
--- src/lib.rt:332:22
 add-second : tie.Need-add-second Inv-loop μ-loop
-add-second c =     omega (arith, inside c)
+add-second c = omega (arith, inside c)
 
--- src/lib.rt:333:27
 add-before : tie.Need-add-before Inv-loop μ-loop
-add-before c =     omega (arith, inside c)
+add-before c = omega (arith, inside c)
 
--- src/lib.rt:333:22
 shared-slice-read-before : tie.Need-shared-slice-read-before Inv-loop μ-loop
-shared-slice-read-before c =     omega (arith, inside (c .before))
+shared-slice-read-before c = omega (arith, inside (c .before))
 
--- src/lib.rt:334:27
 add-signal : tie.Need-add-signal Inv-loop μ-loop
-add-signal c =     omega (arith, inside (c .before))
+add-signal c = omega (arith, inside (c .before))
 
--- src/lib.rt:334:22
 shared-slice-read-signal : tie.Need-shared-slice-read-signal Inv-loop μ-loop
-shared-slice-read-signal c =     omega (arith, inside (c .before .before))
+shared-slice-read-signal c = omega (arith, inside (c .before .before))
 
--- src/lib.rt:335:12
 reads-between-requires : tie.Need-reads-between-requires Inv-loop μ-loop
-reads-between-requires c κs =     few-signals _ _ (c .before .before .before .before .before .before .before .pre .0)
+reads-between-requires c κs = few-signals _ _ (c .before .before .before .before .before .before .before .pre .0)
 
--- src/lib.rt:336:13
 returns : tie.Need-returns Inv-loop μ-loop
 returns c =
     let b = c .before .before .before .before in
     λ p q t. sym (link-broken _ _ _ _ _ (b .before .loop .inv p q t) (b .loop-test .taken) (c .before .reads-between .result) (c .before .reads-between .ensures p q t) (ne-eqb (c .before .reads-between .result) 1 (c .if1 .taken)))
 
--- src/lib.rt:339:16
 sub-left : tie.Need-sub-left Inv-loop μ-loop
-sub-left c =     omega arith
+sub-left c = omega arith
 
--- src/lib.rt:331:5
 loop-less : tie.Need-loop-less Inv-loop μ-loop
-loop-less c =     omega (arith, c .before .before .before .before .loop-test .taken)
+loop-less c = omega (arith, c .before .before .before .before .loop-test .taken)
 
--- src/lib.rt:331:5
 loop-again : tie.Need-loop-again Inv-loop μ-loop
 loop-again c =
     let b = c .before .before .before .before in
     λ p q t. link-on _ _ _ _ _ (b .before .loop .inv p q t) (b .loop-test .taken) (c .before .reads-between .result) (c .before .reads-between .ensures p q t) (eq-eqb (c .before .reads-between .result) 1 (c .if1 .left))
 
--- src/lib.rt:323:1
 returns-2 : tie.Need-returns-2 Inv-loop μ-loop
-returns-2 c =     λ p q t. sym (link-over _ _ _ _ _ (c .before .loop .inv p q t) (omega (arith, c .loop-test .left)))
+returns-2 c = λ p q t. sym (link-over _ _ _ _ _ (c .before .loop .inv p q t) (omega (arith, c .loop-test .left)))
 
 pub is-linked-spec : {M : Type 1} → statement M
 is-linked-spec =

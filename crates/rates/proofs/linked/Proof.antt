@@ -1,7 +1,7 @@
-use Prim.Native.Nat.{ℕ, _+_, _-_, _≤_, _<_}
-use mathlib.Core.Path.{_≡_, refl, sym, ap, _∙_}
+-- `rates::linked` meets its contract. Assumes nothing.
+use Prim.Native.Nat.{_-_, _≤_, _<_}
+use mathlib.Core.Path.{_≡_, sym, ap, _∙_}
 use native.Mathlib.Omega.{arith}
-use denote.Ref.{now}
 use lib.ListN.{length}
 use borrow.Author.Needs.{needs}
 use borrow.Author.Tests.{not-true, not-false}
@@ -14,10 +14,6 @@ use Rattle.rates.specs.Answers.{judgementOf}
 use Rattle.rates.proofs.Linking.{restFrom, linked-start, linked-later, linked-over, linked-broken, few-chains}
 use Rattle.rates.proofs.linked.Statement.{statement}
 use Rattle.rates.proofs.linked.Tie as tie
-use Rattle.rates.proofs.linked.Reads as reads
-use Rattle.rates.proofs.linked.Lts as lts
-use Rattle.rates.proofs.is_linked.Reads as is-linked-reads
-use Rattle.rates.proofs.refuse.Reads as refuse-reads
 
 abbrev Inv-loop : tie.InvT-loop
 Inv-loop text tables starts chain₀ chain =
@@ -31,27 +27,21 @@ few c =
     let s = c .before .before .before .before .before .before .before in
     omega (arith, c .before .before .if1 .taken, few-chains _ _ (s .pre))
 
--- src/lib.rt:351:5
 loop-holds : tie.Need-loop-holds Inv-loop μ-loop
-loop-holds c =     λ p q t. linked-start p
+loop-holds c = λ p q t. linked-start p
 
--- src/lib.rt:352:13
 is-linked-requires : tie.Need-is-linked-requires Inv-loop μ-loop
-is-linked-requires c κs =     (c .before .before .before .before .before .pre, c .if1 .taken)
+is-linked-requires c κs = (c .before .before .before .before .before .pre, c .if1 .taken)
 
--- src/lib.rt:353:31
 mul-refuse : tie.Need-mul-refuse Inv-loop μ-loop
-mul-refuse c =     omega (arith, few c)
+mul-refuse c = omega (arith, few c)
 
--- src/lib.rt:353:31
 array-read-refuse : tie.Need-array-read-refuse Inv-loop μ-loop
-array-read-refuse c =     few c
+array-read-refuse c = few c
 
--- src/lib.rt:353:13
 refuse-requires : tie.Need-refuse-requires Inv-loop μ-loop
-refuse-requires c κs =     search needs
+refuse-requires c κs = search needs
 
--- src/lib.rt:353:13
 returns : tie.Need-returns Inv-loop μ-loop
 unfolding judgementOf
 returns c =
@@ -62,15 +52,12 @@ returns c =
     c .refuse .ensures ∙ ap (λ n. Judged.Refused (fault 10 n)) (t .starts (l .chain) lt) ∙
     sym (ap judgementOf (l .inv p q t ∙ linked-broken p _ q (l .chain) lt (sym (b .is-linked .ensures p q t) ∙ not-true (b .is-linked .result) (c .before .if2 .taken))))
 
--- src/lib.rt:355:17
 add-chain : tie.Need-add-chain Inv-loop μ-loop
-add-chain c =     omega (arith, c .before .before .if1 .taken, few-chains _ _ (c .before .before .before .before .before .before .before .pre))
+add-chain c = omega (arith, c .before .before .if1 .taken, few-chains _ _ (c .before .before .before .before .before .before .before .pre))
 
--- src/lib.rt:351:5
 loop-less : tie.Need-loop-less Inv-loop μ-loop
-loop-less c =     omega (arith, c .before .before .if1 .taken)
+loop-less c = omega (arith, c .before .before .if1 .taken)
 
--- src/lib.rt:351:5
 loop-again : tie.Need-loop-again Inv-loop μ-loop
 loop-again c =
     let b = c .before in
@@ -79,7 +66,6 @@ loop-again c =
     let lt : l .chain < length (p .chains) = omega (arith, b .before .if1 .taken, t .counts .chains-are) in
     l .inv p q t ∙ linked-later p (l .chain) lt (sym (b .is-linked .ensures p q t) ∙ not-false (b .is-linked .result) (c .if2 .left))
 
--- src/lib.rt:345:1
 returns-2 : tie.Need-returns-2 Inv-loop μ-loop
 unfolding judgementOf
 returns-2 c =

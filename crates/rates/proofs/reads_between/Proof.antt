@@ -1,37 +1,28 @@
-use Prim.Native.Nat.{ℕ, _+_, _≤_, _<_}
-use mathlib.Core.Path.{_≡_, refl, sym, ap, subst, _∙_}
+-- `rates::reads_between` meets its contract. Assumes nothing.
+use Prim.Native.Nat.{_<_}
+use mathlib.Core.Path.{ap, _∙_}
 use native.Mathlib.Omega.{arith}
 use lib.ListN.{length, getD}
 use Rattle.rates.proofs.Counting.{count-far}
 use borrow.Author.Needs.{needs}
 use Rattle.rates.proofs.reads_between.Statement.{statement}
 use Rattle.rates.proofs.reads_between.Tie as tie
-use Rattle.rates.proofs.reads_between.Reads as reads
-use Rattle.rates.proofs.reads_between.Lts as lts
-use Rattle.rates.proofs.count_reads.Reads as count-reads-reads
-use Rattle.rates.proofs.wide.Reads as wide-reads
 
--- src/lib.rt:314:9
 wide-requires : tie.Need-wide-requires
 wide-requires c κs = search needs
 
--- src/lib.rt:316:9
 returns : tie.Need-returns
-returns c =     λ p q t. count-far _ p _ (omega (arith, c .if1 .taken, c .before .before .wide .ensures, t .counts .signals-are))
+returns c = λ p q t. count-far _ p _ (omega (arith, c .if1 .taken, c .before .before .wide .ensures, t .counts .signals-are))
 
--- src/lib.rt:319:23
 mul-count-reads : tie.Need-mul-count-reads
 mul-count-reads c = search needs
 
--- src/lib.rt:319:23
 array-read-count-reads : tie.Need-array-read-count-reads
 array-read-count-reads c = search needs
 
--- src/lib.rt:319:5
 count-reads-requires : tie.Need-count-reads-requires
 count-reads-requires c κs = search needs
 
--- src/lib.rt:310:1
 returns-2 : tie.Need-returns-2
 returns-2 c =
     let a = c .before .before .before .before .before .before .args in
