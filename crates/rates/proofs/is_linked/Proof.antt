@@ -72,7 +72,10 @@ reads-between-requires c κs = few-signals _ _ (c .before .before .before .befor
 returns : tie.Need-returns Inv-loop μ-loop
 returns c =
     let b = c .before .before .before .before in
-    λ p q t. sym (link-broken _ _ _ _ _ (b .before .loop .inv p q t) (b .loop-test .taken) (c .before .reads-between .result) (c .before .reads-between .ensures p q t) (ne-eqb (c .before .reads-between .result) 1 (c .if1 .taken)))
+    let r = c .before .reads-between in
+    λ p q t.
+    sym (link-broken _ _ _ _ _ (b .before .loop .inv p q t) (b .loop-test .taken) (r .result) (r .ensures p q t)
+    (ne-eqb (r .result) 1 (λ z. omega (arith, c .if1 .taken))))
 
 sub-left : tie.Need-sub-left Inv-loop μ-loop
 sub-left c = omega arith
@@ -83,7 +86,10 @@ loop-less c = omega (arith, c .before .before .before .before .loop-test .taken)
 loop-again : tie.Need-loop-again Inv-loop μ-loop
 loop-again c =
     let b = c .before .before .before .before in
-    λ p q t. link-on _ _ _ _ _ (b .before .loop .inv p q t) (b .loop-test .taken) (c .before .reads-between .result) (c .before .reads-between .ensures p q t) (eq-eqb (c .before .reads-between .result) 1 (c .if1 .left))
+    let r = c .before .reads-between in
+    λ p q t.
+    link-on _ _ _ _ _ (b .before .loop .inv p q t) (b .loop-test .taken) (r .result) (r .ensures p q t)
+    (eq-eqb (r .result) 1 (omega (arith, c .if1 .left)))
 
 returns-2 : tie.Need-returns-2 Inv-loop μ-loop
 returns-2 c = λ p q t. sym (link-over _ _ _ _ _ (c .before .loop .inv p q t) (omega (arith, c .loop-test .left)))
