@@ -49,6 +49,7 @@ pub enum Part {
     Read(Kind, Sampled),
 }
 
+// The part that a command is.
 pub fn part_of(command: Command) -> Part
     ensures { λ r. ⌜ r ≡ partOf command ⌝ }
 {
@@ -71,7 +72,7 @@ pub fn part_of(command: Command) -> Part
 }
 
 // How many signals a part declares.
-fn signals_here(part: Part) -> usize
+pub fn signals_here(part: Part) -> usize
     ensures { λ r. ⌜ ((s : ℕ) → signalsAfter s part ≡ s + r) × (r ≤ 1) ⌝ }
 {
     match part {
@@ -85,19 +86,20 @@ fn signals_here(part: Part) -> usize
 }
 
 // The number of the signal declared last.
-fn last_of(signals: usize) -> usize
+pub fn last_of(signals: usize) -> usize
     ensures { λ r. ⌜ r ≡ signals - 1 ⌝ }
 {
     if signals == 0 { 0 } else { signals - 1 }
 }
 
 // The period of a signal by the table; 0 past its end.
-fn period_at(periods: &[u8; 64], signal: usize) -> u8
+pub fn period_at(periods: &[u8; 64], signal: usize) -> u8
     ensures { λ r. ⌜ r ≡ periodAt (now (periods .entry)) signal ⌝ }
 {
     if signal < 64 { periods[signal] } else { 0 }
 }
 
+// A byte as a number.
 fn wide(byte: u8) -> usize
     ensures { λ r. ⌜ (r ≡ byte) × (r < 256) ⌝ }
 {
@@ -120,6 +122,7 @@ fn period_rule(kind: Kind, w: u8, r: u8, n: u8) -> bool
     }
 }
 
+// The refusal of a number at a place.
 fn refuse(number: u8, place: usize) -> Judged
     ensures { λ r. ⌜ r ≡ Judged.Refused (record { number = number; place = place }) ⌝ }
 {
@@ -255,7 +258,7 @@ pub fn hypercycle(count: usize, periods: &[u8; 64]) -> Cycles
 }
 
 // Whether a part belongs to an expression.
-fn is_operand(part: Part) -> bool
+pub fn is_operand(part: Part) -> bool
     ensures { λ r. ⌜ r ≡ isOperand part ⌝ }
 {
     match part {
@@ -268,6 +271,7 @@ fn is_operand(part: Part) -> bool
     }
 }
 
+// 1 where two signals are the same, else 0.
 fn one_if_same(a: u8, b: u8) -> usize
     ensures { λ r. ⌜ r ≡ cond (eqb a b) 1 0 ⌝ }
 {
