@@ -1,16 +1,16 @@
 -- Lists joined from numbered items, and the lowest of joined faults. Assumes nothing.
-use Prim.Native.Nat.{ℕ, zero, suc, _+_, _≤_, _<_}
+use Prim.Native.Nat.{ℕ, suc, _+_, _<_}
 use mathlib.Core.List.{List, [], _∷_, _++_, map, append-assoc}
 use mathlib.Core.Path.{_≡_, refl, sym, ap, _∙_}
 use native.Mathlib.Nat.{add-zero, add-suc, suc-add}
 use native.Mathlib.Omega.{arith}
 use lib.ListN.{length, getD}
-use borrow.Author.Tests.{le-ltb, lt-ltb}
+use borrow.Author.Tests.{lt-ltb}
 use Rattle.model.specs.Accepted.{All}
-use Rattle.model.specs.Outcome.{Outcome, accepted, refused, lower, lowest}
+use Rattle.model.specs.Outcome.{refused, lowest}
 use Rattle.model.specs.Search.{joinFrom}
 use Rattle.model.specs.declared.Fault.{Fault}
-use Rattle.model.proofs.All.{all-append, all-at, all-map, all-of-map}
+use Rattle.model.proofs.All.{all-append, all-at, all-map}
 use Rattle.model.proofs.Outcomes.{lowest-sorted}
 use Rattle.rates.specs.Walk.{Numbered, numbered}
 
@@ -82,3 +82,9 @@ unfolding lowest
 lowest-inside f [] ys h g =
     lowest-sorted f f ys (λ j l. let e = all-at (λ x. f .place < x .place) ys f g j l in omega arith)
 lowest-inside f (x ∷ xs) ys h g = rw (lowest-inside f xs ys (h .1) g, lt-ltb (f .place) (x .place) (h .0))
+
+-- Joined lists whose numbers do not matter.
+pub join-each : {A B : Type 0} (f : A → List B) (i : ℕ) (xs : List A) → joinFrom i (λ j x. f x) xs ≡ each f xs
+unfolding joinFrom each
+join-each f i [] = refl
+join-each f i (x ∷ xs) = ap (f x ++_) (join-each f (suc i) xs)

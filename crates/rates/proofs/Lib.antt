@@ -1,6 +1,7 @@
 -- Laws that the proofs of several functions cite.
+pub mod Counting
 pub mod Joined
+pub mod Linking
 pub mod Multiples
-pub mod Rated
 pub mod Turns
 pub mod Walk

@@ -1,12 +1,12 @@
 -- What is left of 7 and 8 from a command on. Assumes nothing.
-use Prim.Native.Nat.{ℕ, zero, suc, _+_, _-_, _≤_, _<_}
+use Prim.Native.Nat.{ℕ, suc, _+_, _-_, _≤_, _<_}
 use mathlib.Core.Bool.{Bool, true, false, cond}
-use mathlib.Core.List.{List, [], _∷_, _++_, append-assoc}
+use mathlib.Core.List.{List, [], _∷_, _++_}
 use mathlib.Core.Path.{_≡_, refl, sym, ap, subst, _∙_}
 use native.Mathlib.Nat.{zero-add}
 use native.Mathlib.Omega.{arith}
 use lib.Dec.{ltb}
-use lib.ListN.{length, getD}
+use lib.ListN.{length}
 use borrow.Author.Tests.{ltb-true, lt-ltb}
 use Rattle.model.specs.Accepted.{All}
 use Rattle.model.specs.Command.{commandAt}
@@ -16,28 +16,13 @@ use Rattle.model.specs.Rates.{periodRule, readFaults, linkFaults, declaredAndRa
 use Rattle.model.specs.Search.{joinFrom}
 use Rattle.model.specs.declared.Command.{Command}
 use Rattle.model.specs.declared.Fault.{Fault}
-use Rattle.model.specs.declared.Kind.{Kind}
-use Rattle.model.specs.declared.Sampled.{Sampled}
 use Rattle.model.proofs.All.{all-append}
 use Rattle.model.proofs.Legal.{legal}
 use Rattle.reader.specs.Tables.{PeriodsOf}
 use Rattle.reader.specs.declared.Judged.{Judged}
 use Rattle.reader.specs.declared.Judged.the-variants as Judged
-use Rattle.rates.specs.Answers.{periodAt, linkJudged, readJudged, partJudged}
-use Rattle.rates.specs.Walk.{
-  widthOf,
-  partOf,
-  signalsAfter,
-  chainsAfter,
-  Numbered,
-  numbered,
-  anyPart,
-  readsHere,
-  linksHere,
-  Walk,
-  allReads,
-  allLinks,
-}
+use Rattle.rates.specs.Answers.{periodAt, rateJudged, readJudged, partJudged}
+use Rattle.rates.specs.Walk.{widthOf, partOf, signalsAfter, Numbered, anyPart, readsHere, linksHere, Walk, allReads, allLinks}
 use Rattle.rates.specs.declared.Part.{Part}
 use Rattle.rates.specs.declared.Part.the-variants as Part
 use Rattle.rates.proofs.Joined.{each, each-joined, join-same, numbers-below, all-later, Beyond, lowest-inside}
@@ -53,19 +38,16 @@ module _ (at : ℕ) (xs ys : List Fault) (h : Beyond at xs) (g : Beyond at ys) w
   first-fault : (n : ℕ) → lowest (fault n at ∷ (xs ++ ys)) ≡ refused (fault n at)
   first-fault n = lowest-inside (fault n at) [] (xs ++ ys) tt (all-append (λ f. at < f .place) xs ys h g)
 
-  rule-by : (c : Bool) →
-      lowest ((cond c [] (fault 8 at ∷ []) ++ xs) ++ ys) ≡ after (cond c Judged.Fine (Judged.Refused (fault 8 at))) (lowest (xs ++ ys))
-  rule-by true = refl
-  rule-by false = first-fault 8
-
   read-by : (b c d : Bool) → (b ≡ true → c ≡ d) →
-      lowest ((cond b (cond c [] (fault 8 at ∷ [])) (fault 7 at ∷ []) ++ xs) ++ ys) ≡
-      after (cond b (cond d Judged.Fine (Judged.Refused (fault 8 at))) (Judged.Refused (fault 7 at))) (lowest (xs ++ ys))
-  read-by true c d e = rw (e refl) (rule-by d)
+      lowest ((cond b (cond c [] (fault 8 at ∷ [])) (fault 7 at ∷ []) ++ xs) ++ ys) ≡ after (rateJudged b d at) (lowest (xs ++ ys))
+  unfolding rateJudged
+  read-by true c true e = rw (e refl)
+  read-by true c false e = rw (e refl) (first-fault 8)
   read-by false c d e = first-fault 7
 
   link-by : (b : Bool) →
-      lowest (xs ++ (cond b [] (fault 7 at ∷ []) ++ ys)) ≡ after (cond b Judged.Fine (Judged.Refused (fault 7 at))) (lowest (xs ++ ys))
+      lowest (xs ++ (cond b [] (fault 7 at ∷ []) ++ ys)) ≡ after (rateJudged b true at) (lowest (xs ++ ys))
+  unfolding rateJudged
   link-by true = refl
   link-by false = lowest-inside (fault 7 at) xs ys h g
 
@@ -122,7 +104,7 @@ module _ (p : Program) where
     rest-part : (at s k : ℕ) (x : Part) (rs : List (Numbered Read)) (ls : List (Numbered Link)) →
         All (λ m. m .number < count p) (readsHere at s x ++ rs) → Beyond at (each readAs rs) → Beyond at (each linkAs ls) →
         rest (readsHere at s x ++ rs) (linksHere at k x ++ ls) ≡ after (partJudged (count p) periods at s x) (rest rs ls)
-    unfolding rest partJudged each linkJudged linkFaults readJudged readFaults
+    unfolding rest each linkFaults readJudged readFaults
     rest-part at s k Part.Other rs ls n h g = refl
     rest-part at s k Part.Signal rs ls n h g = refl
     rest-part at s k Part.Chain rs ls n h g = refl

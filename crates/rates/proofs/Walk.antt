@@ -1,30 +1,15 @@
 -- An accepted text is walked from its start to its end, and what is mentioned on the way is the program's. Assumes nothing.
-use Prim.Native.Nat.{ℕ, zero, suc, _+_, _-_, _≤_, _<_}
+use Prim.Native.Nat.{ℕ, _+_, _-_, _≤_, _<_}
 use mathlib.Core.Bool.{Bool, true}
 use mathlib.Core.List.{List, [], _∷_, _++_, map, map-append, append-assoc, append-nil}
-use mathlib.Core.Path.{_≡_, refl, sym, ap, subst, _∙_}
-use native.Mathlib.Nat.{add-zero, zero-add, add-suc, suc-add}
+use mathlib.Core.Path.{_≡_, refl, sym, subst, _∙_}
+use native.Mathlib.Nat.{zero-add}
 use native.Mathlib.Omega.{arith}
 use lib.ListN.{length, length-append}
 use Rattle.model.specs.Accepted.{All}
 use Rattle.model.specs.Command.{commandAt}
 use Rattle.model.specs.Outcome.{accepted}
-use Rattle.model.specs.Program.{
-  Read,
-  Expr,
-  Link,
-  Program,
-  Signal,
-  Chain,
-  empty,
-  withSignal,
-  withChain,
-  count,
-  parseProgram,
-  readsOf,
-  bodyReads,
-  readWidth,
-}
+use Rattle.model.specs.Program.{Read, Expr, Link, Program, Signal, Chain, withSignal, withChain, count, parseProgram, readsOf, bodyReads, readWidth}
 use Rattle.model.specs.Search.{joinFrom}
 use Rattle.model.specs.declared.Command.{Command}
 use Rattle.model.specs.declared.Command.the-variants as Command
@@ -35,26 +20,11 @@ use Rattle.model.proofs.All.{all-map}
 use Rattle.model.proofs.Commands.{Sound, command-sound, link-command}
 use Rattle.model.proofs.Outcomes.{joinFrom-append}
 use Rattle.model.proofs.Spelled.{Spells, SpellsLinks, Declares, declared}
-use Rattle.rates.specs.Walk.{
-  widthOf,
-  partOf,
-  signalsAfter,
-  chainsAfter,
-  Numbered,
-  numbered,
-  anyPart,
-  readsHere,
-  linksHere,
-  Walk,
-  done,
-  step,
-  allReads,
-  allLinks,
-}
+use Rattle.rates.specs.Walk.{widthOf, partOf, signalsAfter, chainsAfter, Numbered, numbered, anyPart, readsHere, linksHere, Walk, done, step, allReads, allLinks}
 use Rattle.rates.specs.declared.Part.{Part}
 use Rattle.rates.specs.declared.Part.the-variants as Part
 
-read-width : (kind : Kind) → 0 < readWidth kind
+pub read-width : (kind : Kind) → 0 < readWidth kind
 read-width Now = omega arith
 read-width Last = omega arith
 read-width When = omega arith

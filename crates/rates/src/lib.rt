@@ -4,16 +4,18 @@ use model::Fault;
 use model::Kind;
 use model::Sampled;
 use reader::Judged;
+use reader::Tables;
+ghost use mathlib.Core.Bool.{cond};
 ghost use mathlib.Core.Path.{_≡_};
 ghost use Prim.Native.Nat.{ℕ, _+_, _-_, _%_, _≤_, _<_};
 ghost use lib.Dec.{eqb};
 ghost use lib.ListN.{length};
 ghost use Rattle.model.specs.Outcome.{accepted};
-ghost use Rattle.model.specs.Program.{Program, parseProgram};
-ghost use Rattle.model.specs.Rates.{periodRule, declaredAndRated, isMultiple, hypercycle};
-ghost use Rattle.reader.specs.Tables.{PeriodsOf};
-ghost use Rattle.rates.specs.Answers.{judgementOf, cyclesOf, periodAt, linkJudged, readJudged, partJudged};
-ghost use Rattle.rates.specs.Walk.{widthOf, partOf, signalsAfter};
+ghost use Rattle.model.specs.Program.{Program, Expr, equation, signalAt, parseProgram, readsOf, bodyReads};
+ghost use Rattle.model.specs.Rates.{periodRule, declaredAndRated, isMultiple, hypercycle, countReads, isLinked, linked};
+ghost use Rattle.reader.specs.Tables.{TablesOf, PeriodsOf, chainAt};
+ghost use Rattle.rates.specs.Answers.{judgementOf, cyclesOf, periodAt, rateJudged, readJudged, partJudged, countedOf, ReadAs};
+ghost use Rattle.rates.specs.Walk.{widthOf, partOf, signalsAfter, isOperand};
 
 // The bytes of a command without the expression or the LINKs that follow it.
 pub fn width_of(command: Command) -> usize
@@ -47,6 +49,7 @@ pub enum Part {
     Read(Kind, Sampled),
 }
 
+// The part that a command is.
 pub fn part_of(command: Command) -> Part
     ensures { λ r. ⌜ r ≡ partOf command ⌝ }
 {
@@ -90,12 +93,13 @@ pub fn last_of(signals: usize) -> usize
 }
 
 // The period of a signal by the table; 0 past its end.
-fn period_at(periods: &[u8; 64], signal: usize) -> u8
+pub fn period_at(periods: &[u8; 64], signal: usize) -> u8
     ensures { λ r. ⌜ r ≡ periodAt (now (periods .entry)) signal ⌝ }
 {
     if signal < 64 { periods[signal] } else { 0 }
 }
 
+// A byte as a number.
 fn wide(byte: u8) -> usize
     ensures { λ r. ⌜ (r ≡ byte) × (r < 256) ⌝ }
 {
@@ -118,6 +122,7 @@ fn period_rule(kind: Kind, w: u8, r: u8, n: u8) -> bool
     }
 }
 
+// The refusal of a number at a place.
 fn refuse(number: u8, place: usize) -> Judged
     ensures { λ r. ⌜ r ≡ Judged.Refused (record { number = number; place = place }) ⌝ }
 {
@@ -127,17 +132,19 @@ fn refuse(number: u8, place: usize) -> Judged
     })
 }
 
-// 7 at a LINK of an undeclared signal.
-fn judge_link(count: usize, at: usize, signal: u8) -> Judged
-    ensures { λ r. ⌜ r ≡ linkJudged count at signal ⌝ }
+// 7 at a read or LINK of a signal that is not declared, then 8 at a read that breaks its period rule.
+fn judge_rate(declared: bool, kept: bool, place: usize) -> Judged
+    ensures { λ r. ⌜ r ≡ rateJudged declared kept place ⌝ }
 {
-    if count <= wide(signal) {
-        return refuse(7, at);
+    if !declared {
+        return refuse(7, place);
+    }
+    if !kept {
+        return refuse(8, place);
     }
     Judged::Fine
 }
 
-// 7 at a read of an undeclared signal, else 8 where its period rule is broken.
 fn judge_read(
     count: usize,
     periods: &[u8; 64],
@@ -149,15 +156,10 @@ fn judge_read(
     ensures { λ r. ⌜ r ≡ readJudged count (now (periods .entry)) at reader kind operands ⌝ }
 {
     let signal = wide(operands.signal);
-    if count <= signal {
-        return refuse(7, at);
-    }
     let w = period_at(periods, signal);
     let r = period_at(periods, reader);
-    if !period_rule(kind, w, r, operands.factor) {
-        return refuse(8, at);
-    }
-    Judged::Fine
+    let kept = period_rule(kind, w, r, operands.factor);
+    judge_rate(signal < count, kept, at)
 }
 
 // 7 and 8 at one command after so many signals.
@@ -168,7 +170,7 @@ fn judge_part(count: usize, periods: &[u8; 64], at: usize, signals: usize, part:
         Part::Other => Judged::Fine,
         Part::Signal => Judged::Fine,
         Part::Chain => Judged::Fine,
-        Part::Link(signal) => judge_link(count, at, signal),
+        Part::Link(signal) => judge_rate(wide(signal) < count, true, at),
         Part::Operand => Judged::Fine,
         Part::Read(kind, operands) => judge_read(
             count,
@@ -253,4 +255,119 @@ pub fn hypercycle(count: usize, periods: &[u8; 64]) -> Cycles
         number: 9,
         place: 0,
     })
+}
+
+// Whether a part belongs to an expression.
+pub fn is_operand(part: Part) -> bool
+    ensures { λ r. ⌜ r ≡ isOperand part ⌝ }
+{
+    match part {
+        Part::Other => false,
+        Part::Signal => false,
+        Part::Chain => false,
+        Part::Link(_) => false,
+        Part::Operand => true,
+        Part::Read(_, _) => true,
+    }
+}
+
+// 1 where two signals are the same, else 0.
+fn one_if_same(a: u8, b: u8) -> usize
+    ensures { λ r. ⌜ r ≡ cond (eqb a b) 1 0 ⌝ }
+{
+    if a == b { 1 } else { 0 }
+}
+
+// 1 for a read of `signal`, else 0.
+fn counted(part: Part, signal: u8) -> usize
+    ensures { λ r. ⌜ r ≡ countedOf signal part ⌝ }
+{
+    match part {
+        Part::Other => 0,
+        Part::Signal => 0,
+        Part::Chain => 0,
+        Part::Link(_) => 0,
+        Part::Operand => 0,
+        Part::Read(_, operands) => one_if_same(operands.signal, signal),
+    }
+}
+
+// How many reads of `signal` the expression at `from` has, which ends at the first command that belongs to none.
+fn count_from(text: &[u8], from: usize, signal: u8) -> usize
+    ensures { λ r. ⌜ ((p : Program) (x weight : ℕ) (e : Expr) → parseProgram (now (text .entry)) ≡ accepted p → x < length (p .signals) → signalAt p x .body ≡ equation weight e → from ≡ signalAt p x .place + 8 → r ≡ countReads signal (readsOf e)) ⌝ }
+{
+    let mut at = from;
+    let mut count: usize = 0;
+    while at < text.len() {
+        let command = commands::command_at(text, at);
+        let part = part_of(command);
+        if !is_operand(part) {
+            return count;
+        }
+        count = count + counted(part, signal);
+        at = at + width_of(command);
+    }
+    count
+}
+
+// How many reads of `signal` stand in the equation at `place`; an input has none.
+pub fn count_reads(text: &[u8], place: usize, signal: u8) -> usize
+    ensures { λ r. ⌜ ((p : Program) (x : ℕ) → parseProgram (now (text .entry)) ≡ accepted p → x < length (p .signals) → place ≡ signalAt p x .place → r ≡ countReads signal (bodyReads (signalAt p x .body))) ⌝ }
+{
+    let command = commands::command_at(text, place);
+    let Command::Equation(_, _, _) = command else {
+        return 0;
+    };
+    count_from(text, place + 8, signal)
+}
+
+// How many reads of `before` stand in the equation of `signal`.
+fn reads_between(text: &[u8], tables: Tables, before: u8, signal: u8) -> usize
+    requires { ⌜ tables .signals ≤ 64 ⌝ }
+    ensures { λ r. ⌜ ((p : Program) → parseProgram (now (text .entry)) ≡ accepted p → TablesOf p tables → r ≡ countReads before (bodyReads (signalAt p signal .body))) ⌝ }
+{
+    let index = wide(signal);
+    if tables.signals <= index {
+        return 0;
+    }
+    let places = tables.places;
+    count_reads(text, places[index], before)
+}
+
+// Whether the equation of each link of a chain after the first has exactly one read of the link before.
+fn is_linked(text: &[u8], tables: Tables, chain: usize) -> bool
+    requires { ⌜ ReadAs (now text) tables × (chain < tables .chains) ⌝ }
+    ensures { λ r. ⌜ ((p : Program) → parseProgram (now (text .entry)) ≡ accepted p → TablesOf p tables → r ≡ isLinked p (chainAt p chain .links)) ⌝ }
+{
+    let starts = tables.starts;
+    let lengths = tables.lengths;
+    let mut at = starts[chain] + 4;
+    let mut left = lengths[chain];
+    while 1 < left {
+        let second = at + 2;
+        let before = text[at + 1];
+        let signal = text[second + 1];
+        if reads_between(text, tables, before, signal) != 1 {
+            return false;
+        }
+        at = second;
+        left = left - 1;
+    }
+    true
+}
+
+// 10 at the lowest LAT whose links are not linked. (Links × the text of their equations.)
+pub fn linked(text: &[u8], tables: Tables) -> Judged
+    requires { ⌜ ReadAs (now text) tables ⌝ }
+    ensures { λ r. ⌜ ((p : Program) → parseProgram (now (text .entry)) ≡ accepted p → TablesOf p tables → r ≡ judgementOf (linked p)) ⌝ }
+{
+    let starts = tables.starts;
+    let mut chain: usize = 0;
+    while chain < tables.chains {
+        if !is_linked(text, tables, chain) {
+            return refuse(10, starts[chain]);
+        }
+        chain = chain + 1;
+    }
+    Judged::Fine
 }

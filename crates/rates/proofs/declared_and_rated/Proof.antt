@@ -1,3 +1,4 @@
+-- `rates::declared_and_rated` meets its contract. Assumes nothing.
 use mathlib.Core.List.{List}
 use Rattle.rates.specs.declared.Part.{Part}
 use Rattle.reader.specs.declared.Judged.{Judged}
@@ -13,20 +14,11 @@ use Rattle.reader.specs.Tables.{PeriodsOf}
 use Rattle.rates.proofs.Turns.{Ahead, start, moves-on, ended}
 use borrow.Author.Needs.{needs}
 use Rattle.rates.specs.Answers.{judgementOf, partJudged}
-use Rattle.rates.specs.Walk.{widthOf, partOf, signalsAfter}
+use Rattle.rates.specs.Walk.{partOf}
 use Rattle.rates.proofs.Walk.{width-moves}
 use Rattle.rates.proofs.Turns.{Says}
-use Rattle.model.specs.Command.{commandAt}
-use Rattle.model.specs.declared.Command.{Command}
 use Rattle.rates.proofs.declared_and_rated.Statement.{statement}
 use Rattle.rates.proofs.declared_and_rated.Tie as tie
-use Rattle.rates.proofs.declared_and_rated.Reads as reads
-use Rattle.rates.proofs.declared_and_rated.Lts as lts
-use Rattle.commands.proofs.command_at.Reads as command-at-reads
-use Rattle.rates.proofs.judge_part.Reads as judge-part-reads
-use Rattle.rates.proofs.part_of.Reads as part-of-reads
-use Rattle.rates.proofs.signals_here.Reads as signals-here-reads
-use Rattle.rates.proofs.width_of.Reads as width-of-reads
 
 abbrev Inv-loop : tie.InvT-loop
 Inv-loop text count periods at₀ signals₀ at signals =
@@ -54,83 +46,80 @@ module _ (c : tie.After-width-of Inv-loop μ-loop) where
       (n : length (p .signals) ≡ c .before .before .before .before .before .args .count)
       (t : PeriodsOf p (now (c .before .before .before .before .before .args .periods)))
     where
-      on : (x : Part) (j : Judged) → x ≡ partOf (c .before .command-at .result) →
-          j ≡ partJudged (c .before .before .before .before .before .args .count)
+      on : (x : Part) (r j : Judged) → x ≡ partOf (c .before .command-at .result) →
+          r ≡ partJudged (c .before .before .before .before .before .args .count)
           (now (c .before .before .before .before .before .args .periods)) at (c .before .before .before .loop .signals) x →
-          (0 < c .width-of .result) × Says text p at (c .before .before .before .loop .signals) (c .width-of .result) x j
-      on x j ex ej =
+          r ≡ j → (0 < c .width-of .result) × Says text p at (c .before .before .before .loop .signals) (c .width-of .result) x j
+      on x r j ex er ej =
+          let m =
           moves-on text p e _ t _ at _ n (c .before .before .before .loop .inv .2 p e n t) (c .before .before .loop-test .taken)
-          (c .before .command-at .result) _ x j (c .before .command-at .ensures) (c .width-of .ensures) ex ej
+          (c .before .command-at .result) _ x r (c .before .command-at .ensures) (c .width-of .ensures) ex er in
+          (m .0, subst (Says text p at _ _ x) ej (m .1))
 
--- src/lib.rt:181:5
 loop-holds : tie.Need-loop-holds Inv-loop μ-loop
 loop-holds c = (omega arith, omega arith, λ p e n t. start _ p e)
 
--- src/lib.rt:182:13
 command-at-requires : tie.Need-command-at-requires Inv-loop μ-loop
 command-at-requires c κs = search needs
 
--- src/lib.rt:183:13
 width-of-requires : tie.Need-width-of-requires Inv-loop μ-loop
 width-of-requires c κs = search needs
 
--- src/lib.rt:185:13
 returns : tie.Need-returns Inv-loop μ-loop
-returns c = λ p e n t. absurd (omega (arith, on (c .before) p e n t _ _ refl refl .0))
+returns c = λ p e n t. absurd (omega (arith, on (c .before) p e n t _ _ _ refl refl refl .0))
 
--- src/lib.rt:187:13
 part-of-requires : tie.Need-part-of-requires Inv-loop μ-loop
 part-of-requires c κs = search needs
 
--- src/lib.rt:188:13
 judge-part-requires : tie.Need-judge-part-requires Inv-loop μ-loop
 judge-part-requires c κs = search needs
 
 enum-told : tie.Need-enum-told Inv-loop μ-loop
 enum-told c = search needs
 
--- src/lib.rt:190:13
 enum-told-2 : tie.Need-enum-told-2 Inv-loop μ-loop
 enum-told-2 c = search needs
 
--- src/lib.rt:190:13
 returns-2 : tie.Need-returns-2 Inv-loop μ-loop
 unfolding judgementOf
-returns-2 c = λ p e n t. c .enum-told2 .given .1 ∙ sym (ap judgementOf (on (c .before .before .before .before .before) p e n t _ (Judged.Refused _) (c .before .before .before .part-of .ensures) (sym (c .enum-told2 .given .1) ∙ c .before .before .judge-part .ensures) .1))
+returns-2 c =
+    let b = c .before .before .before in
+    λ p e n t.
+    c .enum-told2 .given .1 ∙
+    sym (ap judgementOf (on (b .before .before) p e n t (b .part-of .result) (c .before .before .judge-part .result) (Judged.Refused _)
+    (b .part-of .ensures) (c .before .before .judge-part .ensures) (c .enum-told2 .given .1) .1))
 
--- src/lib.rt:192:29
 signals-here-requires : tie.Need-signals-here-requires Inv-loop μ-loop
 signals-here-requires c κs = search needs
 
--- src/lib.rt:192:19
 add-signals : tie.Need-add-signals Inv-loop μ-loop
 add-signals c =
     let m = moves (c .before .before .before .before .before .before) (c .before .before .before .before .before .if1 .left) in
     omega (arith, m, c .signals-here .ensures .1)
 
--- src/lib.rt:193:14
 add-at : tie.Need-add-at Inv-loop μ-loop
 add-at c =
     let m = moves (c .before .before .before .before .before .before) (c .before .before .before .before .before .if1 .left) in
     omega (arith, m)
 
--- src/lib.rt:181:5
 loop-less : tie.Need-loop-less Inv-loop μ-loop
 loop-less c =
     let m = moves (c .before .before .before .before .before .before) (c .before .before .before .before .before .if1 .left) in
     omega (arith, m)
 
--- src/lib.rt:181:5
 loop-again : tie.Need-loop-again Inv-loop μ-loop
 loop-again c =
-    let b = c .before .before .before .before .before .before in
-    let m = moves b (c .before .before .before .before .before .if1 .left) in (
+    let x = c .before .before .before .before in
+    let b = x .before .before in
+    let m = moves b (x .before .if1 .left) in (
       omega (arith, m, c .signals-here .ensures .1),
       m .1,
-      λ p e n t. subst (Ahead (text b) p _) (c .signals-here .ensures .0 _) (on b p e n t _ Judged.Fine (c .before .before .before .before .part-of .ensures) (sym (c .before .enum-told .given .1) ∙ c .before .before .before .judge-part .ensures) .1),
+      λ p e n t.
+          subst (Ahead (text b) p _) (c .signals-here .ensures .0 _)
+          (on b p e n t (x .part-of .result) (c .before .before .before .judge-part .result) Judged.Fine (x .part-of .ensures)
+          (c .before .before .before .judge-part .ensures) (c .before .enum-told .given .1) .1),
     )
 
--- src/lib.rt:176:1
 returns-3 : tie.Need-returns-3 Inv-loop μ-loop
 unfolding judgementOf
 returns-3 c = λ p e n t. sym (ap judgementOf (ended _ p e _ _ (c .before .loop .inv .2 p e n t) (c .loop-test .left)))

@@ -1,55 +1,42 @@
+-- `rates::signals_here` meets its contract. Assumes nothing.
 use native.Mathlib.Omega.{arith}
 use borrow.Author.Needs.{needs}
 use Rattle.rates.proofs.signals_here.Statement.{statement}
 use Rattle.rates.proofs.signals_here.Tie as tie
-use Rattle.rates.proofs.signals_here.Reads as reads
-use Rattle.rates.proofs.signals_here.Lts as lts
 
--- src/lib.rt:72:24
 enum-told : tie.Need-enum-told
 enum-told c = search needs
 
--- src/lib.rt:73:25
 enum-told-2 : tie.Need-enum-told-2
 enum-told-2 c = search needs
 
--- src/lib.rt:74:24
 enum-told-3 : tie.Need-enum-told-3
 enum-told-3 c = search needs
 
--- src/lib.rt:75:26
 enum-told-4 : tie.Need-enum-told-4
 enum-told-4 c = search needs
 
--- src/lib.rt:76:26
 enum-told-5 : tie.Need-enum-told-5
 enum-told-5 c = search needs
 
--- src/lib.rt:77:29
 enum-told-6 : tie.Need-enum-told-6
 enum-told-6 c = search needs
 
--- src/lib.rt:68:1
 returns : tie.Need-returns
 returns c = rw (c .enum-told .given .1) (λ s. omega arith, omega arith)
 
--- src/lib.rt:68:1
 returns-2 : tie.Need-returns-2
 returns-2 c = rw (c .enum-told2 .given .1) (λ s. omega arith, omega arith)
 
--- src/lib.rt:68:1
 returns-3 : tie.Need-returns-3
 returns-3 c = rw (c .enum-told3 .given .1) (λ s. omega arith, omega arith)
 
--- src/lib.rt:68:1
 returns-4 : tie.Need-returns-4
 returns-4 c = rw (c .enum-told4 .given .1) (λ s. omega arith, omega arith)
 
--- src/lib.rt:68:1
 returns-5 : tie.Need-returns-5
 returns-5 c = rw (c .enum-told5 .given .1) (λ s. omega arith, omega arith)
 
--- src/lib.rt:68:1
 returns-6 : tie.Need-returns-6
 returns-6 c = rw (c .enum-told6 .given .1) (λ s. omega arith, omega arith)
 

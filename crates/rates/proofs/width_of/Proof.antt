@@ -1,123 +1,92 @@
+-- `rates::width_of` meets its contract. Assumes nothing.
 use borrow.Author.Needs.{needs}
 use Rattle.rates.proofs.width_of.Statement.{statement}
 use Rattle.rates.proofs.width_of.Tie as tie
-use Rattle.rates.proofs.width_of.Reads as reads
-use Rattle.rates.proofs.width_of.Lts as lts
-use Rattle.reader.proofs.read_width.Reads as read-width-reads
 
--- src/lib.rt:13:31
 enum-told : tie.Need-enum-told
 enum-told c = search needs
 
--- src/lib.rt:14:29
 enum-told-2 : tie.Need-enum-told-2
 enum-told-2 c = search needs
 
--- src/lib.rt:15:32
 enum-told-3 : tie.Need-enum-told-3
 enum-told-3 c = search needs
 
--- src/lib.rt:16:25
 enum-told-4 : tie.Need-enum-told-4
 enum-told-4 c = search needs
 
--- src/lib.rt:17:33
 enum-told-5 : tie.Need-enum-told-5
 enum-told-5 c = search needs
 
--- src/lib.rt:18:39
 enum-told-6 : tie.Need-enum-told-6
 enum-told-6 c = search needs
 
--- src/lib.rt:19:35
 enum-told-7 : tie.Need-enum-told-7
 enum-told-7 c = search needs
 
--- src/lib.rt:20:29
 enum-told-8 : tie.Need-enum-told-8
 enum-told-8 c = search needs
 
--- src/lib.rt:21:28
 enum-told-9 : tie.Need-enum-told-9
 enum-told-9 c = search needs
 
--- src/lib.rt:22:33
 enum-told-10 : tie.Need-enum-told-10
 enum-told-10 c = search needs
 
--- src/lib.rt:23:23
 enum-known-command : tie.Need-enum-known-command
 enum-known-command c = search needs
 
--- src/lib.rt:23:35
 read-width-requires : tie.Need-read-width-requires
 read-width-requires c κs = search needs
 
--- src/lib.rt:24:31
 enum-told-11 : tie.Need-enum-told-11
 enum-told-11 c = search needs
 
--- src/lib.rt:25:28
 enum-told-12 : tie.Need-enum-told-12
 enum-told-12 c = search needs
 
--- src/lib.rt:26:24
 enum-told-13 : tie.Need-enum-told-13
 enum-told-13 c = search needs
 
--- src/lib.rt:9:1
 returns : tie.Need-returns
 returns c = search needs
 
--- src/lib.rt:9:1
 returns-2 : tie.Need-returns-2
 returns-2 c = search needs
 
--- src/lib.rt:9:1
 returns-3 : tie.Need-returns-3
 returns-3 c = search needs
 
--- src/lib.rt:9:1
 returns-4 : tie.Need-returns-4
 returns-4 c = search needs
 
--- src/lib.rt:9:1
 returns-5 : tie.Need-returns-5
 returns-5 c = search needs
 
--- src/lib.rt:9:1
 returns-6 : tie.Need-returns-6
 returns-6 c = search needs
 
--- src/lib.rt:9:1
 returns-7 : tie.Need-returns-7
 returns-7 c = search needs
 
--- src/lib.rt:9:1
 returns-8 : tie.Need-returns-8
 returns-8 c = search needs
 
--- src/lib.rt:9:1
 returns-9 : tie.Need-returns-9
 returns-9 c = search needs
 
--- src/lib.rt:9:1
 returns-10 : tie.Need-returns-10
 returns-10 c = search needs
 
--- src/lib.rt:9:1
 returns-11 : tie.Need-returns-11
 returns-11 c = rw (c .before .before .command .given .1) (c .read-width .ensures)
 
--- src/lib.rt:9:1
 returns-12 : tie.Need-returns-12
 returns-12 c = search needs
 
--- src/lib.rt:9:1
 returns-13 : tie.Need-returns-13
 returns-13 c = search needs
 
--- src/lib.rt:9:1
 returns-14 : tie.Need-returns-14
 returns-14 c = search needs
 

@@ -1,0 +1,92 @@
+-- `rates::linked` meets its contract. Assumes nothing.
+use Prim.Native.Nat.{_-_, _≤_, _<_}
+use mathlib.Core.Path.{_≡_, sym, ap, _∙_}
+use native.Mathlib.Omega.{arith}
+use lib.ListN.{length}
+use borrow.Author.Needs.{needs}
+use borrow.Author.Tests.{not-true, not-false}
+use Rattle.model.specs.Outcome.{accepted, fault}
+use Rattle.model.specs.Program.{Program, parseProgram}
+use Rattle.model.specs.Rates.{linked}
+use Rattle.reader.specs.Tables.{TablesOf}
+use Rattle.reader.specs.declared.Judged.the-variants as Judged
+use Rattle.rates.specs.Answers.{judgementOf}
+use Rattle.rates.proofs.Linking.{restFrom, linked-start, linked-later, linked-over, linked-broken, few-chains}
+use Rattle.rates.proofs.linked.Statement.{statement}
+use Rattle.rates.proofs.linked.Tie as tie
+
+abbrev Inv-loop : tie.InvT-loop
+Inv-loop text tables starts chain₀ chain =
+    (p : Program) → parseProgram text ≡ accepted p → TablesOf p tables → linked p ≡ restFrom p chain
+
+abbrev μ-loop : tie.MeasureT-loop
+μ-loop text tables starts chain₀ chain = tables .chains - chain
+
+few : (c : tie.Then2 Inv-loop μ-loop) → c .before .before .before .before .loop .chain < 16
+few c =
+    let s = c .before .before .before .before .before .before .before in
+    omega (arith, c .before .before .if1 .taken, few-chains _ _ (s .pre))
+
+loop-holds : tie.Need-loop-holds Inv-loop μ-loop
+loop-holds c = λ p q t. linked-start p
+
+is-linked-requires : tie.Need-is-linked-requires Inv-loop μ-loop
+is-linked-requires c κs = (c .before .before .before .before .before .pre, c .if1 .taken)
+
+mul-refuse : tie.Need-mul-refuse Inv-loop μ-loop
+mul-refuse c = omega (arith, few c)
+
+array-read-refuse : tie.Need-array-read-refuse Inv-loop μ-loop
+array-read-refuse c = few c
+
+refuse-requires : tie.Need-refuse-requires Inv-loop μ-loop
+refuse-requires c κs = search needs
+
+returns : tie.Need-returns Inv-loop μ-loop
+unfolding judgementOf
+returns c =
+    let b = c .before .before in
+    let l = b .before .before .before .loop in
+    λ p q t.
+    let lt : l .chain < length (p .chains) = omega (arith, b .before .if1 .taken, t .counts .chains-are) in
+    c .refuse .ensures ∙ ap (λ n. Judged.Refused (fault 10 n)) (t .starts (l .chain) lt) ∙
+    sym (ap judgementOf (l .inv p q t ∙ linked-broken p _ q (l .chain) lt (sym (b .is-linked .ensures p q t) ∙ not-true (b .is-linked .result) (c .before .if2 .taken))))
+
+add-chain : tie.Need-add-chain Inv-loop μ-loop
+add-chain c = omega (arith, c .before .before .if1 .taken, few-chains _ _ (c .before .before .before .before .before .before .before .pre))
+
+loop-less : tie.Need-loop-less Inv-loop μ-loop
+loop-less c = omega (arith, c .before .before .if1 .taken)
+
+loop-again : tie.Need-loop-again Inv-loop μ-loop
+loop-again c =
+    let b = c .before in
+    let l = b .before .before .before .loop in
+    λ p q t.
+    let lt : l .chain < length (p .chains) = omega (arith, b .before .if1 .taken, t .counts .chains-are) in
+    l .inv p q t ∙ linked-later p (l .chain) lt (sym (b .is-linked .ensures p q t) ∙ not-false (b .is-linked .result) (c .if2 .left))
+
+returns-2 : tie.Need-returns-2 Inv-loop μ-loop
+unfolding judgementOf
+returns-2 c =
+    let l = c .before .before .loop in
+    λ p q t.
+    let le : length (p .chains) ≤ l .chain = omega (arith, c .if1 .left, t .counts .chains-are) in
+    sym (ap judgementOf (l .inv p q t ∙ linked-over p (l .chain) le))
+
+pub linked-spec : {M : Type 1} → statement M
+linked-spec =
+    tie.close
+    (tie.spec
+    Inv-loop
+    μ-loop
+    loop-holds
+    is-linked-requires
+    mul-refuse
+    array-read-refuse
+    refuse-requires
+    returns
+    add-chain
+    loop-less
+    loop-again
+    returns-2)
