@@ -1,0 +1,2 @@
+-- Laws of writing code.
+pub mod Laws
