@@ -74,7 +74,7 @@ module _ {text : List ℕ} where
         operands = x ∷ [];
         spelled = more u none;
         arity = refl;
-        code = simp (append-assoc, append-nil);
+        code = simp append-nil;
         deep = λ d h. (omega arith, tt);
       })
   opens (Spells.three {x = x} {y = y} {z = z} e u v w) =
@@ -148,7 +148,7 @@ module _ {d : ℕ} {text : List ℕ} {at n to : ℕ} (c : Command) (q : commandA
   pub operator-stands : isOperator c ≡ true
   operator-stands = opened c q (r .spelled) .operator
 
-all-length : (x : Expr) (xs : List Expr) → length (codeOfAll (x ∷ xs)) ≡ length (exprCode x) + length (codeOfAll xs)
+pub all-length : (x : Expr) (xs : List Expr) → length (codeOfAll (x ∷ xs)) ≡ length (exprCode x) + length (codeOfAll xs)
 unfolding codeOfAll
 all-length x xs = length-append (exprCode x) (codeOfAll xs)
 
@@ -237,7 +237,7 @@ module _ {text : List ℕ} {at to : ℕ} {l : List ℕ} where
       }
 
 -- A command that is none of an expression.
-abbrev others : List ℕ
+abbrev pub others : List ℕ
 others = 0 ∷ 1 ∷ 2 ∷ 3 ∷ 4 ∷ 5 ∷ 6 ∷ 7 ∷ 8 ∷ []
 
 pub no-operator : (c : Command) → OneOf others (tagOf (declared enum) c) → isOperator c ≡ true → ⊥

@@ -3,11 +3,14 @@
 use Prim.Native.Nat.{ℕ}
 use mathlib.Core.Bool.{Bool, true, false}
 use mathlib.Core.List.{List, [], _∷_}
+use mathlib.Core.Path.{_≡_}
+use lib.ListN.{length}
 use Rattle.model.specs.Image.{binaryByte}
 use Rattle.model.specs.Program.{readWidth}
 use Rattle.model.specs.Word.{wordBytes}
 use Rattle.model.specs.declared.Command.{Command}
 use Rattle.model.specs.declared.Command.the-variants as Command
+use Rattle.emit_code.specs.declared.Shape.{Shape}
 
 -- Whether a command is an operator or a leaf of an expression.
 abbrev pub isOperator : Command → Bool
@@ -73,3 +76,8 @@ lastOf (Command.Read kind x) = 0x51 ∷ x .signal ∷ []
 lastOf (Command.Binary operator) = binaryByte operator ∷ []
 lastOf Command.Negate = 0x38 ∷ []
 lastOf Command.If = 0x3A ∷ []
+
+pub record ShapeOf (c : Command) (r : Shape) : Type 0 where
+  pub width : r .width ≡ widthOf c
+  pub operands : r .operands ≡ arityOf c
+  pub code : r .code ≡ length (lastOf c)

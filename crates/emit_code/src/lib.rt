@@ -7,7 +7,8 @@ ghost use Prim.Native.Nat.{_+_, _≤_, _<_};
 ghost use lib.ListN.{length};
 ghost use Rattle.model.specs.Image.{binaryByte};
 ghost use Rattle.model.specs.Word.{wordBytes};
-ghost use Rattle.emit_code.specs.Code.{Puts, Room, Emits};
+ghost use Rattle.emit_code.specs.Code.{Puts, Room, Emits, Stands, Measures, SignalRoom, EmitsSignal, SignalStands, MeasuresSignal};
+ghost use Rattle.emit_code.specs.Shape.{ShapeOf};
 
 // Where the text goes on, and where the code ends.
 pub struct Emitted {
@@ -95,5 +96,78 @@ pub fn emit_expression(text: &[u8], at: usize, depth: usize, out: &mut [u8], to:
             put_operator(out, second, 0x3A)
         }
         _ => Emitted { next: at, end: to },
+    }
+}
+
+// The shape of an expression's first command: its bytes, its operands, and the bytes of code after theirs.
+pub struct Shape {
+    pub width: usize,
+    pub operands: usize,
+    pub code: usize,
+}
+
+fn shape_of(command: Command) -> Shape
+    ensures { λ r. ⌜ ShapeOf command r ⌝ }
+{
+    match command {
+        Command::Constant(_) => Shape { width: 5, operands: 0, code: 5 },
+        Command::Read(kind, _) => {
+            let width = reader::read_width(kind);
+            Shape { width: width, operands: 0, code: 2 }
+        }
+        Command::Binary(_) => Shape { width: 1, operands: 2, code: 1 },
+        Command::Negate => Shape { width: 1, operands: 1, code: 1 },
+        Command::If => Shape { width: 1, operands: 3, code: 1 },
+        _ => Shape { width: 1, operands: 0, code: 0 },
+    }
+}
+
+// How many bytes the code of the expression at `at` takes: a walk over its commands, with the operands that are still to come.
+pub fn expression_length(text: &[u8], at: usize) -> usize
+    requires { ⌜ Stands (now text) at ⌝ }
+    ensures { λ r. ⌜ Measures (now (text .entry)) at r ⌝ }
+{
+    let mut next = at;
+    let mut operands: usize = 1;
+    let mut total: usize = 0;
+    while 0 < operands {
+        let command = commands::command_at(text, next);
+        let shape = shape_of(command);
+        next = next + shape.width;
+        operands = operands - 1 + shape.operands;
+        total = total + shape.code;
+    }
+    total
+}
+
+// How many bytes the code of the signal declared at `place` takes.
+pub fn signal_code_length(text: &[u8], place: usize) -> usize
+    requires { ⌜ SignalStands (now text) place ⌝ }
+    ensures { λ r. ⌜ MeasuresSignal (now (text .entry)) place r ⌝ }
+{
+    let command = commands::command_at(text, place);
+    match command {
+        Command::Equation(_, _, _) => expression_length(text, place + 8) + 2,
+        _ => 4,
+    }
+}
+
+// Writes the code of the signal x, declared at `place`, from `to` on. Says where it ends.
+pub fn emit_signal(text: &[u8], place: usize, x: u8, out: &mut [u8], to: usize) -> usize
+    requires { ⌜ SignalRoom (now text) place x (length (now out)) to ⌝ }
+    ensures { λ r. ⌜ EmitsSignal (now (text .entry)) place x (now (out .entry)) to (now (out .exit)) r ⌝ }
+{
+    let command = commands::command_at(text, place);
+    match command {
+        Command::Equation(_, _, _) => {
+            let value = emit_expression(text, place + 8, 16, out, to);
+            let code = put_access(out, value.end, 0x5F, x, place);
+            code.end
+        }
+        _ => {
+            let sample = put_access(out, to, 0x52, x, place);
+            let code = put_access(out, sample.end, 0x5F, x, place);
+            code.end
+        }
     }
 }
