@@ -1,0 +1,3 @@
+-- Laws of writing an image.
+pub mod Left
+pub mod Listed

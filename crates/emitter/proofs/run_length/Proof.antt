@@ -1,0 +1,16 @@
+use mathlib.Core.Path.{refl}
+use Rattle.emitter.proofs.run_length.Statement.{statement}
+use Rattle.emitter.proofs.run_length.Tie as tie
+use Rattle.emitter.proofs.run_length.Reads as reads
+use Rattle.emitter.proofs.run_length.Lts as lts
+
+-- src/lib.rt:21:1
+returns : tie.Need-returns
+returns c = λ x. rw (c .if1 .taken)
+
+-- src/lib.rt:21:1
+returns-2 : tie.Need-returns-2
+returns-2 c = λ x. rw (c .if1 .left)
+
+pub run-length-spec : {M : Type 1} → statement M
+run-length-spec = tie.close (tie.spec returns returns-2)

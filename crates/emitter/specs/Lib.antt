@@ -1,0 +1,3 @@
+-- What the emitter writes, by the tables that it is given.
+pub mod Lists
+pub mod Writing
