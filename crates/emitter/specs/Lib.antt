@@ -1,3 +1,4 @@
 -- What the emitter writes, by the tables that it is given.
+pub mod Codes
 pub mod Lists
 pub mod Writing

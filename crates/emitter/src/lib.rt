@@ -2,7 +2,10 @@
 ghost use mathlib.Core.Path.{_≡_};
 ghost use Prim.Native.Nat.{ℕ, _+_, _*_, _≤_, _<_};
 ghost use lib.ListN.{length, getD};
-ghost use Rattle.model.specs.Image.{joined, offsets};
+ghost use mathlib.Core.List.{[], _∷_, _++_};
+ghost use Rattle.model.specs.Image.{joined, offsets, records};
+ghost use Rattle.model.specs.Word.{twoBytes, wordAt, wordBytes};
+ghost use Rattle.emitter.specs.Codes.{signalsOf, codesFrom, Declared};
 ghost use Rattle.emitter.specs.Lists.{isDue, runOf, listBy, listsBy, pairs, Timed};
 ghost use Rattle.emitter.specs.Writing.{Wrote};
 
@@ -10,6 +13,13 @@ fn wide(byte: u8) -> usize
     ensures { λ r. ⌜ r ≡ byte ⌝ }
 {
     byte as usize
+}
+
+fn narrow(x: usize) -> u8
+    requires { ⌜ x < 256 ⌝ }
+    ensures { λ r. ⌜ r ≡ x ⌝ }
+{
+    x as u8
 }
 
 // Whether signal x runs in cycle c.
@@ -72,4 +82,127 @@ fn emit_list(periods: &[u8; 64], order: &[u8; 64], phases: &[u8; 64], n: usize, 
         i = i + 1;
     }
     end
+}
+
+// The length of the run lists of h cycles: a step for each of the n signals in each cycle.
+fn lists_length(periods: &[u8; 64], order: &[u8; 64], phases: &[u8; 64], n: usize, h: usize) -> usize
+    requires { ⌜ Timed (now periods) (now order) n × (h ≤ 240) ⌝ }
+    ensures { λ r. ⌜ r ≡ length (joined (listsBy (now (periods .entry)) (now (order .entry)) (now (phases .entry)) n h)) ⌝ }
+{
+    let mut total: usize = 0;
+    let mut c: usize = 0;
+    while c < h {
+        let runs = list_length(periods, order, phases, n, c);
+        total = total + runs;
+        c = c + 1;
+    }
+    total
+}
+
+// Writes the run lists of h cycles.
+fn emit_lists(periods: &[u8; 64], order: &[u8; 64], phases: &[u8; 64], n: usize, h: usize, out: &mut [u8], to: usize) -> usize
+    requires { ⌜ Timed (now periods) (now order) n × (to + length (joined (listsBy (now periods) (now order) (now phases) n h)) ≤ length (now out)) ⌝ }
+    ensures { λ r. ⌜ Wrote (now (out .entry)) to (joined (listsBy (now (periods .entry)) (now (order .entry)) (now (phases .entry)) n h)) (now (out .exit)) r ⌝ }
+{
+    let mut end = to;
+    let mut c: usize = 0;
+    while c < h {
+        end = emit_list(periods, order, phases, n, c, out, end);
+        c = c + 1;
+    }
+    end
+}
+
+fn put_offset(out: &mut [u8], to: usize, offset: usize) -> usize
+    requires { ⌜ to + 2 ≤ length (now out) ⌝ }
+    ensures { λ r. ⌜ Wrote (now (out .entry)) to (twoBytes offset) (now (out .exit)) r ⌝ }
+{
+    word::put_two(out, to, offset);
+    to + 2
+}
+
+// Writes where the run lists start, the first at `start`, and last where they end.
+fn emit_offsets(periods: &[u8; 64], order: &[u8; 64], phases: &[u8; 64], n: usize, h: usize, start: usize, out: &mut [u8], to: usize) -> usize
+    requires { ⌜ Timed (now periods) (now order) n × (start + length (joined (listsBy (now periods) (now order) (now phases) n h)) ≤ length (now out)) × (to + length (pairs (offsets start (listsBy (now periods) (now order) (now phases) n h))) ≤ length (now out)) ⌝ }
+    ensures { λ r. ⌜ Wrote (now (out .entry)) to (pairs (offsets start (listsBy (now (periods .entry)) (now (order .entry)) (now (phases .entry)) n h))) (now (out .exit)) r ⌝ }
+{
+    let mut offset = start;
+    let mut end = to;
+    let mut c: usize = 0;
+    while c < h {
+        end = put_offset(out, end, offset);
+        let runs = list_length(periods, order, phases, n, c);
+        offset = offset + runs;
+        c = c + 1;
+    }
+    put_offset(out, end, offset)
+}
+
+// The length of the code of n signals.
+fn codes_length(text: &[u8], places: &[usize; 64], n: usize) -> usize
+    requires { ⌜ Declared (now text) (now places) n ⌝ }
+    ensures { λ r. ⌜ r ≡ length (joined (codesFrom 0 (signalsOf (now (text .entry))))) ⌝ }
+{
+    let mut total: usize = 0;
+    let mut x: usize = 0;
+    while x < n {
+        let code = emit_code::signal_code_length(text, places[x]);
+        total = total + code;
+        x = x + 1;
+    }
+    total
+}
+
+// Writes the code of n signals.
+fn emit_codes(text: &[u8], places: &[usize; 64], n: usize, out: &mut [u8], to: usize) -> usize
+    requires { ⌜ Declared (now text) (now places) n × (to + length (joined (codesFrom 0 (signalsOf (now text)))) ≤ length (now out)) ⌝ }
+    ensures { λ r. ⌜ Wrote (now (out .entry)) to (joined (codesFrom 0 (signalsOf (now (text .entry))))) (now (out .exit)) r ⌝ }
+{
+    let mut end = to;
+    let mut x: usize = 0;
+    while x < n {
+        let signal = narrow(x);
+        end = emit_code::emit_signal(text, places[x], signal, out, end);
+        x = x + 1;
+    }
+    end
+}
+
+// Writes the record of the signal declared at `place`, whose code starts at `offset`.
+fn put_record(text: &[u8], place: usize, offset: usize, out: &mut [u8], to: usize) -> usize
+    requires { ⌜ (place + 6 ≤ length (now text)) × (to + 6 ≤ length (now out)) ⌝ }
+    ensures { λ r. ⌜ Wrote (now (out .entry)) to (wordBytes (wordAt (now (text .entry)) (place + 2)) ++ twoBytes offset) (now (out .exit)) r ⌝ }
+{
+    let initial = word::word_at(text, place + 2);
+    word::put_word(out, to, initial);
+    let after = to + 4;
+    put_offset(out, after, offset)
+}
+
+// Writes the records of n signals, whose code starts at `start`.
+fn emit_records(text: &[u8], places: &[usize; 64], n: usize, start: usize, out: &mut [u8], to: usize) -> usize
+    requires { ⌜ Declared (now text) (now places) n × (start + length (joined (codesFrom 0 (signalsOf (now text)))) ≤ length (now out)) × (to + length (records (signalsOf (now text)) (offsets start (codesFrom 0 (signalsOf (now text))))) ≤ length (now out)) ⌝ }
+    ensures { λ r. ⌜ Wrote (now (out .entry)) to (records (signalsOf (now (text .entry))) (offsets start (codesFrom 0 (signalsOf (now (text .entry)))))) (now (out .exit)) r ⌝ }
+{
+    let mut offset = start;
+    let mut end = to;
+    let mut x: usize = 0;
+    while x < n {
+        let place = places[x];
+        end = put_record(text, place, offset, out, end);
+        let code = emit_code::signal_code_length(text, place);
+        offset = offset + code;
+        x = x + 1;
+    }
+    end
+}
+
+// Writes H, N and L.
+fn put_head(h: usize, n: usize, size: usize, out: &mut [u8]) -> usize
+    requires { ⌜ (h < 256) × (n < 256) × (4 ≤ length (now out)) ⌝ }
+    ensures { λ r. ⌜ Wrote (now (out .entry)) 0 (h ∷ n ∷ twoBytes size) (now (out .exit)) r ⌝ }
+{
+    out[0] = narrow(h);
+    out[1] = narrow(n);
+    put_offset(out, 2, size)
 }
