@@ -79,3 +79,15 @@ module _ (f : ℕ → List ℕ) (h : ℕ) where
   unfolding pairsFrom offsets joinFrom
   pairs-last offset c le =
       record { is = ap (λ l. pairs (offsets offset l)) (table-ends f h c le) ∙ pairs-cons offset [] }
+
+join-most : (f : ℕ → List ℕ) → ((c : ℕ) → length (f c) ≤ 64) → (i k : ℕ) → length (joined (tableFrom i k f)) ≤ 64 * k
+unfolding tableFrom joinFrom
+join-most f le i zero = omega arith
+join-most f le i (suc k) =
+    rw joined-cons (simp length-append (omega (arith, le i, join-most f le (suc i) k)))
+
+pub lists-most : (periods order phases : List ℕ) (n h : ℕ) → n ≤ 64 →
+    length (joined (listsBy periods order phases n h)) ≤ 64 * h
+unfolding listsBy table
+lists-most periods order phases n h le =
+    join-most (listBy periods order phases n) (λ c. omega (arith, list-most periods order phases n c)) 0 h

@@ -1,12 +1,16 @@
 // The image of an accepted pair: its length, and its parts one after another.
+use reader::Tables;
 ghost use mathlib.Core.Path.{_≡_};
 ghost use Prim.Native.Nat.{ℕ, _+_, _*_, _≤_, _<_};
-ghost use lib.ListN.{length, getD};
+ghost use lib.ListN.{length, getD, drop};
 ghost use mathlib.Core.List.{[], _∷_, _++_};
-ghost use Rattle.model.specs.Image.{joined, offsets, records};
+ghost use Rattle.model.specs.Image.{joined, offsets, records, lengthOf, imageOf};
+ghost use Rattle.model.specs.Program.{Program};
+ghost use Rattle.model.specs.Schedule.{Schedule};
 ghost use Rattle.model.specs.Word.{twoBytes, wordAt, wordBytes};
 ghost use Rattle.emitter.specs.Codes.{signalsOf, codesFrom, Declared};
 ghost use Rattle.emitter.specs.Lists.{isDue, runOf, listBy, listsBy, pairs, Timed};
+ghost use Rattle.emitter.specs.Prepared.{LaidOut, Prepared, Ready, Fits};
 ghost use Rattle.emitter.specs.Writing.{Wrote};
 
 fn wide(byte: u8) -> usize
@@ -205,4 +209,52 @@ fn put_head(h: usize, n: usize, size: usize, out: &mut [u8]) -> usize
     out[0] = narrow(h);
     out[1] = narrow(n);
     put_offset(out, 2, size)
+}
+
+// Where the run lists and the code start, and where the image ends.
+pub struct Layout {
+    pub lists: usize,
+    pub codes: usize,
+    pub end: usize,
+}
+
+fn lay_out(text: &[u8], places: &[usize; 64], n: usize, periods: &[u8; 64], order: &[u8; 64], phases: &[u8; 64], h: usize) -> Layout
+    requires { ⌜ Declared (now text) (now places) n × Timed (now periods) (now order) n × (h ≤ 240) ⌝ }
+    ensures { λ r. ⌜ LaidOut h n (listsBy (now (periods .entry)) (now (order .entry)) (now (phases .entry)) n h) (codesFrom 0 (signalsOf (now (text .entry)))) r ⌝ }
+{
+    let lists = 4 + 6 * n + 2 * (h + 1);
+    let runs = lists_length(periods, order, phases, n, h);
+    let codes = lists + runs;
+    let code = codes_length(text, places, n);
+    Layout {
+        lists: lists,
+        codes: codes,
+        end: codes + code,
+    }
+}
+
+// L, the length of the image.
+pub fn image_length(text: &[u8], tables: Tables, periods: &[u8; 64], order: &[u8; 64], phases: &[u8; 64], h: usize) -> usize
+    requires { ⌜ Ready (now text) tables (now periods) (now order) (now phases) h ⌝ }
+    ensures { λ r. ⌜ ((p : Program) (s : Schedule) → Prepared (now (text .entry)) tables (now (periods .entry)) (now (order .entry)) (now (phases .entry)) p s → r ≡ lengthOf p s h) ⌝ }
+{
+    let n = tables.signals;
+    let places = tables.places;
+    let layout = lay_out(text, &places, n, periods, order, phases, h);
+    layout.end
+}
+
+// Writes the image into the first L bytes.
+pub fn emit(text: &[u8], tables: Tables, periods: &[u8; 64], order: &[u8; 64], phases: &[u8; 64], h: usize, out: &mut [u8])
+    requires { ⌜ Fits (now text) tables (now periods) (now order) (now phases) h (length (now out)) ⌝ }
+    ensures { λ _. ⌜ ((p : Program) (s : Schedule) → Prepared (now (text .entry)) tables (now (periods .entry)) (now (order .entry)) (now (phases .entry)) p s → now (out .exit) ≡ imageOf p s h ++ drop (lengthOf p s h) (now (out .entry))) ⌝ }
+{
+    let n = tables.signals;
+    let places = tables.places;
+    let layout = lay_out(text, &places, n, periods, order, phases, h);
+    let records = put_head(h, n, layout.end, out);
+    let offsets = emit_records(text, &places, n, layout.codes, out, records);
+    let lists = emit_offsets(periods, order, phases, n, h, layout.lists, out, offsets);
+    let codes = emit_lists(periods, order, phases, n, h, out, lists);
+    emit_codes(text, &places, n, out, codes);
 }
