@@ -51,42 +51,52 @@ pub record Opened (text : List ℕ) (at : ℕ) (e : Expr) (n : ℕ) (c : Command
 module _ {text : List ℕ} where
   opens : {at n : ℕ} {e : Expr} → Spells text at e n → (c : Command) × (commandAt text at ≡ c) × Opened text at e n c
   unfolding exprCode codeOfAll
-  opens (Spells.constants {w = w} e) =
-      (Command.Constant w, e,
-      record { operator = refl; operands = []; spelled = none; arity = refl; code = refl; deep = λ d h. tt })
-  opens (Spells.reads {kind = kind} {x = x} e) =
-      (Command.Read kind x, e,
-      record { operator = refl; operands = []; spelled = none; arity = refl; code = refl; deep = λ d h. tt })
-  opens (Spells.two {operator = operator} {x = x} {y = y} e u v) =
-      (Command.Binary operator, e,
-      record {
-        operator = refl;
-        operands = x ∷ y ∷ [];
-        spelled = more u (more v none);
-        arity = refl;
-        code = simp (append-assoc, append-nil);
-        deep = λ d h. (omega arith, (omega arith, tt));
-      })
-  opens (Spells.one {x = x} e u) =
-      (Command.Negate, e,
-      record {
-        operator = refl;
-        operands = x ∷ [];
-        spelled = more u none;
-        arity = refl;
-        code = simp append-nil;
-        deep = λ d h. (omega arith, tt);
-      })
-  opens (Spells.three {x = x} {y = y} {z = z} e u v w) =
-      (Command.If, e,
-      record {
-        operator = refl;
-        operands = x ∷ y ∷ z ∷ [];
-        spelled = more u (more v (more w none));
-        arity = refl;
-        code = simp (append-assoc, append-nil);
-        deep = λ d h. (omega arith, (omega arith, (omega arith, tt)));
-      })
+  opens (Spells.constants {w = w} e) = (
+    Command.Constant w,
+    e,
+    record { operator = refl; operands = []; spelled = none; arity = refl; code = refl; deep = λ d h. tt },
+  )
+  opens (Spells.reads {kind = kind} {x = x} e) = (
+    Command.Read kind x,
+    e,
+    record { operator = refl; operands = []; spelled = none; arity = refl; code = refl; deep = λ d h. tt },
+  )
+  opens (Spells.two {operator = operator} {x = x} {y = y} e u v) = (
+    Command.Binary operator,
+    e,
+    record {
+      operator = refl;
+      operands = x ∷ y ∷ [];
+      spelled = more u (more v none);
+      arity = refl;
+      code = simp (append-assoc, append-nil);
+      deep = λ d h. (omega arith, (omega arith, tt));
+    },
+  )
+  opens (Spells.one {x = x} e u) = (
+    Command.Negate,
+    e,
+    record {
+      operator = refl;
+      operands = x ∷ [];
+      spelled = more u none;
+      arity = refl;
+      code = simp append-nil;
+      deep = λ d h. (omega arith, tt);
+    },
+  )
+  opens (Spells.three {x = x} {y = y} {z = z} e u v w) = (
+    Command.If,
+    e,
+    record {
+      operator = refl;
+      operands = x ∷ y ∷ z ∷ [];
+      spelled = more u (more v (more w none));
+      arity = refl;
+      code = simp (append-assoc, append-nil);
+      deep = λ d h. (omega arith, (omega arith, (omega arith, tt)));
+    },
+  )
 
   pub opened : {at n : ℕ} {e : Expr} (c : Command) → commandAt text at ≡ c → Spells text at e n → Opened text at e n c
   opened {at} {n} {e} c q u = let o = opens u in subst (Opened text at e n) (sym (o .1) ∙ q) (o .2)

@@ -79,7 +79,13 @@ pub fn emit_expression(text: &[u8], at: usize, depth: usize, out: &mut [u8], to:
     let command = commands::command_at(text, at);
     match command {
         Command::Constant(w) => put_push(out, to, w, at + 5),
-        Command::Read(kind, operands) => put_access(out, to, 0x51, operands.signal, at + reader::read_width(kind)),
+        Command::Read(kind, operands) => put_access(
+            out,
+            to,
+            0x51,
+            operands.signal,
+            at + reader::read_width(kind),
+        ),
         Command::Binary(operator) => {
             let first = emit_expression(text, at + 1, depth - 1, out, to);
             let second = emit_expression(text, first.next, depth - 1, out, first.end);
@@ -110,15 +116,39 @@ fn shape_of(command: Command) -> Shape
     ensures { λ r. ⌜ ShapeOf command r ⌝ }
 {
     match command {
-        Command::Constant(_) => Shape { width: 5, operands: 0, code: 5 },
+        Command::Constant(_) => Shape {
+            width: 5,
+            operands: 0,
+            code: 5,
+        },
         Command::Read(kind, _) => {
             let width = reader::read_width(kind);
-            Shape { width: width, operands: 0, code: 2 }
+            Shape {
+                width: width,
+                operands: 0,
+                code: 2,
+            }
         }
-        Command::Binary(_) => Shape { width: 1, operands: 2, code: 1 },
-        Command::Negate => Shape { width: 1, operands: 1, code: 1 },
-        Command::If => Shape { width: 1, operands: 3, code: 1 },
-        _ => Shape { width: 1, operands: 0, code: 0 },
+        Command::Binary(_) => Shape {
+            width: 1,
+            operands: 2,
+            code: 1,
+        },
+        Command::Negate => Shape {
+            width: 1,
+            operands: 1,
+            code: 1,
+        },
+        Command::If => Shape {
+            width: 1,
+            operands: 3,
+            code: 1,
+        },
+        _ => Shape {
+            width: 1,
+            operands: 0,
+            code: 0,
+        },
     }
 }
 

@@ -73,7 +73,15 @@ fn list_length(periods: &[u8; 64], order: &[u8; 64], phases: &[u8; 64], n: usize
 }
 
 // Writes the run list of cycle c, in PUT order.
-fn emit_list(periods: &[u8; 64], order: &[u8; 64], phases: &[u8; 64], n: usize, c: usize, out: &mut [u8], to: usize) -> usize
+fn emit_list(
+    periods: &[u8; 64],
+    order: &[u8; 64],
+    phases: &[u8; 64],
+    n: usize,
+    c: usize,
+    out: &mut [u8],
+    to: usize,
+) -> usize
     requires { ⌜ Timed (now periods) (now order) n × (to + length (listBy (now periods) (now order) (now phases) n c) ≤ length (now out)) ⌝ }
     ensures { λ r. ⌜ Wrote (now (out .entry)) to (listBy (now (periods .entry)) (now (order .entry)) (now (phases .entry)) n c) (now (out .exit)) r ⌝ }
 {
@@ -89,7 +97,13 @@ fn emit_list(periods: &[u8; 64], order: &[u8; 64], phases: &[u8; 64], n: usize, 
 }
 
 // The length of the run lists of h cycles: a step for each of the n signals in each cycle.
-fn lists_length(periods: &[u8; 64], order: &[u8; 64], phases: &[u8; 64], n: usize, h: usize) -> usize
+fn lists_length(
+    periods: &[u8; 64],
+    order: &[u8; 64],
+    phases: &[u8; 64],
+    n: usize,
+    h: usize,
+) -> usize
     requires { ⌜ Timed (now periods) (now order) n × (h ≤ 240) ⌝ }
     ensures { λ r. ⌜ r ≡ length (joined (listsBy (now (periods .entry)) (now (order .entry)) (now (phases .entry)) n h)) ⌝ }
 {
@@ -104,7 +118,15 @@ fn lists_length(periods: &[u8; 64], order: &[u8; 64], phases: &[u8; 64], n: usiz
 }
 
 // Writes the run lists of h cycles.
-fn emit_lists(periods: &[u8; 64], order: &[u8; 64], phases: &[u8; 64], n: usize, h: usize, out: &mut [u8], to: usize) -> usize
+fn emit_lists(
+    periods: &[u8; 64],
+    order: &[u8; 64],
+    phases: &[u8; 64],
+    n: usize,
+    h: usize,
+    out: &mut [u8],
+    to: usize,
+) -> usize
     requires { ⌜ Timed (now periods) (now order) n × (to + length (joined (listsBy (now periods) (now order) (now phases) n h)) ≤ length (now out)) ⌝ }
     ensures { λ r. ⌜ Wrote (now (out .entry)) to (joined (listsBy (now (periods .entry)) (now (order .entry)) (now (phases .entry)) n h)) (now (out .exit)) r ⌝ }
 {
@@ -126,7 +148,16 @@ fn put_offset(out: &mut [u8], to: usize, offset: usize) -> usize
 }
 
 // Writes where the run lists start, the first at `start`, and last where they end.
-fn emit_offsets(periods: &[u8; 64], order: &[u8; 64], phases: &[u8; 64], n: usize, h: usize, start: usize, out: &mut [u8], to: usize) -> usize
+fn emit_offsets(
+    periods: &[u8; 64],
+    order: &[u8; 64],
+    phases: &[u8; 64],
+    n: usize,
+    h: usize,
+    start: usize,
+    out: &mut [u8],
+    to: usize,
+) -> usize
     requires { ⌜ Timed (now periods) (now order) n × (start + length (joined (listsBy (now periods) (now order) (now phases) n h)) ≤ length (now out)) × (to + length (pairs (offsets start (listsBy (now periods) (now order) (now phases) n h))) ≤ length (now out)) ⌝ }
     ensures { λ r. ⌜ Wrote (now (out .entry)) to (pairs (offsets start (listsBy (now (periods .entry)) (now (order .entry)) (now (phases .entry)) n h))) (now (out .exit)) r ⌝ }
 {
@@ -184,7 +215,14 @@ fn put_record(text: &[u8], place: usize, offset: usize, out: &mut [u8], to: usiz
 }
 
 // Writes the records of n signals, whose code starts at `start`.
-fn emit_records(text: &[u8], places: &[usize; 64], n: usize, start: usize, out: &mut [u8], to: usize) -> usize
+fn emit_records(
+    text: &[u8],
+    places: &[usize; 64],
+    n: usize,
+    start: usize,
+    out: &mut [u8],
+    to: usize,
+) -> usize
     requires { ⌜ Declared (now text) (now places) n × (start + length (joined (codesFrom 0 (signalsOf (now text)))) ≤ length (now out)) × (to + length (records (signalsOf (now text)) (offsets start (codesFrom 0 (signalsOf (now text))))) ≤ length (now out)) ⌝ }
     ensures { λ r. ⌜ Wrote (now (out .entry)) to (records (signalsOf (now (text .entry))) (offsets start (codesFrom 0 (signalsOf (now (text .entry)))))) (now (out .exit)) r ⌝ }
 {
@@ -218,7 +256,15 @@ pub struct Layout {
     pub end: usize,
 }
 
-fn lay_out(text: &[u8], places: &[usize; 64], n: usize, periods: &[u8; 64], order: &[u8; 64], phases: &[u8; 64], h: usize) -> Layout
+fn lay_out(
+    text: &[u8],
+    places: &[usize; 64],
+    n: usize,
+    periods: &[u8; 64],
+    order: &[u8; 64],
+    phases: &[u8; 64],
+    h: usize,
+) -> Layout
     requires { ⌜ Declared (now text) (now places) n × Timed (now periods) (now order) n × (h ≤ 240) ⌝ }
     ensures { λ r. ⌜ LaidOut h n (listsBy (now (periods .entry)) (now (order .entry)) (now (phases .entry)) n h) (codesFrom 0 (signalsOf (now (text .entry)))) r ⌝ }
 {
@@ -234,7 +280,14 @@ fn lay_out(text: &[u8], places: &[usize; 64], n: usize, periods: &[u8; 64], orde
 }
 
 // L, the length of the image.
-pub fn image_length(text: &[u8], tables: Tables, periods: &[u8; 64], order: &[u8; 64], phases: &[u8; 64], h: usize) -> usize
+pub fn image_length(
+    text: &[u8],
+    tables: Tables,
+    periods: &[u8; 64],
+    order: &[u8; 64],
+    phases: &[u8; 64],
+    h: usize,
+) -> usize
     requires { ⌜ Ready (now text) tables (now periods) (now order) (now phases) h ⌝ }
     ensures { λ r. ⌜ ((p : Program) (s : Schedule) → Prepared (now (text .entry)) tables (now (periods .entry)) (now (order .entry)) (now (phases .entry)) p s → r ≡ lengthOf p s h) ⌝ }
 {
@@ -245,7 +298,15 @@ pub fn image_length(text: &[u8], tables: Tables, periods: &[u8; 64], order: &[u8
 }
 
 // Writes the image into the first L bytes.
-pub fn emit(text: &[u8], tables: Tables, periods: &[u8; 64], order: &[u8; 64], phases: &[u8; 64], h: usize, out: &mut [u8])
+pub fn emit(
+    text: &[u8],
+    tables: Tables,
+    periods: &[u8; 64],
+    order: &[u8; 64],
+    phases: &[u8; 64],
+    h: usize,
+    out: &mut [u8],
+)
     requires { ⌜ Fits (now text) tables (now periods) (now order) (now phases) h (length (now out)) ⌝ }
     ensures { λ _. ⌜ ((p : Program) (s : Schedule) → Prepared (now (text .entry)) tables (now (periods .entry)) (now (order .entry)) (now (phases .entry)) p s → now (out .exit) ≡ imageOf p s h ++ drop (lengthOf p s h) (now (out .entry))) ⌝ }
 {

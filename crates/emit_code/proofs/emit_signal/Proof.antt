@@ -1,3 +1,4 @@
+-- `emit_code::emit_signal` meets its contract. Assumes nothing.
 use mathlib.Core.Path.{sym, _∙_}
 use native.Mathlib.Omega.{arith}
 use Rattle.model.proofs.Commands.{command-sound}
@@ -6,53 +7,37 @@ use Rattle.emit_code.proofs.Signals.{equation-room, store-room, equatio
 use borrow.Author.Needs.{needs}
 use Rattle.emit_code.proofs.emit_signal.Statement.{statement}
 use Rattle.emit_code.proofs.emit_signal.Tie as tie
-use Rattle.emit_code.proofs.emit_signal.Reads as reads
-use Rattle.emit_code.proofs.emit_signal.Lts as lts
-use Rattle.commands.proofs.command_at.Reads as command-at-reads
-use Rattle.emit_code.proofs.emit_expression.Reads as emit-expression-reads
-use Rattle.emit_code.proofs.put_access.Reads as put-access-reads
 
--- src/lib.rt:160:9
 command-at-requires : tie.Need-command-at-requires
 command-at-requires c κs = search needs
 
--- src/lib.rt:163:47
 enum-told : tie.Need-enum-told
 enum-told c = search needs
 
--- src/lib.rt:163:47
 add-emit-expression : tie.Need-add-emit-expression
 add-emit-expression c = omega (arith, command-sound _ _ _ (sym (c .before .before .command-at .ensures) ∙ c .enum-told .given .1) .3, c .before .before .before .before .before .good .0 .1)
 
--- src/lib.rt:163:17
 emit-expression-requires : tie.Need-emit-expression-requires
 emit-expression-requires c κs = equation-room (sym (c .before .before .before .command-at .ensures) ∙ c .before .enum-told .given .1) (c .before .before .before .before .before .before .pre)
 
--- src/lib.rt:164:17
 put-access-requires : tie.Need-put-access-requires
 put-access-requires c κs = store-room (sym (c .before .before .before .before .before .before .before .command-at .ensures) ∙ c .before .before .before .before .before .enum-told .given .1) (c .before .before .before .before .before .before .before .before .before .before .pre) (c .before .before .before .emit-expression .ensures)
 
--- src/lib.rt:168:17
 put-access-requires-2 : tie.Need-put-access-requires-2
 put-access-requires-2 c κs = omega (arith, sample-room (c .before .before .command-at .result) (sym (c .before .before .command-at .ensures)) (c .before .match .keys2) (c .before .before .before .before .before .pre))
 
--- src/lib.rt:169:17
 put-access-requires-3 : tie.Need-put-access-requires-3
 put-access-requires-3 c κs = omega (arith, sample-room (c .before .before .before .before .before .before .command-at .result) (sym (c .before .before .before .before .before .before .command-at .ensures)) (c .before .before .before .before .before .match .keys2) (c .before .before .before .before .before .before .before .before .before .pre), c .before .before .before .put-access2 .ensures .ends, puts-length (c .before .before .before .put-access2 .ensures))
 
--- src/lib.rt:156:1
 same-length : tie.Need-same-length
 same-length c = search needs
 
--- src/lib.rt:156:1
 returns : tie.Need-returns
 returns c = equation-emits (sym (c .before .before .before .before .before .before .before .before .before .before .command-at .ensures) ∙ c .before .before .before .before .before .before .before .before .enum-told .given .1) (c .before .before .before .before .before .before .emit-expression .ensures) (c .before .before .put-access .ensures)
 
--- src/lib.rt:156:1
 same-length-2 : tie.Need-same-length-2
 same-length-2 c = search needs
 
--- src/lib.rt:156:1
 returns-2 : tie.Need-returns-2
 returns-2 c = sample-emits (c .before .before .before .before .before .before .before .before .before .command-at .result) (sym (c .before .before .before .before .before .before .before .before .before .command-at .ensures)) (c .before .before .before .before .before .before .before .before .match .keys2) (c .before .before .before .before .before .before .put-access2 .ensures) (c .before .before .put-access3 .ensures)
 

@@ -1,21 +1,17 @@
+-- `emit_code::expression_length` meets its contract. Assumes nothing.
 use Rattle.emit_code.specs.Code.{Stands}
-use Prim.Native.Nat.{ℕ, _-_, _+_, _<_, _≤_}
+use Prim.Native.Nat.{ℕ, _-_}
 use mathlib.Core.List.{List}
-use mathlib.Core.Path.{_≡_, sym, ap, subst, _∙_}
+use mathlib.Core.Path.{_≡_, sym}
 use native.Mathlib.Omega.{arith}
 use lib.ListN.{length}
 use denote.Ref.{now}
 use borrow.Author.Needs.{needs}
-use Rattle.model.specs.Image.{exprCode}
 use Rattle.model.specs.Program.{Expr}
 use Rattle.model.proofs.Spelled.{Spells}
 use Rattle.emit_code.proofs.Walk.{Walked, Step, walk-starts, walk-ends, walk-step, inside, code-most}
 use Rattle.emit_code.proofs.expression_length.Statement.{statement}
 use Rattle.emit_code.proofs.expression_length.Tie as tie
-use Rattle.emit_code.proofs.expression_length.Reads as reads
-use Rattle.emit_code.proofs.expression_length.Lts as lts
-use Rattle.commands.proofs.command_at.Reads as command-at-reads
-use Rattle.emit_code.proofs.shape_of.Reads as shape-of-reads
 
 abbrev Inv-loop : tie.InvT-loop
 Inv-loop text at next₀ operands₀ total₀ next operands total = (e : Expr) (n : ℕ) → Spells text at e n → Walked text next operands total e n
@@ -38,39 +34,30 @@ module _ (c : tie.After-command-at Inv-loop μ-loop) where
   here : Step text (c .before .before .loop .next) (c .before .before .loop .operands) (c .before .before .loop .total) (pre .expr) (pre .next) (c .command-at .result)
   here = step (pre .expr) (pre .next) (pre .spelled)
 
--- src/lib.rt:133:5
 loop-holds : tie.Need-loop-holds Inv-loop μ-loop
 loop-holds c = λ e n u. walk-starts u
 
--- src/lib.rt:134:13
 command-at-requires : tie.Need-command-at-requires Inv-loop μ-loop
 command-at-requires c κs = search needs
 
--- src/lib.rt:135:13
 shape-of-requires : tie.Need-shape-of-requires Inv-loop μ-loop
 shape-of-requires c κs = search needs
 
--- src/lib.rt:136:16
 add-next : tie.Need-add-next Inv-loop μ-loop
 add-next c = omega (arith, here (c .before .before) .within, c .before .shape-of .ensures .width, c .before .before .before .before .before .before .good .0 .1)
 
--- src/lib.rt:137:20
 sub-operands : tie.Need-sub-operands Inv-loop μ-loop
 sub-operands c = omega arith
 
--- src/lib.rt:137:20
 add-operands : tie.Need-add-operands Inv-loop μ-loop
 add-operands c = omega (arith, here (c .before .before .before) .few, inside (pre (c .before .before .before) .spelled), c .before .before .shape-of .ensures .operands, c .before .before .before .before .before .before .before .good .0 .1)
 
--- src/lib.rt:138:17
 add-total : tie.Need-add-total Inv-loop μ-loop
 add-total c = omega (arith, here (c .before .before .before .before) .short, code-most (pre (c .before .before .before .before) .spelled), inside (pre (c .before .before .before .before) .spelled), c .before .before .before .shape-of .ensures .code, c .before .before .before .before .before .before .before .before .good .0 .1)
 
--- src/lib.rt:133:5
 loop-less : tie.Need-loop-less Inv-loop μ-loop
 loop-less c = omega (arith, here (c .before .before .before .before) .within, here (c .before .before .before .before) .forward, c .before .before .before .shape-of .ensures .width)
 
--- src/lib.rt:133:5
 loop-again : tie.Need-loop-again Inv-loop μ-loop
 loop-again c =
     let h = c .before .before .before .shape-of .ensures in

@@ -1,3 +1,4 @@
+-- `emit_code::put_access` meets its contract. Assumes nothing.
 use native.Mathlib.Omega.{arith}
 use native.Mathlib.Numerals.{towards-suc}
 use mathlib.Core.Path.{refl}
@@ -5,30 +6,22 @@ use lib.ListN.{length-set}
 use borrow.Author.Needs.{needs}
 use Rattle.emit_code.proofs.put_access.Statement.{statement}
 use Rattle.emit_code.proofs.put_access.Tie as tie
-use Rattle.emit_code.proofs.put_access.Reads as reads
-use Rattle.emit_code.proofs.put_access.Lts as lts
 
--- src/lib.rt:52:5
 slice-write-out : tie.Need-slice-write-out
 slice-write-out c = search needs
 
--- src/lib.rt:53:9
 add-out : tie.Need-add-out
 add-out c = search needs
 
--- src/lib.rt:53:5
 slice-write-out-2 : tie.Need-slice-write-out-2
 slice-write-out-2 c = simp length-set (omega arith)
 
--- src/lib.rt:56:14
 add-t7 : tie.Need-add-t7
 add-t7 c = search needs
 
--- src/lib.rt:48:1
 same-length : tie.Need-same-length
 same-length c = search needs
 
--- src/lib.rt:48:1
 returns : tie.Need-returns
 returns c = record { goes = refl; ends = refl; holds = simp towards-suc }
 

@@ -1,3 +1,4 @@
+-- `emit_code::put_push` meets its contract. Assumes nothing.
 use native.Mathlib.Omega.{arith}
 use native.Mathlib.Numerals.{add-one}
 use mathlib.Core.Path.{refl, ap, _∙_}
@@ -11,33 +12,24 @@ use mir.Facts.{toZ-ofZ}
 use borrow.Author.Needs.{needs}
 use Rattle.emit_code.proofs.put_push.Statement.{statement}
 use Rattle.emit_code.proofs.put_push.Tie as tie
-use Rattle.emit_code.proofs.put_push.Reads as reads
-use Rattle.emit_code.proofs.put_push.Lts as lts
-use Rattle.word.proofs.put_word.Reads as put-word-reads
 
--- src/lib.rt:38:5
 slice-write-out : tie.Need-slice-write-out
 slice-write-out c = search needs
 
--- src/lib.rt:39:19
 add-operand : tie.Need-add-operand
 add-operand c = search needs
 
--- src/lib.rt:40:5
 put-word-requires : tie.Need-put-word-requires
 put-word-requires c κs = simp length-set (omega arith)
 
--- src/lib.rt:43:14
 add-t10 : tie.Need-add-t10
 add-t10 c = search needs
 
--- src/lib.rt:34:1
 same-length : tie.Need-same-length
 same-length c = ap length (c .before .before .put-word .ensures) ∙ simp (length-sets, length-set)
 
--- src/lib.rt:34:1
 returns : tie.Need-returns
-returns c = 
+returns c =
     let a = c .before .before .before .before .before .args in
     record {
       goes = refl;

@@ -1,3 +1,4 @@
+-- `emit_code::shape_of` meets its contract. Assumes nothing.
 use native.Mathlib.Omega.{arith}
 use mathlib.Core.Path.{refl}
 use Rattle.emit_code.proofs.Laws.{word-length}
@@ -5,55 +6,40 @@ use Rattle.emit_code.proofs.Walk.{plain-shape}
 use borrow.Author.Needs.{needs}
 use Rattle.emit_code.proofs.shape_of.Statement.{statement}
 use Rattle.emit_code.proofs.shape_of.Tie as tie
-use Rattle.emit_code.proofs.shape_of.Reads as reads
-use Rattle.emit_code.proofs.shape_of.Lts as lts
-use Rattle.reader.proofs.read_width.Reads as read-width-reads
 
--- src/lib.rt:113:33
 enum-told : tie.Need-enum-told
 enum-told c = search needs
 
--- src/lib.rt:114:23
 enum-known-command : tie.Need-enum-known-command
 enum-known-command c = search needs
 
--- src/lib.rt:115:17
 read-width-requires : tie.Need-read-width-requires
 read-width-requires c κs = search needs
 
--- src/lib.rt:118:31
 enum-told-2 : tie.Need-enum-told-2
 enum-told-2 c = search needs
 
--- src/lib.rt:119:28
 enum-told-3 : tie.Need-enum-told-3
 enum-told-3 c = search needs
 
--- src/lib.rt:120:24
 enum-told-4 : tie.Need-enum-told-4
 enum-told-4 c = search needs
 
--- src/lib.rt:109:1
 returns : tie.Need-returns
 returns c = rw (c .enum-told .given .1) (record { width = refl; operands = refl; code = omega (arith, word-length (c .enum-told .given .0 .0)) })
 
--- src/lib.rt:109:1
 returns-2 : tie.Need-returns-2
 returns-2 c = rw (c .before .before .command .given .1) (record { width = c .read-width .ensures; operands = refl; code = refl })
 
--- src/lib.rt:109:1
 returns-3 : tie.Need-returns-3
 returns-3 c = search needs
 
--- src/lib.rt:109:1
 returns-4 : tie.Need-returns-4
 returns-4 c = search needs
 
--- src/lib.rt:109:1
 returns-5 : tie.Need-returns-5
 returns-5 c = search needs
 
--- src/lib.rt:109:1
 returns-6 : tie.Need-returns-6
 returns-6 c = plain-shape _ (c .match .keys6)
 

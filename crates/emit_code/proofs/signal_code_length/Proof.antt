@@ -1,7 +1,7 @@
+-- `emit_code::signal_code_length` meets its contract. Assumes nothing.
 use mathlib.Core.Path.{sym, ap, _∙_}
 use native.Mathlib.Omega.{arith}
 use lib.ListN.{length}
-use Prim.Native.Nat.{ℕ}
 use Rattle.model.specs.Image.{signalCode}
 use Rattle.model.specs.Program.{Body}
 use Rattle.model.proofs.Commands.{command-sound}
@@ -10,38 +10,28 @@ use Rattle.emit_code.proofs.Signals.{equated, sampled, equation-length}
 use borrow.Author.Needs.{needs}
 use Rattle.emit_code.proofs.signal_code_length.Statement.{statement}
 use Rattle.emit_code.proofs.signal_code_length.Tie as tie
-use Rattle.emit_code.proofs.signal_code_length.Reads as reads
-use Rattle.emit_code.proofs.signal_code_length.Lts as lts
-use Rattle.commands.proofs.command_at.Reads as command-at-reads
-use Rattle.emit_code.proofs.expression_length.Reads as expression-length-reads
 
--- src/lib.rt:148:9
 command-at-requires : tie.Need-command-at-requires
 command-at-requires c κs = search needs
 
--- src/lib.rt:150:63
 enum-told : tie.Need-enum-told
 enum-told c = search needs
 
--- src/lib.rt:150:63
 add-expression-length : tie.Need-add-expression-length
 add-expression-length c = omega (arith, command-sound _ _ _ (sym (c .before .before .command-at .ensures) ∙ c .enum-told .given .1) .3, c .before .before .before .before .good .0 .1)
 
--- src/lib.rt:150:39
 expression-length-requires : tie.Need-expression-length-requires
 expression-length-requires c κs =
     let s = c .before .before .before .before .pre in
     let q = equated _ _ (s .signal) (s .stands) (s .spelled) (sym (c .before .before .command-at .ensures) ∙ c .enum-told .given .1) in
     record { expr = q .expr; next = q .next; spelled = q .spelled }
 
--- src/lib.rt:150:39
 add-result : tie.Need-add-result
 add-result c =
     let s = c .before .before .before .before .before .pre in
     let q = equated _ _ (s .signal) (s .stands) (s .spelled) (sym (c .before .before .before .command-at .ensures) ∙ c .before .enum-told .given .1) in
     omega (arith, c .expression-length .ensures .is (q .expr) (q .next) (q .spelled), code-most (q .spelled), inside (q .spelled), c .before .before .before .before .before .good .0 .1)
 
--- src/lib.rt:144:1
 returns : tie.Need-returns
 returns c =
     record {
@@ -50,7 +40,6 @@ returns c =
           omega (arith, c .expression-length .ensures .is (q .expr) (q .next) (q .spelled), equation-length q x);
     }
 
--- src/lib.rt:144:1
 returns-2 : tie.Need-returns-2
 returns-2 c =
     record {

@@ -1,20 +1,14 @@
-use Prim.Native.Nat.{ℕ, _+_, _-_, _*_, _≤_, _<_}
-use mathlib.Core.List.{List, [], _++_}
-use mathlib.Core.Path.{_≡_, refl, sym, ap, _∙_}
+-- `emitter::codes_length` meets its contract. Assumes nothing.
+use Prim.Native.Nat.{_+_, _-_, _≤_}
+use mathlib.Core.Path.{_≡_, ap}
 use native.Mathlib.Omega.{arith}
-use borrow.Author.Needs.{needs}
-use lib.ListN.{length, getD}
-use Rattle.model.specs.Image.{joined, offsets, records, signalCode}
-use Rattle.model.proofs.Legal.{SpellsSignal}
-use Rattle.emit_code.specs.Code.{SignalStands}
+use lib.ListN.{length}
+use Rattle.model.specs.Image.{joined}
 use Rattle.emitter.specs.Codes.{signalsOf, codesFrom}
-use Rattle.emitter.proofs.Left.{Left, parts-length, starts, room, turn, done}
-use Rattle.emitter.proofs.Coded.{nth, codesLeft, recordsLeft, codes-start, codes-next, codes-end, records-start, records-next, records-end, initial-word, record-length}
+use Rattle.emitter.proofs.Left.{parts-length}
+use Rattle.emitter.proofs.Coded.{nth, codesLeft, codes-start, codes-next, codes-end}
 use Rattle.emitter.proofs.codes_length.Statement.{statement}
 use Rattle.emitter.proofs.codes_length.Tie as tie
-use Rattle.emitter.proofs.codes_length.Reads as reads
-use Rattle.emitter.proofs.codes_length.Lts as lts
-use Rattle.emit_code.proofs.signal_code_length.Reads as signal-code-length-reads
 
 abbrev Inv-loop : tie.InvT-loop
 Inv-loop text places n total₀ x₀ total x =
@@ -23,45 +17,36 @@ Inv-loop text places n total₀ x₀ total x =
 abbrev μ-loop : tie.MeasureT-loop
 μ-loop text places n total₀ x₀ total x = n - x
 
--- src/lib.rt:148:5
 loop-holds : tie.Need-loop-holds Inv-loop μ-loop
 loop-holds c =
     let g = signalsOf (c .before .args .text .now) in
     (omega arith, omega (arith, ap length (codes-start g)))
 
--- src/lib.rt:149:56
 mul-signal-code-length : tie.Need-mul-signal-code-length Inv-loop μ-loop
 mul-signal-code-length c = omega (arith, c .before .before .before .pre .few)
 
--- src/lib.rt:149:56
 element-copy-out-signal-code-length : tie.Need-element-copy-out-signal-code-length Inv-loop μ-loop
 element-copy-out-signal-code-length c = omega (arith, c .before .before .before .pre .few)
 
--- src/lib.rt:149:13
 signal-code-length-requires : tie.Need-signal-code-length-requires Inv-loop μ-loop
 signal-code-length-requires c κs = record { signal = nth (signalsOf (c .before .before .before .before .args .text .now)) (c .before .before .loop .x); stands = c .before .before .before .before .pre .stands (c .before .before .loop .x) (omega arith); spelled = c .before .before .before .before .pre .spelled (c .before .before .loop .x) (omega arith) }
 
--- src/lib.rt:150:17
 add-total : tie.Need-add-total Inv-loop μ-loop
 add-total c =
     let g = signalsOf (c .before .before .before .before .before .args .text .now) in
     omega (arith, c .before .before .before .loop .inv .1, parts-length (codes-next g (c .before .before .before .loop .x) (omega (arith, c .before .before .before .before .before .pre .count-is))), c .signal-code-length .ensures .is (nth g (c .before .before .before .loop .x)) (c .before .before .before .before .before .pre .stands (c .before .before .before .loop .x) (omega arith)) (c .before .before .before .before .before .pre .spelled (c .before .before .before .loop .x) (omega arith)) (c .before .before .before .loop .x), c .before .before .before .before .before .pre .short, c .before .before .before .before .before .good .0 .1)
 
--- src/lib.rt:151:13
 add-x : tie.Need-add-x Inv-loop μ-loop
 add-x c = omega (arith, c .before .before .before .before .before .pre .few)
 
--- src/lib.rt:148:5
 loop-less : tie.Need-loop-less Inv-loop μ-loop
 loop-less c = omega arith
 
--- src/lib.rt:148:5
 loop-again : tie.Need-loop-again Inv-loop μ-loop
 loop-again c =
     let g = signalsOf (c .before .before .before .before .before .args .text .now) in
     (omega arith, omega (arith, c .before .before .before .loop .inv .1, parts-length (codes-next g (c .before .before .before .loop .x) (omega (arith, c .before .before .before .before .before .pre .count-is))), c .signal-code-length .ensures .is (nth g (c .before .before .before .loop .x)) (c .before .before .before .before .before .pre .stands (c .before .before .before .loop .x) (omega arith)) (c .before .before .before .before .before .pre .spelled (c .before .before .before .loop .x) (omega arith)) (c .before .before .before .loop .x)))
 
--- src/lib.rt:142:1
 returns : tie.Need-returns Inv-loop μ-loop
 returns c =
     let g = signalsOf (c .before .before .before .args .text .now) in

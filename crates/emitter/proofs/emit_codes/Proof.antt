@@ -1,21 +1,12 @@
-use Prim.Native.Nat.{ℕ, _+_, _-_, _*_, _≤_, _<_}
-use mathlib.Core.List.{List, [], _++_}
-use mathlib.Core.Path.{_≡_, refl, sym, ap, _∙_}
+-- `emitter::emit_codes` meets its contract. Assumes nothing.
+use Prim.Native.Nat.{_-_, _≤_}
 use native.Mathlib.Omega.{arith}
-use borrow.Author.Needs.{needs}
-use lib.ListN.{length, getD}
-use Rattle.model.specs.Image.{joined, offsets, records, signalCode}
-use Rattle.model.proofs.Legal.{SpellsSignal}
-use Rattle.emit_code.specs.Code.{SignalStands}
+use Rattle.model.specs.Image.{joined}
 use Rattle.emitter.specs.Codes.{signalsOf, codesFrom}
-use Rattle.emitter.proofs.Left.{Left, parts-length, starts, room, turn, done}
-use Rattle.emitter.proofs.Coded.{nth, codesLeft, recordsLeft, codes-start, codes-next, codes-end, records-start, records-next, records-end, initial-word, record-length}
+use Rattle.emitter.proofs.Left.{Left, starts, room, turn, done}
+use Rattle.emitter.proofs.Coded.{nth, codesLeft, codes-start, codes-next, codes-end}
 use Rattle.emitter.proofs.emit_codes.Statement.{statement}
 use Rattle.emitter.proofs.emit_codes.Tie as tie
-use Rattle.emitter.proofs.emit_codes.Reads as reads
-use Rattle.emitter.proofs.emit_codes.Lts as lts
-use Rattle.emit_code.proofs.emit_signal.Reads as emit-signal-reads
-use Rattle.emitter.proofs.narrow.Reads as narrow-reads
 
 abbrev Inv-loop : tie.InvT-loop
 Inv-loop text places n out₀ to end₀ x₀ out end x =
@@ -24,25 +15,20 @@ Inv-loop text places n out₀ to end₀ x₀ out end x =
 abbrev μ-loop : tie.MeasureT-loop
 μ-loop text places n out₀ to end₀ x₀ out end x = n - x
 
--- src/lib.rt:163:5
 loop-holds : tie.Need-loop-holds Inv-loop μ-loop
 loop-holds c =
     let g = signalsOf (c .before .before .args .text .now) in
     (omega arith, rw (codes-start g) starts)
 
--- src/lib.rt:164:13
 narrow-requires : tie.Need-narrow-requires Inv-loop μ-loop
 narrow-requires c κs = omega (arith, c .before .before .before .before .pre .0 .few)
 
--- src/lib.rt:165:44
 mul-emit-signal : tie.Need-mul-emit-signal Inv-loop μ-loop
 mul-emit-signal c = omega (arith, c .before .before .before .before .before .pre .0 .few)
 
--- src/lib.rt:165:44
 element-copy-out-emit-signal : tie.Need-element-copy-out-emit-signal Inv-loop μ-loop
 element-copy-out-emit-signal c = omega (arith, c .before .before .before .before .before .pre .0 .few)
 
--- src/lib.rt:165:9
 emit-signal-requires : tie.Need-emit-signal-requires Inv-loop μ-loop
 emit-signal-requires c κs =
     let g = signalsOf (c .before .before .before .before .before .before .before .args .text .now) in
@@ -52,26 +38,21 @@ emit-signal-requires c κs =
       fits = room (codes-next g (c .before .before .before .before .loop .x) (omega (arith, c .before .before .before .before .before .before .before .pre .0 .count-is))) (c .before .before .before .before .loop .inv .1) (c .before .before .before .before .before .before .before .pre .1);
     })
 
--- src/lib.rt:166:13
 add-x : tie.Need-add-x Inv-loop μ-loop
 add-x c = omega (arith, c .before .before .before .before .before .before .before .before .before .before .pre .0 .few)
 
--- src/lib.rt:163:5
 loop-less : tie.Need-loop-less Inv-loop μ-loop
 loop-less c = omega arith
 
--- src/lib.rt:163:5
 loop-again : tie.Need-loop-again Inv-loop μ-loop
 loop-again c =
     let g = signalsOf (c .before .before .before .before .before .before .before .before .before .before .args .text .now) in
     let p = (rw (c .before .before .before .before .before .narrow .ensures) at (c .before .before .emit-signal .ensures)) .puts (nth g (c .before .before .before .before .before .before .before .loop .x)) (c .before .before .before .before .before .before .before .before .before .before .pre .0 .stands (c .before .before .before .before .before .before .before .loop .x) (omega arith)) (c .before .before .before .before .before .before .before .before .before .before .pre .0 .spelled (c .before .before .before .before .before .before .before .loop .x) (omega arith)) in
     (omega arith, turn (codes-next g (c .before .before .before .before .before .before .before .loop .x) (omega (arith, c .before .before .before .before .before .before .before .before .before .before .pre .0 .count-is))) (c .before .before .before .before .before .before .before .loop .inv .1) (record { holds = p .0; ends = p .1 }))
 
--- src/lib.rt:157:1
 same-length : tie.Need-same-length Inv-loop μ-loop
 same-length c = c .before .loop .inv .1 .size
 
--- src/lib.rt:157:1
 returns : tie.Need-returns Inv-loop μ-loop
 returns c =
     let g = signalsOf (c .before .before .before .before .args .text .now) in

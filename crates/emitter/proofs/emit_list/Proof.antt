@@ -1,19 +1,14 @@
-use Prim.Native.Nat.{ℕ, _+_, _-_, _≤_, _<_}
-use mathlib.Core.List.{List, [], _++_}
-use mathlib.Core.Path.{_≡_, refl, sym, ap, _∙_}
+-- `emitter::emit_list` meets its contract. Assumes nothing.
+use Prim.Native.Nat.{_+_, _-_, _≤_}
 use native.Mathlib.Omega.{arith}
 use borrow.Author.Needs.{needs}
-use lib.ListN.{length, length-append, getD}
+use lib.ListN.{getD}
 use denote.Ref.{now}
 use Rattle.emitter.specs.Lists.{isDue, runOf, listBy}
 use Rattle.emitter.proofs.Listed.{listFrom, list-starts, list-step, list-ends}
 use Rattle.emitter.proofs.Left.{Parts, Left, starts, room, turn, done}
 use Rattle.emitter.proofs.emit_list.Statement.{statement}
 use Rattle.emitter.proofs.emit_list.Tie as tie
-use Rattle.emitter.proofs.emit_list.Reads as reads
-use Rattle.emitter.proofs.emit_list.Lts as lts
-use Rattle.emitter.proofs.is_due.Reads as is-due-reads
-use Rattle.emitter.proofs.put_run.Reads as put-run-reads
 
 abbrev Inv-loop : tie.InvT-loop
 Inv-loop periods order phases n c out₀ to end₀ i₀ out end i =
@@ -31,41 +26,32 @@ next c =
     let a = c .before .before .before .args in
     list-step (a .periods .now) (a .order .now) (a .phases .now) (a .n) (a .c) (c .before .loop .i) (omega arith)
 
--- src/lib.rt:62:5
 loop-holds : tie.Need-loop-holds Inv-loop μ-loop
 loop-holds c =
     let a = c .before .args in
     (omega arith, rw (list-starts (a .periods .now) (a .order .now) (a .phases .now) (a .n) (a .c)) starts)
 
--- src/lib.rt:63:17
 element-copy-out-x : tie.Need-element-copy-out-x Inv-loop μ-loop
 element-copy-out-x c = search needs
 
--- src/lib.rt:64:13
 is-due-requires : tie.Need-is-due-requires Inv-loop μ-loop
 is-due-requires c κs = (c .before .before .before .before .pre .0 .below (c .before .before .loop .i) (omega arith), c .before .before .before .before .pre .0 .positive (c .before .before .loop .i) (omega arith))
 
--- src/lib.rt:65:9
 put-run-requires : tie.Need-put-run-requires Inv-loop μ-loop
 put-run-requires c κs = rw (c .before .is-due .ensures) (room (next (c .before .before .before)) (c .before .before .before .before .loop .inv .1) (c .before .before .before .before .before .before .pre .1))
 
--- src/lib.rt:66:13
 add-i : tie.Need-add-i Inv-loop μ-loop
 add-i c = search needs
 
--- src/lib.rt:62:5
 loop-less : tie.Need-loop-less Inv-loop μ-loop
 loop-less c = search needs
 
--- src/lib.rt:62:5
 loop-again : tie.Need-loop-again Inv-loop μ-loop
 loop-again c = (omega arith, turn (next (c .before .before .before .before .before .before)) (c .before .before .before .before .before .before .before .loop .inv .1) (rw (c .before .before .before .before .is-due .ensures) at (c .before .before .put-run .ensures)))
 
--- src/lib.rt:56:1
 same-length : tie.Need-same-length Inv-loop μ-loop
 same-length c = c .before .loop .inv .1 .size
 
--- src/lib.rt:56:1
 returns : tie.Need-returns Inv-loop μ-loop
 returns c =
     let a = c .before .before .before .args in

@@ -1,19 +1,12 @@
-use Prim.Native.Nat.{ℕ, _+_, _-_, _*_, _≤_, _<_}
-use mathlib.Core.List.{List, [], _++_}
-use mathlib.Core.Path.{_≡_, refl, sym, ap, _∙_}
+-- `emitter::emit_lists` meets its contract. Assumes nothing.
+use Prim.Native.Nat.{_-_, _≤_}
 use native.Mathlib.Omega.{arith}
-use borrow.Author.Needs.{needs}
-use lib.ListN.{length, getD}
-use Rattle.model.specs.Image.{joined, offsets, records, signalCode}
-use Rattle.model.specs.Word.{twoBytes}
-use Rattle.emitter.specs.Lists.{listBy, listsBy, pairs}
-use Rattle.emitter.proofs.Left.{Left, parts-length, starts, room, turn, done, wrote-size}
-use Rattle.emitter.proofs.Joined.{joinedFrom, pairsFrom, joined-starts, joined-step, joined-ends, pairs-start, pairs-step, pairs-last, list-most}
+use Rattle.model.specs.Image.{joined}
+use Rattle.emitter.specs.Lists.{listBy, listsBy}
+use Rattle.emitter.proofs.Left.{Left, starts, room, turn, done}
+use Rattle.emitter.proofs.Joined.{joinedFrom, joined-starts, joined-step, joined-ends}
 use Rattle.emitter.proofs.emit_lists.Statement.{statement}
 use Rattle.emitter.proofs.emit_lists.Tie as tie
-use Rattle.emitter.proofs.emit_lists.Reads as reads
-use Rattle.emitter.proofs.emit_lists.Lts as lts
-use Rattle.emitter.proofs.emit_list.Reads as emit-list-reads
 
 abbrev Inv-loop : tie.InvT-loop
 Inv-loop periods order phases n h out₀ to end₀ c₀ out end c =
@@ -22,7 +15,6 @@ Inv-loop periods order phases n h out₀ to end₀ c₀ out end c =
 abbrev μ-loop : tie.MeasureT-loop
 μ-loop periods order phases n h out₀ to end₀ c₀ out end c = h - c
 
--- src/lib.rt:109:5
 loop-holds : tie.Need-loop-holds Inv-loop μ-loop
 unfolding listsBy
 loop-holds c =
@@ -30,33 +22,27 @@ loop-holds c =
     let h = c .before .args .h in
     (omega arith, rw (joined-starts f h) starts)
 
--- src/lib.rt:110:9
 emit-list-requires : tie.Need-emit-list-requires Inv-loop μ-loop
 emit-list-requires c κs =
     let f = listBy (c .before .before .before .before .args .periods .now) (c .before .before .before .before .args .order .now) (c .before .before .before .before .args .phases .now) (c .before .before .before .before .args .n) in
     let h = c .before .before .before .before .args .h in
     (c .before .before .before .before .pre .0, room (joined-step f h (c .before .before .loop .c) (omega arith)) (c .before .before .loop .inv .1) (c .before .before .before .before .pre .1))
 
--- src/lib.rt:111:13
 add-c : tie.Need-add-c Inv-loop μ-loop
 add-c c = omega arith
 
--- src/lib.rt:109:5
 loop-less : tie.Need-loop-less Inv-loop μ-loop
 loop-less c = omega arith
 
--- src/lib.rt:109:5
 loop-again : tie.Need-loop-again Inv-loop μ-loop
 loop-again c =
     let f = listBy (c .before .before .before .before .before .before .before .args .periods .now) (c .before .before .before .before .before .before .before .args .order .now) (c .before .before .before .before .before .before .before .args .phases .now) (c .before .before .before .before .before .before .before .args .n) in
     let h = c .before .before .before .before .before .before .before .args .h in
     (omega arith, turn (joined-step f h (c .before .before .before .before .before .loop .c) (omega arith)) (c .before .before .before .before .before .loop .inv .1) (c .before .before .emit-list .ensures))
 
--- src/lib.rt:103:1
 same-length : tie.Need-same-length Inv-loop μ-loop
 same-length c = c .before .loop .inv .1 .size
 
--- src/lib.rt:103:1
 returns : tie.Need-returns Inv-loop μ-loop
 returns c =
     let f = listBy (c .before .before .before .args .periods .now) (c .before .before .before .args .order .now) (c .before .before .before .args .phases .now) (c .before .before .before .args .n) in

@@ -1,20 +1,16 @@
-use Prim.Native.Nat.{ℕ, _+_, _-_, _*_, _≤_, _<_}
-use mathlib.Core.List.{List, [], _++_}
-use mathlib.Core.Path.{_≡_, refl, sym, ap, _∙_}
+-- `emitter::emit_offsets` meets its contract. Assumes nothing.
+use Prim.Native.Nat.{ℕ, _+_, _-_, _≤_}
+use mathlib.Core.List.{List}
+use mathlib.Core.Path.{_≡_, refl, ap, _∙_}
 use native.Mathlib.Omega.{arith}
-use borrow.Author.Needs.{needs}
-use lib.ListN.{length, getD}
-use Rattle.model.specs.Image.{joined, offsets, records, signalCode}
+use lib.ListN.{length}
+use Rattle.model.specs.Image.{joined, offsets}
 use Rattle.model.specs.Word.{twoBytes}
 use Rattle.emitter.specs.Lists.{listBy, listsBy, pairs}
 use Rattle.emitter.proofs.Left.{Left, parts-length, starts, room, turn, done, wrote-size}
-use Rattle.emitter.proofs.Joined.{joinedFrom, pairsFrom, joined-starts, joined-step, joined-ends, pairs-start, pairs-step, pairs-last, list-most}
+use Rattle.emitter.proofs.Joined.{joinedFrom, pairsFrom, joined-starts, joined-step, pairs-start, pairs-step, pairs-last}
 use Rattle.emitter.proofs.emit_offsets.Statement.{statement}
 use Rattle.emitter.proofs.emit_offsets.Tie as tie
-use Rattle.emitter.proofs.emit_offsets.Reads as reads
-use Rattle.emitter.proofs.emit_offsets.Lts as lts
-use Rattle.emitter.proofs.list_length.Reads as list-length-reads
-use Rattle.emitter.proofs.put_offset.Reads as put-offset-reads
 
 abbrev Inv-loop : tie.InvT-loop
 Inv-loop periods order phases n h start out₀ to offset₀ end₀ c₀ out offset end c =
@@ -24,7 +20,6 @@ Inv-loop periods order phases n h start out₀ to offset₀ end₀ c₀ out offs
 abbrev μ-loop : tie.MeasureT-loop
 μ-loop periods order phases n h start out₀ to offset₀ end₀ c₀ out offset end c = h - c
 
--- src/lib.rt:132:5
 loop-holds : tie.Need-loop-holds Inv-loop μ-loop
 unfolding listsBy
 loop-holds c =
@@ -32,7 +27,6 @@ loop-holds c =
     let h = c .before .args .h in
     (omega arith, ap (λ (l : List ℕ). c .before .args .start + length l) (joined-starts f h), rw (pairs-start f h (c .before .args .start)) starts)
 
--- src/lib.rt:133:9
 put-offset-requires : tie.Need-put-offset-requires Inv-loop μ-loop
 unfolding twoBytes
 put-offset-requires c κs =
@@ -40,34 +34,30 @@ put-offset-requires c κs =
     let h = c .before .before .before .before .args .h in
     room (pairs-step f h (c .before .before .loop .offset) (c .before .before .loop .c) (omega arith)) (c .before .before .loop .inv .2) (c .before .before .before .before .pre .2)
 
--- src/lib.rt:134:13
 list-length-requires : tie.Need-list-length-requires Inv-loop μ-loop
 list-length-requires c κs = c .before .before .before .before .before .before .before .pre .0
 
--- src/lib.rt:135:18
 add-offset : tie.Need-add-offset Inv-loop μ-loop
 add-offset c =
     let f = listBy (c .before .before .before .before .before .before .before .before .args .periods .now) (c .before .before .before .before .before .before .before .before .args .order .now) (c .before .before .before .before .before .before .before .before .args .phases .now) (c .before .before .before .before .before .before .before .before .args .n) in
     let h = c .before .before .before .before .before .before .before .before .args .h in
     omega (arith, c .before .before .before .before .before .before .loop .inv .1, parts-length (joined-step f h (c .before .before .before .before .before .before .loop .c) (omega arith)), c .list-length .ensures, c .before .before .before .before .before .before .before .before .pre .1)
 
--- src/lib.rt:136:13
 add-c : tie.Need-add-c Inv-loop μ-loop
 add-c c = omega arith
 
--- src/lib.rt:132:5
 loop-less : tie.Need-loop-less Inv-loop μ-loop
 loop-less c = omega arith
 
--- src/lib.rt:132:5
 loop-again : tie.Need-loop-again Inv-loop μ-loop
 loop-again c =
     let f = listBy (c .before .before .before .before .before .before .before .before .args .periods .now) (c .before .before .before .before .before .before .before .before .args .order .now) (c .before .before .before .before .before .before .before .before .args .phases .now) (c .before .before .before .before .before .before .before .before .args .n) in
-    let h = c .before .before .before .before .before .before .before .before .args .h in
-    (omega arith, omega (arith, c .before .before .before .before .before .before .loop .inv .1, parts-length (joined-step f h (c .before .before .before .before .before .before .loop .c) (omega arith)), c .list-length .ensures),
-     rw (c .list-length .ensures) (turn (pairs-step f h (c .before .before .before .before .before .before .loop .offset) (c .before .before .before .before .before .before .loop .c) (omega arith)) (c .before .before .before .before .before .before .loop .inv .2) (c .before .before .before .put-offset .ensures)))
+    let h = c .before .before .before .before .before .before .before .before .args .h in (
+      omega arith,
+      omega (arith, c .before .before .before .before .before .before .loop .inv .1, parts-length (joined-step f h (c .before .before .before .before .before .before .loop .c) (omega arith)), c .list-length .ensures),
+      rw (c .list-length .ensures) (turn (pairs-step f h (c .before .before .before .before .before .before .loop .offset) (c .before .before .before .before .before .before .loop .c) (omega arith)) (c .before .before .before .before .before .before .loop .inv .2) (c .before .before .before .put-offset .ensures)),
+    )
 
--- src/lib.rt:138:5
 put-offset-requires-2 : tie.Need-put-offset-requires-2 Inv-loop μ-loop
 unfolding twoBytes
 put-offset-requires-2 c κs =
@@ -75,11 +65,9 @@ put-offset-requires-2 c κs =
     let h = c .before .before .before .before .args .h in
     room (pairs-last f h (c .before .before .loop .offset) (c .before .before .loop .c) (omega arith)) (c .before .before .loop .inv .2) (c .before .before .before .before .pre .2)
 
--- src/lib.rt:125:1
 same-length : tie.Need-same-length Inv-loop μ-loop
 same-length c = wrote-size (c .before .before .put-offset2 .ensures) ∙ c .before .before .before .before .before .loop .inv .2 .size
 
--- src/lib.rt:125:1
 returns : tie.Need-returns Inv-loop μ-loop
 returns c =
     let f = listBy (c .before .before .before .before .before .before .before .args .periods .now) (c .before .before .before .before .before .before .before .args .order .now) (c .before .before .before .before .before .before .before .args .phases .now) (c .before .before .before .before .before .before .before .args .n) in

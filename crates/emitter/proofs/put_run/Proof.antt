@@ -1,29 +1,22 @@
+-- `emitter::put_run` meets its contract. Assumes nothing.
 use native.Mathlib.Omega.{arith}
 use mathlib.Core.Path.{refl}
-use native.Mathlib.Numerals.{towards-suc}
 use borrow.Author.Needs.{needs}
 use Rattle.emitter.proofs.put_run.Statement.{statement}
 use Rattle.emitter.proofs.put_run.Tie as tie
-use Rattle.emitter.proofs.put_run.Reads as reads
-use Rattle.emitter.proofs.put_run.Lts as lts
 
--- src/lib.rt:39:9
 slice-write-out : tie.Need-slice-write-out
 slice-write-out c = omega (arith, rw (c .if1 .taken) at (c .before .pre))
 
--- src/lib.rt:40:16
 add-result : tie.Need-add-result
 add-result c = search needs
 
--- src/lib.rt:40:9
 same-length : tie.Need-same-length
 same-length c = search needs
 
--- src/lib.rt:40:9
 returns : tie.Need-returns
 returns c = rw (c .if1 .taken) (record { holds = refl; ends = refl })
 
--- src/lib.rt:34:1
 returns-2 : tie.Need-returns-2
 returns-2 c = rw (c .if1 .left) (record { holds = refl; ends = omega arith })
 

@@ -1,14 +1,10 @@
-use mathlib.Core.Path.{refl}
+-- `emitter::run_length` meets its contract. Assumes nothing.
 use Rattle.emitter.proofs.run_length.Statement.{statement}
 use Rattle.emitter.proofs.run_length.Tie as tie
-use Rattle.emitter.proofs.run_length.Reads as reads
-use Rattle.emitter.proofs.run_length.Lts as lts
 
--- src/lib.rt:21:1
 returns : tie.Need-returns
 returns c = λ x. rw (c .if1 .taken)
 
--- src/lib.rt:21:1
 returns-2 : tie.Need-returns-2
 returns-2 c = λ x. rw (c .if1 .left)
 
