@@ -1,6 +1,6 @@
 -- An expression as its first command and its operands: one law for every number of operands. Assumes nothing.
-use Prim.Native.Nat.{ℕ, zero, suc, _+_, _-_, _≤_, _<_}
-use mathlib.Core.Bool.{Bool, true, false, false≢true}
+use Prim.Native.Nat.{ℕ, suc, _+_, _-_, _≤_, _<_}
+use mathlib.Core.Bool.{true, false, false≢true}
 use mathlib.Core.List.{List, [], _∷_, _++_, append-assoc, append-nil}
 use mathlib.Core.Path.{_≡_, refl, sym, ap, subst, _∙_}
 use native.Mathlib.Nat.{add-zero}
@@ -13,13 +13,10 @@ use denote.Enum.Declared.{tagOf, declared}
 use Rattle.model.specs.Accepted.{All}
 use Rattle.model.specs.Command.{commandAt}
 use Rattle.model.specs.Image.{exprCode}
-use Rattle.model.specs.Program.{Expr, readWidth}
+use Rattle.model.specs.Program.{Expr}
 use Rattle.model.specs.Word.{wordBytes, fourBytes}
 use Rattle.model.specs.declared.Command.{Command}
 use Rattle.model.specs.declared.Command.the-variants as Command
-use Rattle.model.specs.declared.Kind.{Kind}
-use Rattle.model.specs.declared.Kind.the-variants.{Now, Last, When, LastWhen, Current}
-use Rattle.model.proofs.All.{all-append}
 use Rattle.model.proofs.Bounds.{depth}
 use Rattle.model.proofs.Command.{enum}
 use Rattle.model.proofs.Commands.{command-sound}

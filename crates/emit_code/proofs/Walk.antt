@@ -1,7 +1,7 @@
 -- The walk over the commands of an expression. Assumes nothing.
-use Prim.Native.Nat.{ℕ, zero, suc, _+_, _-_, _≤_, _<_}
+use Prim.Native.Nat.{ℕ, _+_, _-_, _≤_, _<_}
 use mathlib.Core.List.{List, [], _∷_, _++_}
-use mathlib.Core.Path.{_≡_, refl, sym, ap, subst, _∙_}
+use mathlib.Core.Path.{_≡_, refl, ap}
 use native.Mathlib.Omega.{arith}
 use lib.ListN.{length, length-append}
 use types.Run.{OneOf, miss}
@@ -9,7 +9,6 @@ use denote.Enum.Declared.{tagOf, declared}
 use Rattle.model.specs.Command.{commandAt}
 use Rattle.model.specs.Image.{exprCode}
 use Rattle.model.specs.Program.{Expr, readWidth}
-use Rattle.model.specs.Word.{wordBytes, fourBytes}
 use Rattle.model.specs.declared.Command.{Command}
 use Rattle.model.specs.declared.Command.the-variants as Command
 use Rattle.model.specs.declared.Kind.{Kind}
@@ -18,7 +17,7 @@ use Rattle.model.proofs.Command.{enum}
 use Rattle.model.proofs.Commands.{command-sound}
 use Rattle.model.proofs.Spelled.{Spells}
 use Rattle.emit_code.specs.Shape.{widthOf, arityOf, lastOf, ShapeOf}
-use Rattle.emit_code.proofs.Laws.{SpellsAll, codeOfAll, all-length, Opened, opened, others, word-length, width-inside}
+use Rattle.emit_code.proofs.Laws.{SpellsAll, codeOfAll, all-length, opened, others, word-length, width-inside}
 
 read-some : (kind : Kind) → 2 ≤ readWidth kind
 read-some Now = omega arith

@@ -106,10 +106,10 @@ pub fn emit_expression(text: &[u8], at: usize, depth: usize, out: &mut [u8], to:
 }
 
 // The shape of an expression's first command: its bytes, its operands, and the bytes of code after theirs.
-pub struct Shape {
-    pub width: usize,
-    pub operands: usize,
-    pub code: usize,
+struct Shape {
+    width: usize,
+    operands: usize,
+    code: usize,
 }
 
 fn shape_of(command: Command) -> Shape

@@ -1,16 +1,16 @@
 -- The image by the tables is that of the program and the schedule. Assumes nothing.
 use Prim.Native.Nat.{ℕ, zero, suc, _+_, _%_, _≤_, _<_}
-use mathlib.Core.Bool.{Bool, true, false, cond}
+use mathlib.Core.Bool.{Bool, cond}
 use mathlib.Core.List.{List, [], _∷_, _++_, append-nil}
-use mathlib.Core.Path.{_≡_, refl, sym, ap, ap₂, subst, _∙_}
+use mathlib.Core.Path.{_≡_, refl, sym, ap, ap₂, _∙_}
 use native.Mathlib.Omega.{arith}
 use lib.Dec.{eqb}
 use lib.ListN.{length, getD, drop}
 use lib.Seq.{sets, sets-eq, ext-getD}
 use Rattle.model.specs.Image.{codes, runList, runLists, joined, offsets, records, listsAt, codesAt, lengthOf, head, imageOf}
-use Rattle.model.specs.Program.{Program, Signal, count, signalAt}
+use Rattle.model.specs.Program.{Program, Signal, count}
 use Rattle.model.specs.Reads.{rateOf, due}
-use Rattle.model.specs.Schedule.{Schedule, phaseOf}
+use Rattle.model.specs.Schedule.{Schedule}
 use Rattle.model.specs.Search.{table, tableFrom, chosen}
 use Rattle.model.specs.Word.{twoBytes}
 use Rattle.model.proofs.Legal.{legal, signal-spelled, signal-period}

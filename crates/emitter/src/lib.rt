@@ -3,7 +3,7 @@ use reader::Tables;
 ghost use mathlib.Core.Path.{_≡_};
 ghost use Prim.Native.Nat.{ℕ, _+_, _*_, _≤_, _<_};
 ghost use lib.ListN.{length, getD, drop};
-ghost use mathlib.Core.List.{[], _∷_, _++_};
+ghost use mathlib.Core.List.{_∷_, _++_};
 ghost use Rattle.model.specs.Image.{joined, offsets, records, lengthOf, imageOf};
 ghost use Rattle.model.specs.Program.{Program};
 ghost use Rattle.model.specs.Schedule.{Schedule};
@@ -250,10 +250,10 @@ fn put_head(h: usize, n: usize, size: usize, out: &mut [u8]) -> usize
 }
 
 // Where the run lists and the code start, and where the image ends.
-pub struct Layout {
-    pub lists: usize,
-    pub codes: usize,
-    pub end: usize,
+struct Layout {
+    lists: usize,
+    codes: usize,
+    end: usize,
 }
 
 fn lay_out(
