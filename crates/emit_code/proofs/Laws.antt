@@ -13,16 +13,18 @@ use denote.Enum.Declared.{tagOf, declared}
 use Rattle.model.specs.Accepted.{All}
 use Rattle.model.specs.Command.{commandAt}
 use Rattle.model.specs.Image.{exprCode}
-use Rattle.model.specs.Program.{Expr}
+use Rattle.model.specs.Program.{Expr, readWidth}
 use Rattle.model.specs.Word.{wordBytes, fourBytes}
 use Rattle.model.specs.declared.Command.{Command}
 use Rattle.model.specs.declared.Command.the-variants as Command
+use Rattle.model.specs.declared.Kind.{Kind}
+use Rattle.model.specs.declared.Kind.the-variants.{Now, Last, When, LastWhen, Current}
 use Rattle.model.proofs.Bounds.{depth}
 use Rattle.model.proofs.Command.{enum}
 use Rattle.model.proofs.Commands.{command-sound}
 use Rattle.model.proofs.Spelled.{Spells}
 use Rattle.emit_code.specs.Code.{Puts, Room, Emits}
-use Rattle.emit_code.specs.Shape.{isOperator, widthOf, arityOf, lastOf}
+use Rattle.emit_code.specs.Shape.{Lead, noLead, leadOf}
 
 -- Expressions that stand one after another, and their code.
 pub data SpellsAll (text : List ℕ) : ℕ → List Expr → ℕ → Type 0 where
@@ -38,11 +40,11 @@ Below d x = depth x ≤ d
 
 -- An expression, taken apart.
 pub record Opened (text : List ℕ) (at : ℕ) (e : Expr) (n : ℕ) (c : Command) : Type 0 where
-  pub operator : isOperator c ≡ true
+  pub operator : leadOf c .operator ≡ true
   pub operands : List Expr
-  pub spelled : SpellsAll text (at + widthOf c) operands n
-  pub arity : length operands ≡ arityOf c
-  pub code : exprCode e ≡ codeOfAll operands ++ lastOf c
+  pub spelled : SpellsAll text (at + leadOf c .width) operands n
+  pub arity : length operands ≡ leadOf c .arity
+  pub code : exprCode e ≡ codeOfAll operands ++ leadOf c .last
   pub deep : (d : ℕ) → depth e ≤ suc d → All (Below d) operands
 
 module _ {text : List ℕ} where
@@ -139,7 +141,7 @@ module _ {d : ℕ} {text : List ℕ} {at n to : ℕ} (c : Command) (q : commandA
   pub positive : 0 < d
   positive = omega (arith, depth-some (r .expr), r .deep)
 
-  pub rooms : Rooms (d - 1) text (at + widthOf c) n to (arityOf c) (length (lastOf c))
+  pub rooms : Rooms (d - 1) text (at + leadOf c .width) n to (leadOf c .arity) (length (leadOf c .last))
   rooms =
       let o = opened c q (r .spelled) in
       let p = positive in
@@ -152,7 +154,7 @@ module _ {d : ℕ} {text : List ℕ} {at n to : ℕ} (c : Command) (q : commandA
         fits = omega (arith, r .fits, simp length-append at (ap length (o .code)));
       }
 
-  pub operator-stands : isOperator c ≡ true
+  pub operator-stands : leadOf c .operator ≡ true
   operator-stands = opened c q (r .spelled) .operator
 
 pub all-length : (x : Expr) (xs : List Expr) → length (codeOfAll (x ∷ xs)) ≡ length (exprCode x) + length (codeOfAll xs)
@@ -232,7 +234,7 @@ module _ {text : List ℕ} {at to : ℕ} {l : List ℕ} where
 
   -- The operator after its operands.
   pub emits-last : {n₁ e₁ n₂ e₂ : ℕ} {l₁ l₂ : List ℕ} (c : Command) → commandAt text at ≡ c →
-      EmitsAll text (at + widthOf c) (arityOf c) l to l₁ n₁ e₁ → Puts l₁ e₁ (lastOf c) n₁ l₂ n₂ e₂ →
+      EmitsAll text (at + leadOf c .width) (leadOf c .arity) l to l₁ n₁ e₁ → Puts l₁ e₁ (leadOf c .last) n₁ l₂ n₂ e₂ →
       Emits text at l to l₂ n₂ e₂
   emits-last c q ws p =
       record {
@@ -247,38 +249,49 @@ module _ {text : List ℕ} {at to : ℕ} {l : List ℕ} where
 abbrev pub others : List ℕ
 others = 0 ∷ 1 ∷ 2 ∷ 3 ∷ 4 ∷ 5 ∷ 6 ∷ 7 ∷ 8 ∷ []
 
-pub no-operator : (c : Command) → OneOf others (tagOf (declared enum) c) → isOperator c ≡ true → ⊥
-no-operator Command.EndsEarly h e = false≢true e
-no-operator Command.Unknown h e = false≢true e
-no-operator Command.OutOfRange h e = false≢true e
-no-operator Command.End h e = false≢true e
-no-operator (Command.Input period initial) h e = false≢true e
-no-operator (Command.Equation period initial weight) h e = false≢true e
-no-operator (Command.Latency mode bound) h e = false≢true e
-no-operator (Command.Link signal) h e = false≢true e
-no-operator (Command.Cap n) h e = false≢true e
-no-operator (Command.Constant w) h e = miss others 9 tt h
-no-operator (Command.Read kind x) h e = miss others 10 tt h
-no-operator (Command.Binary operator) h e = miss others 11 tt h
-no-operator Command.Negate h e = miss others 12 tt h
-no-operator Command.If h e = miss others 13 tt h
+pub no-lead : (c : Command) → OneOf others (tagOf (declared enum) c) → leadOf c ≡ noLead
+no-lead Command.EndsEarly h = refl
+no-lead Command.Unknown h = refl
+no-lead Command.OutOfRange h = refl
+no-lead Command.End h = refl
+no-lead (Command.Input period initial) h = refl
+no-lead (Command.Equation period initial weight) h = refl
+no-lead (Command.Latency mode bound) h = refl
+no-lead (Command.Link signal) h = refl
+no-lead (Command.Cap n) h = refl
+no-lead (Command.Constant w) h = absurd (miss others 9 tt h)
+no-lead (Command.Read kind x) h = absurd (miss others 10 tt h)
+no-lead (Command.Binary operator) h = absurd (miss others 11 tt h)
+no-lead Command.Negate h = absurd (miss others 12 tt h)
+no-lead Command.If h = absurd (miss others 13 tt h)
 
--- What a command of an expression spans lies within the text.
-pub width-inside : (text : List ℕ) (at : ℕ) (c : Command) → commandAt text at ≡ c → isOperator c ≡ true → at + widthOf c ≤ length text
-width-inside text at Command.EndsEarly q e = absurd (false≢true e)
-width-inside text at Command.Unknown q e = absurd (false≢true e)
-width-inside text at Command.OutOfRange q e = absurd (false≢true e)
-width-inside text at Command.End q e = absurd (false≢true e)
-width-inside text at (Command.Input period initial) q e = absurd (false≢true e)
-width-inside text at (Command.Equation period initial weight) q e = absurd (false≢true e)
-width-inside text at (Command.Latency mode bound) q e = absurd (false≢true e)
-width-inside text at (Command.Link signal) q e = absurd (false≢true e)
-width-inside text at (Command.Cap n) q e = absurd (false≢true e)
-width-inside text at (Command.Constant w) q e = command-sound text at _ q .1
-width-inside text at (Command.Read kind x) q e = command-sound text at _ q .1
-width-inside text at (Command.Binary operator) q e = command-sound text at _ q
-width-inside text at Command.Negate q e = command-sound text at _ q
-width-inside text at Command.If q e = command-sound text at _ q
+pub no-operator : (c : Command) → OneOf others (tagOf (declared enum) c) → leadOf c .operator ≡ true → ⊥
+no-operator c h e = false≢true (sym (ap (λ (x : Lead). x .operator) (no-lead c h)) ∙ e)
+
+pub read-some : (kind : Kind) → 2 ≤ readWidth kind
+read-some Now = omega arith
+read-some Last = omega arith
+read-some When = omega arith
+read-some LastWhen = omega arith
+read-some Current = omega arith
+
+-- What a command of an expression spans is some bytes of the text.
+pub spans : (text : List ℕ) (at : ℕ) (c : Command) → commandAt text at ≡ c → leadOf c .operator ≡ true →
+    (1 ≤ leadOf c .width) × (at + leadOf c .width ≤ length text)
+spans text at Command.EndsEarly q e = absurd (false≢true e)
+spans text at Command.Unknown q e = absurd (false≢true e)
+spans text at Command.OutOfRange q e = absurd (false≢true e)
+spans text at Command.End q e = absurd (false≢true e)
+spans text at (Command.Input period initial) q e = absurd (false≢true e)
+spans text at (Command.Equation period initial weight) q e = absurd (false≢true e)
+spans text at (Command.Latency mode bound) q e = absurd (false≢true e)
+spans text at (Command.Link signal) q e = absurd (false≢true e)
+spans text at (Command.Cap n) q e = absurd (false≢true e)
+spans text at (Command.Constant w) q e = (omega arith, command-sound text at _ q .1)
+spans text at (Command.Read kind x) q e = (omega (arith, read-some kind), command-sound text at _ q .1)
+spans text at (Command.Binary operator) q e = (omega arith, command-sound text at _ q)
+spans text at Command.Negate q e = (omega arith, command-sound text at _ q)
+spans text at Command.If q e = (omega arith, command-sound text at _ q)
 
 pub word-length : (w : ℤ) → length (wordBytes w) ≡ 4
 unfolding wordBytes fourBytes

@@ -1,30 +1,21 @@
 -- The walk over the commands of an expression. Assumes nothing.
 use Prim.Native.Nat.{ℕ, _+_, _-_, _≤_, _<_}
 use mathlib.Core.List.{List, [], _∷_, _++_}
-use mathlib.Core.Path.{_≡_, refl, ap}
+use mathlib.Core.Path.{_≡_, refl, sym, ap}
 use native.Mathlib.Omega.{arith}
 use lib.ListN.{length, length-append}
-use types.Run.{OneOf, miss}
+use types.Run.{OneOf}
 use denote.Enum.Declared.{tagOf, declared}
 use Rattle.model.specs.Command.{commandAt}
 use Rattle.model.specs.Image.{exprCode}
-use Rattle.model.specs.Program.{Expr, readWidth}
+use Rattle.model.specs.Program.{Expr}
 use Rattle.model.specs.declared.Command.{Command}
 use Rattle.model.specs.declared.Command.the-variants as Command
-use Rattle.model.specs.declared.Kind.{Kind}
-use Rattle.model.specs.declared.Kind.the-variants.{Now, Last, When, LastWhen, Current}
 use Rattle.model.proofs.Command.{enum}
 use Rattle.model.proofs.Commands.{command-sound}
 use Rattle.model.proofs.Spelled.{Spells}
-use Rattle.emit_code.specs.Shape.{widthOf, arityOf, lastOf, ShapeOf}
-use Rattle.emit_code.proofs.Laws.{SpellsAll, codeOfAll, all-length, opened, others, word-length, width-inside}
-
-read-some : (kind : Kind) → 2 ≤ readWidth kind
-read-some Now = omega arith
-read-some Last = omega arith
-read-some When = omega arith
-read-some LastWhen = omega arith
-read-some Current = omega arith
+use Rattle.emit_code.specs.Shape.{Lead, leadOf, ShapeOf}
+use Rattle.emit_code.proofs.Laws.{SpellsAll, codeOfAll, all-length, opened, others, no-lead, read-some, spans, word-length}
 
 -- Code is no longer than what spells it, which lies within the text.
 module _ {text : List ℕ} where
@@ -64,22 +55,6 @@ unfolding codeOfAll
 all-code [] ys = omega arith
 all-code (x ∷ xs) ys = simp length-append (omega (arith, all-code xs ys))
 
-width-some : (c : Command) → 1 ≤ widthOf c
-width-some Command.EndsEarly = omega arith
-width-some Command.Unknown = omega arith
-width-some Command.OutOfRange = omega arith
-width-some Command.End = omega arith
-width-some (Command.Input period initial) = omega arith
-width-some (Command.Equation period initial weight) = omega arith
-width-some (Command.Latency mode bound) = omega arith
-width-some (Command.Link signal) = omega arith
-width-some (Command.Cap n) = omega arith
-width-some (Command.Constant w) = omega arith
-width-some (Command.Read kind x) = omega (arith, read-some kind)
-width-some (Command.Binary operator) = omega arith
-width-some Command.Negate = omega arith
-width-some Command.If = omega arith
-
 -- At `next` k expressions are still to come; `total` is the length of the code before theirs, or after.
 pub record Walked (text : List ℕ) (next k total : ℕ) (e : Expr) (n : ℕ) : Type 0 where
   pub rest : List Expr
@@ -89,11 +64,11 @@ pub record Walked (text : List ℕ) (next k total : ℕ) (e : Expr) (n : ℕ) : 
 
 -- One command further.
 pub record Step (text : List ℕ) (next k total : ℕ) (e : Expr) (n : ℕ) (c : Command) : Type 0 where
-  pub walked : Walked text (next + widthOf c) (k - 1 + arityOf c) (total + length (lastOf c)) e n
-  pub forward : 1 ≤ widthOf c
-  pub within : next + widthOf c ≤ length text
-  pub few : next + widthOf c + (k - 1 + arityOf c) ≤ n
-  pub short : total + length (lastOf c) ≤ length (exprCode e)
+  pub walked : Walked text (next + leadOf c .width) (k - 1 + leadOf c .arity) (total + length (leadOf c .last)) e n
+  pub forward : 1 ≤ leadOf c .width
+  pub within : next + leadOf c .width ≤ length text
+  pub few : next + leadOf c .width + (k - 1 + leadOf c .arity) ≤ n
+  pub short : total + length (leadOf c .last) ≤ length (exprCode e)
 
 module _ {text : List ℕ} where
   pub walk-starts : {at n : ℕ} {e : Expr} → Spells text at e n → Walked text at 1 0 e n
@@ -118,7 +93,7 @@ module _ {text : List ℕ} where
       go [] s p h = absurd (omega arith)
       go (x ∷ xs) (SpellsAll.more u v) p h =
           let o = opened c q u in
-          let l : length (o .operands ++ xs) ≡ k - 1 + arityOf c = rw length-append (omega (arith, o .arity)) in
+          let l : length (o .operands ++ xs) ≡ k - 1 + leadOf c .arity = rw length-append (omega (arith, o .arity)) in
           let d = all-append (o .spelled) v in
           let g = all-code (o .operands) xs in
           let f = simp length-append at (ap length (o .code)) in
@@ -130,25 +105,18 @@ module _ {text : List ℕ} where
                   count = l;
                   code = omega (arith, h, all-length x xs, g, f);
                 };
-            forward = width-some c;
-            within = width-inside text next c q (o .operator);
+            forward = spans text next c q (o .operator) .0;
+            within = spans text next c q (o .operator) .1;
             few = omega (arith, all-most d, l);
             short = omega (arith, h, all-length x xs, f);
           }
 
 -- The shape of a command that is none of an expression.
 pub plain-shape : (c : Command) → OneOf others (tagOf (declared enum) c) → ShapeOf c (record { width = 1; operands = 0; code = 0 })
-plain-shape Command.EndsEarly h = record { width = refl; operands = refl; code = refl }
-plain-shape Command.Unknown h = record { width = refl; operands = refl; code = refl }
-plain-shape Command.OutOfRange h = record { width = refl; operands = refl; code = refl }
-plain-shape Command.End h = record { width = refl; operands = refl; code = refl }
-plain-shape (Command.Input period initial) h = record { width = refl; operands = refl; code = refl }
-plain-shape (Command.Equation period initial weight) h = record { width = refl; operands = refl; code = refl }
-plain-shape (Command.Latency mode bound) h = record { width = refl; operands = refl; code = refl }
-plain-shape (Command.Link signal) h = record { width = refl; operands = refl; code = refl }
-plain-shape (Command.Cap n) h = record { width = refl; operands = refl; code = refl }
-plain-shape (Command.Constant w) h = absurd (miss others 9 tt h)
-plain-shape (Command.Read kind x) h = absurd (miss others 10 tt h)
-plain-shape (Command.Binary operator) h = absurd (miss others 11 tt h)
-plain-shape Command.Negate h = absurd (miss others 12 tt h)
-plain-shape Command.If h = absurd (miss others 13 tt h)
+plain-shape c h =
+    let e = sym (no-lead c h) in
+    record {
+      width = ap (λ (x : Lead). x .width) e;
+      operands = ap (λ (x : Lead). x .arity) e;
+      code = ap (λ (x : Lead). length (x .last)) e;
+    }

@@ -12,72 +12,33 @@ use Rattle.model.specs.declared.Command.{Command}
 use Rattle.model.specs.declared.Command.the-variants as Command
 use Rattle.emit_code.specs.declared.Shape.{Shape}
 
--- Whether a command is an operator or a leaf of an expression.
-abbrev pub isOperator : Command → Bool
-isOperator Command.EndsEarly = false
-isOperator Command.Unknown = false
-isOperator Command.OutOfRange = false
-isOperator Command.End = false
-isOperator (Command.Input period initial) = false
-isOperator (Command.Equation period initial weight) = false
-isOperator (Command.Latency mode bound) = false
-isOperator (Command.Link signal) = false
-isOperator (Command.Cap n) = false
-isOperator (Command.Constant w) = true
-isOperator (Command.Read kind x) = true
-isOperator (Command.Binary operator) = true
-isOperator Command.Negate = true
-isOperator Command.If = true
+pub record Lead : Type 0 where
+  -- whether the command is an operator or a leaf
+  pub operator : Bool
+  pub width : ℕ
+  pub arity : ℕ
+  pub last : List ℕ
 
-abbrev pub widthOf : Command → ℕ
-widthOf Command.EndsEarly = 1
-widthOf Command.Unknown = 1
-widthOf Command.OutOfRange = 1
-widthOf Command.End = 1
-widthOf (Command.Input period initial) = 1
-widthOf (Command.Equation period initial weight) = 1
-widthOf (Command.Latency mode bound) = 1
-widthOf (Command.Link signal) = 1
-widthOf (Command.Cap n) = 1
-widthOf (Command.Constant w) = 5
-widthOf (Command.Read kind x) = readWidth kind
-widthOf (Command.Binary operator) = 1
-widthOf Command.Negate = 1
-widthOf Command.If = 1
+abbrev pub noLead : Lead
+noLead = record { operator = false; width = 1; arity = 0; last = [] }
 
-abbrev pub arityOf : Command → ℕ
-arityOf Command.EndsEarly = 0
-arityOf Command.Unknown = 0
-arityOf Command.OutOfRange = 0
-arityOf Command.End = 0
-arityOf (Command.Input period initial) = 0
-arityOf (Command.Equation period initial weight) = 0
-arityOf (Command.Latency mode bound) = 0
-arityOf (Command.Link signal) = 0
-arityOf (Command.Cap n) = 0
-arityOf (Command.Constant w) = 0
-arityOf (Command.Read kind x) = 0
-arityOf (Command.Binary operator) = 2
-arityOf Command.Negate = 1
-arityOf Command.If = 3
-
-abbrev pub lastOf : Command → List ℕ
-lastOf Command.EndsEarly = []
-lastOf Command.Unknown = []
-lastOf Command.OutOfRange = []
-lastOf Command.End = []
-lastOf (Command.Input period initial) = []
-lastOf (Command.Equation period initial weight) = []
-lastOf (Command.Latency mode bound) = []
-lastOf (Command.Link signal) = []
-lastOf (Command.Cap n) = []
-lastOf (Command.Constant w) = 0x50 ∷ wordBytes w
-lastOf (Command.Read kind x) = 0x51 ∷ x .signal ∷ []
-lastOf (Command.Binary operator) = binaryByte operator ∷ []
-lastOf Command.Negate = 0x38 ∷ []
-lastOf Command.If = 0x3A ∷ []
+abbrev pub leadOf : Command → Lead
+leadOf Command.EndsEarly = noLead
+leadOf Command.Unknown = noLead
+leadOf Command.OutOfRange = noLead
+leadOf Command.End = noLead
+leadOf (Command.Input period initial) = noLead
+leadOf (Command.Equation period initial weight) = noLead
+leadOf (Command.Latency mode bound) = noLead
+leadOf (Command.Link signal) = noLead
+leadOf (Command.Cap n) = noLead
+leadOf (Command.Constant w) = record { operator = true; width = 5; arity = 0; last = 0x50 ∷ wordBytes w }
+leadOf (Command.Read kind x) = record { operator = true; width = readWidth kind; arity = 0; last = 0x51 ∷ x .signal ∷ [] }
+leadOf (Command.Binary operator) = record { operator = true; width = 1; arity = 2; last = binaryByte operator ∷ [] }
+leadOf Command.Negate = record { operator = true; width = 1; arity = 1; last = 0x38 ∷ [] }
+leadOf Command.If = record { operator = true; width = 1; arity = 3; last = 0x3A ∷ [] }
 
 pub record ShapeOf (c : Command) (r : Shape) : Type 0 where
-  pub width : r .width ≡ widthOf c
-  pub operands : r .operands ≡ arityOf c
-  pub code : r .code ≡ length (lastOf c)
+  pub width : r .width ≡ leadOf c .width
+  pub operands : r .operands ≡ leadOf c .arity
+  pub code : r .code ≡ length (leadOf c .last)

@@ -1,9 +1,9 @@
 // The image of an accepted pair: its length, and its parts one after another.
 use reader::Tables;
 ghost use mathlib.Core.Path.{_≡_};
-ghost use Prim.Native.Nat.{ℕ, _+_, _*_, _≤_, _<_};
-ghost use lib.ListN.{length, getD, drop};
 ghost use mathlib.Core.List.{_∷_, _++_};
+ghost use Prim.Native.Nat.{ℕ, _+_, _≤_, _<_};
+ghost use lib.ListN.{length, getD, drop};
 ghost use Rattle.model.specs.Image.{joined, offsets, records, lengthOf, imageOf};
 ghost use Rattle.model.specs.Program.{Program};
 ghost use Rattle.model.specs.Schedule.{Schedule};
@@ -139,6 +139,7 @@ fn emit_lists(
     end
 }
 
+// Writes an offset.
 fn put_offset(out: &mut [u8], to: usize, offset: usize) -> usize
     requires { ⌜ to + 2 ≤ length (now out) ⌝ }
     ensures { λ r. ⌜ Wrote (now (out .entry)) to (twoBytes offset) (now (out .exit)) r ⌝ }

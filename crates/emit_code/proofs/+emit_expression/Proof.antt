@@ -12,7 +12,7 @@ use borrow.Fn.PlainCycle.{Measures, is as at-measure, falls, and}
 use Rattle.model.specs.Command.{commandAt}
 use Rattle.model.specs.declared.Command.{Command}
 use Rattle.emit_code.specs.Code.{Room}
-use Rattle.emit_code.specs.Shape.{widthOf, arityOf, lastOf}
+use Rattle.emit_code.specs.Shape.{leadOf}
 use Rattle.emit_code.proofs.Laws.{
   Rooms,
   rooms,
@@ -25,7 +25,7 @@ use Rattle.emit_code.proofs.Laws.{
   emits-more,
   emits-last,
   no-operator,
-  width-inside,
+  spans,
   word-length,
   same-word,
 }
@@ -95,10 +95,10 @@ module _ (t : ℕ) (c : lts.After-command-at (known t) (given t) own.Post) where
     some : 0 < depth
     some = positive o is room-at
 
-    inside : at + widthOf o ≤ length text
-    inside = width-inside text at o is (operator-stands o is room-at)
+    inside : at + leadOf o .width ≤ length text
+    inside = spans text at o is (operator-stands o is room-at) .1
 
-    rooms-at : Rooms (depth - 1) text (at + widthOf o) size to (arityOf o) (length (lastOf o))
+    rooms-at : Rooms (depth - 1) text (at + leadOf o .width) size to (leadOf o .arity) (length (leadOf o .last))
     rooms-at = rooms o is room-at
 
 command-at-requires : (t : ℕ) → lts.Need-command-at-requires (known t) (given t) own.Post
