@@ -1,0 +1,3 @@
+-- What the emitter of code writes.
+pub mod Code
+pub mod Shape

@@ -1,0 +1,203 @@
+// The code of a signal: operands first, operator after.
+use model::Binary;
+use model::Command;
+ghost use mathlib.Core.Path.{_≡_};
+ghost use mathlib.Core.List.{[], _∷_};
+ghost use Prim.Native.Nat.{_+_, _≤_, _<_};
+ghost use lib.ListN.{length};
+ghost use Rattle.model.specs.Image.{binaryByte};
+ghost use Rattle.model.specs.Word.{wordBytes};
+ghost use Rattle.emit_code.specs.Code.{Puts, Room, Emits, Stands, Measures, SignalRoom, EmitsSignal, SignalStands, MeasuresSignal};
+ghost use Rattle.emit_code.specs.Shape.{ShapeOf};
+
+// Where the text goes on, and where the code ends.
+pub struct Emitted {
+    pub next: usize,
+    pub end: usize,
+}
+
+// The byte of an operator with two operands.
+fn binary_byte(operator: Binary) -> u8
+    ensures { λ r. ⌜ r ≡ binaryByte operator ⌝ }
+{
+    match operator {
+        Binary::Add => 0x30,
+        Binary::Sub => 0x31,
+        Binary::Mul => 0x32,
+        Binary::Less => 0x33,
+        Binary::Same => 0x34,
+        Binary::Min => 0x35,
+        Binary::Max => 0x36,
+    }
+}
+
+// Writes a PUSH.
+fn put_push(out: &mut [u8], to: usize, w: i32, next: usize) -> Emitted
+    requires { ⌜ to + 5 ≤ length (now out) ⌝ }
+    ensures { λ r. ⌜ Puts (now (out .entry)) to (0x50 ∷ wordBytes w) next (now (out .exit)) (r .next) (r .end) ⌝ }
+{
+    out[to] = 0x50;
+    let operand = to + 1;
+    word::put_word(out, operand, w);
+    Emitted {
+        next: next,
+        end: to + 5,
+    }
+}
+
+// Writes a LOAD, FETCH or STORE of a signal.
+fn put_access(out: &mut [u8], to: usize, code: u8, signal: u8, next: usize) -> Emitted
+    requires { ⌜ to + 2 ≤ length (now out) ⌝ }
+    ensures { λ r. ⌜ Puts (now (out .entry)) to (code ∷ signal ∷ []) next (now (out .exit)) (r .next) (r .end) ⌝ }
+{
+    out[to] = code;
+    out[to + 1] = signal;
+    Emitted {
+        next: next,
+        end: to + 2,
+    }
+}
+
+// Writes an operator after its operands.
+fn put_operator(out: &mut [u8], operands: Emitted, code: u8) -> Emitted
+    requires { ⌜ operands .end + 1 ≤ length (now out) ⌝ }
+    ensures { λ r. ⌜ Puts (now (out .entry)) (operands .end) (code ∷ []) (operands .next) (now (out .exit)) (r .next) (r .end) ⌝ }
+{
+    let to = operands.end;
+    out[to] = code;
+    Emitted {
+        next: operands.next,
+        end: to + 1,
+    }
+}
+
+// Writes the code of the expression at `at`, which nests at most `depth` deep, from `to` on.
+pub fn emit_expression(text: &[u8], at: usize, depth: usize, out: &mut [u8], to: usize) -> Emitted
+    requires { ⌜ Room depth (now text) at (length (now out)) to ⌝ }
+    ensures { λ r. ⌜ Emits (now (text .entry)) at (now (out .entry)) to (now (out .exit)) (r .next) (r .end) ⌝ }
+{
+    let command = commands::command_at(text, at);
+    match command {
+        Command::Constant(w) => put_push(out, to, w, at + 5),
+        Command::Read(kind, operands) => put_access(
+            out,
+            to,
+            0x51,
+            operands.signal,
+            at + reader::read_width(kind),
+        ),
+        Command::Binary(operator) => {
+            let first = emit_expression(text, at + 1, depth - 1, out, to);
+            let second = emit_expression(text, first.next, depth - 1, out, first.end);
+            put_operator(out, second, binary_byte(operator))
+        }
+        Command::Negate => {
+            let operand = emit_expression(text, at + 1, depth - 1, out, to);
+            put_operator(out, operand, 0x38)
+        }
+        Command::If => {
+            let condition = emit_expression(text, at + 1, depth - 1, out, to);
+            let first = emit_expression(text, condition.next, depth - 1, out, condition.end);
+            let second = emit_expression(text, first.next, depth - 1, out, first.end);
+            put_operator(out, second, 0x3A)
+        }
+        _ => Emitted { next: at, end: to },
+    }
+}
+
+// The shape of an expression's first command: its bytes, its operands, and the bytes of code after theirs.
+struct Shape {
+    width: usize,
+    operands: usize,
+    code: usize,
+}
+
+fn shape_of(command: Command) -> Shape
+    ensures { λ r. ⌜ ShapeOf command r ⌝ }
+{
+    match command {
+        Command::Constant(_) => Shape {
+            width: 5,
+            operands: 0,
+            code: 5,
+        },
+        Command::Read(kind, _) => {
+            let width = reader::read_width(kind);
+            Shape {
+                width: width,
+                operands: 0,
+                code: 2,
+            }
+        }
+        Command::Binary(_) => Shape {
+            width: 1,
+            operands: 2,
+            code: 1,
+        },
+        Command::Negate => Shape {
+            width: 1,
+            operands: 1,
+            code: 1,
+        },
+        Command::If => Shape {
+            width: 1,
+            operands: 3,
+            code: 1,
+        },
+        _ => Shape {
+            width: 1,
+            operands: 0,
+            code: 0,
+        },
+    }
+}
+
+// How many bytes the code of the expression at `at` takes: a walk over its commands, with the operands that are still to come.
+pub fn expression_length(text: &[u8], at: usize) -> usize
+    requires { ⌜ Stands (now text) at ⌝ }
+    ensures { λ r. ⌜ Measures (now (text .entry)) at r ⌝ }
+{
+    let mut next = at;
+    let mut operands: usize = 1;
+    let mut total: usize = 0;
+    while 0 < operands {
+        let command = commands::command_at(text, next);
+        let shape = shape_of(command);
+        next = next + shape.width;
+        operands = operands - 1 + shape.operands;
+        total = total + shape.code;
+    }
+    total
+}
+
+// How many bytes the code of the signal declared at `place` takes.
+pub fn signal_code_length(text: &[u8], place: usize) -> usize
+    requires { ⌜ SignalStands (now text) place ⌝ }
+    ensures { λ r. ⌜ MeasuresSignal (now (text .entry)) place r ⌝ }
+{
+    let command = commands::command_at(text, place);
+    match command {
+        Command::Equation(_, _, _) => expression_length(text, place + 8) + 2,
+        _ => 4,
+    }
+}
+
+// Writes the code of the signal x, declared at `place`, from `to` on. Says where it ends.
+pub fn emit_signal(text: &[u8], place: usize, x: u8, out: &mut [u8], to: usize) -> usize
+    requires { ⌜ SignalRoom (now text) place x (length (now out)) to ⌝ }
+    ensures { λ r. ⌜ EmitsSignal (now (text .entry)) place x (now (out .entry)) to (now (out .exit)) r ⌝ }
+{
+    let command = commands::command_at(text, place);
+    match command {
+        Command::Equation(_, _, _) => {
+            let value = emit_expression(text, place + 8, 16, out, to);
+            let code = put_access(out, value.end, 0x5F, x, place);
+            code.end
+        }
+        _ => {
+            let sample = put_access(out, to, 0x52, x, place);
+            let code = put_access(out, sample.end, 0x5F, x, place);
+            code.end
+        }
+    }
+}

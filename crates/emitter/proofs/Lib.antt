@@ -1,0 +1,6 @@
+-- Laws of writing an image.
+pub mod Coded
+pub mod Imaged
+pub mod Joined
+pub mod Left
+pub mod Listed

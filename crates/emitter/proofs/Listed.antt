@@ -1,0 +1,63 @@
+-- Run lists, entry by entry. Assumes nothing.
+use Prim.Native.Nat.{ℕ, suc, _+_, _-_, _≤_, _<_}
+use mathlib.Core.Bool.{Bool, true, false, cond}
+use mathlib.Core.List.{List, [], _∷_, _++_}
+use mathlib.Core.Path.{_≡_, refl, sym, ap, _∙_}
+use native.Mathlib.Numerals.{add-one}
+use native.Mathlib.Omega.{arith}
+use lib.ListN.{length, getD}
+use Rattle.model.specs.Search.{table, tableFrom, chosen}
+use Rattle.emitter.proofs.Left.{Parts}
+use Rattle.emitter.specs.Lists.{isDue, runOf, listBy}
+
+chosen-step : (test : ℕ → Bool) (x : ℕ) (xs : List ℕ) → chosen test (x ∷ xs) ≡ runOf (test x) x ++ chosen test xs
+unfolding chosen
+chosen-step test x xs = go (test x)
+  where
+    go : (b : Bool) → cond b (x ∷ chosen test xs) (chosen test xs) ≡ runOf b x ++ chosen test xs
+    go true = refl
+    go false = refl
+
+pub one-most : (b : Bool) (x : ℕ) → length (runOf b x) ≤ 1
+one-most true x = omega arith
+one-most false x = omega arith
+
+-- A table from entry i on.
+module _ {A : Type 0} (f : ℕ → A) (n : ℕ) where
+  pub table-starts : tableFrom 0 (n - 0) f ≡ table n f
+  unfolding table
+  table-starts = ap (λ (k : ℕ). tableFrom 0 k f) (omega arith)
+
+  pub table-step : (i : ℕ) → i < n → tableFrom i (n - i) f ≡ f i ∷ tableFrom (i + 1) (n - (i + 1)) f
+  unfolding tableFrom
+  table-step i lt =
+      let e : n - i ≡ suc (n - (i + 1)) = omega arith in
+      ap (λ (k : ℕ). tableFrom i k f) e ∙ ap (λ (k : ℕ). f i ∷ tableFrom k (n - (i + 1)) f) (sym (add-one i))
+
+  pub table-ends : (i : ℕ) → n ≤ i → tableFrom i (n - i) f ≡ []
+  unfolding tableFrom
+  table-ends i le = let e : n - i ≡ 0 = omega arith in ap (λ (k : ℕ). tableFrom i k f) e
+
+-- What is left of a list from entry i on.
+unfoldable pub listFrom : List ℕ → List ℕ → List ℕ → ℕ → ℕ → ℕ → List ℕ
+listFrom periods order phases n c i = chosen (isDue periods phases c) (tableFrom i (n - i) (λ j. getD order j 0))
+
+module _ (periods order phases : List ℕ) (n c : ℕ) where
+  pub list-starts : listFrom periods order phases n c 0 ≡ listBy periods order phases n c
+  unfolding listFrom listBy
+  list-starts = ap (chosen (isDue periods phases c)) (table-starts (λ j. getD order j 0) n)
+
+  pub list-step : (i : ℕ) → i < n →
+      Parts (listFrom periods order phases n c i) (runOf (isDue periods phases c (getD order i 0)) (getD order i 0))
+      (listFrom periods order phases n c (i + 1))
+  unfolding listFrom
+  list-step i lt =
+      record {
+        is =
+            ap (chosen (isDue periods phases c)) (table-step (λ j. getD order j 0) n i lt) ∙
+            chosen-step (isDue periods phases c) (getD order i 0) (tableFrom (i + 1) (n - (i + 1)) (λ j. getD order j 0));
+      }
+
+  pub list-ends : (i : ℕ) → n ≤ i → listFrom periods order phases n c i ≡ []
+  unfolding listFrom chosen
+  list-ends i le = ap (chosen (isDue periods phases c)) (table-ends (λ j. getD order j 0) n i le)

@@ -1,0 +1,5 @@
+-- What the emitter writes, by the tables that it is given.
+pub mod Codes
+pub mod Lists
+pub mod Prepared
+pub mod Writing

@@ -1,0 +1,32 @@
+-- Run lists by tables: periods and phases by signal, and the signals in PUT order.
+use Prim.Native.Nat.{ℕ, zero, _%_, _≤_, _<_}
+use mathlib.Core.Bool.{Bool, cond}
+use mathlib.Core.List.{List, [], _∷_}
+use lib.Dec.{eqb}
+use lib.ListN.{getD}
+use Rattle.model.specs.Search.{table, chosen, joinFrom}
+use Rattle.model.specs.Word.{twoBytes}
+
+abbrev pub isDue : List ℕ → List ℕ → ℕ → ℕ → Bool
+isDue periods phases c x = eqb (c % getD periods x 0) (getD phases x 0)
+
+-- A run of signal x, where it is due.
+abbrev pub runOf : Bool → ℕ → List ℕ
+runOf due x = cond due (x ∷ []) []
+
+-- The run list of cycle c over the first n signals in PUT order, and those of the cycles below h.
+unfoldable pub listBy : List ℕ → List ℕ → List ℕ → ℕ → ℕ → List ℕ
+listBy periods order phases n c = chosen (isDue periods phases c) (table n (λ j. getD order j 0))
+
+unfoldable pub listsBy : List ℕ → List ℕ → List ℕ → ℕ → ℕ → List (List ℕ)
+listsBy periods order phases n h = table h (listBy periods order phases n)
+
+-- Offsets, two bytes each.
+abbrev pub pairs : List ℕ → List ℕ
+pairs os = joinFrom 0 (λ i o. twoBytes o) os
+
+-- The first n entries of `order` are signals that have a period.
+pub record Timed (periods order : List ℕ) (n : ℕ) : Type 0 where
+  pub few : n ≤ 64
+  pub below : (j : ℕ) → j < n → getD order j 0 < 64
+  pub positive : (j : ℕ) → j < n → zero < getD periods (getD order j 0) 0

@@ -1,0 +1,322 @@
+// The image of an accepted pair: its length, and its parts one after another.
+use reader::Tables;
+ghost use mathlib.Core.Path.{_≡_};
+ghost use mathlib.Core.List.{_∷_, _++_};
+ghost use Prim.Native.Nat.{ℕ, _+_, _≤_, _<_};
+ghost use lib.ListN.{length, getD, drop};
+ghost use Rattle.model.specs.Image.{joined, offsets, records, lengthOf, imageOf};
+ghost use Rattle.model.specs.Program.{Program};
+ghost use Rattle.model.specs.Schedule.{Schedule};
+ghost use Rattle.model.specs.Word.{twoBytes, wordAt, wordBytes};
+ghost use Rattle.emitter.specs.Codes.{signalsOf, codesFrom, Declared};
+ghost use Rattle.emitter.specs.Lists.{isDue, runOf, listBy, listsBy, pairs, Timed};
+ghost use Rattle.emitter.specs.Prepared.{LaidOut, Prepared, Ready, Fits};
+ghost use Rattle.emitter.specs.Writing.{Wrote};
+
+fn wide(byte: u8) -> usize
+    ensures { λ r. ⌜ r ≡ byte ⌝ }
+{
+    byte as usize
+}
+
+fn narrow(x: usize) -> u8
+    requires { ⌜ x < 256 ⌝ }
+    ensures { λ r. ⌜ r ≡ x ⌝ }
+{
+    x as u8
+}
+
+// Whether signal x runs in cycle c.
+fn is_due(periods: &[u8; 64], phases: &[u8; 64], x: u8, c: usize) -> bool
+    requires { ⌜ (x < 64) × (0 < getD (now periods) x 0) ⌝ }
+    ensures { λ r. ⌜ r ≡ isDue (now (periods .entry)) (now (phases .entry)) c x ⌝ }
+{
+    let signal = wide(x);
+    let period = wide(periods[signal]);
+    let phase = wide(phases[signal]);
+    c % period == phase
+}
+
+// The bytes of a run in a list: one where the signal is due.
+fn run_length(due: bool) -> usize
+    ensures { λ r. ⌜ ((x : ℕ) → r ≡ length (runOf due x)) ⌝ }
+{
+    if due { 1 } else { 0 }
+}
+
+// Writes a run of signal x where it is due. Says where the list goes on.
+fn put_run(due: bool, x: u8, out: &mut [u8], to: usize) -> usize
+    requires { ⌜ to + length (runOf due x) ≤ length (now out) ⌝ }
+    ensures { λ r. ⌜ Wrote (now (out .entry)) to (runOf due x) (now (out .exit)) r ⌝ }
+{
+    if due {
+        out[to] = x;
+        return to + 1;
+    }
+    to
+}
+
+// The length of the run list of cycle c: a step for each of the n signals.
+fn list_length(periods: &[u8; 64], order: &[u8; 64], phases: &[u8; 64], n: usize, c: usize) -> usize
+    requires { ⌜ Timed (now periods) (now order) n ⌝ }
+    ensures { λ r. ⌜ r ≡ length (listBy (now (periods .entry)) (now (order .entry)) (now (phases .entry)) n c) ⌝ }
+{
+    let mut total: usize = 0;
+    let mut i: usize = 0;
+    while i < n {
+        let due = is_due(periods, phases, order[i], c);
+        let run = run_length(due);
+        total = total + run;
+        i = i + 1;
+    }
+    total
+}
+
+// Writes the run list of cycle c, in PUT order.
+fn emit_list(
+    periods: &[u8; 64],
+    order: &[u8; 64],
+    phases: &[u8; 64],
+    n: usize,
+    c: usize,
+    out: &mut [u8],
+    to: usize,
+) -> usize
+    requires { ⌜ Timed (now periods) (now order) n × (to + length (listBy (now periods) (now order) (now phases) n c) ≤ length (now out)) ⌝ }
+    ensures { λ r. ⌜ Wrote (now (out .entry)) to (listBy (now (periods .entry)) (now (order .entry)) (now (phases .entry)) n c) (now (out .exit)) r ⌝ }
+{
+    let mut end = to;
+    let mut i: usize = 0;
+    while i < n {
+        let x = order[i];
+        let due = is_due(periods, phases, x, c);
+        end = put_run(due, x, out, end);
+        i = i + 1;
+    }
+    end
+}
+
+// The length of the run lists of h cycles: a step for each of the n signals in each cycle.
+fn lists_length(
+    periods: &[u8; 64],
+    order: &[u8; 64],
+    phases: &[u8; 64],
+    n: usize,
+    h: usize,
+) -> usize
+    requires { ⌜ Timed (now periods) (now order) n × (h ≤ 240) ⌝ }
+    ensures { λ r. ⌜ r ≡ length (joined (listsBy (now (periods .entry)) (now (order .entry)) (now (phases .entry)) n h)) ⌝ }
+{
+    let mut total: usize = 0;
+    let mut c: usize = 0;
+    while c < h {
+        let runs = list_length(periods, order, phases, n, c);
+        total = total + runs;
+        c = c + 1;
+    }
+    total
+}
+
+// Writes the run lists of h cycles.
+fn emit_lists(
+    periods: &[u8; 64],
+    order: &[u8; 64],
+    phases: &[u8; 64],
+    n: usize,
+    h: usize,
+    out: &mut [u8],
+    to: usize,
+) -> usize
+    requires { ⌜ Timed (now periods) (now order) n × (to + length (joined (listsBy (now periods) (now order) (now phases) n h)) ≤ length (now out)) ⌝ }
+    ensures { λ r. ⌜ Wrote (now (out .entry)) to (joined (listsBy (now (periods .entry)) (now (order .entry)) (now (phases .entry)) n h)) (now (out .exit)) r ⌝ }
+{
+    let mut end = to;
+    let mut c: usize = 0;
+    while c < h {
+        end = emit_list(periods, order, phases, n, c, out, end);
+        c = c + 1;
+    }
+    end
+}
+
+// Writes an offset.
+fn put_offset(out: &mut [u8], to: usize, offset: usize) -> usize
+    requires { ⌜ to + 2 ≤ length (now out) ⌝ }
+    ensures { λ r. ⌜ Wrote (now (out .entry)) to (twoBytes offset) (now (out .exit)) r ⌝ }
+{
+    word::put_two(out, to, offset);
+    to + 2
+}
+
+// Writes where the run lists start, the first at `start`, and last where they end.
+fn emit_offsets(
+    periods: &[u8; 64],
+    order: &[u8; 64],
+    phases: &[u8; 64],
+    n: usize,
+    h: usize,
+    start: usize,
+    out: &mut [u8],
+    to: usize,
+) -> usize
+    requires { ⌜ Timed (now periods) (now order) n × (start + length (joined (listsBy (now periods) (now order) (now phases) n h)) ≤ length (now out)) × (to + length (pairs (offsets start (listsBy (now periods) (now order) (now phases) n h))) ≤ length (now out)) ⌝ }
+    ensures { λ r. ⌜ Wrote (now (out .entry)) to (pairs (offsets start (listsBy (now (periods .entry)) (now (order .entry)) (now (phases .entry)) n h))) (now (out .exit)) r ⌝ }
+{
+    let mut offset = start;
+    let mut end = to;
+    let mut c: usize = 0;
+    while c < h {
+        end = put_offset(out, end, offset);
+        let runs = list_length(periods, order, phases, n, c);
+        offset = offset + runs;
+        c = c + 1;
+    }
+    put_offset(out, end, offset)
+}
+
+// The length of the code of n signals.
+fn codes_length(text: &[u8], places: &[usize; 64], n: usize) -> usize
+    requires { ⌜ Declared (now text) (now places) n ⌝ }
+    ensures { λ r. ⌜ r ≡ length (joined (codesFrom 0 (signalsOf (now (text .entry))))) ⌝ }
+{
+    let mut total: usize = 0;
+    let mut x: usize = 0;
+    while x < n {
+        let code = emit_code::signal_code_length(text, places[x]);
+        total = total + code;
+        x = x + 1;
+    }
+    total
+}
+
+// Writes the code of n signals.
+fn emit_codes(text: &[u8], places: &[usize; 64], n: usize, out: &mut [u8], to: usize) -> usize
+    requires { ⌜ Declared (now text) (now places) n × (to + length (joined (codesFrom 0 (signalsOf (now text)))) ≤ length (now out)) ⌝ }
+    ensures { λ r. ⌜ Wrote (now (out .entry)) to (joined (codesFrom 0 (signalsOf (now (text .entry))))) (now (out .exit)) r ⌝ }
+{
+    let mut end = to;
+    let mut x: usize = 0;
+    while x < n {
+        let signal = narrow(x);
+        end = emit_code::emit_signal(text, places[x], signal, out, end);
+        x = x + 1;
+    }
+    end
+}
+
+// Writes the record of the signal declared at `place`, whose code starts at `offset`.
+fn put_record(text: &[u8], place: usize, offset: usize, out: &mut [u8], to: usize) -> usize
+    requires { ⌜ (place + 6 ≤ length (now text)) × (to + 6 ≤ length (now out)) ⌝ }
+    ensures { λ r. ⌜ Wrote (now (out .entry)) to (wordBytes (wordAt (now (text .entry)) (place + 2)) ++ twoBytes offset) (now (out .exit)) r ⌝ }
+{
+    let initial = word::word_at(text, place + 2);
+    word::put_word(out, to, initial);
+    let after = to + 4;
+    put_offset(out, after, offset)
+}
+
+// Writes the records of n signals, whose code starts at `start`.
+fn emit_records(
+    text: &[u8],
+    places: &[usize; 64],
+    n: usize,
+    start: usize,
+    out: &mut [u8],
+    to: usize,
+) -> usize
+    requires { ⌜ Declared (now text) (now places) n × (start + length (joined (codesFrom 0 (signalsOf (now text)))) ≤ length (now out)) × (to + length (records (signalsOf (now text)) (offsets start (codesFrom 0 (signalsOf (now text))))) ≤ length (now out)) ⌝ }
+    ensures { λ r. ⌜ Wrote (now (out .entry)) to (records (signalsOf (now (text .entry))) (offsets start (codesFrom 0 (signalsOf (now (text .entry)))))) (now (out .exit)) r ⌝ }
+{
+    let mut offset = start;
+    let mut end = to;
+    let mut x: usize = 0;
+    while x < n {
+        let place = places[x];
+        end = put_record(text, place, offset, out, end);
+        let code = emit_code::signal_code_length(text, place);
+        offset = offset + code;
+        x = x + 1;
+    }
+    end
+}
+
+// Writes H, N and L.
+fn put_head(h: usize, n: usize, size: usize, out: &mut [u8]) -> usize
+    requires { ⌜ (h < 256) × (n < 256) × (4 ≤ length (now out)) ⌝ }
+    ensures { λ r. ⌜ Wrote (now (out .entry)) 0 (h ∷ n ∷ twoBytes size) (now (out .exit)) r ⌝ }
+{
+    out[0] = narrow(h);
+    out[1] = narrow(n);
+    put_offset(out, 2, size)
+}
+
+// Where the run lists and the code start, and where the image ends.
+struct Layout {
+    lists: usize,
+    codes: usize,
+    end: usize,
+}
+
+fn lay_out(
+    text: &[u8],
+    places: &[usize; 64],
+    n: usize,
+    periods: &[u8; 64],
+    order: &[u8; 64],
+    phases: &[u8; 64],
+    h: usize,
+) -> Layout
+    requires { ⌜ Declared (now text) (now places) n × Timed (now periods) (now order) n × (h ≤ 240) ⌝ }
+    ensures { λ r. ⌜ LaidOut h n (listsBy (now (periods .entry)) (now (order .entry)) (now (phases .entry)) n h) (codesFrom 0 (signalsOf (now (text .entry)))) r ⌝ }
+{
+    let lists = 4 + 6 * n + 2 * (h + 1);
+    let runs = lists_length(periods, order, phases, n, h);
+    let codes = lists + runs;
+    let code = codes_length(text, places, n);
+    Layout {
+        lists: lists,
+        codes: codes,
+        end: codes + code,
+    }
+}
+
+// L, the length of the image.
+pub fn image_length(
+    text: &[u8],
+    tables: Tables,
+    periods: &[u8; 64],
+    order: &[u8; 64],
+    phases: &[u8; 64],
+    h: usize,
+) -> usize
+    requires { ⌜ Ready (now text) tables (now periods) (now order) (now phases) h ⌝ }
+    ensures { λ r. ⌜ ((p : Program) (s : Schedule) → Prepared (now (text .entry)) tables (now (periods .entry)) (now (order .entry)) (now (phases .entry)) p s → r ≡ lengthOf p s h) ⌝ }
+{
+    let n = tables.signals;
+    let places = tables.places;
+    let layout = lay_out(text, &places, n, periods, order, phases, h);
+    layout.end
+}
+
+// Writes the image into the first L bytes.
+pub fn emit(
+    text: &[u8],
+    tables: Tables,
+    periods: &[u8; 64],
+    order: &[u8; 64],
+    phases: &[u8; 64],
+    h: usize,
+    out: &mut [u8],
+)
+    requires { ⌜ Fits (now text) tables (now periods) (now order) (now phases) h (length (now out)) ⌝ }
+    ensures { λ _. ⌜ ((p : Program) (s : Schedule) → Prepared (now (text .entry)) tables (now (periods .entry)) (now (order .entry)) (now (phases .entry)) p s → now (out .exit) ≡ imageOf p s h ++ drop (lengthOf p s h) (now (out .entry))) ⌝ }
+{
+    let n = tables.signals;
+    let places = tables.places;
+    let layout = lay_out(text, &places, n, periods, order, phases, h);
+    let records = put_head(h, n, layout.end, out);
+    let offsets = emit_records(text, &places, n, layout.codes, out, records);
+    let lists = emit_offsets(periods, order, phases, n, h, layout.lists, out, offsets);
+    let codes = emit_lists(periods, order, phases, n, h, out, lists);
+    emit_codes(text, &places, n, out, codes);
+}
