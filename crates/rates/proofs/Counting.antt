@@ -33,7 +33,7 @@ abbrev pub Stops : List ℕ → ℕ → Type 0
 Stops text at = isOperand (partOf (commandAt text at)) ≡ false
 
 -- A signal's command, and where its expression ends.
-abbrev Closed : List ℕ → Signal → Body → Type 0
+abbrev pub Closed : List ℕ → Signal → Body → Type 0
 Closed text x input = (i : _) × (commandAt text (x .place) ≡ Command.Input (x .period) i)
 Closed text x (equation weight e) =
     (commandAt text (x .place) ≡ Command.Equation (x .period) (x .initial) weight) × (next : ℕ) ×
@@ -59,7 +59,7 @@ module _ {text : List ℕ} where
   closes (Declares.caps room e r) h = closes r h
 
 -- Every signal of an accepted text is closed.
-closed : (text : List ℕ) (p : Program) → parseProgram text ≡ accepted p → (x : ℕ) → x < count p → Closes text (signalAt p x)
+pub closed : (text : List ℕ) (p : Program) → parseProgram text ≡ accepted p → (x : ℕ) → x < count p → Closes text (signalAt p x)
 closed text p e x lt = all-at (Closes text) (p .signals) noSignal (closes (declared text p e .1) tt) x lt
 
 -- No part of an expression stands past the end, and each has a width.
@@ -84,10 +84,10 @@ operand-width Command.Negate e = omega arith
 operand-width Command.If e = omega arith
 
 -- The reads of a list of numbered ones.
-abbrev items : List (Numbered Read) → List Read
+abbrev pub items : List (Numbered Read) → List Read
 items rs = map (λ m. m .item) rs
 
-items-of : (n : ℕ) (xs : List Read) → items (map (numbered n) xs ++ []) ≡ xs
+pub items-of : (n : ℕ) (xs : List Read) → items (map (numbered n) xs ++ []) ≡ xs
 items-of n [] = refl
 items-of n (x ∷ xs) = ap (x ∷_) (items-of n xs)
 
@@ -190,7 +190,7 @@ operand-moves text at c x k e ex ek o =
     width-moves text at c k e ek (λ z. omega arith)
 
 -- The commands that are no EQ.
-abbrev others : List ℕ
+abbrev pub others : List ℕ
 others = 0 ∷ 1 ∷ 2 ∷ 3 ∷ 4 ∷ 6 ∷ 7 ∷ 8 ∷ 9 ∷ 10 ∷ 11 ∷ 12 ∷ 13 ∷ []
 
 module _ (text : List ℕ) (w : ℕ) (p : Program) (x : ℕ) (q : parseProgram text ≡ accepted p) (lt : x < count p) where

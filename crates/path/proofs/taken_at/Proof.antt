@@ -1,0 +1,77 @@
+-- `path::taken_at` meets its contract. Assumes nothing.
+use borrow.Author.Needs.{needs}
+use Rattle.path.proofs.taken_at.Statement.{statement}
+use Rattle.path.proofs.taken_at.Tie as tie
+
+enum-told : tie.Need-enum-told
+enum-told c = search needs
+
+no-read-requires : tie.Need-no-read-requires
+no-read-requires c κs = search needs
+
+enum-told-2 : tie.Need-enum-told-2
+enum-told-2 c = search needs
+
+no-read-requires-2 : tie.Need-no-read-requires-2
+no-read-requires-2 c κs = search needs
+
+enum-told-3 : tie.Need-enum-told-3
+enum-told-3 c = search needs
+
+no-read-requires-3 : tie.Need-no-read-requires-3
+no-read-requires-3 c κs = search needs
+
+enum-told-4 : tie.Need-enum-told-4
+enum-told-4 c = search needs
+
+no-read-requires-4 : tie.Need-no-read-requires-4
+no-read-requires-4 c κs = search needs
+
+enum-told-5 : tie.Need-enum-told-5
+enum-told-5 c = search needs
+
+no-read-requires-5 : tie.Need-no-read-requires-5
+no-read-requires-5 c κs = search needs
+
+enum-known-part : tie.Need-enum-known-part
+enum-known-part c = search needs
+
+returns : tie.Need-returns
+returns c = search needs
+
+returns-2 : tie.Need-returns-2
+returns-2 c = search needs
+
+returns-3 : tie.Need-returns-3
+returns-3 c = search needs
+
+returns-4 : tie.Need-returns-4
+returns-4 c = search needs
+
+returns-5 : tie.Need-returns-5
+returns-5 c = search needs
+
+returns-6 : tie.Need-returns-6
+returns-6 c = rw (c .before .part .given .1)
+
+pub taken-at-spec : {M : Type 1} → statement M
+taken-at-spec =
+    tie.close
+    (tie.spec
+    enum-told
+    no-read-requires
+    enum-told-2
+    no-read-requires-2
+    enum-told-3
+    no-read-requires-3
+    enum-told-4
+    no-read-requires-4
+    enum-told-5
+    no-read-requires-5
+    enum-known-part
+    returns
+    returns-2
+    returns-3
+    returns-4
+    returns-5
+    returns-6)

@@ -1,0 +1,2 @@
+-- What the reads of a path stand on.
+pub mod Path
