@@ -38,19 +38,19 @@ module _ (p : Program) (s : Schedule) where
   abbrev pub hopOf : ℕ → Read → Hop
   hopOf r ρ = record { kind = ρ .kind; factor = ρ .operands .factor; index = settled p s r ρ }
 
-  -- The hops from j on are those of the reads by which one goes back from r.
-  abbrev pub HopsOf : List Hop → ℕ → ℕ → List Read → Type 0
-  HopsOf hops j r [] = Unit {0}
-  HopsOf hops j r (ρ ∷ ρs) = (getD hops j noHop ≡ hopOf r ρ) × HopsOf hops (suc j) (ρ .operands .signal) ρs
+  -- The hops are those of the reads by which one goes back from r, the nearest last.
+  abbrev pub HopsOf : List Hop → ℕ → List Read → Type 0
+  HopsOf hops r [] = Unit {0}
+  HopsOf hops r (ρ ∷ ρs) = (getD hops (length ρs) noHop ≡ hopOf r ρ) × HopsOf hops (ρ .operands .signal) ρs
 
-  back-is : (hops : List Hop) (j r k : ℕ) (ρs : List Read) → HopsOf hops j r ρs → back p s r k ρs ≡ backBy hops j (length ρs) k
+  back-is : (hops : List Hop) (r k : ℕ) (ρs : List Read) → HopsOf hops r ρs → back p s r k ρs ≡ backBy hops (length ρs) k
   unfolding back backBy entryBy used
-  back-is hops j r k [] h = refl
-  back-is hops j r k (ρ ∷ ρs) h = rw (h .0) (go (used p s r k ρ) (λ m. back-is hops (suc j) (ρ .operands .signal) m ρs (h .1)))
+  back-is hops r k [] h = refl
+  back-is hops r k (ρ ∷ ρs) h = rw (h .0) (go (used p s r k ρ) (λ m. back-is hops (ρ .operands .signal) m ρs (h .1)))
     where
       go : (e : ℕ) →
-          ((m : ℕ) → back p s (ρ .operands .signal) m ρs ≡ backBy hops (suc j) (length ρs) m) →
-          onward (λ m. back p s (ρ .operands .signal) m ρs) e ≡ onward (λ m. backBy hops (suc j) (length ρs) m) e
+          ((m : ℕ) → back p s (ρ .operands .signal) m ρs ≡ backBy hops (length ρs) m) →
+          onward (λ m. back p s (ρ .operands .signal) m ρs) e ≡ onward (λ m. backBy hops (length ρs) m) e
       go zero f = refl
       go (suc m) f = f m
 
@@ -67,15 +67,15 @@ module _ (p : Program) (s : Schedule) where
   in-time-is bound (At l) = refl
   in-time-is bound Nowhere = refl
 
-  run-is : (hops : List Hop) (r k : ℕ) (ρs : List Read) → HopsOf hops 0 r ρs →
+  run-is : (hops : List Hop) (r k : ℕ) (ρs : List Read) → HopsOf hops r ρs →
       runLatency p s r ρs k ≡ runLatencyBy hops (length ρs) (rateOf p s r) (rateOf p s (source p s r ρs)) k
   unfolding runLatency runLatencyBy
   run-is hops r k ρs h =
       latency-is r (source p s r ρs) k (back p s r k ρs) ∙
-      ap (latencyBy (rateOf p s r) (rateOf p s (source p s r ρs)) k) (back-is hops 0 r k ρs h)
+      ap (latencyBy (rateOf p s r) (rateOf p s (source p s r ρs)) k) (back-is hops r k ρs h)
 
   -- The constraint decided by the hops is the one decided by the reads.
-  pub timely-is : (mode : Mode) (bound window : ℕ) (hops : List Hop) (r : ℕ) (ρs : List Read) → HopsOf hops 0 r ρs →
+  pub timely-is : (mode : Mode) (bound window : ℕ) (hops : List Hop) (r : ℕ) (ρs : List Read) → HopsOf hops r ρs →
       isTimely p s mode r ρs bound window ≡ timelyBy mode bound hops (length ρs) (rateOf p s r) (rateOf p s (source p s r ρs)) window
   unfolding timelyBy
   timely-is Backward bound window hops r ρs h =
@@ -105,18 +105,18 @@ module _ (p : Program) (s : Schedule) where
         go (suc q) h = omega arith
 
     -- Where the run is early enough, every element on the way is small.
-    pub small-is : (hops : List Hop) (j r k : ℕ) (ρs : List Read) → r < count p → ChainMet p s r ρs → HopsOf hops j r ρs →
-        runCycle (rateOf p s r) k ≤ 1000000 → Small hops j (length ρs) k
+    pub small-is : (hops : List Hop) (r k : ℕ) (ρs : List Read) → r < count p → ChainMet p s r ρs → HopsOf hops r ρs →
+        runCycle (rateOf p s r) k ≤ 1000000 → Small hops (length ρs) k
     unfolding Small entryBy used
-    small-is hops j r k [] lt ch h le = le-trans (run-low r k lt) le
-    small-is hops j r k (ρ ∷ ρs) lt ch h le = (
+    small-is hops r k [] lt ch h le = le-trans (run-low r k lt) le
+    small-is hops r k (ρ ∷ ρs) lt ch h le = (
       le-trans (run-low r k lt) le,
       rw (h .0)
-          (go (used p s r k ρ) refl (λ m l. small-is hops (suc j) (ρ .operands .signal) m ρs (ch .0 .declared) (ch .1) (h .1) l)),
+          (go (used p s r k ρ) refl (λ m l. small-is hops (ρ .operands .signal) m ρs (ch .0 .declared) (ch .1) (h .1) l)),
     )
       where
         go : (e : ℕ) → used p s r k ρ ≡ e →
-            ((m : ℕ) → runCycle (rateOf p s (ρ .operands .signal)) m ≤ 1000000 → Small hops (suc j) (length ρs) m) →
-            onwardSmall (λ m. Small hops (suc j) (length ρs) m) e
+            ((m : ℕ) → runCycle (rateOf p s (ρ .operands .signal)) m ≤ 1000000 → Small hops (length ρs) m) →
+            onwardSmall (λ m. Small hops (length ρs) m) e
         go zero q f = tt
         go (suc m) q f = f m (le-trans (used-before r k m ρ lt (ch .0) q) le)

@@ -21,33 +21,34 @@ times-byte k n h g =
     let y : n ≤ 255 = omega arith in
     le-trans (mul-le-mul-left k y) (mul-le-mul-right 255 h)
 
-more : (j n : ℕ) → j < n → n - j ≡ suc (n - (j + 1))
-more j n h = omega arith
+below : (n : ℕ) → 0 < n → n ≡ suc (n - 1)
+below n h = omega arith
 
 module _ (hops : List Hop) where
   -- One hop more.
-  pub back-at : (j n k e : ℕ) → j < n → e ≡ entryBy (getD hops j noHop) k →
-      backBy hops j (n - j) k ≡ onward (λ m. backBy hops (j + 1) (n - (j + 1)) m) e
+  pub back-at : (n k e : ℕ) → 0 < n → e ≡ entryBy (getD hops (n - 1) noHop) k → backBy hops n k ≡ onward (λ m. backBy hops (n - 1) m) e
   unfolding backBy
-  back-at j n k e h q = rw (more j n h, q, add-one j, backBy)
+  back-at n k e h q = ap (λ n. backBy hops n k) (below n h) ∙ rw q (go (n - 1))
+    where
+      go : (n : ℕ) → backBy hops (suc n) k ≡ onward (λ m. backBy hops n m) (entryBy (getD hops n noHop) k)
+      go n = refl
 
-  pub small-at : (j n k e : ℕ) → j < n → e ≡ entryBy (getD hops j noHop) k → Small hops j (n - j) k →
-      (k ≤ 1000000) × onwardSmall (λ m. Small hops (j + 1) (n - (j + 1)) m) e
+  pub small-at : (n k e : ℕ) → 0 < n → e ≡ entryBy (getD hops (n - 1) noHop) k → Small hops n k →
+      onwardSmall (λ m. Small hops (n - 1) m) e
   unfolding Small
-  small-at j n k e h q s = rw (q, add-one j) (rw (more j n h, Small, add-one j) at s)
+  small-at n k e h q s = rw q (go (n - 1) (subst (λ n. Small hops n k) (below n h) s))
+    where
+      go : (n : ℕ) → Small hops (suc n) k → onwardSmall (λ m. Small hops n m) (entryBy (getD hops n noHop) k)
+      go n t = t .1
 
-  pub back-end : (j n k : ℕ) → n ≤ j → backBy hops j (n - j) k ≡ At k
+  pub back-end : (n k : ℕ) → n ≡ 0 → backBy hops n k ≡ At k
   unfolding backBy
-  back-end j n k h = let e : n - j ≡ 0 = omega arith in rw e
+  back-end n k h = rw h
 
-  pub small-end : (j n k : ℕ) → n ≤ j → Small hops j (n - j) k → k ≤ 1000000
+  pub small-start : (n k : ℕ) → Small hops n k → k ≤ 1000000
   unfolding Small
-  small-end j n k h s = let e : n - j ≡ 0 = omega arith in rw e at s
-
-  pub small-start : (j n k : ℕ) → Small hops j n k → k ≤ 1000000
-  unfolding Small
-  small-start j zero k s = s
-  small-start j (suc n) k s = s .0
+  small-start zero k s = s
+  small-start (suc n) k s = s .0
 
 -- A test that fails below n.
 pub all-fails : (n k : ℕ) (test : ℕ → Bool) → k < n → test k ≡ false → allBelow n test ≡ false

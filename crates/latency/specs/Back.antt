@@ -22,10 +22,10 @@ noHop = record { kind = Now; factor = 0; index = 0 }
 unfoldable pub entryBy : Hop → ℕ → ℕ
 entryBy h k = uses (h .kind) (h .factor) (h .index) k
 
--- The element at which one ends that goes back from element k over the n hops from j on.
-unfoldable pub backBy : List Hop → ℕ → ℕ → ℕ → Found
-backBy hops j zero k = At k
-backBy hops j (suc n) k = onward (λ m. backBy hops (suc j) n m) (entryBy (getD hops j noHop) k)
+-- The element at which one ends that goes back from element k over the first n hops, the last of them first.
+unfoldable pub backBy : List Hop → ℕ → ℕ → Found
+backBy hops zero k = At k
+backBy hops (suc n) k = onward (λ m. backBy hops n m) (entryBy (getD hops n noHop) k)
 
 -- Every index is below its factor.
 abbrev pub Sound : List Hop → ℕ → Type 0
@@ -36,9 +36,9 @@ abbrev pub onwardSmall : (ℕ → Type 0) → ℕ → Type 0
 onwardSmall go zero = Unit {0}
 onwardSmall go (suc m) = go m
 
-unfoldable pub Small : List Hop → ℕ → ℕ → ℕ → Type 0
-Small hops j zero k = k ≤ 1000000
-Small hops j (suc n) k = (k ≤ 1000000) × onwardSmall (λ m. Small hops (suc j) n m) (entryBy (getD hops j noHop) k)
+unfoldable pub Small : List Hop → ℕ → ℕ → Type 0
+Small hops zero k = k ≤ 1000000
+Small hops (suc n) k = (k ≤ 1000000) × onwardSmall (λ m. Small hops n m) (entryBy (getD hops n noHop) k)
 
 abbrev pub SmallFound : Found → Type 0
 SmallFound (At m) = m ≤ 1000000
@@ -50,7 +50,7 @@ latencyBy last source k (At m) = At (runCycle last k - runCycle source m)
 latencyBy last source k Nowhere = Nowhere
 
 unfoldable pub runLatencyBy : List Hop → ℕ → Rate → Rate → ℕ → Found
-runLatencyBy hops n last source k = latencyBy last source k (backBy hops 0 n k)
+runLatencyBy hops n last source k = latencyBy last source k (backBy hops n k)
 
 abbrev pub lateBy : ℕ → Found → Bool
 lateBy bound (At l) = ltb bound l

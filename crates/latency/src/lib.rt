@@ -36,21 +36,21 @@ fn entry_of(hop: Hop, k: usize) -> usize
     }
 }
 
-// Goes back from element k over the hops.
+// Goes back from element k over the hops, the last of them first.
 fn go_back(hops: [Hop; 15], count: usize, k: usize) -> Found
-    requires { ⌜ (count ≤ 15) × Sound hops count × Small hops 0 count k ⌝ }
-    ensures { λ r. ⌜ (r ≡ backBy hops 0 count k) × SmallFound r ⌝ }
+    requires { ⌜ (count ≤ 15) × Sound hops count × Small hops count k ⌝ }
+    ensures { λ r. ⌜ (r ≡ backBy hops count k) × SmallFound r ⌝ }
 {
-    let mut j: usize = 0;
+    let mut left = count;
     let mut element = k;
-    while j < count {
-        let hop = hops[j];
+    while 0 < left {
+        let hop = hops[left - 1];
         let entry = entry_of(hop, element);
         if entry == 0 {
             return Found::Nowhere;
         }
         element = entry - 1;
-        j = j + 1;
+        left = left - 1;
     }
     Found::At(element)
 }
@@ -72,7 +72,7 @@ fn cycles_between(from: usize, to: usize) -> usize
 
 // The latency of run k of the last link, if the run counts.
 fn run_latency(hops: [Hop; 15], count: usize, last: Timing, source: Timing, k: usize) -> Found
-    requires { ⌜ (count ≤ 15) × Sound hops count × Small hops 0 count k × (k ≤ 1000000) ⌝ }
+    requires { ⌜ (count ≤ 15) × Sound hops count × Small hops count k × (k ≤ 1000000) ⌝ }
     ensures { λ r. ⌜ r ≡ runLatencyBy hops count (rateIn last) (rateIn source) k ⌝ }
 {
     let found = go_back(hops, count, k);
@@ -109,7 +109,7 @@ fn all_in_time(
     source: Timing,
     window: usize,
 ) -> bool
-    requires { ⌜ (count ≤ 15) × Sound hops count × ((k : ℕ) → k < window → Small hops 0 count k) × (window ≤ 1000000) ⌝ }
+    requires { ⌜ (count ≤ 15) × Sound hops count × ((k : ℕ) → k < window → Small hops count k) × (window ≤ 1000000) ⌝ }
     ensures { λ r. ⌜ r ≡ allBelow window (λ k. not (lateBy bound (runLatencyBy hops count (rateIn last) (rateIn source) k))) ⌝ }
 {
     let mut k: usize = 0;
@@ -132,7 +132,7 @@ fn one_in_time(
     source: Timing,
     window: usize,
 ) -> bool
-    requires { ⌜ (count ≤ 15) × Sound hops count × ((k : ℕ) → k < window → Small hops 0 count k) × (window ≤ 1000000) ⌝ }
+    requires { ⌜ (count ≤ 15) × Sound hops count × ((k : ℕ) → k < window → Small hops count k) × (window ≤ 1000000) ⌝ }
     ensures { λ r. ⌜ r ≡ isFound (first window (λ k. inTimeBy bound (runLatencyBy hops count (rateIn last) (rateIn source) k))) ⌝ }
 {
     let mut k: usize = 0;
@@ -156,7 +156,7 @@ pub fn is_timely(
     source: Timing,
     window: usize,
 ) -> bool
-    requires { ⌜ (count ≤ 15) × Sound hops count × ((k : ℕ) → k < window → Small hops 0 count k) × (window ≤ 1000000) ⌝ }
+    requires { ⌜ (count ≤ 15) × Sound hops count × ((k : ℕ) → k < window → Small hops count k) × (window ≤ 1000000) ⌝ }
     ensures { λ r. ⌜ r ≡ timelyBy mode bound hops count (rateIn last) (rateIn source) window ⌝ }
 {
     match mode {

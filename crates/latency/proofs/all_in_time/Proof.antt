@@ -13,7 +13,7 @@ use Rattle.latency.proofs.all_in_time.Tie as tie
 
 abbrev Inv-loop : tie.InvT-loop
 Inv-loop bound hops count last source window k₀ k =
-    (count ≤ 15) × Sound hops count × ((k : ℕ) → k < window → Small hops 0 count k) × (window ≤ 1000000) × (k ≤ window) × (allBelow k (λ k. not (lateBy bound (runLatencyBy hops count (rateIn last) (rateIn source) k))) ≡ true)
+    (count ≤ 15) × Sound hops count × ((k : ℕ) → k < window → Small hops count k) × (window ≤ 1000000) × (k ≤ window) × (allBelow k (λ k. not (lateBy bound (runLatencyBy hops count (rateIn last) (rateIn source) k))) ≡ true)
 
 abbrev μ-loop : tie.MeasureT-loop
 μ-loop bound hops count last source window k₀ k = window - k

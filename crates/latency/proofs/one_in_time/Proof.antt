@@ -13,7 +13,7 @@ use Rattle.latency.proofs.one_in_time.Tie as tie
 
 abbrev Inv-loop : tie.InvT-loop
 Inv-loop bound hops count last source window k₀ k =
-    (count ≤ 15) × Sound hops count × ((k : ℕ) → k < window → Small hops 0 count k) × (window ≤ 1000000) × (first window (λ k. inTimeBy bound (runLatencyBy hops count (rateIn last) (rateIn source) k)) ≡
+    (count ≤ 15) × Sound hops count × ((k : ℕ) → k < window → Small hops count k) × (window ≤ 1000000) × (first window (λ k. inTimeBy bound (runLatencyBy hops count (rateIn last) (rateIn source) k)) ≡
     firstFrom k (window - k) (λ k. inTimeBy bound (runLatencyBy hops count (rateIn last) (rateIn source) k)))
 
 abbrev μ-loop : tie.MeasureT-loop
