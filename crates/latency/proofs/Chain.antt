@@ -20,6 +20,7 @@ use Rattle.model.proofs.Rate.{stored-high, bit}
 use Rattle.model.proofs.Unique.{used-is}
 use Rattle.model.proofs.Window.{ChainMet}
 use Rattle.latency.specs.declared.Hop.{Hop}
+use Rattle.latency.specs.Hops.{HopsOf}
 use Rattle.latency.specs.Back.{
   noHop,
   entryBy,
@@ -34,16 +35,7 @@ use Rattle.latency.specs.Back.{
 }
 
 module _ (p : Program) (s : Schedule) where
-  -- The hop of a read in the equation of r.
-  abbrev pub hopOf : ℕ → Read → Hop
-  hopOf r ρ = record { kind = ρ .kind; factor = ρ .operands .factor; index = settled p s r ρ }
-
-  -- The hops are those of the reads by which one goes back from r, the nearest last.
-  abbrev pub HopsOf : List Hop → ℕ → List Read → Type 0
-  HopsOf hops r [] = Unit {0}
-  HopsOf hops r (ρ ∷ ρs) = (getD hops (length ρs) noHop ≡ hopOf r ρ) × HopsOf hops (ρ .operands .signal) ρs
-
-  back-is : (hops : List Hop) (r k : ℕ) (ρs : List Read) → HopsOf hops r ρs → back p s r k ρs ≡ backBy hops (length ρs) k
+  back-is : (hops : List Hop) (r k : ℕ) (ρs : List Read) → HopsOf p s hops r ρs → back p s r k ρs ≡ backBy hops (length ρs) k
   unfolding back backBy entryBy used
   back-is hops r k [] h = refl
   back-is hops r k (ρ ∷ ρs) h = rw (h .0) (go (used p s r k ρ) (λ m. back-is hops (ρ .operands .signal) m ρs (h .1)))
@@ -67,7 +59,7 @@ module _ (p : Program) (s : Schedule) where
   in-time-is bound (At l) = refl
   in-time-is bound Nowhere = refl
 
-  run-is : (hops : List Hop) (r k : ℕ) (ρs : List Read) → HopsOf hops r ρs →
+  run-is : (hops : List Hop) (r k : ℕ) (ρs : List Read) → HopsOf p s hops r ρs →
       runLatency p s r ρs k ≡ runLatencyBy hops (length ρs) (rateOf p s r) (rateOf p s (source p s r ρs)) k
   unfolding runLatency runLatencyBy
   run-is hops r k ρs h =
@@ -75,7 +67,7 @@ module _ (p : Program) (s : Schedule) where
       ap (latencyBy (rateOf p s r) (rateOf p s (source p s r ρs)) k) (back-is hops r k ρs h)
 
   -- The constraint decided by the hops is the one decided by the reads.
-  pub timely-is : (mode : Mode) (bound window : ℕ) (hops : List Hop) (r : ℕ) (ρs : List Read) → HopsOf hops r ρs →
+  pub timely-is : (mode : Mode) (bound window : ℕ) (hops : List Hop) (r : ℕ) (ρs : List Read) → HopsOf p s hops r ρs →
       isTimely p s mode r ρs bound window ≡ timelyBy mode bound hops (length ρs) (rateOf p s r) (rateOf p s (source p s r ρs)) window
   unfolding timelyBy
   timely-is Backward bound window hops r ρs h =
@@ -105,7 +97,7 @@ module _ (p : Program) (s : Schedule) where
         go (suc q) h = omega arith
 
     -- Where the run is early enough, every element on the way is small.
-    pub small-is : (hops : List Hop) (r k : ℕ) (ρs : List Read) → r < count p → ChainMet p s r ρs → HopsOf hops r ρs →
+    pub small-is : (hops : List Hop) (r k : ℕ) (ρs : List Read) → r < count p → ChainMet p s r ρs → HopsOf p s hops r ρs →
         runCycle (rateOf p s r) k ≤ 1000000 → Small hops (length ρs) k
     unfolding Small entryBy used
     small-is hops r k [] lt ch h le = le-trans (run-low r k lt) le

@@ -1,2 +1,3 @@
 -- What the functions of latency stand for.
 pub mod Back
+pub mod Hops

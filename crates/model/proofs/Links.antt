@@ -17,7 +17,7 @@ use Rattle.model.proofs.All.{all-reverseAux, all-of-map}
 use Rattle.model.proofs.Window.{ChainMet, window-decides}
 
 -- The read of w is one of the reads.
-read-of : (Q : Read → Type 0) (w : ℕ) (ρs : List Read) → All Q ρs → 1 ≤ countReads w ρs →
+pub read-of : (Q : Read → Type 0) (w : ℕ) (ρs : List Read) → All Q ρs → 1 ≤ countReads w ρs →
     Q (readOf w ρs) × (readOf w ρs .operands .signal ≡ w)
 unfolding countReads readOf
 read-of Q w [] h le = absurd (omega arith)
@@ -70,7 +70,7 @@ module _ (p : Program) (s : Schedule) where
   KeepsTime c = TimelyFrom c (backwards c)
 
   module _ (acc : Accepted p s) where
-    chain-met : (ws : List ℕ) (r : ℕ) → All (λ w. w < count p) (r ∷ ws) → LinkedBack p (r ∷ ws) →
+    pub chain-met : (ws : List ℕ) (r : ℕ) → All (λ w. w < count p) (r ∷ ws) → LinkedBack p (r ∷ ws) →
         ChainMet p s r (readsBack p r ws)
     unfolding readsBack
     chain-met [] r d h = tt

@@ -1,3 +1,4 @@
+-- `latency::go_back` meets its contract. Assumes nothing.
 use Prim.Native.Nat.{_-_, _≤_}
 use mathlib.Core.Path.{_≡_, refl, sym, _∙_}
 use native.Mathlib.Omega.{arith}
@@ -5,9 +6,6 @@ use Rattle.latency.specs.Back.{backBy, Sound, Small}
 use Rattle.latency.proofs.Laws.{back-at, small-at, back-end, small-start, onward-at, small-onward}
 use Rattle.latency.proofs.go_back.Statement.{statement}
 use Rattle.latency.proofs.go_back.Tie as tie
-use Rattle.latency.proofs.go_back.Reads as reads
-use Rattle.latency.proofs.go_back.Lts as lts
-use Rattle.latency.proofs.entry_of.Reads as entry-of-reads
 
 abbrev Inv-loop : tie.InvT-loop
 Inv-loop count k hops left₀ element₀ left element =
@@ -16,27 +14,21 @@ Inv-loop count k hops left₀ element₀ left element =
 abbrev μ-loop : tie.MeasureT-loop
 μ-loop count k hops left₀ element₀ left element = left
 
--- src/lib.rt:46:5
 loop-holds : tie.Need-loop-holds Inv-loop μ-loop
 loop-holds c = (omega arith, c .pre .0, c .pre .1, c .pre .2, refl)
 
--- src/lib.rt:47:24
 sub-hop : tie.Need-sub-hop Inv-loop μ-loop
 sub-hop c = omega arith
 
--- src/lib.rt:47:19
 mul-hop : tie.Need-mul-hop Inv-loop μ-loop
 mul-hop c = omega (arith, c .before .loop .inv .0, c .before .loop .inv .1)
 
--- src/lib.rt:47:19
 array-copy-out-hop : tie.Need-array-copy-out-hop Inv-loop μ-loop
 array-copy-out-hop c = omega (arith, c .before .loop .inv .0, c .before .loop .inv .1)
 
--- src/lib.rt:48:13
 entry-of-requires : tie.Need-entry-of-requires Inv-loop μ-loop
 entry-of-requires c κs = let l = c .before .before .loop in (small-start _ _ _ (l .inv .3), l .inv .2 (l .left - 1) (omega (arith, l .inv .0)))
 
--- src/lib.rt:50:13
 returns : tie.Need-returns Inv-loop μ-loop
 returns c =
     let l = c .before .before .before .before .loop in
@@ -44,19 +36,15 @@ returns c =
     let q = back-at (a .t1) (l .left) (l .element) (c .before .entry-of .result) (c .before .before .before .loop-test .taken) (c .before .entry-of .ensures) in
     (sym (l .inv .4 ∙ rw (c .if1 .taken) at q), tt)
 
--- src/lib.rt:52:19
 sub-element : tie.Need-sub-element Inv-loop μ-loop
 sub-element c = omega arith
 
--- src/lib.rt:53:16
 sub-left : tie.Need-sub-left Inv-loop μ-loop
 sub-left c = omega arith
 
--- src/lib.rt:46:5
 loop-less : tie.Need-loop-less Inv-loop μ-loop
 loop-less c = omega arith
 
--- src/lib.rt:46:5
 loop-again : tie.Need-loop-again Inv-loop μ-loop
 loop-again c =
     let l = c .before .before .before .before .loop in
@@ -67,12 +55,11 @@ loop-again c =
       l .inv .1,
       l .inv .2,
       small-onward (λ m. Small (a .t1) (l .left - 1) m) e (c .if1 .left)
-      (small-at (a .t1) (l .left) (l .element) e lt (c .before .entry-of .ensures) (l .inv .3)),
+          (small-at (a .t1) (l .left) (l .element) e lt (c .before .entry-of .ensures) (l .inv .3)),
       l .inv .4 ∙ back-at (a .t1) (l .left) (l .element) e lt (c .before .entry-of .ensures) ∙
-      onward-at (λ m. backBy (a .t1) (l .left - 1) m) e (c .if1 .left),
+          onward-at (λ m. backBy (a .t1) (l .left - 1) m) e (c .if1 .left),
     )
 
--- src/lib.rt:40:1
 returns-2 : tie.Need-returns-2 Inv-loop μ-loop
 returns-2 c =
     let l = c .before .loop in

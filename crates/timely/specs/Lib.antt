@@ -1,0 +1,2 @@
+-- What is known where latencies are judged.
+pub mod Timely
