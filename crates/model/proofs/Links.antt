@@ -9,7 +9,7 @@ use native.Mathlib.Omega.{arith}
 use borrow.Author.Tests.{eqb-true}
 use lib.Dec.{eqb}
 use Rattle.model.specs.Accepted.{All, Met, Accepted, Multiple}
-use Rattle.model.specs.Latency.{readOf, readsBack, Timely, keepsFrom, keeps}
+use Rattle.model.specs.Latency.{readOf, readsBack, backwards, Timely, keepsFrom, keeps}
 use Rattle.model.specs.Program.{Program, Link, Chain, Read, count, signalAt, bodyReads}
 use Rattle.model.specs.Rates.{countReads, isLinked}
 use Rattle.model.specs.Schedule.{Schedule}
@@ -28,10 +28,6 @@ read-of Q w (ρ ∷ ρs) h le = go (eqb (ρ .operands .signal) w) refl le (λ l.
         Q (cond b ρ (readOf w ρs)) × (cond b ρ (readOf w ρs) .operands .signal ≡ w)
     go true e l ih = (h .0, eqb-true _ _ e)
     go false e l ih = ih (omega arith)
-
--- A chain's signals from the last link to the first.
-abbrev pub backwards : Chain → List ℕ
-backwards c = reverse (map (λ l. l .signal) (c .links))
 
 module _ (p : Program) where
   -- Each equation has one read of the signal after it.

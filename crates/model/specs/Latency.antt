@@ -30,6 +30,10 @@ unfoldable pub readsBack : Program → ℕ → List ℕ → List Read
 readsBack p r [] = []
 readsBack p r (w ∷ ws) = readOf w (bodyReads (signalAt p r .body)) ∷ readsBack p w ws
 
+-- A chain's signals from the last link to the first.
+abbrev pub backwards : Chain → List ℕ
+backwards c = reverse (map (λ l. l .signal) (c .links))
+
 -- Entry 0 of a history is no element; entry m + 1 is element m.
 abbrev pub onward : (ℕ → Found) → ℕ → Found
 onward go zero = Nowhere
@@ -85,14 +89,13 @@ module _ (p : Program) (s : Schedule) where
   unfoldable pub windowOf : ℕ → ℕ → List Read → ℕ
   windowOf h r ρs = suc (length ρs) * (h / signalAt p r .period)
 
-  -- The chain's links from the last to the first.
   abbrev pub keepsFrom : ℕ → Chain → List ℕ → Bool
   keepsFrom h c [] = true
   keepsFrom h c (r ∷ ws) =
       isTimely (c .mode) r (readsBack p r ws) (c .bound) (windowOf h r (readsBack p r ws))
 
   unfoldable pub keeps : ℕ → Chain → Bool
-  keeps h c = keepsFrom h c (reverse (map (λ l. l .signal) (c .links)))
+  keeps h c = keepsFrom h c (backwards c)
 
   -- 16 at the lowest LAT.
   unfoldable pub timely : ℕ → Outcome (Unit {0})

@@ -1,4 +1,5 @@
 -- Laws that the proofs of several functions cite.
+pub mod Chains
 pub mod Counting
 pub mod Joined
 pub mod Linking

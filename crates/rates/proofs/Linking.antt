@@ -1,29 +1,22 @@
--- The links of chains (10), chain after chain and link after link. Assumes nothing.
-use Prim.Native.Nat.{ℕ, zero, suc, _+_, _-_, _≤_, _<_}
-use mathlib.Core.Bool.{Bool, true, false, cond, _&&_}
-use mathlib.Core.List.{List, [], _∷_, _++_}
+-- The links of a chain (10), link after link. Assumes nothing.
+use Prim.Native.Nat.{ℕ, suc, _+_, _-_, _≤_, _<_}
+use mathlib.Core.Bool.{true, false, _&&_}
+use mathlib.Core.List.{List, [], _∷_}
 use mathlib.Core.Path.{_≡_, refl, sym, ap, _∙_}
-use native.Mathlib.Numerals.{add-one}
 use native.Mathlib.Omega.{arith}
 use lib.Dec.{eqb}
-use lib.ListN.{length, getD, drop, drop-of-length-le}
-use lib.Seq.{drop-cons}
-use Rattle.model.specs.Accepted.{All}
-use Rattle.model.specs.Outcome.{Outcome, accepted, refused, fault, lowest}
-use Rattle.model.specs.Program.{Link, Chain, Program, signalAt, parseProgram, bodyReads}
-use Rattle.model.specs.Rates.{countReads, isLinked, linked}
+use lib.ListN.{length, getD}
+use Rattle.model.specs.Outcome.{accepted}
+use Rattle.model.specs.Program.{Link, Program, signalAt, parseProgram, bodyReads}
+use Rattle.model.specs.Rates.{countReads, isLinked}
 use Rattle.model.specs.Word.{byteAt}
-use Rattle.model.specs.declared.Fault.{Fault}
-use Rattle.model.proofs.All.{all-append, all-at, all-map}
+use Rattle.model.proofs.All.{all-at}
 use Rattle.model.proofs.Commands.{command-sound}
-use Rattle.model.proofs.Legal.{legal, links-end, SpellsChain}
-use Rattle.model.proofs.Spelled.{SpellsLinks, Declares, declared}
+use Rattle.model.proofs.Legal.{legal, SpellsChain}
+use Rattle.model.proofs.Spelled.{SpellsLinks}
 use Rattle.reader.specs.Tables.{noChain, chainAt, TablesOf}
 use Rattle.reader.specs.declared.Tables.{Tables}
 use Rattle.rates.specs.Answers.{ReadAs}
-use Rattle.rates.specs.Walk.{anyPart, done}
-use Rattle.rates.proofs.Joined.{each, join-each, Beyond, lowest-inside}
-use Rattle.rates.proofs.Walk.{walk-within, walk-expr}
 
 -- The LINKs from `at` on, of whose chain so much is judged.
 pub record LinksLeft (text : List ℕ) (p : Program) (whole : List Link) (at left : ℕ) : Type 0 where
@@ -90,84 +83,6 @@ module _ (text : List ℕ) (p : Program) where
 
     pub link-over : left ≤ 1 → isLinked p whole ≡ true
     link-over le = h .judged ∙ one (h .links) (omega (arith, h .many))
-
--- Chains stand in order.
-abbrev Ascends : List Chain → Type 0
-Ascends [] = Unit {0}
-Ascends (c ∷ cs) = All (λ d. c .place < d .place) cs × Ascends cs
-
-ascends-snoc : (cs : List Chain) (c : Chain) → Ascends cs → All (λ d. d .place < c .place) cs → Ascends (cs ++ (c ∷ []))
-ascends-snoc [] c h g = (tt, tt)
-ascends-snoc (d ∷ cs) c h g =
-    (all-append (λ (x : Chain). d .place < x .place) cs (c ∷ []) (h .0) (g .0, tt), ascends-snoc cs c (h .1) (g .1))
-
-ascends-later : (cs : List Chain) (j : ℕ) → Ascends cs → j < length cs →
-    All (λ d. getD cs j noChain .place < d .place) (drop (suc j) cs)
-ascends-later [] j h lt = absurd (omega arith)
-ascends-later (c ∷ cs) zero h lt = h .0
-ascends-later (c ∷ cs) (suc j) h lt = ascends-later cs j (h .1) (omega arith)
-
-below-more : (n m : ℕ) (cs : List Chain) → n ≤ m → All (λ c. c .place < n) cs → All (λ c. c .place < m) cs
-below-more n m cs le h = all-map (λ (c : Chain). c .place < n) (λ c. c .place < m) (λ c l. omega arith) cs h
-
-module _ {text : List ℕ} where
-  chains-ascend : {at end : ℕ} {p q : Program} → Declares text at p end q → Ascends (p .chains) →
-      All (λ c. c .place < at) (p .chains) → Ascends (q .chains)
-  chains-ascend (Declares.ends e le) h g = h
-  chains-ascend (Declares.inputs {at = at} {p = p} room e r) h g =
-      chains-ascend r h (below-more at (at + 6) (p .chains) (omega arith) g)
-  chains-ascend (Declares.equations {at = at} {next = next} {p = p} room e u d r) h g =
-      let w : at + 8 ≤ next =
-      walk-within (walk-expr {only = anyPart} refl (λ kind x. refl) {s = 0} {k = 0} u (done refl)) in
-      chains-ascend r h (below-more at next (p .chains) (omega arith) g)
-  chains-ascend (Declares.chains {at = at} {next = next} {p = p} room e u several few r) h g =
-      chains-ascend r (ascends-snoc (p .chains) _ h g)
-      (all-append (λ (c : Chain). c .place < next) (p .chains) _ (below-more at next (p .chains) (omega (arith, links-end u)) g)
-      (omega (arith, links-end u), tt))
-  chains-ascend (Declares.caps {at = at} {p = p} room e r) h g =
-      chains-ascend r h (below-more at (at + 5) (p .chains) (omega arith) g)
-
-module _ (p : Program) where
-  -- 10 at one chain, and what is left of 10 from chain j on.
-  abbrev chainFaults : Chain → List Fault
-  chainFaults c = cond (isLinked p (c .links)) [] (fault 10 (c .place) ∷ [])
-
-  unfoldable pub restFrom : ℕ → Outcome (Unit {0})
-  restFrom j = lowest (each chainFaults (drop j (p .chains)))
-
-  pub linked-start : linked p ≡ restFrom 0
-  unfolding linked restFrom
-  linked-start = ap lowest (join-each chainFaults 0 (p .chains))
-
-  rest-here : (j : ℕ) → j < length (p .chains) →
-      restFrom j ≡ lowest (chainFaults (chainAt p j) ++ each chainFaults (drop (suc j) (p .chains)))
-  unfolding restFrom each
-  rest-here j lt = rw (drop-cons (p .chains) j noChain lt)
-
-  pub linked-later : (j : ℕ) → j < length (p .chains) → isLinked p (chainAt p j .links) ≡ true → restFrom j ≡ restFrom (j + 1)
-  unfolding restFrom
-  linked-later j lt e = rest-here j lt ∙ rw (e, add-one)
-
-  pub linked-over : (j : ℕ) → length (p .chains) ≤ j → restFrom j ≡ accepted tt
-  unfolding restFrom each lowest
-  linked-over j le = rw (drop-of-length-le (p .chains) le)
-
-  faults-beyond : (n : ℕ) (cs : List Chain) → All (λ c. n < c .place) cs → Beyond n (each chainFaults cs)
-  unfolding each
-  faults-beyond n [] h = tt
-  faults-beyond n (c ∷ cs) h =
-      all-append (λ f. n < f .place) (chainFaults c) _ (go (isLinked p (c .links))) (faults-beyond n cs (h .1))
-    where
-      go : (b : Bool) → Beyond n (cond b [] (fault 10 (c .place) ∷ []))
-      go true = tt
-      go false = (h .0, tt)
-
-  pub linked-broken : (text : List ℕ) → parseProgram text ≡ accepted p → (j : ℕ) → j < length (p .chains) →
-      isLinked p (chainAt p j .links) ≡ false → restFrom j ≡ refused (fault 10 (chainAt p j .place))
-  linked-broken text q j lt e =
-      let a = chains-ascend (declared text p q .1) tt tt in
-      rest-here j lt ∙
-      rw e (lowest-inside (fault 10 (chainAt p j .place)) [] _ tt (faults-beyond _ _ (ascends-later (p .chains) j a lt)))
 
 -- Where a chain's links start.
 pub chain-start : (text : List ℕ) (p : Program) → parseProgram text ≡ accepted p → (j : ℕ) → j < length (p .chains) →

@@ -1,23 +1,28 @@
 // The hops of a chain, taken from the program text.
 use latency::Hop;
+use model::Command;
+use model::Fault;
 use model::Found;
 use model::Index;
 use model::Kind;
 use model::Sampled;
+use reader::Judged;
 use reader::Tables;
 use reads::Timing;
 ghost use mathlib.Core.Path.{_≡_};
 ghost use Prim.Native.Nat.{ℕ, _≤_, _<_};
-ghost use Rattle.model.specs.Latency.{readOf};
+ghost use Rattle.model.specs.Latency.{readOf, backwards, keeps, timely};
 ghost use Rattle.model.specs.Program.{Program, count, signalAt, bodyReads};
 ghost use Rattle.model.specs.Rates.{countReads};
 ghost use Rattle.model.specs.Reads.{indexOf};
 ghost use Rattle.model.specs.Schedule.{Schedule};
 ghost use Rattle.model.specs.Search.{foundOr};
+ghost use Rattle.latency.specs.Back.{noHop};
 ghost use Rattle.latency.specs.Hops.{hopOf};
-ghost use Rattle.rates.specs.Answers.{periodAt};
+ghost use Rattle.rates.specs.Answers.{judgementOf, periodAt};
+ghost use Rattle.reader.specs.Tables.{chainAt};
 ghost use Rattle.reads.specs.Reads.{rateIn};
-ghost use Rattle.timely.specs.Timely.{ByteFound, Known};
+ghost use Rattle.timely.specs.Timely.{ByteFound, Known, Joined, Joinable, Timed, Judgeable, RouteOf, windowBy};
 
 // The index found, or 0.
 fn index_found(found: Found) -> u8
@@ -54,6 +59,25 @@ fn timing_at(periods: &[u8; 64], phases: &[u8; 64], x: usize) -> Timing
     }
 }
 
+// The way of a chain: its hops in the order of the links, and the signals of its first and its last link.
+pub struct Route {
+    pub hops: [Hop; 15],
+    pub count: usize,
+    pub source: u8,
+    pub last: u8,
+}
+
+// A hop that no read has.
+fn no_hop() -> Hop
+    ensures { λ r. ⌜ r ≡ noHop ⌝ }
+{
+    Hop {
+        kind: Kind::Now,
+        factor: 0,
+        index: 0,
+    }
+}
+
 // The hop of the one read of w in the equation of r.
 pub fn hop_at(
     text: &[u8],
@@ -67,11 +91,7 @@ pub fn hop_at(
 {
     let reader = r as usize;
     if 64 <= reader {
-        return Hop {
-            kind: Kind::Now,
-            factor: 0,
-            index: 0,
-        };
+        return no_hop();
     }
     let places = tables.places;
     let taken = path::find_read(text, places[reader], w);
@@ -85,4 +105,95 @@ pub fn hop_at(
         factor: operands.factor,
         index: index,
     }
+}
+
+// The route of a chain, link after link.
+fn follow(text: &[u8], tables: Tables, periods: &[u8; 64], phases: &[u8; 64], chain: usize) -> Route
+    requires { ⌜ Joinable (now text) tables (now periods) (now phases) × (chain < tables .chains) ⌝ }
+    ensures { λ r. ⌜ ((p : Program) (s : Schedule) → Joined (now (text .entry)) tables (now (periods .entry)) (now (phases .entry)) p s → RouteOf p s r (backwards (chainAt p chain))) ⌝ }
+{
+    let starts = tables.starts;
+    let lengths = tables.lengths;
+    let mut at = starts[chain] + 4;
+    let mut left = lengths[chain];
+    let source = text[at + 1];
+    let mut last = source;
+    let mut count: usize = 0;
+    let mut hops = [no_hop(); 15];
+    while 1 < left {
+        let second = at + 2;
+        let signal = text[second + 1];
+        let hop = hop_at(text, tables, periods, phases, last, signal);
+        hops[count] = hop;
+        count = count + 1;
+        last = signal;
+        at = second;
+        left = left - 1;
+    }
+    Route {
+        hops: hops,
+        count: count,
+        source: source,
+        last: last,
+    }
+}
+
+// How many runs of the last link decide a chain of so many hops.
+fn window_of(count: usize, h: usize, period: u8) -> usize
+    requires { ⌜ (count ≤ 15) × (h ≤ 240) × (0 < period) ⌝ }
+    ensures { λ r. ⌜ (r ≡ windowBy count h period) × (r ≤ 3840) ⌝ }
+{
+    let runs = h / (period as usize);
+    (count + 1) * runs
+}
+
+// Whether a chain keeps its limit.
+fn keeps_time(
+    text: &[u8],
+    tables: Tables,
+    periods: &[u8; 64],
+    phases: &[u8; 64],
+    h: usize,
+    chain: usize,
+) -> bool
+    requires { ⌜ Judgeable (now text) tables (now periods) (now phases) h × (chain < tables .chains) ⌝ }
+    ensures { λ r. ⌜ ((p : Program) (s : Schedule) → Timed (now (text .entry)) tables (now (periods .entry)) (now (phases .entry)) h p s → r ≡ keeps p s h (chainAt p chain)) ⌝ }
+{
+    let starts = tables.starts;
+    let command = commands::command_at(text, starts[chain]);
+    let Command::Latency(mode, bound) = command else {
+        return true;
+    };
+    let route = follow(text, tables, periods, phases, chain);
+    let last = timing_at(periods, phases, route.last as usize);
+    let source = timing_at(periods, phases, route.source as usize);
+    let hops = route.hops;
+    let count = route.count;
+    let window = window_of(count, h, last.period);
+    latency::is_timely(mode, bound as usize, hops, count, last, source, window)
+}
+
+// 16 at the lowest LAT whose chain does not keep its limit. (Chains × links × runs in the window.)
+pub fn check_latency(
+    text: &[u8],
+    tables: Tables,
+    periods: &[u8; 64],
+    phases: &[u8; 64],
+    h: usize,
+) -> Judged
+    requires { ⌜ Judgeable (now text) tables (now periods) (now phases) h ⌝ }
+    ensures { λ r. ⌜ ((p : Program) (s : Schedule) → Timed (now (text .entry)) tables (now (periods .entry)) (now (phases .entry)) h p s → r ≡ judgementOf (timely p s h)) ⌝ }
+{
+    let starts = tables.starts;
+    let mut chain: usize = 0;
+    while chain < tables.chains {
+        if !keeps_time(text, tables, periods, phases, h, chain) {
+            return Judged::Refused(Fault {
+                number: 16,
+                place: starts[chain],
+            });
+        }
+        chain = chain + 1;
+    }
+    Judged::Fine
 }

@@ -1,23 +1,31 @@
 -- `rates::linked` meets its contract. Assumes nothing.
-use Prim.Native.Nat.{_-_, _≤_, _<_}
+use Prim.Native.Nat.{ℕ, _-_, _≤_, _<_}
+use mathlib.Core.Bool.{Bool}
 use mathlib.Core.Path.{_≡_, sym, ap, _∙_}
 use native.Mathlib.Omega.{arith}
 use lib.ListN.{length}
 use borrow.Author.Needs.{needs}
 use borrow.Author.Tests.{not-true, not-false}
-use Rattle.model.specs.Outcome.{accepted, fault}
-use Rattle.model.specs.Program.{Program, parseProgram}
-use Rattle.model.specs.Rates.{linked}
+use Rattle.model.specs.Outcome.{Outcome, accepted, fault}
+use Rattle.model.specs.Program.{Program, Chain, parseProgram}
+use Rattle.model.specs.Rates.{isLinked, linked}
 use Rattle.reader.specs.Tables.{TablesOf}
 use Rattle.reader.specs.declared.Judged.the-variants as Judged
 use Rattle.rates.specs.Answers.{judgementOf}
-use Rattle.rates.proofs.Linking.{restFrom, linked-start, linked-later, linked-over, linked-broken, few-chains}
+use Rattle.rates.proofs.Chains.{restFrom, rest-start, rest-later, rest-over, rest-broken}
+use Rattle.rates.proofs.Linking.{few-chains}
 use Rattle.rates.proofs.linked.Statement.{statement}
 use Rattle.rates.proofs.linked.Tie as tie
 
+abbrev linkedIn : Program → Chain → Bool
+linkedIn p c = isLinked p (c .links)
+
+abbrev rest : Program → ℕ → Outcome (Unit {0})
+rest p j = restFrom p 10 (linkedIn p) j
+
 abbrev Inv-loop : tie.InvT-loop
 Inv-loop text tables starts chain₀ chain =
-    (p : Program) → parseProgram text ≡ accepted p → TablesOf p tables → linked p ≡ restFrom p chain
+    (p : Program) → parseProgram text ≡ accepted p → TablesOf p tables → linked p ≡ rest p chain
 
 abbrev μ-loop : tie.MeasureT-loop
 μ-loop text tables starts chain₀ chain = tables .chains - chain
@@ -28,7 +36,8 @@ few c =
     omega (arith, c .before .before .if1 .taken, few-chains _ _ (s .pre))
 
 loop-holds : tie.Need-loop-holds Inv-loop μ-loop
-loop-holds c = λ p q t. linked-start p
+unfolding linked
+loop-holds c = λ p q t. rest-start p 10 (linkedIn p)
 
 is-linked-requires : tie.Need-is-linked-requires Inv-loop μ-loop
 is-linked-requires c κs = (c .before .before .before .before .before .pre, c .if1 .taken)
@@ -50,7 +59,7 @@ returns c =
     λ p q t.
     let lt : l .chain < length (p .chains) = omega (arith, b .before .if1 .taken, t .counts .chains-are) in
     c .refuse .ensures ∙ ap (λ n. Judged.Refused (fault 10 n)) (t .starts (l .chain) lt) ∙
-    sym (ap judgementOf (l .inv p q t ∙ linked-broken p _ q (l .chain) lt (sym (b .is-linked .ensures p q t) ∙ not-true (b .is-linked .result) (c .before .if2 .taken))))
+    sym (ap judgementOf (l .inv p q t ∙ rest-broken p 10 (linkedIn p) _ q (l .chain) lt (sym (b .is-linked .ensures p q t) ∙ not-true (b .is-linked .result) (c .before .if2 .taken))))
 
 add-chain : tie.Need-add-chain Inv-loop μ-loop
 add-chain c = omega (arith, c .before .before .if1 .taken, few-chains _ _ (c .before .before .before .before .before .before .before .pre))
@@ -64,7 +73,7 @@ loop-again c =
     let l = b .before .before .before .loop in
     λ p q t.
     let lt : l .chain < length (p .chains) = omega (arith, b .before .if1 .taken, t .counts .chains-are) in
-    l .inv p q t ∙ linked-later p (l .chain) lt (sym (b .is-linked .ensures p q t) ∙ not-false (b .is-linked .result) (c .if2 .left))
+    l .inv p q t ∙ rest-later p 10 (linkedIn p) (l .chain) lt (sym (b .is-linked .ensures p q t) ∙ not-false (b .is-linked .result) (c .if2 .left))
 
 returns-2 : tie.Need-returns-2 Inv-loop μ-loop
 unfolding judgementOf
@@ -72,7 +81,7 @@ returns-2 c =
     let l = c .before .before .loop in
     λ p q t.
     let le : length (p .chains) ≤ l .chain = omega (arith, c .if1 .left, t .counts .chains-are) in
-    sym (ap judgementOf (l .inv p q t ∙ linked-over p (l .chain) le))
+    sym (ap judgementOf (l .inv p q t ∙ rest-over p 10 (linkedIn p) (l .chain) le))
 
 pub linked-spec : {M : Type 1} → statement M
 linked-spec =

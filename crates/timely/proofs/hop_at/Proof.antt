@@ -12,8 +12,11 @@ use borrow.Author.Needs.{needs}
 use Rattle.timely.proofs.hop_at.Statement.{statement}
 use Rattle.timely.proofs.hop_at.Tie as tie
 
+no-hop-requires : tie.Need-no-hop-requires
+no-hop-requires c κs = search needs
+
 returns : tie.Need-returns
-returns c = λ p s k lw lr n. absurd (omega (arith, few k, c .if1 .taken))
+returns c = λ p s k lw lr n. absurd (omega (arith, few k, c .before .if1 .taken))
 
 mul-find-read : tie.Need-mul-find-read
 mul-find-read c = search needs
@@ -54,6 +57,7 @@ pub hop-at-spec : {M : Type 1} → statement M
 hop-at-spec =
     tie.close
     (tie.spec
+    no-hop-requires
     returns
     mul-find-read
     array-read-find-read
