@@ -1,1 +1,3 @@
--- The checks are stated by the names of the crates below.
+-- The checks of a pair in steps, and what the answers say of them.
+pub mod Answers
+pub mod Steps

@@ -1,9 +1,25 @@
 // The checks of a pair in the stated order.
+use lookup::Signals;
 use model::Fault;
+use rates::Cycles;
 use reader::Judged;
+use reader::Tables;
+use schedule::Ended;
+use schedule::Placing;
+use schedule::Slots;
 ghost use mathlib.Core.Path.{_≡_};
-ghost use Rattle.model.specs.Compile.{shortEnough};
-ghost use Rattle.rates.specs.Answers.{judgementOf};
+ghost use Prim.Native.Nat.{_≤_};
+ghost use lib.ListN.{length};
+ghost use Rattle.model.specs.Compile.{shortEnough, pairOf};
+ghost use Rattle.model.specs.Outcome.{accepted};
+ghost use Rattle.model.specs.Program.{Program, parseProgram, count};
+ghost use Rattle.model.specs.Schedule.{Schedule};
+ghost use Rattle.model.specs.declared.Fault.{Fault};
+ghost use Rattle.rates.specs.Answers.{judgementOf, ReadAs};
+ghost use Rattle.reader.specs.Tables.{TablesOf, PeriodsOf};
+ghost use Rattle.schedule.specs.Slots.{ScheduledAs};
+ghost use Rattle.checks.specs.Answers.{RatedAs, Arranged, Arrangement, CheckedAs};
+ghost use Rattle.checks.specs.Steps.{ratesOf, scheduleFor, runsOf};
 
 fn refuse(number: u8, place: usize) -> Judged
     ensures { λ r. ⌜ r ≡ Judged.Refused (record { number = number; place = place }) ⌝ }
@@ -25,4 +41,166 @@ pub fn check_lengths(program: &[u8], schedule: &[u8]) -> Judged
         return refuse(1, 0);
     }
     Judged::Fine
+}
+
+// What the checks of a program's rates find. The hypercycle is of use where it is fine.
+struct Rated {
+    judged: Judged,
+    hypercycle: usize,
+}
+
+fn unrated(judged: Judged) -> Rated
+    ensures { λ r. ⌜ r .judged ≡ judged ⌝ }
+{
+    Rated {
+        judged: judged,
+        hypercycle: 0,
+    }
+}
+
+fn judged_cycles(cycles: Cycles) -> Judged
+    ensures { λ r. ⌜ ((f : Fault) → cycles ≡ Cycles.Refused f → r ≡ Judged.Refused f) ⌝ }
+{
+    match cycles {
+        Cycles::Least(_) => Judged::Fine,
+        Cycles::Refused(fault) => Judged::Refused(fault),
+    }
+}
+
+// A program that is read: 7 and 8, 9, 10.
+fn check_rates(text: &[u8], tables: Tables, periods: &[u8; 64]) -> Rated
+    requires { ⌜ ReadAs (now text) tables ⌝ }
+    ensures { λ r. ⌜ ((p : Program) → parseProgram (now (text .entry)) ≡ accepted p → TablesOf p tables → PeriodsOf p (now (periods .entry)) → RatedAs (ratesOf p) r) ⌝ }
+{
+    let count = tables.signals;
+    let judged = rates::declared_and_rated(text, count, periods);
+    let Judged::Fine = judged else {
+        return unrated(judged);
+    };
+    let cycles = rates::hypercycle(count, periods);
+    let Cycles::Least(h) = cycles else {
+        return unrated(judged_cycles(cycles));
+    };
+    Rated {
+        judged: rates::linked(text, tables),
+        hypercycle: h,
+    }
+}
+
+fn unplaced(judged: Judged) -> Placing
+    ensures { λ r. ⌜ r .judged ≡ judged ⌝ }
+{
+    Placing {
+        judged: judged,
+        slots: Slots::new(),
+    }
+}
+
+fn judged_end(ended: Ended) -> Judged
+    ensures { λ r. ⌜ ((f : Fault) → ended ≡ Ended.Refused f → r ≡ Judged.Refused f) ⌝ }
+{
+    match ended {
+        Ended::At(_) => Judged::Fine,
+        Ended::Refused(fault) => Judged::Refused(fault),
+    }
+}
+
+// The schedule of a program with these signals: 11, then 12 and 13.
+fn check_schedule(schedule: &[u8], signals: usize, periods: &[u8; 64]) -> Placing
+    requires { ⌜ (signals ≤ 64) × (length (now schedule) ≤ 193) ⌝ }
+    ensures { λ r. ⌜ ((p : Program) → count p ≡ signals → PeriodsOf p (now (periods .entry)) → ScheduledAs p (scheduleFor p (now (schedule .entry))) r) ⌝ }
+{
+    let ended = schedule::read_schedule(schedule);
+    let Ended::At(end) = ended else {
+        return unplaced(judged_end(ended));
+    };
+    schedule::place_signals(schedule, end, signals, periods)
+}
+
+// The runs of a pair by its tables: 14, 15, 16.
+fn check_runs(text: &[u8], tables: Tables, signals: Signals, slots: Slots, h: usize) -> Judged
+    requires { ⌜ Arrangement (now text) tables signals slots h ⌝ }
+    ensures { λ r. ⌜ ((p : Program) (s : Schedule) → Arranged (now (text .entry)) tables signals slots h p s → r ≡ judgementOf (runsOf p s h)) ⌝ }
+{
+    let count = tables.signals;
+    let periods = signals.periods;
+    let phases = slots.phases;
+    let ranks = slots.ranks;
+    let reads = met::check_reads(text, count, &periods, &phases, &ranks);
+    let Judged::Fine = reads else {
+        return reads;
+    };
+    let weights = signals.weights;
+    let loads = load::check_load(
+        count,
+        &periods,
+        &phases,
+        &weights,
+        tables.capped,
+        tables.limit,
+        h,
+    );
+    let Judged::Fine = loads else {
+        return loads;
+    };
+    timely::check_latency(text, tables, &periods, &phases, h)
+}
+
+// What the checks of a pair find. The tables are of use where it is fine.
+pub struct Checked {
+    pub judged: Judged,
+    pub tables: Tables,
+    pub periods: [u8; 64],
+    pub slots: Slots,
+    pub hypercycle: usize,
+}
+
+fn refused(judged: Judged) -> Checked
+    ensures { λ r. ⌜ r .judged ≡ judged ⌝ }
+{
+    Checked {
+        judged: judged,
+        tables: Tables::new(),
+        periods: [0; 64],
+        slots: Slots::new(),
+        hypercycle: 0,
+    }
+}
+
+// All checks of a program and a schedule, 1 to 16.
+pub fn check_pair(program: &[u8], schedule: &[u8]) -> Checked
+    ensures { λ r. ⌜ CheckedAs (now (program .entry)) (pairOf (now (program .entry)) (now (schedule .entry))) r ⌝ }
+{
+    let lengths = check_lengths(program, schedule);
+    let Judged::Fine = lengths else {
+        return refused(lengths);
+    };
+    let read = reader::read_program(program);
+    let parsed = read.judged;
+    let Judged::Fine = parsed else {
+        return refused(parsed);
+    };
+    let tables = read.tables;
+    let signals = lookup::read_signals(program, tables);
+    let periods = signals.periods;
+    let rated = check_rates(program, tables, &periods);
+    let rates = rated.judged;
+    let Judged::Fine = rates else {
+        return refused(rates);
+    };
+    let placing = check_schedule(schedule, tables.signals, &periods);
+    let placed = placing.judged;
+    let Judged::Fine = placed else {
+        return refused(placed);
+    };
+    let slots = placing.slots;
+    let h = rated.hypercycle;
+    let runs = check_runs(program, tables, signals, slots, h);
+    Checked {
+        judged: runs,
+        tables: tables,
+        periods: periods,
+        slots: slots,
+        hypercycle: h,
+    }
 }

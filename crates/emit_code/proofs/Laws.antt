@@ -19,10 +19,11 @@ use Rattle.model.specs.declared.Command.{Command}
 use Rattle.model.specs.declared.Command.the-variants as Command
 use Rattle.model.specs.declared.Kind.{Kind}
 use Rattle.model.specs.declared.Kind.the-variants.{Now, Last, When, LastWhen, Current}
-use Rattle.model.proofs.Bounds.{depth}
+use Rattle.model.specs.Grammar.{depth}
+use Rattle.model.proofs.Bounds.{depth-some}
 use Rattle.model.proofs.Command.{enum}
 use Rattle.model.proofs.Commands.{command-sound}
-use Rattle.model.proofs.Spelled.{Spells}
+use Rattle.model.specs.Grammar.{Spells}
 use Rattle.emit_code.specs.Code.{Puts, Room, Emits}
 use Rattle.emit_code.specs.Shape.{Lead, noLead, leadOf}
 
@@ -99,13 +100,6 @@ module _ {text : List ℕ} where
 
   pub opened : {at n : ℕ} {e : Expr} (c : Command) → commandAt text at ≡ c → Spells text at e n → Opened text at e n c
   opened {at} {n} {e} c q u = let o = opens u in subst (Opened text at e n) (sym (o .1) ∙ q) (o .2)
-
-depth-some : (e : Expr) → 1 ≤ depth e
-depth-some (Expr.constant w) = omega arith
-depth-some (Expr.read r) = omega arith
-depth-some (Expr.binary o x y) = omega arith
-depth-some (Expr.negate x) = omega arith
-depth-some (Expr.choose x y z) = omega arith
 
 -- Two stretches one after the other.
 pub sets-append : (l : List ℕ) (i : ℕ) (xs ys : List ℕ) → sets l i (xs ++ ys) ≡ sets (sets l i xs) (i + length xs) ys

@@ -12,10 +12,10 @@ use Rattle.model.specs.Image.{exprCode, signalCode}
 use Rattle.model.specs.Program.{Expr, Signal, Body, input, equation}
 use Rattle.model.specs.declared.Command.{Command}
 use Rattle.model.specs.declared.Command.the-variants as Command
-use Rattle.model.proofs.Bounds.{depth}
+use Rattle.model.specs.Grammar.{depth}
 use Rattle.model.proofs.Command.{enum}
 use Rattle.model.proofs.Legal.{SpellsBody, SpellsSignal}
-use Rattle.model.proofs.Spelled.{Spells}
+use Rattle.model.specs.Grammar.{Spells}
 use Rattle.emit_code.specs.Code.{Puts, Room, Emits, SignalRoom, EmitsSignal}
 use Rattle.emit_code.proofs.Laws.{puts-length, join}
 

@@ -13,7 +13,7 @@ use Rattle.model.specs.declared.Command.{Command}
 use Rattle.model.specs.declared.Command.the-variants as Command
 use Rattle.model.proofs.Command.{enum}
 use Rattle.model.proofs.Commands.{command-sound}
-use Rattle.model.proofs.Spelled.{Spells}
+use Rattle.model.specs.Grammar.{Spells}
 use Rattle.emit_code.specs.Shape.{Lead, leadOf, ShapeOf}
 use Rattle.emit_code.proofs.Laws.{SpellsAll, codeOfAll, all-length, opened, others, no-lead, read-some, spans, word-length}
 

@@ -6,9 +6,9 @@ use lib.ListN.{length}
 use lib.Seq.{sets}
 use Rattle.model.specs.Image.{exprCode, signalCode}
 use Rattle.model.specs.Program.{Expr, Signal}
-use Rattle.model.proofs.Bounds.{depth}
+use Rattle.model.specs.Grammar.{depth}
 use Rattle.model.proofs.Legal.{SpellsSignal}
-use Rattle.model.proofs.Spelled.{Spells}
+use Rattle.model.specs.Grammar.{Spells}
 
 -- l′ is l with the bytes from `to` up to `end`; the text goes on at `next`.
 pub record Puts (l : List ℕ) (to : ℕ) (bytes : List ℕ) (n : ℕ) (l′ : List ℕ) (next end : ℕ) : Type 0 where

@@ -1,19 +1,20 @@
 -- What an accepted pair keeps within bounds: the image's bytes and the machine's stack rest on it. Assumes nothing.
-use Prim.Native.Nat.{ℕ, suc, _≤_, _<_, max}
+use Prim.Native.Nat.{ℕ, _≤_, _<_}
+use native.Mathlib.Omega.{arith}
 use lib.IntN.{ℤ}
 use mir.Syntax.{w32}
 use mir.Val.{SFits}
+pub use Rattle.model.specs.Grammar.{depth}
 use Rattle.model.specs.Image.{lengthOf}
 use Rattle.model.specs.Program.{Program, Body, input, equation, Expr, constant, read, binary, negate, choose, count, signalAt}
 use Rattle.model.specs.Schedule.{Schedule}
 
--- How deep an expression nests; a leaf is 1.
-abbrev pub depth : Expr → ℕ
-depth (constant w) = 1
-depth (read ρ) = 1
-depth (binary operator x y) = suc (max (depth x) (depth y))
-depth (negate x) = suc (depth x)
-depth (choose x y z) = suc (max (depth x) (max (depth y) (depth z)))
+pub depth-some : (e : Expr) → 1 ≤ depth e
+depth-some (constant w) = omega arith
+depth-some (read ρ) = omega arith
+depth-some (binary operator x y) = omega arith
+depth-some (negate x) = omega arith
+depth-some (choose x y z) = omega arith
 
 abbrev pub bodyDepth : Body → ℕ
 bodyDepth input = 1

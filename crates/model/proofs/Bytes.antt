@@ -158,28 +158,28 @@ module _ (p : Program) (s : Schedule) (h : ℕ) (acc : Accepted p s) (whole : Mu
       ap (λ (code : List ℕ). runCode code state samples) (code-stretch p s h bounded x lt) ∙
       run-signal x (signalAt p x .body) state samples (bounded .constants x lt)
 
-  run-turns : (samples : List ℤ) (q : ℕ) (todo : List ℕ) (state : List ℤ) → ((j : ℕ) → j < length todo → getD todo j 0 < count p) →
+  run-turns : (samples : List ℤ) (q : ℕ) (order : List ℕ) (state : List ℤ) → ((j : ℕ) → j < length order → getD order j 0 < count p) →
       count p < length state →
-      wordsOf (runSignals (imageOf p s h) (chosen (λ x. due (rateOf p s x) q) todo) samples state) ≡
-      turns p s (sampleOf samples) q todo (wordsOf state)
+      wordsOf (runSignals (imageOf p s h) (chosen (λ x. due (rateOf p s x) q) order) samples state) ≡
+      turns p s (sampleOf samples) q order (wordsOf state)
   unfolding runSignals chosen
   run-turns samples q [] state known long = refl
   run-turns samples q (x ∷ xs) state known long =
       go (due (rateOf p s x) q) (λ st l. run-turns samples q xs st (λ j k. known (suc j) (omega arith)) (omega arith))
     where
-      todo : List ℕ
-      todo = chosen (λ x. due (rateOf p s x) q) xs
+      rest : List ℕ
+      rest = chosen (λ x. due (rateOf p s x) q) xs
 
       new : ℤ
       new = next (λ ρ. wordsOf state (ρ .operands .signal)) (sampleOf samples x) (signalAt p x .body)
 
       go : (d : Bool) →
           ((st : List ℤ) → length st ≡ length state →
-          wordsOf (runSignals (imageOf p s h) todo samples st) ≡ turns p s (sampleOf samples) q xs (wordsOf st)) →
-          wordsOf (runSignals (imageOf p s h) (cond d (x ∷ todo) todo) samples state) ≡
+          wordsOf (runSignals (imageOf p s h) rest samples st) ≡ turns p s (sampleOf samples) q xs (wordsOf st)) →
+          wordsOf (runSignals (imageOf p s h) (cond d (x ∷ rest) rest) samples state) ≡
           turns p s (sampleOf samples) q xs (cond d (store (wordsOf state) x new) (wordsOf state))
       go true ih =
-          ap (λ (w : ℤ). wordsOf (runSignals (imageOf p s h) todo samples (set state (x + 1) w)))
+          ap (λ (w : ℤ). wordsOf (runSignals (imageOf p s h) rest samples (set state (x + 1) w)))
           (run-word samples state x (known 0 (omega arith))) ∙
           ih (set state (x + 1) new) (length-set state (x + 1) new) ∙
           ap (turns p s (sampleOf samples) q xs) (set-store state x new (omega (arith, known 0 (omega arith))))

@@ -52,7 +52,7 @@ pub record ReadSound (x : Sampled) : Type 0 where
   pub bound : x .factor ≤ 240
   pub range : InRange (x .factor) (x .index)
 
-period-bounds : (n : ℕ) → isPeriod n ≡ true → (1 ≤ n) × (n ≤ 240)
+pub period-bounds : (n : ℕ) → isPeriod n ≡ true → (1 ≤ n) × (n ≤ 240)
 period-bounds n e = let f = and-eq-true-iff (leb 1 n) (leb n 240) .0 e in (leb-true 1 n (f .0), leb-true n 240 (f .1))
 
 index-range : (i n : ℕ) → isIndex i n ≡ true → InRange n (indexOf i)
@@ -69,6 +69,14 @@ operands-sound s i n e =
     let f = and-eq-true-iff (isFactor n) (isIndex i n) .0 e in
     let g = period-bounds n (f .0) in
     record { positive = g .0; bound = g .1; range = index-range i n (f .1) }
+
+-- What holds of a command, and of one that is cut or out of range, holds whatever its operands are.
+operands-all : (Q : Command → Type 0) → Q Command.EndsEarly → Q Command.OutOfRange → (a b c : Bool) (x : Command) → Q x →
+    Q (cond a (cond b (cond c x Command.EndsEarly) Command.OutOfRange) Command.EndsEarly)
+operands-all Q early out true true true x h = h
+operands-all Q early out true true false x h = early
+operands-all Q early out true false c x h = out
+operands-all Q early out false b c x h = early
 
 -- A command that is read lies within the text, and its operands are in range.
 module _ (text : List ℕ) (at : ℕ) where
@@ -154,3 +162,75 @@ module _ (text : List ℕ) (at : ℕ) where
   pub link-command : byteAt text at ≡ 0x13 → at + 2 ≤ length text → commandAt text at ≡ Command.Link (byteAt text (at + 1))
   unfolding commandAt keywordAt keywordOf commandOf
   link-command e le = rw (lt-ltb at (length text) (omega arith), e, le-leb (at + 2) (length text) le)
+
+-- The keyword of a command that is read whole.
+abbrev pub KeywordOf : Command → Keyword → Type 0
+KeywordOf Command.EndsEarly k = Unit {0}
+KeywordOf Command.Unknown k = k ≡ Keyword.Unknown
+KeywordOf Command.OutOfRange k = Unit {0}
+KeywordOf Command.End k = k ≡ Keyword.End
+KeywordOf (Command.Input period initial) k = k ≡ Keyword.Input
+KeywordOf (Command.Equation period initial weight) k = k ≡ Keyword.Equation
+KeywordOf (Command.Latency mode bound) k = k ≡ Keyword.Latency
+KeywordOf (Command.Link signal) k = k ≡ Keyword.Link
+KeywordOf (Command.Cap n) k = k ≡ Keyword.Cap
+KeywordOf (Command.Constant w) k = k ≡ Keyword.Constant
+KeywordOf (Command.Read kind x) k = k ≡ Keyword.Read kind
+KeywordOf (Command.Binary operator) k = k ≡ Keyword.Binary operator
+KeywordOf Command.Negate k = k ≡ Keyword.Negate
+KeywordOf Command.If k = k ≡ Keyword.If
+
+module _ (text : List ℕ) (at : ℕ) where
+  operands-keyword : (k : Keyword) (a b c : Bool) (x : Command) → KeywordOf x k →
+      KeywordOf (cond a (cond b (cond c x Command.EndsEarly) Command.OutOfRange) Command.EndsEarly) k
+  operands-keyword k = operands-all (λ x. KeywordOf x k) tt tt
+
+  plain-keyword : (kind : Kind) → KeywordOf (plainRead kind text at) (Keyword.Read kind)
+  unfolding plainRead
+  plain-keyword kind =
+      operands-keyword (Keyword.Read kind) (leb (at + 2) (length text)) true true
+      (Command.Read kind (record { signal = byteAt text (at + 1); factor = 1; index = Index.Fixed 0 })) refl
+
+  sampled-keyword : (kind : Kind) → KeywordOf (sampledRead kind text at) (Keyword.Read kind)
+  unfolding sampledRead
+  sampled-keyword kind =
+      let i = byteAt text (at + 2) in
+      let n = byteAt text (at + 3) in
+      operands-keyword (Keyword.Read kind) (leb (at + 4) (length text)) (isFactor n && isIndex i n) true
+      (Command.Read kind (record { signal = byteAt text (at + 1); factor = n; index = indexOf i })) refl
+
+  command-keyword : (k : Keyword) → KeywordOf (commandOf k text at) k
+  unfolding commandOf
+  command-keyword Keyword.Missing = tt
+  command-keyword Keyword.Unknown = refl
+  command-keyword Keyword.End = refl
+  command-keyword Keyword.Input =
+      let period = byteAt text (at + 1) in
+      operands-keyword Keyword.Input (leb (at + 2) (length text)) (isPeriod period) (leb (at + 6) (length text))
+      (Command.Input period (wordAt text (at + 2))) refl
+  command-keyword Keyword.Equation =
+      let period = byteAt text (at + 1) in
+      operands-keyword Keyword.Equation (leb (at + 2) (length text)) (isPeriod period) (leb (at + 8) (length text))
+      (Command.Equation period (wordAt text (at + 2)) (twoAt text (at + 6))) refl
+  command-keyword Keyword.Latency =
+      let mode = byteAt text (at + 1) in
+      operands-keyword Keyword.Latency (leb (at + 2) (length text)) (leb mode 1) (leb (at + 4) (length text))
+      (Command.Latency (modeOf mode) (twoAt text (at + 2))) refl
+  command-keyword Keyword.Link =
+      operands-keyword Keyword.Link (leb (at + 2) (length text)) true true (Command.Link (byteAt text (at + 1))) refl
+  command-keyword Keyword.Cap =
+      operands-keyword Keyword.Cap (leb (at + 5) (length text)) true true (Command.Cap (fourAt text (at + 1))) refl
+  command-keyword Keyword.Constant =
+      operands-keyword Keyword.Constant (leb (at + 5) (length text)) true true (Command.Constant (wordAt text (at + 1))) refl
+  command-keyword (Keyword.Read Now) = plain-keyword Now
+  command-keyword (Keyword.Read Last) = plain-keyword Last
+  command-keyword (Keyword.Read When) = sampled-keyword When
+  command-keyword (Keyword.Read LastWhen) = sampled-keyword LastWhen
+  command-keyword (Keyword.Read Current) = sampled-keyword Current
+  command-keyword (Keyword.Binary operator) = refl
+  command-keyword Keyword.Negate = refl
+  command-keyword Keyword.If = refl
+
+  pub keyword-of : (c : Command) → commandAt text at ≡ c → KeywordOf c (keywordAt text at)
+  unfolding commandAt
+  keyword-of c e = subst (λ x. KeywordOf x (keywordAt text at)) e (command-keyword (keywordAt text at))

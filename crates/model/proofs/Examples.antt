@@ -66,7 +66,7 @@ wordsFrom image state x (w ∷ ws) =
     let next = callOf image state (cycle (w ∷ replicate 63 (pos 0))) .left in
     getD next (suc x) (pos 0) ∷ wordsFrom image next x ws
 
-abbrev answerTo : Question → Answer
+abbrev pub answerTo : Question → Answer
 answerTo (verdict program schedule) = ofImage (λ image. accepts) (verdictOf program schedule)
 answerTo (hypercycles program schedule) = ofPair (λ q. numbers (q .hypercycle ∷ [])) (pairOf program schedule)
 answerTo (indices program schedule) = ofPair (λ q. numbers (settledIndices q)) (pairOf program schedule)

@@ -11,6 +11,7 @@ use borrow.Author.Tests.{eqb-true, eq-eqb}
 use lib.Dec.{eqb}
 use lib.ListN.{length, getD}
 use Rattle.model.specs.Accepted.{Multiple}
+use Rattle.model.specs.Conditions.{Least}
 use Rattle.model.specs.Outcome.{accepted, refuse}
 use Rattle.model.specs.Program.{Program, Signal, noSignal}
 use Rattle.model.specs.Rates.{isMultiple, hypercycleOf, hypercycle}
@@ -39,12 +40,6 @@ true-multiple (y ∷ ys) h g =
       eq-eqb _ _ (dvd-iff-mod-eq-zero (y .period) .0 (g 0 (omega arith))),
       true-multiple ys h (λ x l. g (suc x) (omega arith)),
     )
-
--- h is the least positive common multiple of all periods, and at most 240.
-pub record Least (p : Program) (h : ℕ) : Type 0 where
-  pub multiple : Multiple p h
-  pub bound : h ≤ 240
-  pub least : (m : ℕ) → Multiple p m → h ≤ m
 
 module _ (p : Program) where
   test : ℕ → Bool

@@ -9,7 +9,8 @@ use native.Mathlib.Omega.{arith}
 use borrow.Author.Tests.{eqb-true}
 use lib.Dec.{eqb}
 use Rattle.model.specs.Accepted.{All, Met, Accepted, Multiple}
-use Rattle.model.specs.Latency.{readOf, readsBack, backwards, Timely, keepsFrom, keeps}
+use Rattle.model.specs.Conditions.{TimelyFrom, KeepsTime}
+use Rattle.model.specs.Latency.{readOf, readsBack, backwards, keepsFrom, keeps}
 use Rattle.model.specs.Program.{Program, Link, Chain, Read, count, signalAt, bodyReads}
 use Rattle.model.specs.Rates.{countReads, isLinked}
 use Rattle.model.specs.Schedule.{Schedule}
@@ -57,14 +58,6 @@ module _ (p : Program) where
       (all-of-map (λ w. w < count p) (λ l. l .signal) (c .links) h) tt
 
 module _ (p : Program) (s : Schedule) where
-  -- A chain keeps its constraint over all runs.
-  abbrev pub TimelyFrom : Chain → List ℕ → Type 0
-  TimelyFrom c [] = Unit {0}
-  TimelyFrom c (r ∷ ws) = Timely p s (c .mode) r (readsBack p r ws) (c .bound)
-
-  abbrev pub KeepsTime : Chain → Type 0
-  KeepsTime c = TimelyFrom c (backwards c)
-
   module _ (acc : Accepted p s) where
     pub chain-met : (ws : List ℕ) (r : ℕ) → All (λ w. w < count p) (r ∷ ws) → LinkedBack p (r ∷ ws) →
         ChainMet p s r (readsBack p r ws)
@@ -75,14 +68,14 @@ module _ (p : Program) (s : Schedule) where
         (q .0, rw (q .1) (chain-met ws w (d .1) (h .1)))
 
     from-decides : (h : ℕ) → Multiple p h → (c : Chain) (rs : List ℕ) → All (λ w. w < count p) rs → LinkedBack p rs →
-        (keepsFrom p s h c rs ≡ true) ↔ TimelyFrom c rs
+        (keepsFrom p s h c rs ≡ true) ↔ TimelyFrom p s c rs
     from-decides h whole c [] d l = (λ e. tt, λ u. refl)
     from-decides h whole c (r ∷ ws) d l =
         window-decides p s acc h whole r (readsBack p r ws) (d .0) (chain-met ws r d l) (c .mode) (c .bound)
 
     -- The window of runs decides the constraint of a chain.
     pub keeps-decides : (h : ℕ) → Multiple p h → (c : Chain) → isLinked p (c .links) ≡ true →
-        All (λ l. l .signal < count p) (c .links) → (keeps p s h c ≡ true) ↔ KeepsTime c
+        All (λ l. l .signal < count p) (c .links) → (keeps p s h c ≡ true) ↔ KeepsTime p s c
     unfolding keeps
     keeps-decides h whole c e d =
         from-decides h whole c (backwards c) (declared-backwards p c d) (linked-backwards p c e)

@@ -12,6 +12,14 @@ use Rattle.model.specs.Outcome.{Outcome, accepted, refused, refuse, _▷
 use Rattle.model.specs.Search.{tableFrom, table, joinFrom}
 use Rattle.model.specs.declared.Fault.{Fault}
 
+-- Tests that fail.
+pub not-below : {a b : ℕ} → ¬ (a < b) → ltb a b ≡ false
+not-below {a} {b} h = le-ltb a b (omega arith)
+
+pub not-true-false : (t : Bool) → ¬ (t ≡ true) → t ≡ false
+not-true-false true h = absurd (h refl)
+not-true-false false h = refl
+
 pub accepted≢refused : {A : Type 0} (o : Outcome A) (a : A) (f : Fault) → o ≡ accepted a → o ≡ refused f → ⊥
 accepted≢refused o a f p q = let z : _≡_ {A = ℕ} 0 1 = cc in omega arith
 
@@ -34,6 +42,17 @@ pub refused-then : {A B : Type 0} (o : Outcome A) (next : A → Outcome B) (f : 
 unfolding _▷_
 refused-then (accepted a) next f e = absurd (accepted≢refused _ a f refl e)
 refused-then (refused g) next f e = let q : g ≡ f = cc in ap refused q
+
+-- A step that is itself steps; steps that go on alike.
+pub then-then : {A B C : Type 0} (o : Outcome A) (f : A → Outcome B) (g : B → Outcome C) → (o ▷ f) ▷ g ≡ o ▷ λ a. f a ▷ g
+unfolding _▷_
+then-then (accepted a) f g = refl
+then-then (refused x) f g = refl
+
+pub then-same : {A B : Type 0} (o : Outcome A) (f g : A → Outcome B) → ((a : A) → f a ≡ g a) → o ▷ f ≡ o ▷ g
+unfolding _▷_
+then-same (accepted a) f g h = h a
+then-same (refused x) f g h = refl
 
 pub provided-true : (t : Bool) (n place : ℕ) → provided t n place ≡ accepted tt → t ≡ true
 unfolding provided

@@ -7,6 +7,7 @@ use native.Mathlib.Omega.{arith}
 use borrow.Author.Tests.{leb-true, ltb-true, eqb-true, eq-eqb}
 use lib.Dec.{leb, ltb, eqb}
 use lib.ListN.{length, getD, length-map}
+pub use Rattle.model.specs.Grammar.{SpellsPuts}
 use Rattle.model.specs.Outcome.{Outcome, accepted, fault, lowest, Parsed, parsed}
 use Rattle.model.specs.Program.{Program, count, signalAt}
 use Rattle.model.specs.Reads.{place}
@@ -70,13 +71,6 @@ module _ (text : List ℕ) (at : ℕ) where
       go true false false whole h w = tt
       go false end put whole h w = tt
 
--- The PUTs from `at` up to END, the last byte.
-pub data SpellsPuts (text : List ℕ) : ℕ → List Put → ℕ → Type 0 where
-  ends : {at : ℕ} → scheduleCommandAt text at ≡ ScheduleCommand.End → length text ≤ at + 1 → SpellsPuts text at [] at
-  put : {at end signal phase : ℕ} {qs : List Put} → scheduleCommandAt text at ≡ ScheduleCommand.Put signal phase →
-      SpellsPuts text (at + 3) qs end →
-      SpellsPuts text at (record { place = at; signal = signal; phase = phase } ∷ qs) end
-
 module _ (text : List ℕ) where
   abbrev ReadsPuts : ℕ → List Put → Parsed (List Put) → Type 0
   ReadsPuts at puts o = (qs : List Put) × (o .value ≡ puts ++ qs) × SpellsPuts text at qs (o .next)
@@ -89,13 +83,13 @@ module _ (text : List ℕ) where
   reads-command next h at puts ScheduleCommand.Unknown e = tt
   reads-command next h at puts ScheduleCommand.End e =
       holds-provided (ReadsPuts at puts) (leb (length text) (at + 1)) 11 (at + 1) (parsed puts at) (λ t.
-      ([], sym (append-nil puts), ends e (leb-true (length text) (at + 1) t)))
+      ([], sym (append-nil puts), SpellsPuts.ends e (leb-true (length text) (at + 1) t)))
   reads-command next h at puts (ScheduleCommand.Put signal phase) e =
       let here : Put = record { place = at; signal = signal; phase = phase } in
       holds-map (ReadsPuts (at + 3) (puts ++ (here ∷ []))) (ReadsPuts at puts) (next (at + 3) (puts ++ (here ∷ []))) (λ o r. (
         here ∷ r .0,
         r .1 ∙ append-assoc puts (here ∷ []) (r .0),
-        put e (r .2),
+        SpellsPuts.put e (r .2),
       )) (h (at + 3) (puts ++ (here ∷ [])))
 
   reads-puts : (left at : ℕ) (puts : List Put) → Holds (ReadsPuts at puts) (parsePuts left text at puts)

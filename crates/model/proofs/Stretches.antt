@@ -205,7 +205,7 @@ unfolding offsets
 offsets-length at [] = refl
 offsets-length at (x ∷ xs) = ap suc (offsets-length (at + length x) xs)
 
-offset-at : (at : ℕ) (xs : List (List ℕ)) (x : ℕ) → x ≤ length xs → getD (offsets at xs) x 0 ≡ at + length (joined (take x xs))
+pub offset-at : (at : ℕ) (xs : List (List ℕ)) (x : ℕ) → x ≤ length xs → getD (offsets at xs) x 0 ≡ at + length (joined (take x xs))
 unfolding offsets joinFrom
 offset-at at [] zero h = omega arith
 offset-at at [] (suc x) h = absurd (omega arith)

@@ -59,8 +59,8 @@ module _ (p : Program) (s : Schedule) where
       go true = rw (ne-eqb v x (λ e. omega arith))
       go false = refl
 
-  pub turns-other : (samples : ℕ → ℤ) (q : ℕ) (todo : List ℕ) (σ : ℕ → ℤ) (v : ℕ) →
-      ((j : ℕ) → j < length todo → getD todo j 0 < v) → turns samples q todo σ v ≡ σ v
+  pub turns-other : (samples : ℕ → ℤ) (q : ℕ) (waiting : List ℕ) (σ : ℕ → ℤ) (v : ℕ) →
+      ((j : ℕ) → j < length waiting → getD waiting j 0 < v) → turns samples q waiting σ v ≡ σ v
   turns-other samples q [] σ v h = refl
   turns-other samples q (x ∷ xs) σ v h =
       turns-other samples q xs (turn samples q σ x) v (λ j l. h (suc j) (omega arith)) ∙
@@ -160,9 +160,9 @@ module _ (p : Program) (s : Schedule) (acc : Accepted p s) (inputs X : ℕ → �
         go false d = still x v σ lt lv mid (λ j h q. run-due (rateOf p s x) t (acc .phases x lt) d j (rw q at h))
 
     -- All turns of a cycle.
-    turns-mid : (todo : List ℕ) (i : ℕ) (σ : ℕ → ℤ) → ((j : ℕ) → j < length todo → place (s .order) (getD todo j 0) ≡ i + j) →
-        ((j : ℕ) → j < length todo → getD todo j 0 < count p) → Midway t i σ →
-        Midway t (i + length todo) (turns p s samples q todo σ)
+    turns-mid : (waiting : List ℕ) (i : ℕ) (σ : ℕ → ℤ) → ((j : ℕ) → j < length waiting → place (s .order) (getD waiting j 0) ≡ i + j) →
+        ((j : ℕ) → j < length waiting → getD waiting j 0 < count p) → Midway t i σ →
+        Midway t (i + length waiting) (turns p s samples q waiting σ)
     turns-mid [] i σ at known mid = subst (λ k. Midway t k σ) (omega arith) mid
     turns-mid (x ∷ xs) i σ at known mid =
         let e = at 0 (omega arith) in

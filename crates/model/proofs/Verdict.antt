@@ -10,6 +10,7 @@ use lib.Dec.{leb, ltb}
 use lib.ListN.{length}
 use Rattle.model.specs.Accepted.{All, PeriodRule, Met, Accepted, Multiple}
 use Rattle.model.specs.Compile.{shortEnough, Pair, pairOf}
+use Rattle.model.specs.Conditions.{KeepsTime}
 use Rattle.model.specs.Image.{runList, runLists, joined, codesAt, lengthOf}
 use Rattle.model.specs.Latency.{keeps, timely}
 use Rattle.model.specs.Load.{load, isOver, loadedOf, loaded}
@@ -36,7 +37,7 @@ use Rattle.model.proofs.Legal.{
   signal-words,
   signal-reads,
 }
-use Rattle.model.proofs.Links.{KeepsTime, keeps-decides}
+use Rattle.model.proofs.Links.{keeps-decides}
 use Rattle.model.proofs.Outcomes.{
   Holds,
   holds-value,
@@ -219,6 +220,27 @@ lists-length p s h =
     let l : i < h = omega arith in
     rw (getD-table (runList p s) h i [] l) (chosen-length _ (s .order)))))
 
+-- A program and its schedule that have passed 1 to 14.
+pub steps-accepted : (text : List ℕ) (p : Program) (s : Schedule) → parseProgram text ≡ accepted p →
+    declaredAndRated p ≡ accepted tt → Ordered p s → met p s ≡ accepted tt → Accepted p s
+steps-accepted text p s parses rated ordered meets =
+    record {
+      phases = ordered .phases;
+      met = all-met;
+      put = ordered .put;
+      once = ordered .once;
+      only = ordered .only;
+    }
+  where
+    all-met : (x : ℕ) → x < count p → All (Met p s x) (bodyReads (signalAt p x .body))
+    all-met x lt =
+        let ρs = bodyReads (signalAt p x .body) in
+        all-map (λ ρ. SpellsRead text ρ × (Rated p x ρ × (isMet p s x ρ ≡ true))) (Met p s x) (λ ρ h.
+        met-true p s x ρ (h .1 .0 .0) (read-sound text ρ (h .0) .range) (h .1 .0 .1) (h .1 .1)) ρs
+        (all-both (SpellsRead text) (λ ρ. Rated p x ρ × (isMet p s x ρ ≡ true)) ρs
+        (signal-reads (legal text p parses .1) x lt)
+        (all-both (Rated p x) (λ ρ. isMet p s x ρ ≡ true) ρs (reads-rated p rated x lt) (reads-met p s meets x lt)))
+
 -- An accepted pair.
 module _ (program schedule : List ℕ) (q : Pair) (e : pairOf program schedule ≡ accepted q) where
   passed : Passed program schedule q
@@ -235,28 +257,7 @@ module _ (program schedule : List ℕ) (q : Pair) (e : pairOf program schedule �
 
   pub pair-accepted : Accepted (q .program) (q .schedule)
   pair-accepted =
-      record {
-        phases = ordered .0 .phases;
-        met = all-met;
-        put = ordered .0 .put;
-        once = ordered .0 .once;
-        only = ordered .0 .only;
-      }
-    where
-      p : Program
-      p = q .program
-
-      s : Schedule
-      s = q .schedule
-
-      all-met : (x : ℕ) → x < count p → All (Met p s x) (bodyReads (signalAt p x .body))
-      all-met x lt =
-          let ρs = bodyReads (signalAt p x .body) in
-          all-map (λ ρ. SpellsRead program ρ × (Rated p x ρ × (isMet p s x ρ ≡ true))) (Met p s x) (λ ρ h.
-          met-true p s x ρ (h .1 .0 .0) (read-sound program ρ (h .0) .range) (h .1 .0 .1) (h .1 .1)) ρs
-          (all-both (SpellsRead program) (λ ρ. Rated p x ρ × (isMet p s x ρ ≡ true)) ρs (signal-reads (lawful .1) x lt)
-          (all-both (Rated p x) (λ ρ. isMet p s x ρ ≡ true) ρs (reads-rated p (passed .rated) x lt)
-          (reads-met p s (passed .meets) x lt)))
+      steps-accepted program (q .program) (q .schedule) (passed .parses) (passed .rated) (ordered .0) (passed .meets)
 
   pub pair-timely : All (KeepsTime (q .program) (q .schedule)) (q .program .chains)
   pair-timely =

@@ -71,9 +71,9 @@ records [] os = []
 records (x ∷ xs) [] = []
 records (x ∷ xs) (o ∷ os) = wordBytes (x .initial) ++ (twoBytes o ++ records xs os)
 
--- Where the areas start: head, records, H + 1 offsets of run lists, lists, code.
-abbrev pub recordsAt : ℕ
-recordsAt = 4
+-- Where the record of signal x stands, and where the areas start: head, records, H + 1 offsets of run lists, lists, code.
+abbrev pub recordAt : ℕ → ℕ
+recordAt x = 4 + 6 * x
 
 abbrev pub offsetsAt : ℕ → ℕ
 offsetsAt n = 4 + 6 * n

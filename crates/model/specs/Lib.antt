@@ -6,6 +6,9 @@ pub mod Command
 pub mod Program
 pub mod Rates
 pub mod Schedule
+pub mod Grammar
+pub mod Written
+pub mod Stops
 pub mod Reads
 pub mod Accepted
 pub mod Streams
@@ -13,5 +16,8 @@ pub mod Load
 pub mod Latency
 pub mod Image
 pub mod Machine
+pub mod Height
 pub mod Compile
+pub mod Conditions
+pub mod Refusals
 pub mod Calls

@@ -5,7 +5,7 @@ use mathlib.Core.List.{List, [], _∷_, _++_}
 use lib.Dec.{leb, ltb, eqb}
 use lib.IntN.{ℤ, pos, negsuc}
 use lib.ListN.{length, getD, take, drop, set}
-use Rattle.model.specs.Image.{offsetsAt, listsAt}
+use Rattle.model.specs.Image.{recordAt, offsetsAt, listsAt}
 use Rattle.model.specs.Outcome.{Outcome, accepted, refused, _▷_, provided}
 use Rattle.model.specs.Search.{allBelow, table}
 use Rattle.model.specs.Word.{byteAt, twoAt, wordAt, binaryWord, negWord, ifWord}
@@ -54,7 +54,7 @@ abbrev pub countOf : List ℕ → ℕ
 countOf image = byteAt image 1
 
 unfoldable pub listOffset : List ℕ → ℕ → ℕ
-listOffset image c = twoAt image (4 + 6 * countOf image + 2 * c)
+listOffset image c = twoAt image (offsetsAt (countOf image) + 2 * c)
 
 -- The code of signal x ends where the next one starts, the last at the image's end.
 unfoldable pub codeOffset : List ℕ → ℕ → ℕ
@@ -183,7 +183,7 @@ nextPosition h c = cond (eqb (c + 1) h) 0 (c + 1)
 -- 0 in word 0 and each signal's initial word after it; words beyond N stay.
 unfoldable pub resetWords : List ℕ → List ℤ → List ℤ
 resetWords image state =
-    pos 0 ∷ (table (countOf image) (λ x. wordAt image (4 + 6 * x)) ++ drop (countOf image + 1) state)
+    pos 0 ∷ (table (countOf image) (λ x. wordAt image (recordAt x)) ++ drop (countOf image + 1) state)
 
 -- The code of each signal in the position's list, in order; then the position.
 unfoldable pub cycleWords : List ℕ → List ℤ → List ℤ → List ℤ

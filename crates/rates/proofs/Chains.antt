@@ -14,7 +14,8 @@ use Rattle.model.specs.Search.{joinFrom}
 use Rattle.model.specs.declared.Fault.{Fault}
 use Rattle.model.proofs.All.{all-append, all-map}
 use Rattle.model.proofs.Legal.{links-end}
-use Rattle.model.proofs.Spelled.{Declares, declared}
+use Rattle.model.specs.Grammar.{Declares}
+use Rattle.model.proofs.Spelled.{declared}
 use Rattle.reader.specs.Tables.{noChain, chainAt}
 use Rattle.rates.specs.Walk.{anyPart, done}
 use Rattle.rates.proofs.Joined.{each, join-each, Beyond, lowest-inside}

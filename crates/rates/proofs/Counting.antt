@@ -21,7 +21,8 @@ use Rattle.model.specs.declared.Command.{Command}
 use Rattle.model.specs.declared.Command.the-variants as Command
 use Rattle.model.proofs.All.{all-append, all-at}
 use Rattle.model.proofs.Command.{enum}
-use Rattle.model.proofs.Spelled.{Spells, Declares, declared}
+use Rattle.model.specs.Grammar.{Spells, Declares}
+use Rattle.model.proofs.Spelled.{declared}
 use Rattle.rates.specs.Answers.{countedOf}
 use Rattle.rates.specs.Walk.{widthOf, partOf, Numbered, numbered, readsHere, isOperand, Walk, done}
 use Rattle.rates.specs.declared.Part.{Part}

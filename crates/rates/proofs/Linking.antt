@@ -13,7 +13,7 @@ use Rattle.model.specs.Word.{byteAt}
 use Rattle.model.proofs.All.{all-at}
 use Rattle.model.proofs.Commands.{command-sound}
 use Rattle.model.proofs.Legal.{legal, SpellsChain}
-use Rattle.model.proofs.Spelled.{SpellsLinks}
+use Rattle.model.specs.Grammar.{SpellsLinks}
 use Rattle.reader.specs.Tables.{noChain, chainAt, TablesOf}
 use Rattle.reader.specs.declared.Tables.{Tables}
 use Rattle.rates.specs.Answers.{ReadAs}

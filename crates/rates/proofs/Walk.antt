@@ -19,7 +19,8 @@ use Rattle.model.specs.declared.Sampled.{Sampled}
 use Rattle.model.proofs.All.{all-map}
 use Rattle.model.proofs.Commands.{Sound, command-sound, link-command}
 use Rattle.model.proofs.Outcomes.{joinFrom-append}
-use Rattle.model.proofs.Spelled.{Spells, SpellsLinks, Declares, declared}
+use Rattle.model.specs.Grammar.{Spells, SpellsLinks, Declares}
+use Rattle.model.proofs.Spelled.{declared}
 use Rattle.rates.specs.Walk.{widthOf, partOf, signalsAfter, chainsAfter, Numbered, numbered, anyPart, readsHere, linksHere, Walk, done, step, allReads, allLinks}
 use Rattle.rates.specs.declared.Part.{Part}
 use Rattle.rates.specs.declared.Part.the-variants as Part

@@ -32,7 +32,8 @@ use Rattle.model.specs.declared.ScheduleCommand.the-variants as ScheduleCommand
 use Rattle.model.proofs.All.{all-at, all-append}
 use Rattle.model.proofs.Decide.{all-true, true-all}
 use Rattle.model.proofs.Outcomes.{lowest-sorted, getD-table}
-use Rattle.model.proofs.Puts.{SpellsPuts, puts-end, puts-spelled, placed-ordered}
+use Rattle.model.specs.Grammar.{SpellsPuts}
+use Rattle.model.proofs.Puts.{puts-end, puts-spelled, placed-ordered}
 use Rattle.reader.specs.Tables.{PeriodsOf, SlotsOf}
 use Rattle.reader.specs.declared.Judged.{Judged}
 use Rattle.reader.specs.declared.Judged.the-variants as Judged

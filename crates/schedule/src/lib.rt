@@ -70,7 +70,7 @@ pub struct Slots {
 }
 
 impl Slots {
-    fn new() -> Self
+    pub fn new() -> Self
         ensures { λ r. ⌜ SlotsAfter [] r ⌝ }
     {
         Self {

@@ -18,7 +18,7 @@ use Rattle.model.specs.Schedule.{Schedule}
 use Rattle.model.specs.Word.{byteAt}
 use Rattle.model.proofs.All.{all-at}
 use Rattle.model.proofs.Legal.{legal, SpellsChain}
-use Rattle.model.proofs.Spelled.{SpellsLinks}
+use Rattle.model.specs.Grammar.{SpellsLinks}
 use Rattle.model.proofs.Verdict.{links-declared, chains-linked}
 use Rattle.reader.specs.Tables.{noChain, chainAt}
 use Rattle.reader.specs.declared.Tables.{Tables}

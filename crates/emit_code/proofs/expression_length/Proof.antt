@@ -8,7 +8,7 @@ use lib.ListN.{length}
 use denote.Ref.{now}
 use borrow.Author.Needs.{needs}
 use Rattle.model.specs.Program.{Expr}
-use Rattle.model.proofs.Spelled.{Spells}
+use Rattle.model.specs.Grammar.{Spells}
 use Rattle.emit_code.proofs.Walk.{Walked, Step, walk-starts, walk-ends, walk-step, inside, code-most}
 use Rattle.emit_code.proofs.expression_length.Statement.{statement}
 use Rattle.emit_code.proofs.expression_length.Tie as tie

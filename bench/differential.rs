@@ -1,0 +1,250 @@
+//! The library's calls against the reference, on random and damaged inputs.
+//!
+//!     differential [COUNT [SEED]]
+//!
+//! Each of COUNT rounds lends one pair to compile, and then images, states and samples to reset and cycle. After each call the
+//! answers and all that was lent must be equal. It stops at the first difference with the bytes lent. Round r depends on the seed
+//! and on r alone.
+mod generate;
+// The benchmark uses the rest of these.
+#[allow(dead_code)]
+mod images;
+mod library;
+mod random;
+mod reference;
+
+use generate::{Pair, Shape, Twist};
+use random::Random;
+use std::process::exit;
+
+const COUNT: u64 = 200_000;
+const SEED: u64 = 20_260_101;
+/// Every image fits.
+const IMAGE_BYTES: usize = 24_422;
+/// The refusals of the paper.
+const NUMBERS: [usize; 21] = [1, 2, 3, 4, 5, 6, 7, 8, 9, 10, 11, 12, 13, 14, 15, 16, 17, 20, 21, 22, 23];
+
+/// How many answers of each number a call gave.
+#[derive(Default)]
+struct Seen {
+    compile: [u64; 24],
+    reset: [u64; 24],
+    cycle: [u64; 24],
+}
+
+fn hexadecimal(bytes: &[u8]) -> String {
+    bytes.iter().map(|byte| format!("{byte:02X}")).collect::<Vec<_>>().join(" ")
+}
+
+fn count(seen: &mut [u64; 24], answer: u64) {
+    seen[(answer >> 32) as usize] += 1;
+}
+
+/// Prints the call that differs and stops.
+fn differ(round: u64, call: &str, lent: &[String], library: u64, reference: u64, kept: bool) -> ! {
+    println!("round {round}: {call} differs");
+    lent.iter().for_each(|line| println!("  {line}"));
+    for (name, answer) in [("library", library), ("reference", reference)] {
+        println!("  {name}: number {}, value {}", answer >> 32, answer as u32);
+    }
+    println!("  what was lent is {} after both", if kept { "equal" } else { "not equal" });
+    exit(1);
+}
+
+struct Round<'a> {
+    number: u64,
+    random: Random,
+    seen: &'a mut Seen,
+    buffers: &'a mut [Vec<u8>; 2],
+}
+
+impl Round<'_> {
+    /// A legal pair, one with a fault put in, or one of them damaged.
+    fn pair(&mut self) -> Pair {
+        let random = &mut self.random;
+        let shape = Shape::any(random);
+        let twist = Twist::any(random);
+        let mut pair = generate::pair(random, &shape, twist);
+        let answer = reference::compile(&pair.program, &pair.schedule, &mut self.buffers[0]);
+        let number = answer.map_or_else(|(number, _)| number, |_| 0);
+        if number != pair.expected {
+            println!("round {}: the reference gives {number}, but {} was put in", self.number, pair.expected);
+            println!("  program: {}", hexadecimal(&pair.program));
+            println!("  schedule: {}", hexadecimal(&pair.schedule));
+            exit(1);
+        }
+        self.spoil(&mut pair);
+        pair
+    }
+
+    /// Leaves two pairs in five as they are.
+    fn spoil(&mut self, pair: &mut Pair) {
+        let random = &mut self.random;
+        match random.below(20) {
+            0..=7 => {}
+            8..=10 => generate::reschedule(random, &mut pair.schedule),
+            11..=13 => (0..1 + random.below(3)).for_each(|_| generate::mistake(random, &mut pair.program)),
+            14..=16 => (0..1 + random.below(3)).for_each(|_| random.damage(&mut pair.program)),
+            17 => (0..1 + random.below(3)).for_each(|_| random.damage(&mut pair.schedule)),
+            18 => {
+                random.damage(&mut pair.program);
+                random.damage(&mut pair.schedule);
+            }
+            _ => self.lengthen(pair),
+        }
+    }
+
+    /// Bytes after END, up to the bound of a text or past it.
+    fn lengthen(&mut self, pair: &mut Pair) {
+        let over = self.random.below(2);
+        match self.random.below(4) {
+            0 => pair.program.resize(pair.program.len().max(generate::PROGRAM_BYTES + over), 0),
+            1 => pair.schedule.resize(pair.schedule.len().max(193 + over), 0x40),
+            2 => pair.program = (0..self.random.below(40)).map(|_| self.random.byte()).collect(),
+            _ => pair.schedule = (0..self.random.below(40)).map(|_| self.random.byte()).collect(),
+        }
+    }
+
+    /// Compiles the pair by both into equal buffers. Yields the image of an accepted pair.
+    fn compile(&mut self, pair: &Pair) -> Option<Vec<u8>> {
+        let [ours, other] = &mut *self.buffers;
+        let result = reference::compile(&pair.program, &pair.schedule, other);
+        let image = result.ok().map(|length| other[..length].to_vec());
+        let length = match &image {
+            None => self.random.below(100),
+            Some(image) => match self.random.below(8) {
+                0 => image.len() - 1,
+                1 => self.random.below(image.len()),
+                2 => image.len(),
+                3 => IMAGE_BYTES,
+                _ => image.len() + self.random.below(64),
+            },
+        };
+        let fill = self.random.next() as u8;
+        ours[..length].fill(fill);
+        other[..length].fill(fill);
+        let library = library::compile(&pair.program, &pair.schedule, &mut ours[..length]);
+        let reference = reference::answer(reference::compile(&pair.program, &pair.schedule, &mut other[..length]));
+        let kept = ours[..length] == other[..length];
+        if library != reference || !kept {
+            let program = format!("program: {}", hexadecimal(&pair.program));
+            let schedule = format!("schedule: {}", hexadecimal(&pair.schedule));
+            let buffer = format!("image buffer: {length} bytes of {fill:02X}");
+            differ(self.number, "compile", &[program, schedule, buffer], library, reference, kept);
+        }
+        count(&mut self.seen.compile, library);
+        image
+    }
+
+    /// A state for the image: mostly long enough and at a position of the hypercycle.
+    fn state(&mut self, image: &[u8]) -> Vec<i32> {
+        let random = &mut self.random;
+        let [hypercycle, signals] = [0, 1].map(|at| image.get(at).copied().unwrap_or(0));
+        let words = match random.below(8) {
+            0 => random.below(usize::from(signals) + 2),
+            1 => random.below(80),
+            _ => usize::from(signals) + 1 + random.below(3),
+        };
+        let mut state = random.words(words);
+        if let Some(position) = state.first_mut() {
+            *position = match random.below(8) {
+                0 => random.pick(&[-1, hypercycle.into(), i32::from(hypercycle) + 1, i32::MIN, i32::MAX]),
+                1 => random.word(),
+                _ => random.below(usize::from(hypercycle).max(1)) as i32,
+            };
+        }
+        state
+    }
+
+    /// Samples for the image: mostly enough.
+    fn samples(&mut self, image: &[u8]) -> Vec<i32> {
+        let signals = usize::from(image.get(1).copied().unwrap_or(0));
+        let words = if self.random.one_in(12) { self.random.below(signals + 1) } else { signals + self.random.below(3) };
+        self.random.words(words)
+    }
+
+    fn reset(&mut self, image: &[u8], state: &mut Vec<i32>) {
+        let before = state.clone();
+        let mut other = state.clone();
+        let library = library::reset(image, state);
+        let reference = reference::answer(reference::reset(image, &mut other).map(|()| 0));
+        if library != reference || *state != other {
+            let lent = [format!("image: {}", hexadecimal(image)), format!("state: {before:?}")];
+            differ(self.number, "reset", &lent, library, reference, *state == other);
+        }
+        count(&mut self.seen.reset, library);
+    }
+
+    fn cycle(&mut self, image: &[u8], state: &mut Vec<i32>) {
+        let samples = self.samples(image);
+        let before = state.clone();
+        let mut other = state.clone();
+        let library = library::cycle(image, state, &samples);
+        let reference = reference::answer(reference::cycle(image, &mut other, &samples).map(|()| 0));
+        if library != reference || *state != other {
+            let [state_words, samples] = [format!("state: {before:?}"), format!("samples: {samples:?}")];
+            let lent = [format!("image: {}", hexadecimal(image)), state_words, samples];
+            differ(self.number, "cycle", &lent, library, reference, *state == other);
+        }
+        count(&mut self.seen.cycle, library);
+    }
+
+    /// Cycles from any state, then a reset and a list of cycles: now and then through more than two hypercycles.
+    fn calls(&mut self, image: &[u8]) {
+        let mut state = self.state(image);
+        self.cycle(image, &mut state);
+        self.reset(image, &mut state);
+        let hypercycle = usize::from(image.first().copied().unwrap_or(0));
+        let cycles = if self.random.one_in(32) { 2 * hypercycle + 3 } else { self.random.below(4) };
+        for _ in 0..cycles {
+            self.cycle(image, &mut state);
+        }
+    }
+
+    /// One pair, then its image or one from elsewhere, whole and damaged.
+    fn run(&mut self) {
+        let pair = self.pair();
+        let own = self.compile(&pair);
+        let mut image = own.unwrap_or_else(|| images::foreign_image(&mut self.random));
+        self.calls(&image);
+        for _ in 0..1 + self.random.below(2) {
+            self.random.damage(&mut image);
+        }
+        if self.random.one_in(2) {
+            images::set_length(&mut image);
+        }
+        self.calls(&image);
+    }
+}
+
+fn print_seen(seen: &Seen) -> bool {
+    println!("number    compile      reset      cycle");
+    let mut all = true;
+    for number in [0].into_iter().chain(NUMBERS) {
+        let [compile, reset, cycle] = [seen.compile[number], seen.reset[number], seen.cycle[number]];
+        println!("{number:>6} {compile:>10} {reset:>10} {cycle:>10}");
+        all &= compile + reset + cycle > 0;
+    }
+    let calls = [seen.compile, seen.reset, seen.cycle].map(|counts| counts.iter().sum::<u64>());
+    println!(" calls {:>10} {:>10} {:>10}", calls[0], calls[1], calls[2]);
+    all && [seen.compile, seen.reset, seen.cycle].iter().zip(calls).all(|(seen, calls)| seen[0] * 4 >= calls)
+}
+
+fn main() {
+    let mut arguments = std::env::args().skip(1).map(|argument| argument.parse().expect("a number"));
+    let rounds = arguments.next().unwrap_or(COUNT);
+    let seed = arguments.next().unwrap_or(SEED);
+    println!("{rounds} rounds from seed {seed}");
+    let mut seen = Seen::default();
+    let mut buffers = [vec![0; IMAGE_BYTES], vec![0; IMAGE_BYTES]];
+    for number in 0..rounds {
+        let random = Random(Random(seed ^ number << 32).next());
+        Round { number, random, seen: &mut seen, buffers: &mut buffers }.run();
+    }
+    let covered = print_seen(&seen);
+    println!("no difference");
+    if !covered {
+        println!("but not every number was seen, or fewer than one call in four did its job: take more rounds");
+        exit(1);
+    }
+}

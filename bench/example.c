@@ -1,0 +1,48 @@
+/* Compiles program A of the paper, resets a state and runs cycles, printing the words after each. */
+#include <inttypes.h>
+#include <stdio.h>
+#include "larderlate.h"
+
+static const uint8_t program[] = {
+    0x10, 0x01, 0x00, 0x00, 0x00, 0x00,                                     /* signal 0: an input in every cycle */
+    0x11, 0x02, 0x05, 0x00, 0x00, 0x00, 0x03, 0x00, 0x23, 0x00, 0x01, 0x02, /* signal 1: WHEN 0 1 2, every other cycle */
+    0x11, 0x01, 0x00, 0x00, 0x00, 0x00, 0x01, 0x00,                         /* signal 2: ADD of */
+    0x30, 0x25, 0x01, 0xFF, 0x02, 0x22, 0x02,                               /*   CURRENT 1, index open, 2 and LAST 2 */
+    0x00,
+};
+
+static const uint8_t schedule[] = {0x40, 0x00, 0x00, 0x40, 0x01, 0x01, 0x40, 0x02, 0x00, 0x00};
+
+static int refused(const char *call, uint64_t answer)
+{
+    if (larderlate_number(answer) == LARDERLATE_DONE)
+        return 0;
+    printf("%s: refused %" PRIu32 ", place %" PRIu32 "\n", call, larderlate_number(answer), larderlate_value(answer));
+    return 1;
+}
+
+static void print_state(const int32_t *state)
+{
+    printf("position %" PRId32 ": signals %" PRId32 " %" PRId32 " %" PRId32 "\n", state[0], state[1], state[2], state[3]);
+}
+
+int main(void)
+{
+    static uint8_t image[LARDERLATE_IMAGE_BYTES];
+    static int32_t state[LARDERLATE_STATE_WORDS];
+    uint64_t answer = larderlate_compile(program, sizeof program, schedule, sizeof schedule, image, sizeof image);
+    if (refused("compile", answer))
+        return 1;
+    size_t length = larderlate_value(answer);
+    printf("image of %zu bytes, hypercycle %u\n", length, image[0]);
+    if (refused("reset", larderlate_reset(image, length, state, LARDERLATE_STATE_WORDS)))
+        return 1;
+    print_state(state);
+    for (int32_t input = 10; input <= 17; input++) {
+        const int32_t samples[3] = {input, 0, 0};
+        if (refused("cycle", larderlate_cycle(image, length, state, LARDERLATE_STATE_WORDS, samples, 3)))
+            return 1;
+        print_state(state);
+    }
+    return 0;
+}

@@ -1,0 +1,36 @@
+//! The calls of the static library, as include/larderlate.h declares them.
+extern "C" {
+    fn larderlate_compile(
+        program: *const u8,
+        program_length: usize,
+        schedule: *const u8,
+        schedule_length: usize,
+        image: *mut u8,
+        image_length: usize,
+    ) -> u64;
+    fn larderlate_reset(image: *const u8, image_length: usize, state: *mut i32, state_words: usize) -> u64;
+    fn larderlate_cycle(
+        image: *const u8,
+        image_length: usize,
+        state: *mut i32,
+        state_words: usize,
+        samples: *const i32,
+        samples_words: usize,
+    ) -> u64;
+}
+
+// A Rust slice keeps all that the header asks of the caller.
+
+pub fn compile(program: &[u8], schedule: &[u8], image: &mut [u8]) -> u64 {
+    let (length, image) = (image.len(), image.as_mut_ptr());
+    unsafe { larderlate_compile(program.as_ptr(), program.len(), schedule.as_ptr(), schedule.len(), image, length) }
+}
+
+pub fn reset(image: &[u8], state: &mut [i32]) -> u64 {
+    unsafe { larderlate_reset(image.as_ptr(), image.len(), state.as_mut_ptr(), state.len()) }
+}
+
+pub fn cycle(image: &[u8], state: &mut [i32], samples: &[i32]) -> u64 {
+    let (words, state) = (state.len(), state.as_mut_ptr());
+    unsafe { larderlate_cycle(image.as_ptr(), image.len(), state, words, samples.as_ptr(), samples.len()) }
+}

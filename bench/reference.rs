@@ -1,0 +1,47 @@
+//! Paper 01 in plain Rust: compile, reset and cycle.
+//!
+//! Written from the paper alone and sharing nothing with the crates, so that a misreading on one side shows as a difference.
+//! It is also the baseline of the benchmark: what one would write without a prover, with the same checks.
+mod checks;
+mod image;
+mod latency;
+mod machine;
+mod program;
+mod schedule;
+
+pub use machine::{cycle, reset};
+
+/// The number of a refusal and its place.
+pub type Refusal = (u8, usize);
+
+const PROGRAM_BYTES: usize = 8192;
+const SCHEDULE_BYTES: usize = 193;
+
+/// Writes the image of an accepted pair to the start of `image` and yields its length L.
+pub fn compile(program: &[u8], schedule: &[u8], image: &mut [u8]) -> Result<usize, Refusal> {
+    if program.len() > PROGRAM_BYTES || schedule.len() > SCHEDULE_BYTES {
+        return Err((1, 0));
+    }
+    let program = program::parse(program)?;
+    checks::mentions(&program)?;
+    let hypercycle = checks::hypercycle(&program)?;
+    checks::links(&program)?;
+    let schedule = schedule::parse(schedule, &program.signals)?;
+    checks::reads_met(&program, &schedule)?;
+    checks::load(&program, &schedule, hypercycle)?;
+    latency::check(&program, &schedule, hypercycle)?;
+    let length = image::length(&program, hypercycle);
+    if image.len() < length {
+        return Err((17, length));
+    }
+    image::write(&program, &schedule, hypercycle, &mut image[..length]);
+    Ok(length)
+}
+
+/// The answer as the library's C calls give it: number × 2^32 + value.
+pub fn answer(result: Result<usize, Refusal>) -> u64 {
+    match result {
+        Ok(value) => value as u64,
+        Err((number, place)) => (u64::from(number) << 32) + place as u64,
+    }
+}

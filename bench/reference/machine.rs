@@ -1,0 +1,225 @@
+//! Reset and cycle (refusals 20 to 23) on any bytes.
+use super::Refusal;
+
+const STACK: usize = 32;
+
+/// The parts of a well-formed image.
+struct Image<'a> {
+    bytes: &'a [u8],
+    hypercycle: usize,
+    signals: usize,
+}
+
+impl<'a> Image<'a> {
+    fn two(&self, at: usize) -> usize {
+        u16::from_le_bytes([self.bytes[at], self.bytes[at + 1]]).into()
+    }
+
+    fn offsets(&self) -> usize {
+        4 + 6 * self.signals
+    }
+
+    fn initial(&self, signal: usize) -> i32 {
+        let at = 4 + 6 * signal;
+        i32::from_le_bytes(self.bytes[at..at + 4].try_into().expect("four bytes"))
+    }
+
+    /// Where the code of a signal starts; for the signal after the last, the end of the image.
+    fn code_start(&self, signal: usize) -> usize {
+        if signal < self.signals {
+            self.two(8 + 6 * signal)
+        } else {
+            self.bytes.len()
+        }
+    }
+
+    fn code(&self, signal: usize) -> &'a [u8] {
+        &self.bytes[self.code_start(signal)..self.code_start(signal + 1)]
+    }
+
+    fn list(&self, cycle: usize) -> &'a [u8] {
+        let at = self.offsets() + 2 * cycle;
+        &self.bytes[self.two(at)..self.two(at + 2)]
+    }
+
+    /// The image if it is well formed, else 20.
+    fn check(bytes: &'a [u8]) -> Result<Self, Refusal> {
+        let &[hypercycle, signals, low, high, ..] = bytes else {
+            return Err((20, 0));
+        };
+        let image = Image { bytes, hypercycle: hypercycle.into(), signals: signals.into() };
+        let formed = bytes.len() == u16::from_le_bytes([low, high]).into()
+            && (1..=240).contains(&hypercycle)
+            && signals <= 64
+            && image.lists_formed()
+            && image.codes_formed();
+        formed.then_some(image).ok_or((20, 0))
+    }
+
+    /// The run lists follow their offsets and each other up to the first code, and name signals only.
+    fn lists_formed(&self) -> bool {
+        let start = self.offsets() + 2 * (self.hypercycle + 1);
+        if self.bytes.len() < start || self.two(self.offsets()) != start {
+            return false;
+        }
+        let mut last = start;
+        for pair in self.bytes[self.offsets() + 2..start].chunks_exact(2) {
+            let next = u16::from_le_bytes([pair[0], pair[1]]).into();
+            if next < last {
+                return false;
+            }
+            last = next;
+        }
+        last <= self.bytes.len()
+            && last == self.code_start(0)
+            && self.bytes[start..last].iter().all(|&signal| usize::from(signal) < self.signals)
+    }
+
+    /// The codes follow each other up to the end.
+    fn codes_formed(&self) -> bool {
+        (0..self.signals).all(|signal| {
+            let (start, end) = (self.code_start(signal), self.code_start(signal + 1));
+            start <= end && end <= self.bytes.len() && code_formed(&self.bytes[start..end], signal as u8, self.signals)
+        })
+    }
+}
+
+/// For each byte that is an operator: how many bytes it has with its operand, and how many words it takes from the stack. A table,
+/// since which operator comes next is hard to predict.
+const SHAPES: [(u8, u8); 256] = {
+    let mut shapes = [(0, 0); 256];
+    shapes[0x50] = (5, 0);
+    shapes[0x51] = (2, 0);
+    shapes[0x52] = (2, 0);
+    shapes[0x38] = (1, 1);
+    shapes[0x3A] = (1, 3);
+    let mut binary = 0x30;
+    while binary <= 0x36 {
+        shapes[binary] = (1, 2);
+        binary += 1;
+    }
+    shapes
+};
+
+fn code_formed(mut code: &[u8], own: u8, signals: usize) -> bool {
+    let mut height = 0;
+    // No operator but STORE can stand last, and STORE has an operand: so two bytes are left at each.
+    while let &[operator, operand, ..] = code {
+        if operator == 0x5F {
+            return code.len() == 2 && operand == own && height == 1;
+        }
+        let (bytes, words) = SHAPES[usize::from(operator)];
+        let below = height - i32::from(words);
+        height = below + 1;
+        let formed = (bytes != 0)
+            & (below >= 0)
+            & (height <= STACK as i32)
+            & ((operator != 0x51) | (usize::from(operand) < signals))
+            & ((operator != 0x52) | (operand == own));
+        match code.get(usize::from(bytes)..) {
+            Some(rest) if formed => code = rest,
+            _ => return false,
+        }
+    }
+    false
+}
+
+pub fn reset(image: &[u8], state: &mut [i32]) -> Result<(), Refusal> {
+    let image = Image::check(image)?;
+    if state.len() <= image.signals {
+        return Err((21, 0));
+    }
+    state[0] = 0;
+    for signal in 0..image.signals {
+        state[signal + 1] = image.initial(signal);
+    }
+    Ok(())
+}
+
+pub fn cycle(image: &[u8], state: &mut [i32], samples: &[i32]) -> Result<(), Refusal> {
+    let image = Image::check(image)?;
+    if state.len() <= image.signals {
+        return Err((21, 0));
+    }
+    let position = match usize::try_from(state[0]) {
+        Ok(position) if position < image.hypercycle => position,
+        _ => return Err((22, 0)),
+    };
+    if samples.len() < image.signals {
+        return Err((23, 0));
+    }
+    let mut stack = Stack { words: [0; STACK], height: 0 };
+    for &signal in image.list(position) {
+        let signal = usize::from(signal);
+        state[signal + 1] = stack.run(image.code(signal), state, samples);
+    }
+    state[0] = if position + 1 == image.hypercycle { 0 } else { position as i32 + 1 };
+    Ok(())
+}
+
+/// The working stack, never short or full in a checked code.
+struct Stack {
+    words: [i32; STACK],
+    height: usize,
+}
+
+impl Stack {
+    fn push(&mut self, word: i32) {
+        self.words[self.height] = word;
+        self.height += 1;
+    }
+
+    fn pop(&mut self) -> i32 {
+        self.height -= 1;
+        self.words[self.height]
+    }
+
+    fn binary(&mut self, operator: impl Fn(i32, i32) -> i32) {
+        let second = self.pop();
+        let first = self.pop();
+        self.push(operator(first, second));
+    }
+
+    fn choose(&mut self) {
+        let otherwise = self.pop();
+        let then = self.pop();
+        let condition = self.pop();
+        self.push(if condition != 0 { then } else { otherwise });
+    }
+
+    /// The word that a checked code stores. Leaves the stack empty.
+    fn run(&mut self, code: &[u8], state: &[i32], samples: &[i32]) -> i32 {
+        let mut at = 0;
+        loop {
+            let operator = code[at];
+            at += 1;
+            match operator {
+                0x50 => {
+                    self.push(i32::from_le_bytes(code[at..at + 4].try_into().expect("four bytes")));
+                    at += 4;
+                }
+                0x51 => {
+                    self.push(state[usize::from(code[at]) + 1]);
+                    at += 1;
+                }
+                0x52 => {
+                    self.push(samples[usize::from(code[at])]);
+                    at += 1;
+                }
+                0x30 => self.binary(i32::wrapping_add),
+                0x31 => self.binary(i32::wrapping_sub),
+                0x32 => self.binary(i32::wrapping_mul),
+                0x33 => self.binary(|a, b| (a < b).into()),
+                0x34 => self.binary(|a, b| (a == b).into()),
+                0x35 => self.binary(i32::min),
+                0x36 => self.binary(i32::max),
+                0x38 => {
+                    let word = self.pop();
+                    self.push(word.wrapping_neg());
+                }
+                0x3A => self.choose(),
+                _ => return self.pop(),
+            }
+        }
+    }
+}

@@ -1,0 +1,88 @@
+//! Runs cases with expected answers (docs/VECTORS.md) on the reference: every line must be equal.
+mod reference;
+
+use std::process::exit;
+
+/// The bytes of the cases, taken from the front.
+struct Cases<'a>(&'a [u8]);
+
+impl<'a> Cases<'a> {
+    fn take(&mut self, count: usize) -> &'a [u8] {
+        let (taken, rest) = self.0.split_at(count);
+        self.0 = rest;
+        taken
+    }
+
+    fn number(&mut self, bytes: usize) -> usize {
+        self.take(bytes).iter().rev().fold(0, |number, &byte| number << 8 | usize::from(byte))
+    }
+
+    fn words(&mut self) -> Vec<i32> {
+        let count = self.number(2);
+        let word = |bytes: &[u8]| i32::from_le_bytes(bytes.try_into().expect("four bytes"));
+        self.take(4 * count).chunks_exact(4).map(word).collect()
+    }
+}
+
+fn hash(bytes: impl Iterator<Item = u8>) -> u32 {
+    bytes.fold(2166136261, |hash: u32, byte| (hash ^ u32::from(byte)).wrapping_mul(16777619))
+}
+
+fn line(answer: u64, hash: u32) -> String {
+    format!("{} {} {hash}", answer >> 32, answer as u32)
+}
+
+fn compile(cases: &mut Cases) -> String {
+    let (program, schedule) = (cases.number(2), cases.number(2));
+    let buffer = cases.number(4);
+    let mut buffer = vec![cases.number(1) as u8; buffer];
+    let (program, schedule) = (cases.take(program), cases.take(schedule));
+    let result = reference::compile(program, schedule, &mut buffer);
+    line(reference::answer(result), hash(buffer.into_iter()))
+}
+
+/// The lines that the cases print.
+fn replay(cases: &[u8]) -> Vec<String> {
+    let mut cases = Cases(cases);
+    let (mut image, mut state, mut lines) = (&[][..], vec![], vec![]);
+    while !cases.0.is_empty() {
+        let result = match cases.number(1) {
+            1 => {
+                let length = cases.number(4);
+                image = cases.take(length);
+                continue;
+            }
+            2 => {
+                state = cases.words();
+                continue;
+            }
+            3 => reference::reset(image, &mut state),
+            4 => reference::cycle(image, &mut state, &cases.words()),
+            5 => {
+                lines.push(compile(&mut cases));
+                continue;
+            }
+            command => panic!("no such case: {command}"),
+        };
+        let answer = reference::answer(result.map(|()| 0));
+        lines.push(line(answer, hash(state.iter().flat_map(|word| word.to_le_bytes()))));
+    }
+    lines
+}
+
+fn main() {
+    let arguments: Vec<String> = std::env::args().collect();
+    let [_, cases, expected] = &arguments[..] else {
+        eprintln!("usage: replay CASES.stdin CASES.stdout");
+        exit(2);
+    };
+    let lines = replay(&std::fs::read(cases).expect("the cases"));
+    let expected = std::fs::read_to_string(expected).expect("the expected lines");
+    let expected: Vec<&str> = expected.lines().collect();
+    if let Some(at) = lines.iter().zip(&expected).position(|(line, expected)| line != expected) {
+        println!("line {}: {}, expected {}", at + 1, lines[at], expected[at]);
+        exit(1);
+    }
+    println!("{cases}: {} lines of {} equal", lines.len(), expected.len());
+    exit((lines.len() != expected.len()).into());
+}

@@ -1,0 +1,103 @@
+-- `compiler::compile` meets its contract. Assumes nothing.
+use Prim.Native.Nat.{_≤_}
+use mathlib.Core.Path.{_≡_, ap, _∙_}
+use native.Mathlib.Omega.{arith}
+use denote.Ref.{now}
+use lib.ListN.{length}
+use borrow.Author.Needs.{needs}
+use Rattle.model.specs.Compile.{Pair, pairOf, compiledOf}
+use Rattle.model.specs.Image.{lengthOf}
+use Rattle.model.specs.Outcome.{accepted}
+use Rattle.emitter.specs.Prepared.{Ready}
+use Rattle.checks.specs.Answers.{Checks}
+use Rattle.checks.proofs.Laws.{answers-fine, answers-refused}
+use Rattle.compiler.proofs.Answers.{compile-refused, compile-short, compile-done}
+use Rattle.compiler.proofs.compile.Statement.{statement}
+use Rattle.compiler.proofs.compile.Tie as tie
+
+abbrev start : tie.After-check-pair → tie.Start
+start k = k .before .before .before .before
+
+-- the pair that the checks have accepted
+pair : (e : tie.After-enum-told) → let k = e .before .before in
+    (q : Pair) × (pairOf (now (start k .args .program)) (now (start k .args .schedule)) ≡ accepted q) ×
+    Checks (now (start k .args .program)) (k .check-pair .result) q
+pair e = answers-fine _ _ _ (e .before .before .check-pair .ensures) (e .enum-told .given .1)
+
+abbrev ready : (e : tie.After-enum-told) → let k = e .before .before in let r = k .check-pair .result in
+    Ready (now (start k .args .program)) (r .tables) (r .periods) (r .slots .order) (r .slots .phases) (r .hypercycle)
+ready e =
+    let k = pair e in
+    record { program = k .0 .program; schedule = k .0 .schedule; prepared = k .2 .prepared; hyper = k .2 .bound }
+
+abbrev checked : tie.After-image-length → tie.After-enum-told
+checked l = l .before .before .before .before .before .before .before .before .before
+
+-- L
+size : (l : tie.After-image-length) → let q = pair (checked l) .0 in
+    l .image-length .result ≡ lengthOf (q .program) (q .schedule) (checked l .before .before .check-pair .result .hypercycle)
+size l = l .image-length .ensures _ _ (pair (checked l) .2 .prepared)
+
+-- the buffer has space for it
+room : (e : tie.Else1) → let k = ready (checked (e .before)) in
+    lengthOf (k .program) (k .schedule) (checked (e .before) .before .before .check-pair .result .hypercycle) ≤
+    length (now (start (checked (e .before) .before .before) .args .image))
+room e = omega (arith, size (e .before), e .if1 .left)
+
+check-pair-requires : tie.Need-check-pair-requires
+check-pair-requires c κs = search needs
+
+enum-told : tie.Need-enum-told
+enum-told c = search needs
+
+enum-told-2 : tie.Need-enum-told-2
+enum-told-2 c = search needs
+
+refused-requires : tie.Need-refused-requires
+refused-requires c κs = search needs
+
+returns : tie.Need-returns
+returns c =
+    let told = c .before .enum-told2 .given .1 in
+    let g = compile-refused _ _ _ _ (answers-refused _ _ _ _ (c .before .before .before .check-pair .ensures) told) in
+    (ap compiledOf (c .refused .ensures _ told) ∙ g .0, g .1)
+
+image-length-requires : tie.Need-image-length-requires
+image-length-requires c κs = ready (c .before .before .before .before .before .before .before .before)
+
+returns-2 : tie.Need-returns-2
+returns-2 c =
+    let l = c .before in
+    let k = pair (checked l) in
+    compile-short _ _ _ (k .0) _ _ (k .1) (k .2 .hyper) (size l) (c .if1 .taken)
+
+emit-requires : tie.Need-emit-requires
+emit-requires c κs =
+    let e = c .before .before .before .before in
+    record { ready = ready (checked (e .before)); room = room e }
+
+same-length : tie.Need-same-length
+same-length c = search needs
+
+returns-3 : tie.Need-returns-3
+returns-3 c =
+    let d = c .before .before in
+    let e = d .before .before .before .before .before in
+    let l = e .before in
+    let k = pair (checked l) in
+    compile-done _ _ _ (k .0) _ _ (k .1) (k .2 .hyper) (size l) _ (omega (arith, e .if1 .left)) (d .emit .ensures _ _ (k .2 .prepared))
+
+pub compile-spec : {M : Type 1} → statement M
+compile-spec =
+    tie.close
+    (tie.spec
+    check-pair-requires
+    enum-told
+    enum-told-2
+    refused-requires
+    returns
+    image-length-requires
+    returns-2
+    emit-requires
+    same-length
+    returns-3)

@@ -1,0 +1,54 @@
+// The compiler: a program and a schedule to an image, or the first refusal.
+use model::Compiled;
+use model::Fault;
+use reader::Judged;
+ghost use mathlib.Core.Path.{_≡_};
+ghost use Rattle.model.specs.Compile.{compiledOf, compileOf};
+ghost use Rattle.model.specs.declared.Fault.{Fault};
+
+// The number of the refusal of a buffer.
+const SHORT_BUFFER: u8 = 17;
+
+fn refused(judged: Judged) -> Compiled
+    ensures { λ r. ⌜ ((f : Fault) → judged ≡ Judged.Refused f → r ≡ Compiled.Refused f) ⌝ }
+{
+    match judged {
+        Judged::Fine => Compiled::Length(0),
+        Judged::Refused(fault) => Compiled::Refused(fault),
+    }
+}
+
+// Writes the image of an accepted pair and yields its length. A refused call changes nothing.
+pub fn compile(program: &[u8], schedule: &[u8], image: &mut [u8]) -> Compiled
+    ensures answer { λ r. ⌜ compiledOf r ≡ compileOf (now (program .entry)) (now (schedule .entry)) (now (image .entry)) .answer ⌝ }
+    ensures left { λ _. ⌜ now (image .exit) ≡ compileOf (now (program .entry)) (now (schedule .entry)) (now (image .entry)) .left ⌝ }
+{
+    let checked = checks::check_pair(program, schedule);
+    let judged = checked.judged;
+    let Judged::Fine = judged else {
+        return refused(judged);
+    };
+    let tables = checked.tables;
+    let periods = checked.periods;
+    let slots = checked.slots;
+    let order = slots.order;
+    let phases = slots.phases;
+    let h = checked.hypercycle;
+    let length = emitter::image_length(program, tables, &periods, &order, &phases, h);
+    if image.len() < length {
+        return Compiled::Refused(Fault {
+            number: SHORT_BUFFER,
+            place: length,
+        });
+    }
+    emitter::emit(
+        program,
+        tables,
+        &periods,
+        &order,
+        &phases,
+        h,
+        &mut image[..],
+    );
+    Compiled::Length(length)
+}

@@ -1,0 +1,2 @@
+-- The promises of the calls.
+pub mod Promises

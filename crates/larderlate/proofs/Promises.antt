@@ -1,0 +1,246 @@
+-- What the calls promise together: the buyer's three demands. The contracts in src/lib.rt say that each call answers and leaves
+-- what compileOf, resetOf and cycleOf say; here is what these say. Each proof is a few lines over the laws of the model.
+-- Assumes nothing.
+use Prim.Native.Nat.{ℕ, suc, _+_, _*_, _≤_, _<_}
+use mathlib.Core.Bool.{Bool, true, false}
+use mathlib.Core.List.{List, [], _∷_, _++_, map}
+use mathlib.Core.Logic.{_↔_}
+use mathlib.Core.Path.{_≡_, refl, sym, ap, _∙_}
+use native.Mathlib.Nat.{mod-eq-of-lt}
+use native.Mathlib.Omega.{arith}
+use borrow.Author.Tests.{ltb-true, le-leb, lt-leb}
+use lib.Dec.{leb, ltb}
+use lib.IntN.{ℤ, pos}
+use lib.ListN.{length, getD, drop}
+use Rattle.model.specs.Accepted.{All, Accepted, Multiple}
+use Rattle.model.specs.Calls.{Call, callOf, after, Supplied, Holds}
+use Rattle.model.specs.Compile.{Pair, pairOf, verdictOf, compileOf}
+use Rattle.model.specs.Conditions.{LegalPair}
+use Rattle.model.specs.Height.{Within}
+use Rattle.model.specs.Image.{imageOf}
+use Rattle.model.specs.Machine.{Job, effect, isPosition, hyperOf, countOf, codeOf, wellFormed, resetWords, cycleWords, resetOf, cycleOf}
+use Rattle.model.specs.Outcome.{Outcome, accepted, refused, refuse, fault, _▷_, provided}
+use Rattle.model.specs.Program.{Program, count, signalAt, bodyReads}
+use Rattle.model.specs.Rates.{hypercycle}
+use Rattle.model.specs.Reads.{settled}
+use Rattle.model.specs.Refusals.{RefusedAt}
+use Rattle.model.specs.Schedule.{Schedule}
+use Rattle.model.specs.Streams.{Satisfies}
+use Rattle.model.specs.declared.Fault.{Fault}
+use Rattle.model.specs.declared.Index.the-variants.{Open}
+use Rattle.model.proofs.Alike.{open-alike, alike-satisfy}
+use Rattle.model.proofs.AlikeBytes.{Agree, Ends, element-alike}
+use Rattle.model.proofs.Bounds.{Bounded}
+use Rattle.model.proofs.Bytes as Bytes
+use Rattle.model.proofs.Bytes.{answerTo, stateBy, logBy}
+use Rattle.model.proofs.Commands as Texts
+use Rattle.model.proofs.Exact as Exact
+use Rattle.model.proofs.Examples as Examples
+use Rattle.model.proofs.Formed.{image-well-formed}
+use Rattle.model.proofs.Heights.{stack-31}
+use Rattle.model.proofs.Offsets.{OffsetsFit, offsets-fit}
+use Rattle.model.proofs.Places.{places-small, places-zero}
+use Rattle.model.proofs.Stretches.{image-length, image-count}
+use Rattle.model.proofs.Unique as Unique
+use Rattle.larderlate.specs.Code.{codeNumber}
+use Rattle.model.proofs.Verdict.{pair-passed, pair-accepted, pair-multiple, pair-bounded}
+
+-- Demand 1, total. That every call ends, whatever it is lent, is in the contracts: none has a `requires`. A refused call
+-- changes nothing.
+refused-left : {A : Type 0} (lent : List A) (o : Outcome (Job A)) (f : Fault) → effect lent o .answer ≡ refused f →
+    effect lent o .left ≡ lent
+refused-left lent (accepted job) f e = let z : _≡_ {A = ℕ} 0 1 = cc in absurd (omega arith)
+refused-left lent (refused g) f e = refl
+
+pub compile-keeps : (program schedule buffer : List ℕ) (f : Fault) →
+    compileOf program schedule buffer .answer ≡ refused f → compileOf program schedule buffer .left ≡ buffer
+unfolding compileOf
+compile-keeps program schedule buffer f e =
+    refused-left buffer
+    (verdictOf program schedule ▷ λ image.
+    provided (leb (length image) (length buffer)) 17 (length image) ▷ λ _.
+    accepted (record { yields = length image; leaves = image ++ drop (length image) buffer })) f e
+
+pub call-keeps : (image : List ℕ) (state : List ℤ) (c : Call) (f : Fault) → callOf image state c .answer ≡ refused f →
+    callOf image state c .left ≡ state
+unfolding callOf resetOf cycleOf
+call-keeps image state Call.reset f e =
+    refused-left state
+    (provided (wellFormed image) 20 0 ▷ λ _.
+    provided (ltb (countOf image) (length state)) 21 0 ▷ λ _.
+    accepted (record { yields = 0; leaves = resetWords image state })) f e
+call-keeps image state (Call.cycle samples) f e =
+    refused-left state
+    (provided (wellFormed image) 20 0 ▷ λ _.
+    provided (ltb (countOf image) (length state)) 21 0 ▷ λ _.
+    provided (isPosition (hyperOf image) (getD state 0 (pos 0))) 22 0 ▷ λ _.
+    provided (leb (countOf image) (length samples)) 23 0 ▷ λ _.
+    accepted (record { yields = 0; leaves = cycleWords image state samples })) f e
+
+-- Demand 2, exact. A pair is accepted exactly if it is legal by the paper; each refusal comes under its stated condition, in
+-- the stated order, and under no other.
+pub accepted-exactly : (program schedule : List ℕ) (q : Pair) →
+    (pairOf program schedule ≡ accepted q) ↔ LegalPair program schedule q
+accepted-exactly = Exact.accepted-exactly
+
+pub refused-exactly : (program schedule : List ℕ) (n x : ℕ) →
+    (pairOf program schedule ≡ refused (fault n x)) ↔ RefusedAt program schedule n x
+refused-exactly = Exact.refused-exactly
+
+small-code : (f : Fault) → f .place ≤ 65535 → codeNumber (refused f) ≡ f .number * 4294967296 + f .place
+small-code f le = ap (λ n. f .number * 4294967296 + n) (mod-eq-of-lt (omega arith))
+
+-- Every refusal has a place below 2^32, so that number × 2^32 + place, the answer of a C call, tells both.
+pub compile-code : (program schedule buffer : List ℕ) → Texts.Bytes program → (f : Fault) →
+    compileOf program schedule buffer .answer ≡ refused f → codeNumber (refused f) ≡ f .number * 4294967296 + f .place
+compile-code program schedule buffer bytes f e = small-code f (places-small program schedule buffer bytes f e)
+
+pub call-code : (image : List ℕ) (state : List ℤ) (c : Call) (f : Fault) → callOf image state c .answer ≡ refused f →
+    codeNumber (refused f) ≡ f .number * 4294967296 + f .place
+call-code image state c f e = small-code f (omega (arith, places-zero image state c f e))
+
+-- One image: compile writes it, answers its length and keeps the bytes past it wherever there is space, and else answers 17
+-- with that length. It is well formed and at most 65,535 bytes long, all its offsets fit two bytes, and the working stack never
+-- passes 31.
+pub record OneImage (program schedule : List ℕ) (p : Program) (s : Schedule) (h : ℕ) (image : List ℕ) : Type 0 where
+  pub verdict : verdictOf program schedule ≡ accepted image
+  pub bound : length image ≤ 65535
+  pub formed : wellFormed image ≡ true
+  pub offsets : OffsetsFit p s h
+  pub stack : (x : ℕ) → x < count p → Within 31 (codeOf image x) 0 0
+  pub written : (buffer : List ℕ) → length image ≤ length buffer →
+      compileOf program schedule buffer ≡ record { answer = accepted (length image); left = image ++ drop (length image) buffer }
+  pub space : (buffer : List ℕ) → length buffer < length image →
+      compileOf program schedule buffer ≡ record { answer = refuse 17 (length image); left = buffer }
+
+-- After a reset that is not refused and any list of resets and cycles: no reset is refused, and a cycle exactly when it is lent
+-- fewer than N samples (23). Word 0 is the remainder of c by H, where c is the number of cycles since the latest reset; signal s
+-- holds its element floor((c − 1 − p)/P), or its initial word if c ≤ p, of every stream that satisfies the equations with the
+-- inputs that the cycles were lent; words beyond N are as before the first reset.
+pub record Kept (p : Program) (s : Schedule) (h : ℕ) (image : List ℕ) (old : List ℤ) (cs : List Call) : Type 0 where
+  pub answers : (c : Call) → callOf image (stateBy image old cs) c .answer ≡ answerTo p c
+  pub holds : (inputs X : ℕ → ℕ → ℤ) → Supplied p s (logBy image old cs) inputs → Satisfies p (settled p s) inputs X →
+      Holds p s h X old (length (logBy image old cs)) (stateBy image old cs)
+
+-- An accepted pair.
+module _ (program schedule : List ℕ) (bytes : Texts.Bytes program) (p : Program) (s : Schedule) (h : ℕ)
+    (e : pairOf program schedule ≡ accepted (record { program = p; schedule = s; hypercycle = h })) where
+  accepts : Accepted p s
+  accepts = pair-accepted program schedule _ e
+
+  whole : Multiple p h
+  whole = pair-multiple program schedule _ e
+
+  bounded : Bounded p s h
+  bounded = pair-bounded program schedule _ e bytes
+
+  pub one-image : OneImage program schedule p s h (imageOf p s h)
+  unfolding verdictOf compileOf _▷_ provided
+  one-image =
+      let image = imageOf p s h in
+      record {
+        verdict = rw e;
+        bound = omega (arith, image-length p s h, bounded .size);
+        formed = image-well-formed p s h accepts whole bounded;
+        offsets = offsets-fit p s h bounded;
+        stack = stack-31 p s h bounded;
+        written = λ buffer le. rw (e, le-leb (length image) (length buffer) le);
+        space = λ buffer lt. rw (e, lt-leb (length image) (length buffer) lt);
+      }
+
+  -- Demand 3, right for ever. For any input elements there are streams that satisfy all equations of the program, each open
+  -- read at its settled index ..
+  pub streams-exist : (inputs : ℕ → ℕ → ℤ) → (X : ℕ → ℕ → ℤ) × Satisfies p (settled p s) inputs X
+  streams-exist inputs = (Unique.streams p s accepts inputs, Unique.streams-satisfy p s accepts inputs)
+
+  -- .. and all others that satisfy the equations with these inputs have the same elements throughout.
+  pub streams-unique : (inputs X Y : ℕ → ℕ → ℤ) → Satisfies p (settled p s) inputs X → Satisfies p (settled p s) inputs Y →
+      (x j : ℕ) → x < count p → X x j ≡ Y x j
+  streams-unique inputs = Unique.streams-unique p s accepts inputs
+
+  reset-long : (old : List ℤ) → resetOf (imageOf p s h) old .answer ≡ accepted 0 → count p < length old
+  unfolding resetOf _▷_ provided
+  reset-long old r = go (ltb (count p) (length old)) refl (rw (one-image .formed, image-count p s h) at r)
+    where
+      go : (b : Bool) → ltb (count p) (length old) ≡ b →
+          effect old (provided b 21 0 ▷ λ _. accepted (record { yields = 0; leaves = resetWords (imageOf p s h) old })) .answer ≡
+          accepted 0 → count p < length old
+      go true q t = ltb-true (count p) (length old) q
+      go false q t = let z : _≡_ {A = ℕ} 0 1 = cc in absurd (omega arith)
+
+  pub calls-hold : (old : List ℤ) → resetOf (imageOf p s h) old .answer ≡ accepted 0 → (cs : List Call) →
+      Kept p s h (imageOf p s h) old cs
+  calls-hold old r cs =
+      record {
+        answers = Bytes.calls-answer p s h accepts whole bounded old (reset-long old r) cs;
+        holds = Bytes.calls-hold p s h accepts whole bounded old (reset-long old r) cs;
+      }
+
+-- Calls that are lent another image, or a damaged one, between those of the list.
+pub data Lent : Type 0 where
+  own : Call → Lent
+  other : List ℕ → Call → Lent
+
+-- The calls of the list.
+abbrev pub owns : List Lent → List Call
+owns [] = []
+owns (Lent.own c ∷ ls) = c ∷ owns ls
+owns (Lent.other image c ∷ ls) = owns ls
+
+-- The state after all of them, and that the others are refused.
+abbrev pub afterAll : List ℕ → List ℤ → List Lent → List ℤ
+afterAll image state [] = state
+afterAll image state (Lent.own c ∷ ls) = afterAll image (callOf image state c .left) ls
+afterAll image state (Lent.other image′ c ∷ ls) = afterAll image (callOf image′ state c .left) ls
+
+abbrev pub OthersRefused : List ℕ → List ℤ → List Lent → Type 0
+OthersRefused image state [] = Unit {0}
+OthersRefused image state (Lent.own c ∷ ls) = OthersRefused image (callOf image state c .left) ls
+OthersRefused image state (Lent.other image′ c ∷ ls) =
+    ((f : Fault) × (callOf image′ state c .answer ≡ refused f)) × OthersRefused image (callOf image′ state c .left) ls
+
+-- They change nothing and are no part of the list.
+pub others-nothing : (image : List ℕ) (state : List ℤ) (ls : List Lent) → OthersRefused image state ls →
+    afterAll image state ls ≡ after image state (owns ls)
+unfolding after
+others-nothing image state [] r = refl
+others-nothing image state (Lent.own c ∷ ls) r = others-nothing image (callOf image state c .left) ls r
+others-nothing image state (Lent.other image′ c ∷ ls) (r, rs) =
+    others-nothing image (callOf image′ state c .left) ls rs ∙
+    ap (λ (st : List ℤ). after image st (owns ls)) (call-keeps image′ state c (r .0) (r .1))
+
+-- Two accepted schedules of one program that settle alike: each open read has the same index under both.
+module _ (program schedule schedule′ : List ℕ) (bytes : Texts.Bytes program) (p : Program) (s s′ : Schedule) (h : ℕ)
+    (e : pairOf program schedule ≡ accepted (record { program = p; schedule = s; hypercycle = h }))
+    (e′ : pairOf program schedule′ ≡ accepted (record { program = p; schedule = s′; hypercycle = h }))
+    (alike : (x : ℕ) → x < count p →
+    All (λ ρ. ρ .operands .index ≡ Open → settled p s x ρ ≡ settled p s′ x ρ) (bodyReads (signalAt p x .body))) where
+  -- They have the same streams.
+  pub alike-streams : (inputs X : ℕ → ℕ → ℤ) → Satisfies p (settled p s) inputs X → Satisfies p (settled p s′) inputs X
+  alike-streams = alike-satisfy p s s′ (open-alike p s s′ alike)
+
+  -- A list of calls on the image of each, with input elements that agree wherever both lists supply them: if both end holding
+  -- element k of signal x, it is the same word.
+  pub alike-words : (old old′ : List ℤ) → resetOf (imageOf p s h) old .answer ≡ accepted 0 →
+      resetOf (imageOf p s′ h) old′ .answer ≡ accepted 0 → (cs cs′ : List Call) →
+      Agree p s s′ (logBy (imageOf p s h) old cs) (logBy (imageOf p s′ h) old′ cs′) → (x k : ℕ) → x < count p →
+      Ends p s (length (logBy (imageOf p s h) old cs)) x k → Ends p s′ (length (logBy (imageOf p s′ h) old′ cs′)) x k →
+      getD (stateBy (imageOf p s h) old cs) (suc x) (pos 0) ≡ getD (stateBy (imageOf p s′ h) old′ cs′) (suc x) (pos 0)
+  alike-words old old′ r r′ cs cs′ agree =
+      element-alike p s s′ h (accepts program schedule bytes p s h e) (accepts program schedule′ bytes p s′ h e′)
+      (whole program schedule bytes p s h e) (bounded program schedule bytes p s h e) (bounded program schedule′ bytes p s′ h e′)
+      (open-alike p s s′ alike) old old′ (reset-long program schedule bytes p s h e old r)
+      (reset-long program schedule′ bytes p s′ h e′ old′ r′) cs cs′ agree
+
+-- Two pairs of one program text are of one program, and have one hypercycle.
+pub same-program : (program schedule schedule′ : List ℕ) (q q′ : Pair) → pairOf program schedule ≡ accepted q →
+    pairOf program schedule′ ≡ accepted q′ → (q .program ≡ q′ .program) × (q .hypercycle ≡ q′ .hypercycle)
+same-program program schedule schedule′ q q′ e e′ =
+    let t = pair-passed program schedule q e in
+    let t′ = pair-passed program schedule′ q′ e′ in
+    let one : q .program ≡ q′ .program = cc (sym (t .parses) ∙ t′ .parses) in
+    (one, cc (sym (t .hyper) ∙ ap hypercycle one ∙ t′ .hyper))
+
+-- The paper's examples marked m: one table, which the definitions answer by computation.
+pub examples : map (λ c. Examples.answerTo (c .question)) Examples.cases ≡ map (λ c. c .answer) Examples.cases
+examples = Examples.examples

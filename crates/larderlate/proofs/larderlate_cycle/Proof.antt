@@ -1,0 +1,24 @@
+-- `larderlate::larderlate_cycle` meets its contract. Assumes nothing.
+use mathlib.Core.Path.{ap, _∙_}
+use Rattle.larderlate.specs.Code.{codeNumber}
+use borrow.Author.Needs.{needs}
+use Rattle.larderlate.proofs.larderlate_cycle.Statement.{statement}
+use Rattle.larderlate.proofs.larderlate_cycle.Tie as tie
+
+cycle-requires : tie.Need-cycle-requires
+cycle-requires c κs = search needs
+
+code-of-ran-requires : tie.Need-code-of-ran-requires
+code-of-ran-requires c κs = search needs
+
+same-length : tie.Need-same-length
+same-length c = search needs
+
+returns : tie.Need-returns
+returns c =
+    let e = c .before .before .cycle .ensures in
+    (c .code-of-ran .ensures ∙ ap codeNumber (e .0), e .1)
+
+pub larderlate-cycle-spec : {M : Type 1} → statement M
+larderlate-cycle-spec =
+    tie.close (tie.spec cycle-requires code-of-ran-requires same-length returns)

@@ -1,0 +1,2 @@
+-- What the answers of the C calls stand for.
+pub mod Code

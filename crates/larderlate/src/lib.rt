@@ -1,0 +1,87 @@
+// Larderlate: compile, reset and cycle. Each call takes any bytes and words, and its answer and what it leaves are the
+// definition's. What they promise together is in proofs/Promises.antt.
+use model::Compiled;
+use model::Fault;
+use model::Ran;
+ghost use mathlib.Core.Path.{_≡_};
+ghost use Rattle.model.specs.Compile.{compiledOf, compileOf};
+ghost use Rattle.model.specs.Machine.{ranOf, resetOf, cycleOf};
+ghost use Rattle.model.specs.Outcome.{refused};
+ghost use Rattle.larderlate.specs.Code.{codeNumber};
+
+// Writes the image of an accepted program and schedule to the start of `image`, and yields its length.
+pub fn compile(program: &[u8], schedule: &[u8], image: &mut [u8]) -> Compiled
+    ensures answer { λ r. ⌜ compiledOf r ≡ compileOf (now (program .entry)) (now (schedule .entry)) (now (image .entry)) .answer ⌝ }
+    ensures left { λ _. ⌜ now (image .exit) ≡ compileOf (now (program .entry)) (now (schedule .entry)) (now (image .entry)) .left ⌝ }
+{
+    compiler::compile(program, schedule, &mut image[..])
+}
+
+// Puts position 0 and every signal's initial word into the state.
+pub fn reset(image: &[u8], state: &mut [i32]) -> Ran
+    ensures answer { λ r. ⌜ ranOf r ≡ resetOf (now (image .entry)) (now (state .entry)) .answer ⌝ }
+    ensures left { λ _. ⌜ now (state .exit) ≡ resetOf (now (image .entry)) (now (state .entry)) .left ⌝ }
+{
+    machine::reset(image, &mut state[..])
+}
+
+// Runs one cycle: the list of the state's position, and then the position moves on.
+pub fn cycle(image: &[u8], state: &mut [i32], samples: &[i32]) -> Ran
+    ensures answer { λ r. ⌜ ranOf r ≡ cycleOf (now (image .entry)) (now (state .entry)) (now (samples .entry)) .answer ⌝ }
+    ensures left { λ _. ⌜ now (state .exit) ≡ cycleOf (now (image .entry)) (now (state .entry)) (now (samples .entry)) .left ⌝ }
+{
+    machine::cycle(image, &mut state[..], samples)
+}
+
+// A refusal as one number.
+fn code_of_fault(fault: Fault) -> u64
+    ensures { λ r. ⌜ r ≡ codeNumber (refused fault) ⌝ }
+{
+    (fault.number as u64) * 4294967296 + (fault.place as u64) % 4294967296
+}
+
+fn code_of_compiled(compiled: Compiled) -> u64
+    ensures { λ r. ⌜ r ≡ codeNumber (compiledOf compiled) ⌝ }
+{
+    match compiled {
+        Compiled::Length(n) => n as u64,
+        Compiled::Refused(fault) => code_of_fault(fault),
+    }
+}
+
+fn code_of_ran(ran: Ran) -> u64
+    ensures { λ r. ⌜ r ≡ codeNumber (ranOf ran) ⌝ }
+{
+    match ran {
+        Ran::Done => 0,
+        Ran::Refused(fault) => code_of_fault(fault),
+    }
+}
+
+// The same calls for a C caller (include/larderlate.h).
+#[no_mangle]
+pub extern "C" fn larderlate_compile(program: &[u8], schedule: &[u8], image: &mut [u8]) -> u64
+    ensures answer { λ r. ⌜ r ≡ codeNumber (compileOf (now (program .entry)) (now (schedule .entry)) (now (image .entry)) .answer) ⌝ }
+    ensures left { λ _. ⌜ now (image .exit) ≡ compileOf (now (program .entry)) (now (schedule .entry)) (now (image .entry)) .left ⌝ }
+{
+    let compiled = compile(program, schedule, &mut image[..]);
+    code_of_compiled(compiled)
+}
+
+#[no_mangle]
+pub extern "C" fn larderlate_reset(image: &[u8], state: &mut [i32]) -> u64
+    ensures answer { λ r. ⌜ r ≡ codeNumber (resetOf (now (image .entry)) (now (state .entry)) .answer) ⌝ }
+    ensures left { λ _. ⌜ now (state .exit) ≡ resetOf (now (image .entry)) (now (state .entry)) .left ⌝ }
+{
+    let ran = reset(image, &mut state[..]);
+    code_of_ran(ran)
+}
+
+#[no_mangle]
+pub extern "C" fn larderlate_cycle(image: &[u8], state: &mut [i32], samples: &[i32]) -> u64
+    ensures answer { λ r. ⌜ r ≡ codeNumber (cycleOf (now (image .entry)) (now (state .entry)) (now (samples .entry)) .answer) ⌝ }
+    ensures left { λ _. ⌜ now (state .exit) ≡ cycleOf (now (image .entry)) (now (state .entry)) (now (samples .entry)) .left ⌝ }
+{
+    let ran = cycle(image, &mut state[..], samples);
+    code_of_ran(ran)
+}

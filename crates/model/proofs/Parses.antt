@@ -1,0 +1,197 @@
+-- A text that the grammar makes legal is read: with the laws of `Spelled` and `Puts`, reading accepts the legal texts and no
+-- others. Assumes nothing.
+use Prim.Native.Nat.{ℕ, zero, suc, _+_, _≤_, _<_}
+use mathlib.Core.Bool.{true}
+use mathlib.Core.List.{List, [], _∷_, _++_, append-assoc, append-nil}
+use mathlib.Core.Logic.{_↔_}
+use mathlib.Core.Path.{_≡_, refl, ap, _∙_}
+use native.Mathlib.Omega.{arith}
+use borrow.Author.Tests.{le-leb, lt-ltb, eq-eqb}
+use lib.ListN.{length}
+use Rattle.model.specs.Command.{keywordAt, commandAt}
+use Rattle.model.specs.Grammar.{depth, Spells, SpellsLinks, Declares, LegalProgram, SpellsPuts, LegalSchedule}
+use Rattle.model.specs.Outcome.{Outcome, accepted, Parsed, parsed}
+use Rattle.model.specs.Program.{
+  Expr,
+  Link,
+  Program,
+  operatorHere,
+  node,
+  parseExpr,
+  parseLinks,
+  declare,
+  commandHere,
+  parseCommands,
+  parseProgram,
+  readWidth,
+}
+use Rattle.model.specs.Schedule.{Put, scheduleCommand, parsePuts, parseSchedule}
+use Rattle.model.specs.Stops.{DeclaresOne}
+use Rattle.model.specs.Word.{byteAt}
+use Rattle.model.specs.declared.Command.{Command}
+use Rattle.model.specs.declared.Command.the-variants as Command
+use Rattle.model.specs.declared.Kind.{Kind}
+use Rattle.model.specs.declared.Kind.the-variants.{Now, Last, When, LastWhen, Current}
+use Rattle.model.proofs.Commands.{command-sound, keyword-of}
+use Rattle.model.proofs.Legal.{links-end}
+use Rattle.model.proofs.Outcomes.{accepted-then, true-provided}
+use Rattle.model.proofs.Puts.{put-sound, puts-spelled}
+use Rattle.model.proofs.Spelled.{declared}
+
+-- A number with one below it.
+pub one-below : (m d : ℕ) → suc m ≤ d → (e : ℕ) × (d ≡ suc e) × (m ≤ e)
+one-below m zero le = absurd (omega arith)
+one-below m (suc e) le = (e, refl, omega arith)
+
+module _ (text : List ℕ) where
+  -- The operator of an expression is judged fit before its operands are read.
+  pub expr-step : (d at : ℕ) (c : Command) → commandAt text at ≡ c → operatorHere text at (keywordAt text at) ≡ accepted tt →
+      parseExpr (suc d) text at ≡ node (λ n. parseExpr d text n) text at c
+  unfolding parseExpr
+  expr-step d at c e here = accepted-then _ _ tt here ∙ ap (node (λ n. parseExpr d text n) text at) e
+
+  -- A command is judged before its operands are read.
+  pub command-step : (left at : ℕ) (p : Program) (c : Command) → commandAt text at ≡ c →
+      commandHere text at p (keywordAt text at) ≡ accepted tt →
+      parseCommands (suc left) text at p ≡ declare (λ n q. parseCommands left text n q) text at p c
+  unfolding parseCommands
+  command-step left at p c e here =
+      accepted-then _ _ tt here ∙ ap (declare (λ n q. parseCommands left text n q) text at p) e
+
+module _ {text : List ℕ} where
+  pub spells-after : {at n : ℕ} {e : Expr} → Spells text at e n → at < n
+  spells-after (Spells.constants e) = omega arith
+  spells-after (Spells.reads {kind = kind} e) = width kind
+    where
+      width : {a : ℕ} (k : Kind) → a < a + readWidth k
+      width Now = omega arith
+      width Last = omega arith
+      width When = omega arith
+      width LastWhen = omega arith
+      width Current = omega arith
+  spells-after (Spells.two e u v) = omega (arith, spells-after u, spells-after v)
+  spells-after (Spells.one e u) = omega (arith, spells-after u)
+  spells-after (Spells.three e u v w) = omega (arith, spells-after u, spells-after v, spells-after w)
+
+  -- An expression that is spelled, and nests at most d deep, is read.
+  pub parse-expr : {at n : ℕ} {e : Expr} (d : ℕ) → Spells text at e n → depth e ≤ d → parseExpr d text at ≡ parsed e n
+  unfolding node
+  parse-expr d (Spells.constants {at = at} {w = w} e) le =
+      let q = one-below 0 d le in
+      rw (q .1) (expr-step text (q .0) at _ e (rw (keyword-of text at _ e)))
+  parse-expr d (Spells.reads {at = at} e) le =
+      let q = one-below 0 d le in
+      rw (q .1) (expr-step text (q .0) at _ e (rw (keyword-of text at _ e)))
+  parse-expr d (Spells.two {at = at} {x = x} {y = y} e u v) le =
+      let q = one-below _ d le in
+      rw (q .1)
+      (expr-step text (q .0) at _ e (rw (keyword-of text at _ e)) ∙
+      accepted-then _ _ _ (parse-expr (q .0) u (omega (arith, q .2))) ∙
+      accepted-then _ _ _ (parse-expr (q .0) v (omega (arith, q .2))))
+  parse-expr d (Spells.one {at = at} e u) le =
+      let q = one-below _ d le in
+      rw (q .1)
+      (expr-step text (q .0) at _ e (rw (keyword-of text at _ e)) ∙
+      accepted-then _ _ _ (parse-expr (q .0) u (omega (arith, q .2))))
+  parse-expr d (Spells.three {at = at} e u v w) le =
+      let q = one-below _ d le in
+      rw (q .1)
+      (expr-step text (q .0) at _ e (rw (keyword-of text at _ e)) ∙
+      accepted-then _ _ _ (parse-expr (q .0) u (omega (arith, q .2))) ∙
+      accepted-then _ _ _ (parse-expr (q .0) v (omega (arith, q .2))) ∙
+      accepted-then _ _ _ (parse-expr (q .0) w (omega (arith, q .2))))
+
+  -- LINKs that are spelled are read.
+  pub parse-links : {at n : ℕ} {ls : List Link} (room : ℕ) (links : List Link) → SpellsLinks text at ls n → length ls ≤ room →
+      parseLinks room text at links ≡ parsed (links ++ ls) n
+  unfolding parseLinks
+  parse-links zero links (SpellsLinks.ends e) le = rw (e, parseLinks, append-nil links)
+  parse-links (suc room) links (SpellsLinks.ends e) le = rw (e, parseLinks, append-nil links)
+  parse-links zero links (SpellsLinks.link e l r) le = absurd (omega arith)
+  parse-links (suc room) links (SpellsLinks.link {at = at} {ls = ls} e l r) le =
+      let here : Link = record { place = at; signal = byteAt text (at + 1) } in
+      rw (eq-eqb (byteAt text at) 0x13 e, parseLinks)
+      (accepted-then _ _ tt (true-provided _ 2 (length text) (le-leb (at + 2) (length text) l)) ∙
+      parse-links room (links ++ (here ∷ [])) r (omega arith) ∙
+      rw (append-assoc links (here ∷ []) ls))
+
+  -- A legal command is read, and reading goes on after it: `left` is enough for the bytes that are left.
+  command-onward : {at next : ℕ} {p q : Program} → DeclaresOne text at p next q → (left : ℕ) →
+      (at < length text) × (at < next) × (parseCommands (suc left) text at p ≡ parseCommands left text next q)
+  unfolding declare
+  command-onward (DeclaresOne.inputs {at = at} {p = p} room e) left = (
+    omega (arith, command-sound text at _ e .3),
+    omega arith,
+    command-step text left at p _ e (rw (keyword-of text at _ e) (true-provided _ 4 at (lt-ltb _ _ room))),
+  )
+  command-onward (DeclaresOne.equations {at = at} {p = p} room e u d) left = (
+    omega (arith, command-sound text at _ e .3),
+    omega (arith, spells-after u),
+    command-step text left at p _ e (rw (keyword-of text at _ e) (true-provided _ 4 at (lt-ltb _ _ room))) ∙
+        accepted-then _ _ _ (parse-expr 16 u d),
+  )
+  command-onward (DeclaresOne.chains {at = at} {p = p} room e u several few) left = (
+    omega (arith, command-sound text at _ e),
+    omega (arith, links-end u),
+    command-step text left at p _ e (rw (keyword-of text at _ e) (true-provided _ 4 at (lt-ltb _ _ room))) ∙
+        accepted-then _ _ _ (parse-links 16 [] u few) ∙
+        accepted-then _ _ tt (true-provided _ 5 at (le-leb _ _ several)),
+  )
+  command-onward (DeclaresOne.caps {at = at} {p = p} room e) left = (
+    omega (arith, command-sound text at _ e),
+    omega arith,
+    command-step text left at p _ e (rw (keyword-of text at _ e, room) (true-provided true 5 at refl)),
+  )
+
+  pub parse-onward : {at next : ℕ} {p q : Program} (o : Outcome Program) → DeclaresOne text at p next q →
+      ((k : ℕ) → length text ≤ next + k → parseCommands k text next q ≡ o) → (left : ℕ) → length text ≤ at + left →
+      parseCommands left text at p ≡ o
+  parse-onward o d rest zero enough = let h = command-onward d zero in absurd (omega (arith, h .0))
+  parse-onward o d rest (suc left) enough =
+      let h = command-onward d left in h .2 ∙ rest left (omega (arith, h .1))
+
+  -- Commands that declare a program are read.
+  parse-commands : {at end : ℕ} {p q : Program} → Declares text at p end q → (left : ℕ) → length text ≤ at + left →
+      parseCommands left text at p ≡ accepted q
+  unfolding declare
+  parse-commands (Declares.ends {at = at} {p = p} e le) left enough =
+      let q = one-below 0 left (omega (arith, command-sound text at _ e)) in
+      rw (q .1)
+      (command-step text (q .0) at p _ e (rw (keyword-of text at _ e)) ∙
+      accepted-then _ _ tt (true-provided _ 6 (at + 1) (le-leb _ _ le)))
+  parse-commands (Declares.inputs room e r) left enough =
+      parse-onward _ (DeclaresOne.inputs room e) (λ k l. parse-commands r k l) left enough
+  parse-commands (Declares.equations room e u d r) left enough =
+      parse-onward _ (DeclaresOne.equations room e u d) (λ k l. parse-commands r k l) left enough
+  parse-commands (Declares.chains room e u several few r) left enough =
+      parse-onward _ (DeclaresOne.chains room e u several few) (λ k l. parse-commands r k l) left enough
+  parse-commands (Declares.caps room e r) left enough =
+      parse-onward _ (DeclaresOne.caps room e) (λ k l. parse-commands r k l) left enough
+
+  -- PUTs that are spelled are read.
+  parse-puts : {at end : ℕ} {qs : List Put} (left : ℕ) (puts : List Put) → SpellsPuts text at qs end →
+      length text ≤ at + left → parsePuts left text at puts ≡ parsed (puts ++ qs) end
+  unfolding parsePuts scheduleCommand
+  parse-puts left puts (SpellsPuts.ends {at = at} e le) enough =
+      let q = one-below 0 left (omega (arith, put-sound text at _ e)) in
+      rw (q .1)
+      (ap (scheduleCommand (λ n qs. parsePuts (q .0) text n qs) text at puts) e ∙
+      accepted-then _ _ tt (true-provided _ 11 (at + 1) (le-leb _ _ le)) ∙
+      rw (append-nil puts))
+  parse-puts left puts (SpellsPuts.put {at = at} {signal = signal} {phase = phase} {qs = qs} e r) enough =
+      let q = one-below 0 left (omega (arith, put-sound text at _ e .2)) in
+      let here : Put = record { place = at; signal = signal; phase = phase } in
+      rw (q .1)
+      (ap (scheduleCommand (λ n qs. parsePuts (q .0) text n qs) text at puts) e ∙
+      parse-puts (q .0) (puts ++ (here ∷ [])) r (omega (arith, q .1)) ∙
+      rw (append-assoc puts (here ∷ []) qs))
+
+-- Reading accepts the legal program texts and no others.
+pub program-legal : (text : List ℕ) (p : Program) → (parseProgram text ≡ accepted p) ↔ LegalProgram text p
+unfolding parseProgram
+program-legal text p = (declared text p, λ l. parse-commands (l .1) (length text) (omega arith))
+
+-- Reading accepts the legal schedule texts and no others.
+pub schedule-legal : (text : List ℕ) (puts : Parsed (List Put)) → (parseSchedule text ≡ accepted puts) ↔ LegalSchedule text puts
+unfolding parseSchedule
+schedule-legal text puts = (puts-spelled text puts, λ l. parse-puts (length text) [] l (omega arith))

@@ -1,0 +1,136 @@
+-- How reading a text stops (2 to 6, 11), as relations beside the grammar: what stands before the place is legal, and what
+-- stands at it is cut, unknown, too many, too deep, outside its range or past END. The numbers after the offset are those of
+-- the refusal: its number and its place.
+use Prim.Native.Nat.{ℕ, suc, _+_, _≤_, _<_}
+use mathlib.Core.List.{List}
+use mathlib.Core.Path.{_≡_}
+use lib.IntN.{ℤ}
+use lib.ListN.{length}
+use Rattle.model.specs.Command.{keywordAt, commandAt}
+use Rattle.model.specs.Grammar.{depth, Spells, SpellsLinks}
+use Rattle.model.specs.Program.{
+  Expr,
+  Body,
+  Link,
+  Program,
+  withSignal,
+  withChain,
+  withCap,
+  unlimited,
+  count,
+}
+use Rattle.model.specs.Schedule.{scheduleCommandAt}
+use Rattle.model.specs.Word.{byteAt}
+use Rattle.model.specs.declared.Binary.{Binary}
+use Rattle.model.specs.declared.Command.{Command}
+use Rattle.model.specs.declared.Command.the-variants as Command
+use Rattle.model.specs.declared.Keyword.{Keyword}
+use Rattle.model.specs.declared.Keyword.the-variants as Keyword
+use Rattle.model.specs.declared.Kind.{Kind}
+use Rattle.model.specs.declared.Mode.{Mode}
+use Rattle.model.specs.declared.ScheduleCommand.the-variants as ScheduleCommand
+
+-- The commands of expressions, and how many operands follow each.
+pub data IsOperator : Keyword → Type 0 where
+  constant : IsOperator Keyword.Constant
+  read : {kind : Kind} → IsOperator (Keyword.Read kind)
+  binary : {operator : Binary} → IsOperator (Keyword.Binary operator)
+  negate : IsOperator Keyword.Negate
+  choose : IsOperator Keyword.If
+
+pub data HasOperands : Command → ℕ → Type 0 where
+  binary : {operator : Binary} → HasOperands (Command.Binary operator) 2
+  negate : HasOperands Command.Negate 1
+  choose : HasOperands Command.If 3
+
+-- The commands that are none of an expression. A LINK stands after LAT only.
+pub data IsDeclaration : Keyword → Type 0 where
+  end : IsDeclaration Keyword.End
+  input : IsDeclaration Keyword.Input
+  equation : IsDeclaration Keyword.Equation
+  latency : IsDeclaration Keyword.Latency
+  cap : IsDeclaration Keyword.Cap
+
+-- k expressions from `at` up to `next`, each at most d deep.
+pub data SpellsOperands (text : List ℕ) (d : ℕ) : ℕ → ℕ → ℕ → Type 0 where
+  none : {at : ℕ} → SpellsOperands text d at 0 at
+  more : {at m k next : ℕ} {e : Expr} → Spells text at e m → depth e ≤ d → SpellsOperands text d m k next →
+      SpellsOperands text d at (suc k) next
+
+-- An expression that may nest d deep stops.
+pub data StopsExpr (text : List ℕ) : ℕ → ℕ → ℕ → ℕ → Type 0 where
+  early : {d at : ℕ} → length text ≤ at → StopsExpr text d at 2 (length text)
+  unknown : {d at : ℕ} → at < length text → ¬ IsOperator (keywordAt text at) → StopsExpr text d at 3 at
+  deep : {at : ℕ} → IsOperator (keywordAt text at) → StopsExpr text 0 at 4 at
+  cut : {d at : ℕ} → IsOperator (keywordAt text at) → commandAt text at ≡ Command.EndsEarly →
+      StopsExpr text (suc d) at 2 (length text)
+  outside : {d at : ℕ} → IsOperator (keywordAt text at) → commandAt text at ≡ Command.OutOfRange →
+      StopsExpr text (suc d) at 5 at
+  -- The first k operands are legal, and the one after them stops.
+  operand : {d at arity k next n x : ℕ} → HasOperands (commandAt text at) arity → k < arity →
+      SpellsOperands text d (at + 1) k next → StopsExpr text d next n x → StopsExpr text (suc d) at n x
+
+-- The LINKs from `at` on stop, where `room` are allowed.
+pub data StopsLinks (text : List ℕ) : ℕ → ℕ → ℕ → ℕ → Type 0 where
+  many : {at : ℕ} → byteAt text at ≡ 0x13 → StopsLinks text 0 at 4 at
+  cut : {room at : ℕ} → byteAt text at ≡ 0x13 → length text < at + 2 → StopsLinks text (suc room) at 2 (length text)
+  link : {room at n x : ℕ} → byteAt text at ≡ 0x13 → at + 2 ≤ length text → StopsLinks text room (at + 2) n x →
+      StopsLinks text (suc room) at n x
+
+-- The counts and a second CAP leave room for the command, after those of p.
+pub data HasRoom (p : Program) : Keyword → Type 0 where
+  end : HasRoom p Keyword.End
+  input : count p < 64 → HasRoom p Keyword.Input
+  equation : count p < 64 → HasRoom p Keyword.Equation
+  latency : length (p .chains) < 16 → HasRoom p Keyword.Latency
+  cap : p .cap ≡ unlimited → HasRoom p Keyword.Cap
+
+-- A legal command from `at` up to `next`, other than END, makes q of p.
+pub data DeclaresOne (text : List ℕ) : ℕ → Program → ℕ → Program → Type 0 where
+  inputs : {at period : ℕ} {initial : ℤ} {p : Program} → count p < 64 → commandAt text at ≡ Command.Input period initial →
+      DeclaresOne text at p (at + 6)
+      (withSignal p (record { place = at; period = period; initial = initial; body = Body.input }))
+  equations : {at next period weight : ℕ} {initial : ℤ} {e : Expr} {p : Program} → count p < 64 →
+      commandAt text at ≡ Command.Equation period initial weight → Spells text (at + 8) e next → depth e ≤ 16 →
+      DeclaresOne text at p next
+      (withSignal p (record { place = at; period = period; initial = initial; body = Body.equation weight e }))
+  chains : {at next bound : ℕ} {mode : Mode} {ls : List Link} {p : Program} → length (p .chains) < 16 →
+      commandAt text at ≡ Command.Latency mode bound → SpellsLinks text (at + 4) ls next → 2 ≤ length ls →
+      length ls ≤ 16 →
+      DeclaresOne text at p next (withChain p (record { place = at; mode = mode; bound = bound; links = ls }))
+  caps : {at n : ℕ} {p : Program} → p .cap ≡ unlimited → commandAt text at ≡ Command.Cap n →
+      DeclaresOne text at p (at + 5) (withCap p n)
+
+-- The commands from `at` on, after those of p, stop.
+pub data Stops (text : List ℕ) : ℕ → Program → ℕ → ℕ → Type 0 where
+  -- A legal command, and what stands after it stops.
+  onward : {at next n x : ℕ} {p q : Program} → DeclaresOne text at p next q → Stops text next q n x → Stops text at p n x
+  -- At the command: 2, 3, then counts and second CAP.
+  early : {at : ℕ} {p : Program} → length text ≤ at → Stops text at p 2 (length text)
+  unknown : {at : ℕ} {p : Program} → at < length text → ¬ IsDeclaration (keywordAt text at) → Stops text at p 3 at
+  many : {at : ℕ} {p : Program} → IsDeclaration (keywordAt text at) → ¬ (keywordAt text at ≡ Keyword.Cap) →
+      ¬ HasRoom p (keywordAt text at) → Stops text at p 4 at
+  second : {at : ℕ} {p : Program} → keywordAt text at ≡ Keyword.Cap → ¬ (p .cap ≡ unlimited) → Stops text at p 5 at
+  -- Then its operands.
+  cut : {at : ℕ} {p : Program} → HasRoom p (keywordAt text at) → commandAt text at ≡ Command.EndsEarly →
+      Stops text at p 2 (length text)
+  outside : {at : ℕ} {p : Program} → HasRoom p (keywordAt text at) → commandAt text at ≡ Command.OutOfRange →
+      Stops text at p 5 at
+  -- Then the expression of an EQ, the LINKs of a LAT, and what stands after END.
+  expression : {at period weight n x : ℕ} {initial : ℤ} {p : Program} → count p < 64 →
+      commandAt text at ≡ Command.Equation period initial weight → StopsExpr text 16 (at + 8) n x → Stops text at p n x
+  links : {at bound n x : ℕ} {mode : Mode} {p : Program} → length (p .chains) < 16 →
+      commandAt text at ≡ Command.Latency mode bound → StopsLinks text 16 (at + 4) n x → Stops text at p n x
+  short : {at next bound : ℕ} {mode : Mode} {ls : List Link} {p : Program} → length (p .chains) < 16 →
+      commandAt text at ≡ Command.Latency mode bound → SpellsLinks text (at + 4) ls next → length ls < 2 →
+      Stops text at p 5 at
+  trailing : {at : ℕ} {p : Program} → commandAt text at ≡ Command.End → at + 1 < length text → Stops text at p 6 (at + 1)
+
+-- The PUTs from `at` on stop at a place.
+pub data StopsPuts (text : List ℕ) : ℕ → ℕ → Type 0 where
+  onward : {at signal phase x : ℕ} → scheduleCommandAt text at ≡ ScheduleCommand.Put signal phase →
+      StopsPuts text (at + 3) x → StopsPuts text at x
+  early : {at : ℕ} → scheduleCommandAt text at ≡ ScheduleCommand.EndsEarly → StopsPuts text at (length text)
+  unknown : {at : ℕ} → scheduleCommandAt text at ≡ ScheduleCommand.Unknown → StopsPuts text at at
+  trailing : {at : ℕ} → scheduleCommandAt text at ≡ ScheduleCommand.End → at + 1 < length text →
+      StopsPuts text at (at + 1)

@@ -1,0 +1,86 @@
+-- One command of a text, byte for byte: it lies within the text, its first byte is its own, and its operands are in their
+-- ranges. The grammar takes a command from `commandAt` and `scheduleCommandAt`; these relations say the same of the bytes.
+use Prim.Native.Nat.{ℕ, _+_, _≤_, _<_}
+use mathlib.Core.List.{List}
+use mathlib.Core.Logic.{_⊎_}
+use mathlib.Core.Path.{_≡_}
+use lib.ListN.{length}
+use Rattle.model.specs.Command.{indexOf, modeOf}
+use Rattle.model.specs.Image.{binaryByte}
+use Rattle.model.specs.Program.{readWidth}
+use Rattle.model.specs.Word.{byteAt, twoAt, fourAt, wordAt}
+use Rattle.model.specs.declared.Binary.{Binary}
+use Rattle.model.specs.declared.Command.{Command}
+use Rattle.model.specs.declared.Command.the-variants as Command
+use Rattle.model.specs.declared.Index.the-variants.{Fixed}
+use Rattle.model.specs.declared.Kind.{Kind}
+use Rattle.model.specs.declared.Kind.the-variants.{Now, Last, When, LastWhen, Current}
+use Rattle.model.specs.declared.ScheduleCommand.{ScheduleCommand}
+use Rattle.model.specs.declared.ScheduleCommand.the-variants as ScheduleCommand
+
+-- Periods and n go from 1 to 240.
+abbrev pub InPeriods : ℕ → Type 0
+InPeriods n = (1 ≤ n) × (n ≤ 240)
+
+-- 21 NOW, 22 LAST, 23 WHEN, 24 LASTWHEN, 25 CURRENT.
+abbrev pub readByte : Kind → ℕ
+readByte Now = 0x21
+readByte Last = 0x22
+readByte When = 0x23
+readByte LastWhen = 0x24
+readByte Current = 0x25
+
+-- The command at an offset of the program text.
+pub data Written (text : List ℕ) (at : ℕ) : Command → Type 0 where
+  end : at + 1 ≤ length text → byteAt text at ≡ 0x00 → Written text at Command.End
+  input : at + 6 ≤ length text → byteAt text at ≡ 0x10 → InPeriods (byteAt text (at + 1)) →
+      Written text at (Command.Input (byteAt text (at + 1)) (wordAt text (at + 2)))
+  equation : at + 8 ≤ length text → byteAt text at ≡ 0x11 → InPeriods (byteAt text (at + 1)) →
+      Written text at (Command.Equation (byteAt text (at + 1)) (wordAt text (at + 2)) (twoAt text (at + 6)))
+  latency : at + 4 ≤ length text → byteAt text at ≡ 0x12 → byteAt text (at + 1) ≤ 1 →
+      Written text at (Command.Latency (modeOf (byteAt text (at + 1))) (twoAt text (at + 2)))
+  link : at + 2 ≤ length text → byteAt text at ≡ 0x13 → Written text at (Command.Link (byteAt text (at + 1)))
+  cap : at + 5 ≤ length text → byteAt text at ≡ 0x14 → Written text at (Command.Cap (fourAt text (at + 1)))
+  constant : at + 5 ≤ length text → byteAt text at ≡ 0x20 → Written text at (Command.Constant (wordAt text (at + 1)))
+  -- NOW and LAST: a signal.
+  plain : (kind : Kind) → readWidth kind ≡ 2 → at + 2 ≤ length text → byteAt text at ≡ readByte kind →
+      Written text at (Command.Read kind (record { signal = byteAt text (at + 1); factor = 1; index = Fixed 0 }))
+  -- WHEN, LASTWHEN and CURRENT: a signal, i and n; i is below n, or 255.
+  sampled : (kind : Kind) → readWidth kind ≡ 4 → at + 4 ≤ length text → byteAt text at ≡ readByte kind →
+      InPeriods (byteAt text (at + 3)) → (byteAt text (at + 2) < byteAt text (at + 3)) ⊎ (byteAt text (at + 2) ≡ 255) →
+      Written text at (Command.Read kind
+      (record { signal = byteAt text (at + 1); factor = byteAt text (at + 3); index = indexOf (byteAt text (at + 2)) }))
+  -- 30 ADD to 36 MAX, 38 NEG, 3A IF.
+  binary : (operator : Binary) → at + 1 ≤ length text → byteAt text at ≡ binaryByte operator →
+      Written text at (Command.Binary operator)
+  negate : at + 1 ≤ length text → byteAt text at ≡ 0x38 → Written text at Command.Negate
+  choose : at + 1 ≤ length text → byteAt text at ≡ 0x3A → Written text at Command.If
+
+-- The command at an offset of the schedule text.
+pub data PutWritten (text : List ℕ) (at : ℕ) : ScheduleCommand → Type 0 where
+  end : at + 1 ≤ length text → byteAt text at ≡ 0x00 → PutWritten text at ScheduleCommand.End
+  put : at + 3 ≤ length text → byteAt text at ≡ 0x40 →
+      PutWritten text at (ScheduleCommand.Put (byteAt text (at + 1)) (byteAt text (at + 2)))
+
+-- A command that is read whole: neither cut, nor unknown, nor with an operand outside its range.
+abbrev pub Whole : Command → Type 0
+Whole Command.EndsEarly = ⊥
+Whole Command.Unknown = ⊥
+Whole Command.OutOfRange = ⊥
+Whole Command.End = Unit {0}
+Whole (Command.Input period initial) = Unit {0}
+Whole (Command.Equation period initial weight) = Unit {0}
+Whole (Command.Latency mode bound) = Unit {0}
+Whole (Command.Link signal) = Unit {0}
+Whole (Command.Cap n) = Unit {0}
+Whole (Command.Constant w) = Unit {0}
+Whole (Command.Read kind operands) = Unit {0}
+Whole (Command.Binary operator) = Unit {0}
+Whole Command.Negate = Unit {0}
+Whole Command.If = Unit {0}
+
+abbrev pub PutWhole : ScheduleCommand → Type 0
+PutWhole ScheduleCommand.EndsEarly = ⊥
+PutWhole ScheduleCommand.Unknown = ⊥
+PutWhole ScheduleCommand.End = Unit {0}
+PutWhole (ScheduleCommand.Put signal phase) = Unit {0}

@@ -1,0 +1,49 @@
+-- `replay::hash_bytes` is safe and ends. Assumes nothing.
+use borrow.Author.Needs.{needs}
+use Prim.Native.Nat.{_-_}
+use mathlib.Core.Path.{_≡_, refl}
+use native.Mathlib.Omega.{arith}
+use lib.ListN.{length}
+use Rattle.replay.proofs.hash_bytes.Statement.{statement}
+use Rattle.replay.proofs.hash_bytes.Tie as tie
+
+abbrev Inv-loop : tie.InvT-loop
+Inv-loop bytes hash₀ i₀ hash i = Unit {0}
+
+abbrev μ-loop : tie.MeasureT-loop
+μ-loop bytes hash₀ i₀ hash i = length bytes - i
+
+loop-holds : tie.Need-loop-holds Inv-loop μ-loop
+loop-holds c = tt
+
+shared-slice-read-mix : tie.Need-shared-slice-read-mix Inv-loop μ-loop
+shared-slice-read-mix c = search needs
+
+mix-requires : tie.Need-mix-requires Inv-loop μ-loop
+mix-requires c κs = search needs
+
+add-i : tie.Need-add-i Inv-loop μ-loop
+add-i c = search needs
+
+loop-less : tie.Need-loop-less Inv-loop μ-loop
+loop-less c = omega (arith, c .before .before .loop-test .taken)
+
+loop-again : tie.Need-loop-again Inv-loop μ-loop
+loop-again c = tt
+
+returns : tie.Need-returns Inv-loop μ-loop
+returns c = tt
+
+pub hash-bytes-spec : {M : Type 1} → statement M
+hash-bytes-spec =
+    tie.close
+    (tie.spec
+    Inv-loop
+    μ-loop
+    loop-holds
+    shared-slice-read-mix
+    mix-requires
+    add-i
+    loop-less
+    loop-again
+    returns)

@@ -1,0 +1,25 @@
+-- `replay::mix` is safe and ends. Assumes nothing.
+use Prim.Native.Nat.{_<_, _^_}
+use native.Mathlib.Omega.{arith}
+use borrow.Author.Needs.{needs}
+use lib.Bits.{bitXor, xor-lt}
+use Rattle.replay.proofs.mix.Statement.{statement}
+use Rattle.replay.proofs.mix.Tie as tie
+
+small : (c : tie.Start) → bitXor (c .args .hash) (c .args .byte) < 2 ^ 32
+small c = xor-lt 32 (c .args .hash) (c .args .byte) (search needs) (search needs)
+
+cast-mixed : tie.Need-cast-mixed
+cast-mixed c = omega (arith, small c)
+
+mul-result : tie.Need-mul-result
+mul-result c = omega (arith, small c)
+
+cast-result : tie.Need-cast-result
+cast-result c = search needs
+
+returns : tie.Need-returns
+returns c = search needs
+
+pub mix-spec : {M : Type 1} → statement M
+mix-spec = tie.close (tie.spec cast-mixed mul-result cast-result returns)

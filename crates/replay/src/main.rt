@@ -1,0 +1,282 @@
+// Makes the calls of a stream on standard input and prints a line for each (docs/VECTORS.md has the layout of both). What is
+// compared from outside is these lines. A stream that is cut off or too large for the space here ends the run.
+use libc::STDIN_FILENO;
+use libc::STDOUT_FILENO;
+use model::Compiled;
+use model::Fault;
+use model::Ran;
+ghost use Prim.Native.Nat.{_*_, _≤_};
+ghost use lib.ListN.{length};
+
+// A number read, or none.
+enum Number {
+    Is(usize),
+    Missing,
+}
+
+// How many bytes of the image and words of the state are lent, and whether the stream goes on.
+struct Lent {
+    image: usize,
+    state: usize,
+    goes_on: bool,
+}
+
+// Reads n bytes to the start of the space, or says that they are not there.
+fn fill(space: &mut [u8], n: usize) -> bool {
+    if space.len() < n {
+        return false;
+    }
+    io::read_full(STDIN_FILENO, &mut space[..n]) == n
+}
+
+// Reads a number of two bytes.
+fn two() -> Number {
+    let mut bytes = [0u8; 2];
+    if !fill(&mut bytes, 2) {
+        return Number::Missing;
+    }
+    Number::Is(word::two_at(&bytes, 0) as usize)
+}
+
+// Reads a number of four bytes.
+fn four() -> Number {
+    let mut bytes = [0u8; 4];
+    if !fill(&mut bytes, 4) {
+        return Number::Missing;
+    }
+    Number::Is(word::four_at(&bytes, 0) as usize)
+}
+
+// Takes n words from bytes.
+fn take_words(bytes: &[u8], n: usize, words: &mut [i32])
+    requires { ⌜ (n * 4 ≤ length (now bytes)) × (n ≤ length (now words)) ⌝ }
+{
+    let mut i: usize = 0;
+    while i < n {
+        words[i] = word::word_at(bytes, i * 4);
+        i = i + 1;
+    }
+}
+
+// Reads a count and as many words to the start of the space.
+fn fill_words(words: &mut [i32]) -> Number {
+    let mut bytes = [0u8; 1600];
+    let Number::Is(n) = two() else {
+        return Number::Missing;
+    };
+    if 400 < n || words.len() < n {
+        return Number::Missing;
+    }
+    if !fill(&mut bytes, n * 4) {
+        return Number::Missing;
+    }
+    take_words(&bytes, n, &mut words[..]);
+    Number::Is(n)
+}
+
+// One step of the hash FNV-1a.
+fn mix(hash: u32, byte: u8) -> u32 {
+    let mixed = (hash ^ (byte as u32)) as u64;
+    (mixed * 16777619 % 4294967296) as u32
+}
+
+fn hash_bytes(bytes: &[u8]) -> u32 {
+    let mut hash: u32 = 2166136261;
+    let mut i: usize = 0;
+    while i < bytes.len() {
+        hash = mix(hash, bytes[i]);
+        i = i + 1;
+    }
+    hash
+}
+
+// The hash of words, four bytes each, low byte first.
+fn hash_words(words: &[i32]) -> u32 {
+    let mut hash: u32 = 2166136261;
+    let mut i: usize = 0;
+    while i < words.len() {
+        let mut bytes = [0u8; 4];
+        word::put_word(&mut bytes, 0, words[i]);
+        hash = mix(mix(mix(mix(hash, bytes[0]), bytes[1]), bytes[2]), bytes[3]);
+        i = i + 1;
+    }
+    hash
+}
+
+fn print_line(number: u8, value: usize, hash: u32) {
+    io::print_decimal(STDOUT_FILENO, number as u64);
+    io::write_all(STDOUT_FILENO, b" ");
+    io::print_decimal(STDOUT_FILENO, value as u64);
+    io::write_all(STDOUT_FILENO, b" ");
+    io::print_decimal(STDOUT_FILENO, hash as u64);
+    io::write_all(STDOUT_FILENO, b"\n");
+}
+
+fn print_ran(ran: Ran, state: &[i32]) {
+    let hash = hash_words(state);
+    match ran {
+        Ran::Done => print_line(0, 0, hash),
+        Ran::Refused(fault) => print_line(fault.number, fault.place, hash),
+    }
+}
+
+fn print_compiled(compiled: Compiled, buffer: &[u8]) {
+    let hash = hash_bytes(buffer);
+    match compiled {
+        Compiled::Length(n) => print_line(0, n, hash),
+        Compiled::Refused(fault) => print_line(fault.number, fault.place, hash),
+    }
+}
+
+// Where nothing more can be read.
+fn stop() -> Lent {
+    Lent {
+        image: 0,
+        state: 0,
+        goes_on: false,
+    }
+}
+
+// 01: the image.
+fn lend_image(lent: Lent, image: &mut [u8]) -> Lent {
+    let Number::Is(n) = four() else {
+        return stop();
+    };
+    Lent {
+        image: n,
+        state: lent.state,
+        goes_on: fill(&mut image[..], n),
+    }
+}
+
+// 02: the state.
+fn lend_state(lent: Lent, state: &mut [i32]) -> Lent {
+    let Number::Is(n) = fill_words(&mut state[..]) else {
+        return stop();
+    };
+    Lent {
+        image: lent.image,
+        state: n,
+        goes_on: true,
+    }
+}
+
+fn reset(image: &[u8], state: &mut [i32]) {
+    let ran = larderlate::reset(image, &mut state[..]);
+    print_ran(ran, &state[..]);
+}
+
+fn cycle(image: &[u8], state: &mut [i32], samples: &[i32]) {
+    let ran = larderlate::cycle(image, &mut state[..], samples);
+    print_ran(ran, &state[..]);
+}
+
+// 03: a reset.
+fn call_reset(lent: Lent, image: &[u8], state: &mut [i32]) -> Lent {
+    let bytes = lent.image;
+    let words = lent.state;
+    if image.len() < bytes || state.len() < words {
+        return stop();
+    }
+    reset(&image[..bytes], &mut state[..words]);
+    lent
+}
+
+// 04: a cycle.
+fn call_cycle(lent: Lent, image: &[u8], state: &mut [i32]) -> Lent {
+    let mut samples = [0i32; 400];
+    let bytes = lent.image;
+    let words = lent.state;
+    let Number::Is(n) = fill_words(&mut samples) else {
+        return stop();
+    };
+    if 400 < n || image.len() < bytes || state.len() < words {
+        return stop();
+    }
+    cycle(&image[..bytes], &mut state[..words], &samples[..n]);
+    lent
+}
+
+// Sets every byte.
+fn set_all(bytes: &mut [u8], byte: u8) {
+    let mut i: usize = 0;
+    while i < bytes.len() {
+        bytes[i] = byte;
+        i = i + 1;
+    }
+}
+
+fn compile(program: &[u8], schedule: &[u8], buffer: &mut [u8]) {
+    let compiled = larderlate::compile(program, schedule, &mut buffer[..]);
+    print_compiled(compiled, &buffer[..]);
+}
+
+// 05: a compile.
+fn call_compile(lent: Lent) -> Lent {
+    let Number::Is(p) = two() else {
+        return stop();
+    };
+    let Number::Is(s) = two() else {
+        return stop();
+    };
+    let Number::Is(b) = four() else {
+        return stop();
+    };
+    if 9000 < p || 400 < s || 26000 < b {
+        return stop();
+    }
+    compile_next(lent, p, s, b)
+}
+
+// A compile of p bytes of program and s of schedule into a buffer of b bytes.
+fn compile_next(lent: Lent, p: usize, s: usize, b: usize) -> Lent
+    requires { ⌜ (p ≤ 9000) × (s ≤ 400) × (b ≤ 26000) ⌝ }
+{
+    let mut byte = [0u8; 1];
+    let mut program = [0u8; 9000];
+    let mut schedule = [0u8; 400];
+    let mut buffer = [0u8; 26000];
+    if !fill(&mut byte, 1) || !fill(&mut program, p) || !fill(&mut schedule, s) {
+        return stop();
+    }
+    set_all(&mut buffer, byte[0]);
+    compile(&program[..p], &schedule[..s], &mut buffer[..b]);
+    lent
+}
+
+// The next call of the stream, or its end.
+fn step(lent: Lent, image: &mut [u8], state: &mut [i32]) -> Lent {
+    let mut byte = [0u8; 1];
+    if !fill(&mut byte, 1) {
+        return stop();
+    }
+    let call = byte[0];
+    match call {
+        1 => lend_image(lent, &mut image[..]),
+        2 => lend_state(lent, &mut state[..]),
+        3 => call_reset(lent, image, &mut state[..]),
+        4 => call_cycle(lent, image, &mut state[..]),
+        5 => call_compile(lent),
+        _ => stop(),
+    }
+}
+
+// A loop that is proved has to end, and nothing says that a stream does: no run uses up so many turns.
+fn run(image: &mut [u8], state: &mut [i32]) {
+    let mut lent = Lent {
+        image: 0,
+        state: 0,
+        goes_on: true,
+    };
+    let mut turns: u64 = 1000000000;
+    while 0 < turns && lent.goes_on {
+        lent = step(lent, &mut image[..], &mut state[..]);
+        turns = turns - 1;
+    }
+}
+
+fn main() {
+    let mut image = [0u8; 26000];
+    let mut state = [0i32; 400];
+    run(&mut image, &mut state);
+}

@@ -1,0 +1,113 @@
+/* The calls of Larderlate's static library for C and C++.
+ *
+ *     larderlate_compile   reads a program and a schedule, checks both, writes a step image
+ *     larderlate_reset     puts a state to its start
+ *     larderlate_cycle     runs one cycle on a state
+ *
+ * Every call takes any bytes and words, ends, and does its job or refuses. A refused call changes nothing that was lent to it.
+ * The calls keep nothing between them and need no memory but their stack, so any number may run at once on different state.
+ *
+ * THE ANSWER is one number of 64 bits: number x 2^32 + value. Number 0 says done; the value is then the image's length L for a
+ * compile, and 0 for a reset or a cycle. Any other number is that of the refusal, and the value is its place.
+ *
+ * WHAT IS LENT is a pointer and a length: bytes for uint8_t, words (not bytes) for int32_t. The caller keeps these rules, which no
+ * call can test:
+ *   - the pointer is to that many bytes or words, all of them set, and is not null, also where the length is 0;
+ *   - int32_t pointers are aligned to 4 bytes; uint8_t pointers need no alignment;
+ *   - what a call may change (the image of a compile, the state of a reset or cycle) overlaps nothing else that is lent to the
+ *     same call; what it only reads may overlap;
+ *   - until the call returns nobody else writes what is lent, nor reads what the call may change;
+ *   - nothing lent spans more than PTRDIFF_MAX bytes.
+ */
+#ifndef LARDERLATE_H
+#define LARDERLATE_H
+
+#include <stddef.h>
+#include <stdint.h>
+
+#ifdef __cplusplus
+extern "C" {
+#endif
+
+/* Sizes that are enough for every legal input. */
+enum {
+    LARDERLATE_PROGRAM_BYTES = 8192,
+    LARDERLATE_SCHEDULE_BYTES = 193,
+    LARDERLATE_SIGNALS = 64,
+    LARDERLATE_STATE_WORDS = 65,
+    /* 4 + 64 x 6 + 241 x 2 + 240 x 64 bytes before the code, which is no longer than the program. */
+    LARDERLATE_IMAGE_BYTES = 24422
+};
+
+/* The numbers of an answer, in the order in which a call judges, with the place of each in parentheses. Of the faults under one
+ * number the lowest is given; 7 and 8 are judged together in order of offset, and so are 12 and 13. */
+enum {
+    LARDERLATE_DONE = 0,
+
+    /* Compile: the length of either text. */
+    LARDERLATE_TEXT_TOO_LONG = 1, /* over 8,192 bytes of program or 193 of schedule (0) */
+
+    /* Compile: the program text. */
+    LARDERLATE_PROGRAM_ENDS_EARLY = 2,  /* (the program's length) */
+    LARDERLATE_NO_SUCH_COMMAND = 3,     /* no such command here (its offset) */
+    LARDERLATE_OVER_A_BOUND = 4,        /* over 64 signals, 16 chains, 16 links or depth 16 (the command or operator) */
+    LARDERLATE_OPERAND_OUT_OF_RANGE = 5, /* also a second CAP or a chain under 2 links (the command or read; LAT for a chain) */
+    LARDERLATE_BYTES_AFTER_END = 6,     /* (the first of them) */
+    LARDERLATE_UNDECLARED_SIGNAL = 7,   /* (the read or LINK) */
+    LARDERLATE_PERIOD_RULE_BROKEN = 8,  /* (the read) */
+    LARDERLATE_HYPERCYCLE_TOO_LONG = 9, /* over 240 (0) */
+    LARDERLATE_LINK_NOT_READ_ONCE = 10, /* a link without exactly one read of the link before (the LAT) */
+
+    /* Compile: the schedule text. */
+    LARDERLATE_SCHEDULE_TEXT = 11,   /* ends early (its length), unknown command (its offset), bytes after END (the first) */
+    LARDERLATE_SIGNAL_NOT_ONCE = 12, /* undeclared (the PUT), put twice (the second PUT) or missing (END) */
+    LARDERLATE_PHASE = 13,           /* phase not below the period (the PUT) */
+
+    /* Compile: program and schedule together. */
+    LARDERLATE_READ_UNMET = 14, /* (the read's offset in the program) */
+    LARDERLATE_OVER_CAP = 15,   /* (the cycle) */
+    LARDERLATE_LATENCY = 16,    /* a chain over its bound (the LAT) */
+
+    /* Compile: the pair is accepted but the image buffer is shorter than L. */
+    LARDERLATE_IMAGE_BUFFER_SHORT = 17, /* (L) */
+
+    /* Reset gives 20 and 21, cycle all four. */
+    LARDERLATE_IMAGE_NOT_WELL_FORMED = 20, /* (0) */
+    LARDERLATE_STATE_SHORT = 21,           /* fewer than N + 1 words (0) */
+    LARDERLATE_POSITION = 22,              /* word 0 of the state not from 0 to H - 1 (0) */
+    LARDERLATE_SAMPLES_SHORT = 23          /* fewer than N words (0) */
+};
+
+static inline uint32_t larderlate_number(uint64_t answer)
+{
+    return (uint32_t)(answer >> 32);
+}
+
+static inline uint32_t larderlate_value(uint64_t answer)
+{
+    return (uint32_t)answer;
+}
+
+/* Checks the program and the schedule and writes their image to the start of the buffer `image`. The answer's value is the image's
+ * length L; bytes of the buffer past L stay. Gives 1 to 17. A buffer of length 0 is a way to ask for L: 17 has it as its place. */
+uint64_t larderlate_compile(const uint8_t *program, size_t program_length,
+                            const uint8_t *schedule, size_t schedule_length,
+                            uint8_t *image, size_t image_length);
+
+/* Puts 0 into word 0 of the state, the position, and each signal's initial word into word 1 + its number. Words beyond the signals
+ * stay. The image is lent at its exact length L. Gives 20 and 21. */
+uint64_t larderlate_reset(const uint8_t *image, size_t image_length,
+                          int32_t *state, size_t state_words);
+
+/* Runs the signals due at the state's position, in order, and moves the position on by one, from H - 1 to 0. Word s of the samples
+ * is the sample of input s; the other words are not used, but there are at least as many as signals. The image is lent at its
+ * exact length L. Gives 20 to 23. */
+uint64_t larderlate_cycle(const uint8_t *image, size_t image_length,
+                          int32_t *state, size_t state_words,
+                          const int32_t *samples, size_t samples_words);
+
+#ifdef __cplusplus
+}
+#endif
+
+#endif
