@@ -18,8 +18,8 @@ use Rattle.model.specs.Schedule.{Schedule, Put, parseSchedule, placed}
 use Rattle.model.specs.declared.Fault.{Fault}
 use Rattle.model.proofs.Legal.{legal, signal-period}
 use Rattle.model.proofs.Outcomes.{then-accepted, accepted-then, refused-then, then-then, then-same, provided-true}
-use Rattle.load.specs.Load.{judgedOf}
-use Rattle.rates.specs.Answers.{judgementOf, cyclesOf}
+use Rattle.rates.specs.Answers.{cyclesOf}
+use Rattle.reader.specs.Results.{judgementOf}
 use Rattle.rates.specs.declared.Cycles.{Cycles}
 use Rattle.rates.specs.declared.Cycles.the-variants as Cycles
 use Rattle.reader.specs.Tables.{ProgramReads, TablesOf, PeriodsOf, SlotsOf}
@@ -118,12 +118,6 @@ pub scheduled-refused : (p : Program) (o : Outcome Schedule) (r : Placing) (f : 
     r .judged ≡ Judged.Refused f → ScheduledAs p o r
 unfolding ScheduledAs
 scheduled-refused p o r f e h = rw e h
-
--- The check of the load has a name of its own for the same judgement.
-pub load-judgement : (o : Outcome (Unit {0})) → judgedOf o ≡ judgementOf o
-unfolding judgedOf judgementOf
-load-judgement (accepted a) = refl
-load-judgement (refused f) = refl
 
 -- The steps are those of the verdict.
 rates-then : {B : Type 0} (p : Program) (next : ℕ → Outcome B) →

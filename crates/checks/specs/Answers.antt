@@ -7,7 +7,7 @@ use Rattle.model.specs.Outcome.{Outcome, accepted, refused, Parsed}
 use Rattle.model.specs.Program.{Program, parseProgram}
 use Rattle.model.specs.Rates.{declaredAndRated, hypercycle, linked}
 use Rattle.model.specs.Schedule.{Schedule, Put, placed}
-use Rattle.emitter.specs.Prepared.{Prepared}
+use Rattle.reader.specs.Prepared.{Prepared}
 use Rattle.lookup.specs.Signals.{SignalsOf}
 use Rattle.lookup.specs.declared.Signals.{Signals}
 use Rattle.reader.specs.Tables.{TablesOf, SlotsOf}

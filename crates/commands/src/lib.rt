@@ -243,42 +243,48 @@ fn constant_at(text: &[u8], at: usize) -> Command
     Command::Constant(w)
 }
 
-// A read with its operands.
-fn read_at(kind: Kind, text: &[u8], at: usize) -> Command
+// A command of an expression, by its byte.
+fn operand_at(byte: u8, text: &[u8], at: usize) -> Command
     requires { ⌜ at < length (now text) ⌝ }
-    ensures { λ r. ⌜ r ≡ commandOf (Keyword.Read kind) (now (text .entry)) at ⌝ }
+    ensures { λ r. ⌜ r ≡ commandOf (operatorOf byte) (now (text .entry)) at ⌝ }
 {
-    match kind {
-        Kind::Now => plain_read(kind, text, at),
-        Kind::Last => plain_read(kind, text, at),
-        Kind::When => sampled_read(kind, text, at),
-        Kind::LastWhen => sampled_read(kind, text, at),
-        Kind::Current => sampled_read(kind, text, at),
+    match byte {
+        0x20 => constant_at(text, at),
+        0x21 => plain_read(Kind::Now, text, at),
+        0x22 => plain_read(Kind::Last, text, at),
+        0x23 => sampled_read(Kind::When, text, at),
+        0x24 => sampled_read(Kind::LastWhen, text, at),
+        0x25 => sampled_read(Kind::Current, text, at),
+        0x30 => Command::Binary(Binary::Add),
+        0x31 => Command::Binary(Binary::Sub),
+        0x32 => Command::Binary(Binary::Mul),
+        0x33 => Command::Binary(Binary::Less),
+        0x34 => Command::Binary(Binary::Same),
+        0x35 => Command::Binary(Binary::Min),
+        0x36 => Command::Binary(Binary::Max),
+        0x38 => Command::Negate,
+        0x3A => Command::If,
+        _ => Command::Unknown,
     }
 }
 
-// The command at an offset of the program text, with its operands.
+// The command at an offset of the program text, with its operands. It goes by the byte and not by its keyword: most of the time of
+// a compile goes into decoding.
 pub fn command_at(text: &[u8], at: usize) -> Command
     ensures { λ r. ⌜ r ≡ commandAt (now (text .entry)) at ⌝ }
 {
     if text.len() <= at {
         return Command::EndsEarly;
     }
-    let keyword = keyword_of(text[at]);
-    match keyword {
-        Keyword::Missing => Command::EndsEarly,
-        Keyword::Unknown => Command::Unknown,
-        Keyword::End => Command::End,
-        Keyword::Input => input_at(text, at),
-        Keyword::Equation => equation_at(text, at),
-        Keyword::Latency => latency_at(text, at),
-        Keyword::Link => link_at(text, at),
-        Keyword::Cap => cap_at(text, at),
-        Keyword::Constant => constant_at(text, at),
-        Keyword::Read(kind) => read_at(kind, text, at),
-        Keyword::Binary(operator) => Command::Binary(operator),
-        Keyword::Negate => Command::Negate,
-        Keyword::If => Command::If,
+    let byte = text[at];
+    match byte {
+        0x00 => Command::End,
+        0x10 => input_at(text, at),
+        0x11 => equation_at(text, at),
+        0x12 => latency_at(text, at),
+        0x13 => link_at(text, at),
+        0x14 => cap_at(text, at),
+        _ => operand_at(byte, text, at),
     }
 }
 

@@ -34,7 +34,8 @@ pub fn compile(program: &[u8], schedule: &[u8], image: &mut [u8]) -> Compiled
     let order = slots.order;
     let phases = slots.phases;
     let h = checked.hypercycle;
-    let length = emitter::image_length(program, tables, &periods, &order, &phases, h);
+    let layout = emitter::lay_out(program, tables, &periods, &order, &phases, h);
+    let length = layout.end;
     if image.len() < length {
         return Compiled::Refused(Fault {
             number: SHORT_BUFFER,
@@ -48,6 +49,7 @@ pub fn compile(program: &[u8], schedule: &[u8], image: &mut [u8]) -> Compiled
         &order,
         &phases,
         h,
+        layout,
         &mut image[..],
     );
     Compiled::Length(length)

@@ -1,11 +1,11 @@
 -- The code of signals and their records, signal by signal. Assumes nothing.
-use Prim.Native.Nat.{ℕ, _+_, _≤_, _<_}
+use Prim.Native.Nat.{ℕ, zero, suc, _+_, _≤_, _<_}
 use mathlib.Core.List.{List, [], _∷_, _++_, append-assoc}
-use mathlib.Core.Path.{_≡_, refl, sym, ap, _∙_}
+use mathlib.Core.Path.{_≡_, refl, sym, ap, ap₂, _∙_}
 use native.Mathlib.Numerals.{add-one}
 use native.Mathlib.Omega.{arith}
 use lib.IntN.{ℤ}
-use lib.ListN.{length, getD, drop, drop-of-length-le}
+use lib.ListN.{length, getD, drop, drop-of-length-le, length-append}
 use lib.Seq.{drop-cons}
 use Rattle.model.specs.Image.{signalCode, joined, offsets, records}
 use Rattle.model.specs.Program.{Signal, Body, input, equation, noSignal}
@@ -17,6 +17,9 @@ use Rattle.emitter.specs.Codes.{codesFrom}
 use Rattle.emitter.proofs.Joined.{joined-cons}
 use Rattle.emitter.proofs.Left.{Parts}
 
+dropped : {A : Type 0} (l : List A) (x : ℕ) (d : A) → x < length l → drop x l ≡ getD l x d ∷ drop (x + 1) l
+dropped l x d lt = drop-cons l x d lt ∙ ap (λ (k : ℕ). getD l x d ∷ drop k l) (sym (add-one x))
+
 -- What is left of the code and of the records from signal x on.
 module _ (signals : List Signal) where
   abbrev pub nth : ℕ → Signal
@@ -25,11 +28,11 @@ module _ (signals : List Signal) where
   unfoldable pub codesLeft : ℕ → List ℕ
   codesLeft x = joined (codesFrom x (drop x signals))
 
-  unfoldable pub recordsLeft : ℕ → ℕ → List ℕ
-  recordsLeft offset x = records (drop x signals) (offsets offset (codesFrom x (drop x signals)))
+  unfoldable pub recordsLeft : List ℕ → ℕ → List ℕ
+  recordsLeft starts x = records (drop x signals) (drop x starts)
 
   here : (x : ℕ) → x < length signals → drop x signals ≡ nth x ∷ drop (x + 1) signals
-  here x lt = drop-cons signals x noSignal lt ∙ ap (λ (k : ℕ). nth x ∷ drop k signals) (sym (add-one x))
+  here x lt = dropped signals x noSignal lt
 
   codes-step : (x : ℕ) → x < length signals →
       codesFrom x (drop x signals) ≡ signalCode x (nth x .body) ∷ codesFrom (x + 1) (drop (x + 1) signals)
@@ -51,26 +54,53 @@ module _ (signals : List Signal) where
   unfolding codesLeft codesFrom joinFrom
   codes-end x le = ap (λ l. joined (codesFrom x l)) (drop-of-length-le signals le)
 
-  pub records-start : (offset : ℕ) → recordsLeft offset 0 ≡ records signals (offsets offset (codesFrom 0 signals))
-  unfolding recordsLeft
-  records-start offset = refl
+  module _ (starts : List ℕ) where
+    pub records-start : recordsLeft starts 0 ≡ records signals starts
+    unfolding recordsLeft
+    records-start = refl
 
-  pub records-next : (offset x : ℕ) → x < length signals →
-      Parts (recordsLeft offset x) (wordBytes (nth x .initial) ++ twoBytes offset)
-      (recordsLeft (offset + length (signalCode x (nth x .body))) (x + 1))
-  unfolding recordsLeft records offsets
-  records-next offset x lt =
-      record {
-        is =
-            ap (λ l. records (drop x signals) (offsets offset l)) (codes-step x lt) ∙
-            ap (λ l. records l (offsets offset (signalCode x (nth x .body) ∷ codesFrom (x + 1) (drop (x + 1) signals)))) (here x lt) ∙
-            sym (append-assoc (wordBytes (nth x .initial)) (twoBytes offset) _);
-      }
+    pub records-next : (x : ℕ) → x < length signals → x < length starts →
+        Parts (recordsLeft starts x) (wordBytes (nth x .initial) ++ twoBytes (getD starts x 0)) (recordsLeft starts (x + 1))
+    unfolding recordsLeft records
+    records-next x lt few =
+        record {
+          is =
+              ap₂ records (here x lt) (dropped starts x 0 few) ∙
+              sym (append-assoc (wordBytes (nth x .initial)) (twoBytes (getD starts x 0)) _);
+        }
 
-  pub records-end : (offset x : ℕ) → length signals ≤ x → recordsLeft offset x ≡ []
-  unfolding recordsLeft records
-  records-end offset x le =
-      ap (λ l. records l (offsets offset (codesFrom x (drop x signals)))) (drop-of-length-le signals le)
+    pub records-end : (x : ℕ) → length signals ≤ x → recordsLeft starts x ≡ []
+    unfolding recordsLeft records
+    records-end x le = ap (λ l. records l (drop x starts)) (drop-of-length-le signals le)
+
+-- Where the code of signal x starts: what is left of the code from there on ends where the whole does.
+start-at : (k m start : ℕ) (signals : List Signal) (x : ℕ) → m ≡ k + x → x ≤ length signals →
+    getD (offsets start (codesFrom k signals)) x 0 + length (joined (codesFrom m (drop x signals))) ≡
+    start + length (joined (codesFrom k signals))
+unfolding codesFrom joinFrom offsets
+start-at k m start [] zero e le = refl
+start-at k m start [] (suc x) e le = absurd (omega arith)
+start-at k m start (σ ∷ signals) zero e le = let z : m ≡ k = omega arith in rw z refl
+start-at k m start (σ ∷ signals) (suc x) e le =
+    let c = signalCode k (σ .body) in
+    let t = codesFrom (suc k) signals in
+    omega (arith, ap length (joined-cons c t), length-append c (joined t), start-at (suc k) m (start + length c) signals x (omega arith) (omega arith))
+
+pub code-start : (start : ℕ) (signals : List Signal) (x : ℕ) → x ≤ length signals →
+    getD (offsets start (codesFrom 0 signals)) x 0 + length (codesLeft signals x) ≡ start + length (joined (codesFrom 0 signals))
+unfolding codesLeft
+code-start start signals x le = start-at 0 x start signals x (omega arith) le
+
+-- Tables that agree on the starts give the same records.
+pub records-by : (k start : ℕ) (signals : List Signal) (starts : List ℕ) → length signals ≤ length starts →
+    ((x : ℕ) → x < length signals → getD starts x 0 ≡ getD (offsets start (codesFrom k signals)) x 0) →
+    records signals starts ≡ records signals (offsets start (codesFrom k signals))
+unfolding codesFrom joinFrom offsets records
+records-by k start [] starts le e = refl
+records-by k start (σ ∷ signals) [] le e = absurd (omega arith)
+records-by k start (σ ∷ signals) (o ∷ os) le e =
+    ap₂ (λ (at : ℕ) l. wordBytes (σ .initial) ++ (twoBytes at ++ l)) (e 0 (omega arith))
+    (records-by (suc k) (start + length (signalCode k (σ .body))) signals os (omega arith) (λ x lt. e (suc x) (omega arith)))
 
 -- The initial word of a signal stands after its period.
 pub initial-word : (text : List ℕ) (σ : Signal) → SpellsSignal text σ →
@@ -86,9 +116,9 @@ unfolding wordBytes fourBytes twoBytes
 record-length w o = refl
 
 -- The record of a signal, by the text.
-pub records-at : (signals : List Signal) (text : List ℕ) (offset x place : ℕ) → x < length signals →
+pub records-at : (signals : List Signal) (starts text : List ℕ) (x place : ℕ) → x < length signals → x < length starts →
     nth signals x .place ≡ place → SpellsSignal text (nth signals x) →
-    Parts (recordsLeft signals offset x) (wordBytes (wordAt text (place + 2)) ++ twoBytes offset)
-    (recordsLeft signals (offset + length (signalCode x (nth signals x .body))) (x + 1))
-records-at signals text offset x place lt e h =
-    rw (sym (initial-word text (nth signals x) h .0 ∙ ap (λ (a : ℕ). wordAt text (a + 2)) e)) (records-next signals offset x lt)
+    Parts (recordsLeft signals starts x) (wordBytes (wordAt text (place + 2)) ++ twoBytes (getD starts x 0))
+    (recordsLeft signals starts (x + 1))
+records-at signals starts text x place lt few e h =
+    rw (sym (initial-word text (nth signals x) h .0 ∙ ap (λ (a : ℕ). wordAt text (a + 2)) e)) (records-next signals starts x lt few)

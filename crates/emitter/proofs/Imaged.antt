@@ -1,5 +1,5 @@
 -- The image by the tables is that of the program and the schedule. Assumes nothing.
-use Prim.Native.Nat.{ℕ, zero, suc, _+_, _%_, _≤_, _<_}
+use Prim.Native.Nat.{ℕ, suc, _+_, _%_, _≤_, _<_}
 use mathlib.Core.Bool.{Bool, cond}
 use mathlib.Core.List.{List, [], _∷_, _++_, append-nil}
 use mathlib.Core.Path.{_≡_, refl, sym, ap, ap₂, _∙_}
@@ -11,16 +11,24 @@ use Rattle.model.specs.Image.{codes, runList, runLists, joined, offsets, record
 use Rattle.model.specs.Program.{Program, Signal, count}
 use Rattle.model.specs.Reads.{rateOf, due}
 use Rattle.model.specs.Schedule.{Schedule}
-use Rattle.model.specs.Search.{table, tableFrom, chosen}
+use Rattle.model.specs.Search.{table, chosen}
 use Rattle.model.specs.Word.{twoBytes}
 use Rattle.model.proofs.Legal.{legal, signal-spelled, signal-period}
 use Rattle.model.proofs.Stretches.{table-length, table-at, image-length}
 use Rattle.reader.specs.declared.Tables.{Tables}
 use Rattle.emitter.specs.Codes.{signalsIn, signalsOf, codesFrom, Declared}
-use Rattle.emitter.specs.Lists.{isDue, listBy, listsBy, pairs, Timed}
-use Rattle.emitter.specs.Prepared.{codesBy, lengthBy, Prepared}
+use Rattle.emitter.specs.Lists.{isDue, listBy, listsBy, pairs, Timed, Phased}
+use Rattle.reader.specs.Prepared.{Prepared}
 use Rattle.emitter.specs.Writing.{Wrote}
 use Rattle.emitter.proofs.Left.{Parts}
+use Rattle.emitter.proofs.Listed.{table-same}
+
+-- Where the code starts, and where it ends.
+abbrev pub codesBy : ℕ → ℕ → List (List ℕ) → ℕ
+codesBy h n lists = listsAt n h + length (joined lists)
+
+abbrev pub lengthBy : ℕ → ℕ → List (List ℕ) → List (List ℕ) → ℕ
+lengthBy h n lists codes = codesBy h n lists + length (joined codes)
 
 -- The image from its parts.
 unfoldable pub imageBy : ℕ → ℕ → List Signal → List (List ℕ) → List (List ℕ) → List ℕ
@@ -46,15 +54,6 @@ image-is : (p : Program) (s : Schedule) (h : ℕ) → imageOf p s h ≡ imageBy 
 unfolding imageOf head lengthOf codesAt imageBy
 image-is p s h = refl
 
-length-is : (p : Program) (s : Schedule) (h : ℕ) → lengthOf p s h ≡ lengthBy h (count p) (runLists p s h) (codes p)
-unfolding lengthOf codesAt
-length-is p s h = refl
-
-table-same : {A : Type 0} (f g : ℕ → A) → ((c : ℕ) → f c ≡ g c) → (i n : ℕ) → tableFrom i n f ≡ tableFrom i n g
-unfolding tableFrom
-table-same f g e i zero = refl
-table-same f g e i (suc n) = ap₂ _∷_ (e i) (table-same f g e (suc i) n)
-
 -- Tests that agree on a list choose the same.
 chosen-same : (f g : ℕ → Bool) (xs : List ℕ) → ((j : ℕ) → j < length xs → f (getD xs j 0) ≡ g (getD xs j 0)) →
     chosen f xs ≡ chosen g xs
@@ -66,7 +65,7 @@ chosen-same f g (x ∷ xs) h =
 
 module _ {text : List ℕ} {t : Tables} {periods order phases : List ℕ} {p : Program} {s : Schedule}
     (r : Prepared text t periods order phases p s) where
-  count-is : count p ≡ t .signals
+  pub count-is : count p ≡ t .signals
   count-is = r .tables .counts .signals-are
 
   signals-are : p .signals ≡ signalsOf text
@@ -107,6 +106,11 @@ module _ {text : List ℕ} {t : Tables} {periods order phases : List ℕ} {p : P
             (omega (arith, signal-period (l .1) (getD order j 0) (in-order j lt)));
       }
 
+  pub phased : Phased periods order phases (t .signals)
+  phased j lt =
+      let x = getD order j 0 in
+      rw (r .periods-are x (in-order j lt), r .slots .phases-are x (in-order j lt)) (r .phased x (in-order j lt))
+
   order-is : s .order ≡ table (t .signals) (λ j. getD order j 0)
   order-is =
       let e = r .slots .all-put in
@@ -126,8 +130,8 @@ module _ {text : List ℕ} {t : Tables} {periods order phases : List ℕ} {p : P
 
   module _ (h : ℕ) where
     lists-are : runLists p s h ≡ listsBy periods order phases (t .signals) h
-    unfolding runLists listsBy table
-    lists-are = table-same (runList p s) (listBy periods order phases (t .signals)) list-is 0 h
+    unfolding runLists listsBy
+    lists-are = table-same (runList p s) (listBy periods order phases (t .signals)) list-is h
 
     pub image-by : imageOf p s h ≡
         imageBy h (t .signals) (signalsOf text) (listsBy periods order phases (t .signals) h) (codesFrom 0 (signalsOf text))
@@ -137,11 +141,21 @@ module _ {text : List ℕ} {t : Tables} {periods order phases : List ℕ} {p : P
         ap (λ (g : List Signal). imageBy h (t .signals) g (runLists p s h) (codes p)) signals-are ∙
         ap₂ (imageBy h (t .signals) (signalsOf text)) lists-are codes-are
 
+    pub lists-by : listsAt (count p) h ≡ listsAt (t .signals) h
+    lists-by = ap (λ (n : ℕ). listsAt n h) count-is
+
+    codes-by : codesAt p s h ≡ codesBy h (t .signals) (listsBy periods order phases (t .signals) h)
+    unfolding codesAt
+    codes-by = ap₂ (codesBy h) count-is lists-are
+
+    pub starts-by : offsets (codesAt p s h) (codes p) ≡
+        offsets (codesBy h (t .signals) (listsBy periods order phases (t .signals) h)) (codesFrom 0 (signalsOf text))
+    starts-by = ap₂ offsets codes-by codes-are
+
     pub length-by : lengthOf p s h ≡
         lengthBy h (t .signals) (listsBy periods order phases (t .signals) h) (codesFrom 0 (signalsOf text))
-    length-by =
-        length-is p s h ∙ ap (λ (n : ℕ). lengthBy h n (runLists p s h) (codes p)) count-is ∙
-        ap₂ (lengthBy h (t .signals)) lists-are codes-are
+    unfolding lengthOf
+    length-by = ap₂ (λ (at : ℕ) cs. at + length (joined cs)) codes-by codes-are
 
     pub image-size : length (imageBy h (t .signals) (signalsOf text) (listsBy periods order phases (t .signals) h) (codesFrom 0 (signalsOf text))) ≡
         lengthOf p s h

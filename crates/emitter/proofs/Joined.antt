@@ -36,7 +36,7 @@ chosen-most test (x ∷ xs) = go (test x) (chosen-most test xs)
     go true le = omega arith
     go false le = omega arith
 
-pub list-most : (periods order phases : List ℕ) (n c : ℕ) → length (listBy periods order phases n c) ≤ n
+list-most : (periods order phases : List ℕ) (n c : ℕ) → length (listBy periods order phases n c) ≤ n
 unfolding listBy
 list-most periods order phases n c =
     omega (arith, chosen-most (isDue periods phases c) (table n (λ j. getD order j 0)), table-length n (λ j. getD order j 0))

@@ -1,5 +1,6 @@
 -- Laws of writing an image.
 pub mod Coded
+pub mod Counted
 pub mod Imaged
 pub mod Joined
 pub mod Left

@@ -1,8 +1,8 @@
 -- Run lists, entry by entry. Assumes nothing.
-use Prim.Native.Nat.{ℕ, suc, _+_, _-_, _≤_, _<_}
+use Prim.Native.Nat.{ℕ, zero, suc, _+_, _-_, _≤_, _<_}
 use mathlib.Core.Bool.{Bool, true, false, cond}
 use mathlib.Core.List.{List, [], _∷_, _++_}
-use mathlib.Core.Path.{_≡_, refl, sym, ap, _∙_}
+use mathlib.Core.Path.{_≡_, refl, sym, ap, ap₂, _∙_}
 use native.Mathlib.Numerals.{add-one}
 use native.Mathlib.Omega.{arith}
 use lib.ListN.{length, getD}
@@ -21,6 +21,16 @@ chosen-step test x xs = go (test x)
 pub one-most : (b : Bool) (x : ℕ) → length (runOf b x) ≤ 1
 one-most true x = omega arith
 one-most false x = omega arith
+
+-- Tables of functions that agree.
+same-from : {A : Type 0} (f g : ℕ → A) → ((c : ℕ) → f c ≡ g c) → (i n : ℕ) → tableFrom i n f ≡ tableFrom i n g
+unfolding tableFrom
+same-from f g e i zero = refl
+same-from f g e i (suc n) = ap₂ _∷_ (e i) (same-from f g e (suc i) n)
+
+pub table-same : {A : Type 0} (f g : ℕ → A) → ((c : ℕ) → f c ≡ g c) → (n : ℕ) → table n f ≡ table n g
+unfolding table
+table-same f g e n = same-from f g e 0 n
 
 -- A table from entry i on.
 module _ {A : Type 0} (f : ℕ → A) (n : ℕ) where

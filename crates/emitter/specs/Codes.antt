@@ -1,13 +1,14 @@
 -- The signals of a program text and their code, by the table of their places.
-use Prim.Native.Nat.{ℕ, _≤_, _<_}
+use Prim.Native.Nat.{ℕ, _+_, _≤_, _<_}
 use mathlib.Core.List.{List, [], _∷_}
 use mathlib.Core.Path.{_≡_}
 use lib.ListN.{length, getD}
-use Rattle.model.specs.Image.{signalCode, joined}
+use Rattle.model.specs.Image.{signalCode, joined, offsets}
 use Rattle.model.specs.Outcome.{Outcome, accepted, refused}
 use Rattle.model.specs.Program.{Program, Signal, noSignal, parseProgram}
 use Rattle.model.specs.Search.{joinFrom}
 use Rattle.model.proofs.Legal.{SpellsSignal}
+use Rattle.emitter.specs.declared.Codes.{Codes}
 
 abbrev pub signalsIn : Outcome Program → List Signal
 signalsIn (accepted p) = p .signals
@@ -20,6 +21,12 @@ signalsOf text = signalsIn (parseProgram text)
 -- Their code, numbered from x on.
 unfoldable pub codesFrom : ℕ → List Signal → List (List ℕ)
 codesFrom x signals = joinFrom x (λ x signal. signalCode x (signal .body) ∷ []) signals
+
+-- Where the code of each signal starts, the first at `start`, and where the last ends.
+pub record CodesLaidOut (start : ℕ) (signals : List Signal) (r : Codes) : Type 0 where
+  pub starts-at : (x : ℕ) → x < length signals → getD (r .starts) x 0 ≡ getD (offsets start (codesFrom 0 signals)) x 0
+  pub space : length (r .starts) ≡ 64
+  pub ends : r .end ≡ start + length (joined (codesFrom 0 signals))
 
 -- The text declares n signals, and `places` says where. Their code is no longer than the text.
 pub record Declared (text places : List ℕ) (n : ℕ) : Type 0 where

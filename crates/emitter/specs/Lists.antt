@@ -4,8 +4,13 @@ use mathlib.Core.Bool.{Bool, cond}
 use mathlib.Core.List.{List, [], _∷_}
 use lib.Dec.{eqb}
 use lib.ListN.{getD}
+use Rattle.model.specs.Reads.{Rate}
 use Rattle.model.specs.Search.{table, chosen, joinFrom}
 use Rattle.model.specs.Word.{twoBytes}
+
+-- The rate of signal x, and whether it runs in cycle c.
+abbrev pub rateAt : List ℕ → List ℕ → ℕ → Rate
+rateAt periods phases x = record { period = getD periods x 0; phase = getD phases x 0 }
 
 abbrev pub isDue : List ℕ → List ℕ → ℕ → ℕ → Bool
 isDue periods phases c x = eqb (c % getD periods x 0) (getD phases x 0)
@@ -30,3 +35,7 @@ pub record Timed (periods order : List ℕ) (n : ℕ) : Type 0 where
   pub few : n ≤ 64
   pub below : (j : ℕ) → j < n → getD order j 0 < 64
   pub positive : (j : ℕ) → j < n → zero < getD periods (getD order j 0) 0
+
+-- Their phases are below their periods.
+abbrev pub Phased : List ℕ → List ℕ → List ℕ → ℕ → Type 0
+Phased periods order phases n = (j : ℕ) → j < n → getD phases (getD order j 0) 0 < getD periods (getD order j 0) 0

@@ -1,4 +1,4 @@
-// The image of an accepted pair: its length, and its parts one after another.
+// The image of an accepted pair: its layout, and its parts one after another.
 use reader::Tables;
 ghost use mathlib.Core.Path.{_≡_};
 ghost use mathlib.Core.List.{_∷_, _++_};
@@ -6,15 +6,17 @@ ghost use Prim.Native.Nat.{ℕ, _+_, _≤_, _<_};
 ghost use lib.ListN.{length, getD, drop};
 ghost use Rattle.model.specs.Image.{joined, offsets, records, lengthOf, imageOf};
 ghost use Rattle.model.specs.Program.{Program};
+ghost use Rattle.model.specs.Reads.{stored};
 ghost use Rattle.model.specs.Schedule.{Schedule};
 ghost use Rattle.model.specs.Word.{twoBytes, wordAt, wordBytes};
-ghost use Rattle.emitter.specs.Codes.{signalsOf, codesFrom, Declared};
-ghost use Rattle.emitter.specs.Lists.{isDue, runOf, listBy, listsBy, pairs, Timed};
-ghost use Rattle.emitter.specs.Prepared.{LaidOut, Prepared, Ready, Fits};
+ghost use Rattle.emitter.specs.Codes.{signalsOf, codesFrom, Declared, CodesLaidOut};
+ghost use Rattle.emitter.specs.Lists.{rateAt, isDue, runOf, listBy, listsBy, pairs, Timed, Phased};
+ghost use Rattle.reader.specs.Prepared.{Prepared};
+ghost use Rattle.emitter.specs.Prepared.{LaidOut, Ready, Fits};
 ghost use Rattle.emitter.specs.Writing.{Wrote};
 
 fn wide(byte: u8) -> usize
-    ensures { λ r. ⌜ r ≡ byte ⌝ }
+    ensures { λ r. ⌜ (r ≡ byte) × (r < 256) ⌝ }
 {
     byte as usize
 }
@@ -96,7 +98,18 @@ fn emit_list(
     end
 }
 
-// The length of the run lists of h cycles: a step for each of the n signals in each cycle.
+// In how many of h cycles signal x runs: as many elements are stored before cycle h.
+fn run_count(periods: &[u8; 64], phases: &[u8; 64], x: u8, h: usize) -> usize
+    requires { ⌜ (x < 64) × (getD (now phases) x 0 < getD (now periods) x 0) × (h ≤ 240) ⌝ }
+    ensures { λ r. ⌜ r ≡ stored (rateAt (now (periods .entry)) (now (phases .entry)) x) h ⌝ }
+{
+    let signal = wide(x);
+    let period = wide(periods[signal]);
+    let phase = wide(phases[signal]);
+    (h + period - (phase + 1)) / period
+}
+
+// The length of the run lists of h cycles: a step for each of the n signals.
 fn lists_length(
     periods: &[u8; 64],
     order: &[u8; 64],
@@ -104,15 +117,15 @@ fn lists_length(
     n: usize,
     h: usize,
 ) -> usize
-    requires { ⌜ Timed (now periods) (now order) n × (h ≤ 240) ⌝ }
+    requires { ⌜ Timed (now periods) (now order) n × Phased (now periods) (now order) (now phases) n × (h ≤ 240) ⌝ }
     ensures { λ r. ⌜ r ≡ length (joined (listsBy (now (periods .entry)) (now (order .entry)) (now (phases .entry)) n h)) ⌝ }
 {
     let mut total: usize = 0;
-    let mut c: usize = 0;
-    while c < h {
-        let runs = list_length(periods, order, phases, n, c);
+    let mut i: usize = 0;
+    while i < n {
+        let runs = run_count(periods, phases, order[i], h);
         total = total + runs;
-        c = c + 1;
+        i = i + 1;
     }
     total
 }
@@ -174,19 +187,30 @@ fn emit_offsets(
     put_offset(out, end, offset)
 }
 
-// The length of the code of n signals.
-fn codes_length(text: &[u8], places: &[usize; 64], n: usize) -> usize
-    requires { ⌜ Declared (now text) (now places) n ⌝ }
-    ensures { λ r. ⌜ r ≡ length (joined (codesFrom 0 (signalsOf (now (text .entry))))) ⌝ }
+// Where the code of each signal starts, and where the last ends.
+struct Codes {
+    starts: [usize; 64],
+    end: usize,
+}
+
+// Lays out the code of n signals from `start` on.
+fn lay_out_codes(text: &[u8], places: &[usize; 64], n: usize, start: usize) -> Codes
+    requires { ⌜ Declared (now text) (now places) n × (start < 65536) ⌝ }
+    ensures { λ r. ⌜ CodesLaidOut start (signalsOf (now (text .entry))) r ⌝ }
 {
-    let mut total: usize = 0;
+    let mut starts: [usize; 64] = [0; 64];
+    let mut end = start;
     let mut x: usize = 0;
     while x < n {
+        starts[x] = end;
         let code = emit_code::signal_code_length(text, places[x]);
-        total = total + code;
+        end = end + code;
         x = x + 1;
     }
-    total
+    Codes {
+        starts: starts,
+        end: end,
+    }
 }
 
 // Writes the code of n signals.
@@ -215,26 +239,22 @@ fn put_record(text: &[u8], place: usize, offset: usize, out: &mut [u8], to: usiz
     put_offset(out, after, offset)
 }
 
-// Writes the records of n signals, whose code starts at `start`.
+// Writes the records of n signals, whose code starts at `starts`.
 fn emit_records(
     text: &[u8],
     places: &[usize; 64],
     n: usize,
-    start: usize,
+    starts: &[usize; 64],
     out: &mut [u8],
     to: usize,
 ) -> usize
-    requires { ⌜ Declared (now text) (now places) n × (start + length (joined (codesFrom 0 (signalsOf (now text)))) ≤ length (now out)) × (to + length (records (signalsOf (now text)) (offsets start (codesFrom 0 (signalsOf (now text))))) ≤ length (now out)) ⌝ }
-    ensures { λ r. ⌜ Wrote (now (out .entry)) to (records (signalsOf (now (text .entry))) (offsets start (codesFrom 0 (signalsOf (now (text .entry)))))) (now (out .exit)) r ⌝ }
+    requires { ⌜ Declared (now text) (now places) n × (n ≤ length (now starts)) × (to + length (records (signalsOf (now text)) (now starts)) ≤ length (now out)) ⌝ }
+    ensures { λ r. ⌜ Wrote (now (out .entry)) to (records (signalsOf (now (text .entry))) (now (starts .entry))) (now (out .exit)) r ⌝ }
 {
-    let mut offset = start;
     let mut end = to;
     let mut x: usize = 0;
     while x < n {
-        let place = places[x];
-        end = put_record(text, place, offset, out, end);
-        let code = emit_code::signal_code_length(text, place);
-        offset = offset + code;
+        end = put_record(text, places[x], starts[x], out, end);
         x = x + 1;
     }
     end
@@ -250,55 +270,39 @@ fn put_head(h: usize, n: usize, size: usize, out: &mut [u8]) -> usize
     put_offset(out, 2, size)
 }
 
-// Where the run lists and the code start, and where the image ends.
-struct Layout {
-    lists: usize,
-    codes: usize,
-    end: usize,
+// Where the run lists and the code of each signal start, and where the image ends: L.
+pub struct Layout {
+    pub lists: usize,
+    pub codes: [usize; 64],
+    pub end: usize,
 }
 
-fn lay_out(
-    text: &[u8],
-    places: &[usize; 64],
-    n: usize,
-    periods: &[u8; 64],
-    order: &[u8; 64],
-    phases: &[u8; 64],
-    h: usize,
-) -> Layout
-    requires { ⌜ Declared (now text) (now places) n × Timed (now periods) (now order) n × (h ≤ 240) ⌝ }
-    ensures { λ r. ⌜ LaidOut h n (listsBy (now (periods .entry)) (now (order .entry)) (now (phases .entry)) n h) (codesFrom 0 (signalsOf (now (text .entry)))) r ⌝ }
-{
-    let lists = 4 + 6 * n + 2 * (h + 1);
-    let runs = lists_length(periods, order, phases, n, h);
-    let codes = lists + runs;
-    let code = codes_length(text, places, n);
-    Layout {
-        lists: lists,
-        codes: codes,
-        end: codes + code,
-    }
-}
-
-// L, the length of the image.
-pub fn image_length(
+// Lays the image out.
+pub fn lay_out(
     text: &[u8],
     tables: Tables,
     periods: &[u8; 64],
     order: &[u8; 64],
     phases: &[u8; 64],
     h: usize,
-) -> usize
+) -> Layout
     requires { ⌜ Ready (now text) tables (now periods) (now order) (now phases) h ⌝ }
-    ensures { λ r. ⌜ ((p : Program) (s : Schedule) → Prepared (now (text .entry)) tables (now (periods .entry)) (now (order .entry)) (now (phases .entry)) p s → r ≡ lengthOf p s h) ⌝ }
+    ensures { λ r. ⌜ ((p : Program) (s : Schedule) → Prepared (now (text .entry)) tables (now (periods .entry)) (now (order .entry)) (now (phases .entry)) p s → LaidOut p s h r) ⌝ }
 {
     let n = tables.signals;
     let places = tables.places;
-    let layout = lay_out(text, &places, n, periods, order, phases, h);
-    layout.end
+    let lists = 4 + 6 * n + 2 * (h + 1);
+    let runs = lists_length(periods, order, phases, n, h);
+    let codes = lay_out_codes(text, &places, n, lists + runs);
+    let starts = codes.starts;
+    Layout {
+        lists: lists,
+        codes: starts,
+        end: codes.end,
+    }
 }
 
-// Writes the image into the first L bytes.
+// Writes the image, laid out as `layout` says, into the first L bytes.
 pub fn emit(
     text: &[u8],
     tables: Tables,
@@ -306,16 +310,17 @@ pub fn emit(
     order: &[u8; 64],
     phases: &[u8; 64],
     h: usize,
+    layout: Layout,
     out: &mut [u8],
 )
-    requires { ⌜ Fits (now text) tables (now periods) (now order) (now phases) h (length (now out)) ⌝ }
+    requires { ⌜ Fits (now text) tables (now periods) (now order) (now phases) h layout (length (now out)) ⌝ }
     ensures { λ _. ⌜ ((p : Program) (s : Schedule) → Prepared (now (text .entry)) tables (now (periods .entry)) (now (order .entry)) (now (phases .entry)) p s → now (out .exit) ≡ imageOf p s h ++ drop (lengthOf p s h) (now (out .entry))) ⌝ }
 {
     let n = tables.signals;
     let places = tables.places;
-    let layout = lay_out(text, &places, n, periods, order, phases, h);
+    let starts = layout.codes;
     let records = put_head(h, n, layout.end, out);
-    let offsets = emit_records(text, &places, n, layout.codes, out, records);
+    let offsets = emit_records(text, &places, n, &starts, out, records);
     let lists = emit_offsets(periods, order, phases, n, h, layout.lists, out, offsets);
     let codes = emit_lists(periods, order, phases, n, h, out, lists);
     emit_codes(text, &places, n, out, codes);

@@ -209,6 +209,18 @@ others-nothing image state (Lent.other image′ c ∷ ls) (r, rs) =
     others-nothing image (callOf image′ state c .left) ls rs ∙
     ap (λ (st : List ℤ). after image st (owns ls)) (call-keeps image′ state c (r .0) (r .1))
 
+-- So what is promised of the list holds with such calls in between.
+pub calls-among : (program schedule : List ℕ) → Texts.Bytes program → (p : Program) (s : Schedule) (h : ℕ) →
+    pairOf program schedule ≡ accepted (record { program = p; schedule = s; hypercycle = h }) → (old : List ℤ) →
+    resetOf (imageOf p s h) old .answer ≡ accepted 0 → (ls : List Lent) →
+    OthersRefused (imageOf p s h) (resetOf (imageOf p s h) old .left) ls → (inputs X : ℕ → ℕ → ℤ) →
+    Supplied p s (logBy (imageOf p s h) old (owns ls)) inputs → Satisfies p (settled p s) inputs X →
+    Holds p s h X old (length (logBy (imageOf p s h) old (owns ls)))
+    (afterAll (imageOf p s h) (resetOf (imageOf p s h) old .left) ls)
+calls-among program schedule bytes p s h e old r ls others inputs X sup sat =
+    rw (others-nothing (imageOf p s h) (resetOf (imageOf p s h) old .left) ls others)
+    (calls-hold program schedule bytes p s h e old r (owns ls) .holds inputs X sup sat)
+
 -- Two accepted schedules of one program that settle alike: each open read has the same index under both.
 module _ (program schedule schedule′ : List ℕ) (bytes : Texts.Bytes program) (p : Program) (s s′ : Schedule) (h : ℕ)
     (e : pairOf program schedule ≡ accepted (record { program = p; schedule = s; hypercycle = h }))

@@ -67,13 +67,16 @@ module _ (p : Program) (s : Schedule) where
       ap (latencyBy (rateOf p s r) (rateOf p s (source p s r ρs)) k) (back-is hops r k ρs h)
 
   -- The constraint decided by the hops is the one decided by the reads.
-  pub timely-is : (mode : Mode) (bound window : ℕ) (hops : List Hop) (r : ℕ) (ρs : List Read) → HopsOf p s hops r ρs →
-      isTimely p s mode r ρs bound window ≡ timelyBy mode bound hops (length ρs) (rateOf p s r) (rateOf p s (source p s r ρs)) window
+  pub timely-is : (mode : Mode) (bound from window : ℕ) (hops : List Hop) (r : ℕ) (ρs : List Read) → HopsOf p s hops r ρs →
+      isTimely p s mode r ρs bound from window ≡
+      timelyBy mode bound hops (length ρs) (rateOf p s r) (rateOf p s (source p s r ρs)) from window
   unfolding timelyBy
-  timely-is Backward bound window hops r ρs h =
-      ap (allBelow window) (λ i k. not ((late-is bound (runLatency p s r ρs k) ∙ ap (lateBy bound) (run-is hops r k ρs h)) i))
-  timely-is Exists bound window hops r ρs h =
-      ap (λ t. isFound (first window t)) (λ i k. (in-time-is bound (runLatency p s r ρs k) ∙ ap (inTimeBy bound) (run-is hops r k ρs h)) i)
+  timely-is Backward bound from window hops r ρs h =
+      ap (allBelow window)
+      (λ j i. not ((late-is bound (runLatency p s r ρs (from + i)) ∙ ap (lateBy bound) (run-is hops r (from + i) ρs h)) j))
+  timely-is Exists bound from window hops r ρs h =
+      ap (λ t. isFound (first window t))
+      (λ j i. (in-time-is bound (runLatency p s r ρs (from + i)) ∙ ap (inTimeBy bound) (run-is hops r (from + i) ρs h)) j)
 
   module _ (acc : Accepted p s) where
     one : (b : Bool) → bit b ≤ 1

@@ -1,5 +1,5 @@
 -- Going back over the reads of a chain, by a table of hops.
-use Prim.Native.Nat.{ℕ, zero, suc, _-_, _≤_, _<_}
+use Prim.Native.Nat.{ℕ, zero, suc, _+_, _-_, _≤_, _<_}
 use mathlib.Core.Bool.{Bool, true, false, not}
 use mathlib.Core.List.{List}
 use mathlib.Core.Path.{_≡_}
@@ -60,7 +60,9 @@ abbrev pub inTimeBy : ℕ → Found → Bool
 inTimeBy bound (At l) = leb l bound
 inTimeBy bound Nowhere = false
 
--- Whether the runs of a window keep the bound.
-unfoldable pub timelyBy : Mode → ℕ → List Hop → ℕ → Rate → Rate → ℕ → Bool
-timelyBy Backward bound hops n last source window = allBelow window (λ k. not (lateBy bound (runLatencyBy hops n last source k)))
-timelyBy Exists bound hops n last source window = isFound (first window (λ k. inTimeBy bound (runLatencyBy hops n last source k)))
+-- Whether the runs of the window from run `from` on keep the bound.
+unfoldable pub timelyBy : Mode → ℕ → List Hop → ℕ → Rate → Rate → ℕ → ℕ → Bool
+timelyBy Backward bound hops n last source from window =
+    allBelow window (λ i. not (lateBy bound (runLatencyBy hops n last source (from + i))))
+timelyBy Exists bound hops n last source from window =
+    isFound (first window (λ i. inTimeBy bound (runLatencyBy hops n last source (from + i))))

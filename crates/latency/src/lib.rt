@@ -107,18 +107,19 @@ fn all_in_time(
     count: usize,
     last: Timing,
     source: Timing,
+    from: usize,
     window: usize,
 ) -> bool
-    requires { ⌜ (count ≤ 15) × Sound hops count × ((k : ℕ) → k < window → Small hops count k) × (window ≤ 1000000) ⌝ }
-    ensures { λ r. ⌜ r ≡ allBelow window (λ k. not (lateBy bound (runLatencyBy hops count (rateIn last) (rateIn source) k))) ⌝ }
+    requires { ⌜ (count ≤ 15) × Sound hops count × ((i : ℕ) → i < window → Small hops count (from + i)) × (from + window ≤ 1000000) ⌝ }
+    ensures { λ r. ⌜ r ≡ allBelow window (λ i. not (lateBy bound (runLatencyBy hops count (rateIn last) (rateIn source) (from + i)))) ⌝ }
 {
-    let mut k: usize = 0;
-    while k < window {
-        let latency = run_latency(hops, count, last, source, k);
+    let mut i: usize = 0;
+    while i < window {
+        let latency = run_latency(hops, count, last, source, from + i);
         if is_late(bound, latency) {
             return false;
         }
-        k = k + 1;
+        i = i + 1;
     }
     true
 }
@@ -130,23 +131,24 @@ fn one_in_time(
     count: usize,
     last: Timing,
     source: Timing,
+    from: usize,
     window: usize,
 ) -> bool
-    requires { ⌜ (count ≤ 15) × Sound hops count × ((k : ℕ) → k < window → Small hops count k) × (window ≤ 1000000) ⌝ }
-    ensures { λ r. ⌜ r ≡ isFound (first window (λ k. inTimeBy bound (runLatencyBy hops count (rateIn last) (rateIn source) k))) ⌝ }
+    requires { ⌜ (count ≤ 15) × Sound hops count × ((i : ℕ) → i < window → Small hops count (from + i)) × (from + window ≤ 1000000) ⌝ }
+    ensures { λ r. ⌜ r ≡ isFound (first window (λ i. inTimeBy bound (runLatencyBy hops count (rateIn last) (rateIn source) (from + i)))) ⌝ }
 {
-    let mut k: usize = 0;
-    while k < window {
-        let latency = run_latency(hops, count, last, source, k);
+    let mut i: usize = 0;
+    while i < window {
+        let latency = run_latency(hops, count, last, source, from + i);
         if is_in_time(bound, latency) {
             return true;
         }
-        k = k + 1;
+        i = i + 1;
     }
     false
 }
 
-// Whether the runs of a window keep the bound. (Links × runs in the window.)
+// Whether the runs of the window from run `from` on keep the bound. (Links × runs in the window.)
 pub fn is_timely(
     mode: Mode,
     bound: usize,
@@ -154,13 +156,14 @@ pub fn is_timely(
     count: usize,
     last: Timing,
     source: Timing,
+    from: usize,
     window: usize,
 ) -> bool
-    requires { ⌜ (count ≤ 15) × Sound hops count × ((k : ℕ) → k < window → Small hops count k) × (window ≤ 1000000) ⌝ }
-    ensures { λ r. ⌜ r ≡ timelyBy mode bound hops count (rateIn last) (rateIn source) window ⌝ }
+    requires { ⌜ (count ≤ 15) × Sound hops count × ((i : ℕ) → i < window → Small hops count (from + i)) × (from + window ≤ 1000000) ⌝ }
+    ensures { λ r. ⌜ r ≡ timelyBy mode bound hops count (rateIn last) (rateIn source) from window ⌝ }
 {
     match mode {
-        Mode::Exists => one_in_time(bound, hops, count, last, source, window),
-        Mode::Backward => all_in_time(bound, hops, count, last, source, window),
+        Mode::Exists => one_in_time(bound, hops, count, last, source, from, window),
+        Mode::Backward => all_in_time(bound, hops, count, last, source, from, window),
     }
 }

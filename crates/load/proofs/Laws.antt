@@ -20,7 +20,8 @@ use Rattle.reader.specs.Tables.{PeriodsOf, WeightsOf, capOf}
 use Rattle.reader.specs.declared.Judged.{Judged}
 use Rattle.reader.specs.declared.Judged.the-variants as Judged
 use Rattle.reads.proofs.Laws.{search-none}
-use Rattle.load.specs.Load.{addedIn, loadIn, PhasesOf, judgedOf}
+use Rattle.reader.specs.Results.{judgementOf}
+use Rattle.load.specs.Load.{addedIn, loadIn, PhasesOf}
 
 -- A sum over a table with one entry more.
 sum-from : (i n : ℕ) (f : ℕ → ℕ) → sum (tableFrom i (suc n) f) ≡ sum (tableFrom i n f) + f (i + n)
@@ -67,14 +68,14 @@ abbrev pub judgedAt : Found → Judged
 judgedAt (At c) = Judged.Refused (record { number = 15; place = c })
 judgedAt Nowhere = Judged.Fine
 
-judged-found : (f : Found) → judgedOf (loadedOf f) ≡ judgedAt f
-unfolding judgedOf
+judged-found : (f : Found) → judgementOf (loadedOf f) ≡ judgedAt f
+unfolding judgementOf
 judged-found (At c) = refl
 judged-found Nowhere = refl
 
 pub judged-load : (p : Program) (s : Schedule) (periods phases weights : List ℕ) (h m : ℕ) → PeriodsOf p periods →
     WeightsOf p weights → PhasesOf p s phases → p .cap ≡ limit m →
-    judgedOf (loaded p s h) ≡ judgedAt (first h (λ c. ltb m (loadIn periods phases weights (count p) c)))
+    judgementOf (loaded p s h) ≡ judgedAt (first h (λ c. ltb m (loadIn periods phases weights (count p) c)))
 unfolding loaded
 judged-load p s periods phases weights h m hp hw hf e =
     judged-found (first h (λ c. isOver (p .cap) (load p s c))) ∙
@@ -86,7 +87,7 @@ unfolding firstFrom
 never-found i zero = refl
 never-found i (suc n) = never-found (suc i) n
 
-pub judged-free : (p : Program) (s : Schedule) (h : ℕ) → p .cap ≡ unlimited → judgedOf (loaded p s h) ≡ Judged.Fine
+pub judged-free : (p : Program) (s : Schedule) (h : ℕ) → p .cap ≡ unlimited → judgementOf (loaded p s h) ≡ Judged.Fine
 unfolding loaded first
 judged-free p s h e =
     judged-found (first h (λ c. isOver (p .cap) (load p s c))) ∙ ap (λ f. judgedAt (firstFrom 0 h f)) (fun-ext (λ c. ap (λ l. isOver l (load p s c)) e)) ∙ ap judgedAt (never-found 0 h)
@@ -97,11 +98,11 @@ over periods phases weights n m c = ltb m (loadIn periods phases weights n c)
 
 pub judged-capped : (p : Program) (s : Schedule) (periods phases weights : List ℕ) (n h m : ℕ) (capped : Bool) (f : Found) →
     capped ≡ true → count p ≡ n → PeriodsOf p periods → WeightsOf p weights → PhasesOf p s phases → p .cap ≡ capOf capped m →
-    first h (over periods phases weights n m) ≡ f → judgedAt f ≡ judgedOf (loaded p s h)
+    first h (over periods phases weights n m) ≡ f → judgedAt f ≡ judgementOf (loaded p s h)
 judged-capped p s periods phases weights n h m capped f t e hp hw hf cap g =
     sym (judged-load p s periods phases weights h m hp hw hf (cap ∙ ap (λ b. capOf b m) t) ∙
     ap (λ k. judgedAt (first h (over periods phases weights k m))) e ∙ ap judgedAt g)
 
 pub judged-uncapped : (p : Program) (s : Schedule) (h m : ℕ) (capped : Bool) → capped ≡ false → p .cap ≡ capOf capped m →
-    Judged.Fine ≡ judgedOf (loaded p s h)
+    Judged.Fine ≡ judgementOf (loaded p s h)
 judged-uncapped p s h m capped t cap = sym (judged-free p s h (cap ∙ ap (λ b. capOf b m) t))

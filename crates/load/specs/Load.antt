@@ -4,13 +4,10 @@ use mathlib.Core.Bool.{cond}
 use mathlib.Core.List.{List}
 use mathlib.Core.Path.{_≡_}
 use lib.ListN.{getD}
-use Rattle.model.specs.Outcome.{Outcome, accepted, refused}
 use Rattle.model.specs.Program.{Program, count}
 use Rattle.model.specs.Reads.{due}
 use Rattle.model.specs.Schedule.{Schedule, phaseOf}
 use Rattle.model.specs.Search.{sum, table}
-use Rattle.reader.specs.declared.Judged.{Judged}
-use Rattle.reader.specs.declared.Judged.the-variants as Judged
 
 -- What signal x adds to the load of cycle c.
 abbrev pub addedIn : List ℕ → List ℕ → List ℕ → ℕ → ℕ → ℕ
@@ -24,8 +21,3 @@ loadIn periods phases weights n c = sum (table n (addedIn periods phases weights
 -- A table has the phase of every signal by its number.
 abbrev pub PhasesOf : Program → Schedule → List ℕ → Type 0
 PhasesOf p s phases = (x : ℕ) → x < count p → getD phases x 0 ≡ phaseOf s x
-
--- The judgement that an outcome is.
-unfoldable pub judgedOf : Outcome (Unit {0}) → Judged
-judgedOf (accepted a) = Judged.Fine
-judgedOf (refused f) = Judged.Refused f

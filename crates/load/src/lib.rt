@@ -9,8 +9,9 @@ ghost use Rattle.model.specs.Load.{loaded};
 ghost use Rattle.model.specs.Program.{Program, count};
 ghost use Rattle.model.specs.Reads.{due};
 ghost use Rattle.model.specs.Schedule.{Schedule};
+ghost use Rattle.reader.specs.Results.{judgementOf};
 ghost use Rattle.reader.specs.Tables.{PeriodsOf, WeightsOf, capOf};
-ghost use Rattle.load.specs.Load.{loadIn, PhasesOf, judgedOf};
+ghost use Rattle.load.specs.Load.{loadIn, PhasesOf};
 
 // Whether a signal runs in a cycle.
 fn runs_in(period: u8, phase: u8, cycle: usize) -> bool
@@ -72,7 +73,7 @@ pub fn check_load(
     hypercycle: usize,
 ) -> Judged
     requires { ⌜ (signals ≤ 64) × ((x : ℕ) → x < signals → 0 < getD (now periods) x 0) ⌝ }
-    ensures { λ r. ⌜ ((p : Program) (s : Schedule) → count p ≡ signals → PeriodsOf p (now (periods .entry)) → WeightsOf p (now (weights .entry)) → PhasesOf p s (now (phases .entry)) → p .cap ≡ capOf capped limit → r ≡ judgedOf (loaded p s hypercycle)) ⌝ }
+    ensures { λ r. ⌜ ((p : Program) (s : Schedule) → count p ≡ signals → PeriodsOf p (now (periods .entry)) → WeightsOf p (now (weights .entry)) → PhasesOf p s (now (phases .entry)) → p .cap ≡ capOf capped limit → r ≡ judgementOf (loaded p s hypercycle)) ⌝ }
 {
     if !capped {
         return Judged::Fine;

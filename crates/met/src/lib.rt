@@ -14,7 +14,7 @@ ghost use Rattle.model.specs.Program.{Program, count, parseProgram};
 ghost use Rattle.model.specs.Rates.{declaredAndRated};
 ghost use Rattle.model.specs.Reads.{met};
 ghost use Rattle.model.specs.Schedule.{Schedule};
-ghost use Rattle.rates.specs.Answers.{judgementOf};
+ghost use Rattle.reader.specs.Results.{judgementOf};
 ghost use Rattle.rates.specs.Walk.{signalsAfter};
 ghost use Rattle.reader.specs.Tables.{PeriodsOf, SlotsOf};
 ghost use Rattle.met.specs.Met.{Positive, readMet, partMet};

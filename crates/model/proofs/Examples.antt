@@ -14,7 +14,7 @@ use Rattle.model.specs.Schedule.{scheduleCommandAt, scheduleCommand, par
 use Rattle.model.specs.Reads.{due, stored, between, share, ordered, place, settle, settled, isMet, met}
 use Rattle.model.specs.Streams.{value}
 use Rattle.model.specs.Load.{load, loaded}
-use Rattle.model.specs.Latency.{readOf, readsBack, used, back, source, latencyOf, runLatency, windowOf, keeps, timely}
+use Rattle.model.specs.Latency.{readOf, readsBack, used, back, source, latencyOf, runLatency, fromOf, windowOf, keeps, timely}
 use Rattle.model.specs.Image.{exprCode, codes, runList, runLists, offsets, records, codesAt, lengthOf, head, imageOf}
 use Rattle.model.specs.Machine.{operatorCode, codeAt, listOffset, codeOffset, listOf, codeOf, commandOk, codeOkFrom, codeOk, headOk, listsOk, entriesOk, codesOk, wellFormed, runCommand, runFrom, runCode, runSignals, nextPosition, resetWords, cycleWords, resetOf, cycleOf}
 use Rattle.model.specs.Compile.{shortEnough, pairOf, verdictOf, compileOf}
@@ -168,5 +168,5 @@ cases =
 
 -- The definitions answer every question of the table as the paper does.
 pub examples : map (λ c. answerTo (c .question)) cases ≡ map (λ c. c .answer) cases
-unfolding _▷_ provided lowest firstFrom first allBelow tableFrom table chosen joinFrom sum bitsOf wordOf wrap addWord subWord mulWord negWord lessWord sameWord minWord maxWord ifWord twoAt fourAt wordAt twoBytes fourBytes wordBytes operatorOf keywordOf keywordAt plainRead sampledRead commandOf commandAt node parseExpr parseLinks declare parseCommands parseProgram readsOf readFaults linkFaults declaredAndRated isMultiple hypercycle countReads isLinked linked scheduleCommandAt scheduleCommand parsePuts parseSchedule isPut putFaults putsFaults putPhase scheduleOf placed due stored between share ordered place settle settled isMet met value load loaded readOf readsBack used back source latencyOf runLatency windowOf keeps timely exprCode codes runList runLists offsets records codesAt lengthOf head imageOf operatorCode codeAt listOffset codeOffset listOf codeOf commandOk codeOkFrom codeOk headOk listsOk entriesOk codesOk wellFormed runCommand runFrom runCode runSignals nextPosition resetWords cycleWords resetOf cycleOf shortEnough pairOf verdictOf compileOf callOf after logAfter lentAt
+unfolding _▷_ provided lowest firstFrom first allBelow tableFrom table chosen joinFrom sum bitsOf wordOf wrap addWord subWord mulWord negWord lessWord sameWord minWord maxWord ifWord twoAt fourAt wordAt twoBytes fourBytes wordBytes operatorOf keywordOf keywordAt plainRead sampledRead commandOf commandAt node parseExpr parseLinks declare parseCommands parseProgram readsOf readFaults linkFaults declaredAndRated isMultiple hypercycle countReads isLinked linked scheduleCommandAt scheduleCommand parsePuts parseSchedule isPut putFaults putsFaults putPhase scheduleOf placed due stored between share ordered place settle settled isMet met value load loaded readOf readsBack used back source latencyOf runLatency fromOf windowOf keeps timely exprCode codes runList runLists offsets records codesAt lengthOf head imageOf operatorCode codeAt listOffset codeOffset listOf codeOf commandOk codeOkFrom codeOk headOk listsOk entriesOk codesOk wellFormed runCommand runFrom runCode runSignals nextPosition resetWords cycleWords resetOf cycleOf shortEnough pairOf verdictOf compileOf callOf after logAfter lentAt
 examples = refl

@@ -1,12 +1,11 @@
 -- Going back along a chain of reads repeats with the hypercycle, so that a window of runs decides a latency constraint.
 -- Assumes nothing.
-use Prim.Native.Nat.{ℕ, zero, suc, _+_, _*_, _-_, _/_, _≤_, _<_}
+use Prim.Native.Nat.{ℕ, zero, suc, _+_, _*_, _-_, _/_, _%_, _≤_, _<_}
 use mathlib.Core.Bool.{Bool, true, false, not, false≢true}
 use mathlib.Core.List.{List, [], _∷_}
 use mathlib.Core.Logic.{_↔_}
 use mathlib.Core.Path.{_≡_, refl, sym, ap, _∙_}
-use native.Mathlib.Decide.{decLt}
-use native.Mathlib.Nat.{suc-add, div-mul-cancel}
+use native.Mathlib.Nat.{suc-add, div-mul-cancel, div-add-mod', mod-lt}
 use native.Mathlib.Omega.{arith}
 use borrow.Author.Tests.{leb-true, ltb-false, le-leb, le-ltb, not-true}
 use lib.ListN.{length}
@@ -23,11 +22,12 @@ use Rattle.model.specs.Latency.{
   isLate,
   isInTime,
   isTimely,
+  fromOf,
   windowOf,
 }
 use Rattle.model.specs.Program.{Program, Read, count, signalAt}
 use Rattle.model.specs.Reads.{rateOf, runCycle, stored, before}
-use Rattle.model.specs.Schedule.{Schedule, phaseOf}
+use Rattle.model.specs.Schedule.{Schedule}
 use Rattle.model.specs.declared.Found.{Found}
 use Rattle.model.specs.declared.Found.the-variants.{At, Nowhere}
 use Rattle.model.specs.declared.Mode.{Mode}
@@ -35,11 +35,6 @@ use Rattle.model.specs.declared.Mode.the-variants.{Exists, Backward}
 use Rattle.model.proofs.Decide.{all-true, true-all, isFound-true, true-isFound}
 use Rattle.model.proofs.Rate.{stored-high, stored-shift, bit}
 use Rattle.model.proofs.Unique.{used-is}
-
--- a runs of period p and b runs of period q take h cycles each, so going on by so many leaves a difference of cycles as it is.
-shift-sum : (j a p f l b q g x y h : ℕ) → a * p ≡ h → b * q ≡ h → j * p + f + (y * q + g) ≡ x * p + f + (l * q + g) →
-    (j + 1 * a) * p + f + (y * q + g) ≡ x * p + f + ((l + 1 * b) * q + g)
-shift-sum j a p f l b q g x y h s t e = omega arith
 
 -- The number of runs of x in h cycles.
 abbrev pub runs : Program → ℕ → ℕ → ℕ
@@ -57,13 +52,12 @@ module _ (p : Program) (s : Schedule) where
   source-count [] r lt ch = lt
   source-count (ρ ∷ ρs) r lt ch = source-count ρs (ρ .operands .signal) (ch .0 .declared) (ch .1)
 
-  -- A run in the first hypercycles, one more than there are reads, that goes back over as many cycles as run k does to
-  -- element m.
+  -- A run of the window that goes back over as many cycles as run k does to element m.
   abbrev pub Repeats : (h r : ℕ) → List Read → (k m : ℕ) → Type 0
   Repeats h r ρs k m =
-      (k′ m′ : ℕ) × (k′ < windowOf p s h r ρs) × (back p s r k′ ρs ≡ At m′) ×
+      (i m′ : ℕ) × (i < windowOf p s h r) × (back p s r (fromOf p s h r ρs + i) ρs ≡ At m′) ×
       (runCycle (rateOf p s r) k + runCycle (rateOf p s (source p s r ρs)) m′ ≡
-      runCycle (rateOf p s r) k′ + runCycle (rateOf p s (source p s r ρs)) m)
+      runCycle (rateOf p s r) (fromOf p s h r ρs + i) + runCycle (rateOf p s (source p s r ρs)) m)
 
   late-not : (bound : ℕ) (f : Found) → not (isLate p s bound f) ≡ true → (l : ℕ) → f ≡ At l → l ≤ bound
   late-not bound f e l q = ltb-false bound l (not-true _ (rw q at e))
@@ -166,65 +160,69 @@ module _ (p : Program) (s : Schedule) where
             omega (arith, ih j f, one (before s w r), rw (used-is p s acc r ρ k lt (ch .0) ∙ u) at g)
 
     module _ (r : ℕ) (ρs : List Read) (lt : r < count p) (ch : ChainMet r ρs) where
-      -- Every run that counts has such a run.
-      pub window : (n k m : ℕ) → k < n → back p s r k ρs ≡ At m → Repeats h r ρs k m
-      unfolding windowOf
-      window zero k m g e = absurd (omega arith)
-      window (suc n) k m g e = go (decLt k (suc (length ρs) * runs p h r)) (λ k m g. window n k m g)
-        where
-          a : ℕ
-          a = source p s r ρs
-
-          descend : (j l : ℕ) → j + 1 * runs p h r ≡ k → back p s r j ρs ≡ At l → Repeats h r ρs j l → Repeats h r ρs k m
-          descend j l q f found =
-              let f′ : back p s r k ρs ≡ At (l + 1 * runs p h a) = rw q at (back-shift ρs r j 1 l lt ch f) in
-              let mm : m ≡ l + 1 * runs p h a = cc in (
-                found .0,
-                found .1,
-                found .2,
-                found .3,
-                rw (← q, mm) (shift-sum j (runs p h r) (signalAt p r .period) (phaseOf s r) l (runs p h a) (signalAt p a .period)
-                    (phaseOf s a) (found .0) (found .1) h (whole r lt) (whole a (source-count ρs r lt ch)) (found .4)),
-              )
-
-          go : Dec (k < suc (length ρs) * runs p h r) → ((k m : ℕ) → k < n → back p s r k ρs ≡ At m → Repeats h r ρs k m) → Repeats h r ρs k m
-          go (yes d) ih = (k, m, d, e, omega arith)
-          go (no d) ih =
-              let positive = some-run r lt in
-              let b = back-enough ρs r (k - runs p h r) lt ch (omega arith) in
-              descend (k - runs p h r) (b .0) (omega arith) (b .1) (ih (k - runs p h r) (b .0) (omega arith) (b .1))
+      -- Every run that counts has such a run: run k, n hypercycles later, is a run of the window some hypercycles later.
+      pub window : (k m : ℕ) → back p s r k ρs ≡ At m → Repeats h r ρs k m
+      unfolding windowOf fromOf
+      window k m e =
+          let a = source p s r ρs in
+          let n = length ρs in
+          let c = k / runs p h r in
+          let i = k % runs p h r in
+          let source-whole = whole a (source-count ρs r lt ch) in
+          let b = back-enough ρs r (n * runs p h r + i) lt ch (omega arith) in
+          let later : n * runs p h r + i + c * runs p h r ≡ k + n * runs p h r = omega (arith, div-add-mod' k (runs p h r)) in
+          let up = back-shift ρs r k n m lt ch e in
+          let down = rw later at (back-shift ρs r (n * runs p h r + i) c (b .0) lt ch (b .1)) in
+          let same : b .0 + c * runs p h a ≡ m + n * runs p h a = cc in (
+            i,
+            b .0,
+            mod-lt k (some-run r lt),
+            b .1,
+            omega (
+              arith,
+              ap (_* signalAt p r .period) later,
+              ap (_* signalAt p a .period) same,
+              ap (n *_) (whole r lt),
+              ap (c *_) (whole r lt),
+              ap (n *_) source-whole,
+              ap (c *_) source-whole,
+            ),
+          )
 
       -- Every latency that occurs is one of a run of the window.
       pub window-latency : (k l : ℕ) → runLatency p s r ρs k ≡ At l →
-          (k′ : ℕ) × (k′ < windowOf p s h r ρs) × (runLatency p s r ρs k′ ≡ At l)
+          (i : ℕ) × (i < windowOf p s h r) × (runLatency p s r ρs (fromOf p s h r ρs + i) ≡ At l)
       unfolding runLatency latencyOf
       window-latency k l e = go (back p s r k ρs) refl e
         where
           a : ℕ
           a = source p s r ρs
 
+          from : ℕ
+          from = fromOf p s h r ρs
+
           go : (f : Found) → back p s r k ρs ≡ f → latencyFrom p s r k a f ≡ At l →
-              (k′ : ℕ) × (k′ < windowOf p s h r ρs) × (latencyFrom p s r k′ a (back p s r k′ ρs) ≡ At l)
+              (i : ℕ) × (i < windowOf p s h r) × (latencyFrom p s r (from + i) a (back p s r (from + i) ρs) ≡ At l)
           go (At m) q t =
-              let f = window (suc k) k m (omega arith) q in
-              let d : latencyOf p s r (f .0) a (f .1) ≡ latencyOf p s r k a m = omega (arith, f .4) in
+              let f = window k m q in
+              let d : latencyOf p s r (from + f .0) a (f .1) ≡ latencyOf p s r k a m = omega (arith, f .4) in
               (f .0, f .2, rw (f .3) (ap At d ∙ t))
           go Nowhere q t = let z : _≡_ {A = ℕ} 0 1 = cc in absurd (omega arith)
 
       -- The runs of the window decide the constraint.
       pub window-decides : (mode : Mode) (bound : ℕ) →
-          (isTimely p s mode r ρs bound (windowOf p s h r ρs) ≡ true) ↔ Timely p s mode r ρs bound
+          (isTimely p s mode r ρs bound (fromOf p s h r ρs) (windowOf p s h r) ≡ true) ↔ Timely p s mode r ρs bound
       window-decides Backward bound = (
         λ e k l q.
             let f = window-latency k l q in
             late-not bound _ (all-true _ _ e (f .0) (f .1)) l (f .2),
-        λ g. true-all _ _ (λ k lk. not-late bound (runLatency p s r ρs k) (λ l q. g k l q)),
+        λ g. true-all _ _ (λ i li. not-late bound _ (λ l q. g (fromOf p s h r ρs + i) l q)),
       )
       window-decides Exists bound = (
         λ e.
             let f = isFound-true _ _ e in
             let g = in-time bound _ (f .2) in
-            (f .0, g .0, g .1, g .2),
+            (fromOf p s h r ρs + f .0, g .0, g .1, g .2),
         λ g.
             let f = window-latency (g .0) (g .1) (g .2) in
             true-isFound _ _ (f .0) (f .1) (rw (f .2) (le-leb _ _ (g .3))),

@@ -80,19 +80,23 @@ module _ (p : Program) (s : Schedule) where
   isInTime bound (At l) = leb l bound
   isInTime bound Nowhere = false
 
-  -- The same, decided by the first `window` runs.
-  abbrev pub isTimely : Mode → ℕ → List Read → ℕ → ℕ → Bool
-  isTimely Backward r ρs bound window = allBelow window (λ k. not (isLate bound (runLatency r ρs k)))
-  isTimely Exists r ρs bound window = isFound (first window (λ k. isInTime bound (runLatency r ρs k)))
+  -- The same, decided by `window` runs from run `from` on.
+  abbrev pub isTimely : Mode → ℕ → List Read → ℕ → ℕ → ℕ → Bool
+  isTimely Backward r ρs bound from window = allBelow window (λ i. not (isLate bound (runLatency r ρs (from + i))))
+  isTimely Exists r ρs bound from window = isFound (first window (λ i. isInTime bound (runLatency r ρs (from + i))))
 
-  -- The first hypercycles, as many as there are links, have a run of every latency that occurs.
-  unfoldable pub windowOf : ℕ → ℕ → List Read → ℕ
-  windowOf h r ρs = suc (length ρs) * (h / signalAt p r .period)
+  -- After as many hypercycles as there are reads every run counts.
+  unfoldable pub fromOf : ℕ → ℕ → List Read → ℕ
+  fromOf h r ρs = length ρs * (h / signalAt p r .period)
+
+  -- The runs of one hypercycle are enough: a run that counts has its latency again a hypercycle later.
+  unfoldable pub windowOf : ℕ → ℕ → ℕ
+  windowOf h r = h / signalAt p r .period
 
   abbrev pub keepsFrom : ℕ → Chain → List ℕ → Bool
   keepsFrom h c [] = true
   keepsFrom h c (r ∷ ws) =
-      isTimely (c .mode) r (readsBack p r ws) (c .bound) (windowOf h r (readsBack p r ws))
+      isTimely (c .mode) r (readsBack p r ws) (c .bound) (fromOf h r (readsBack p r ws)) (windowOf h r)
 
   unfoldable pub keeps : ℕ → Chain → Bool
   keeps h c = keepsFrom h c (backwards c)

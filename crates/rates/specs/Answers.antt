@@ -19,11 +19,6 @@ use Rattle.reader.specs.declared.Judged.{Judged}
 use Rattle.reader.specs.declared.Judged.the-variants as Judged
 use Rattle.reader.specs.declared.Tables.{Tables}
 
--- The judgement of a check.
-unfoldable pub judgementOf : Outcome (Unit {0}) → Judged
-judgementOf (accepted a) = Judged.Fine
-judgementOf (refused f) = Judged.Refused f
-
 -- The hypercycle, or its refusal.
 unfoldable pub cyclesOf : Outcome ℕ → Cycles
 cyclesOf (accepted h) = Cycles.Least h

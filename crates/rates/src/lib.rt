@@ -14,7 +14,8 @@ ghost use Rattle.model.specs.Outcome.{accepted};
 ghost use Rattle.model.specs.Program.{Program, Expr, equation, signalAt, parseProgram, readsOf, bodyReads};
 ghost use Rattle.model.specs.Rates.{periodRule, declaredAndRated, isMultiple, hypercycle, countReads, isLinked, linked};
 ghost use Rattle.reader.specs.Tables.{TablesOf, PeriodsOf, chainAt};
-ghost use Rattle.rates.specs.Answers.{judgementOf, cyclesOf, periodAt, rateJudged, readJudged, partJudged, countedOf, ReadAs};
+ghost use Rattle.rates.specs.Answers.{cyclesOf, periodAt, rateJudged, readJudged, partJudged, countedOf, ReadAs};
+ghost use Rattle.reader.specs.Results.{judgementOf};
 ghost use Rattle.rates.specs.Walk.{widthOf, partOf, signalsAfter, isOperand};
 
 // The bytes of a command without the expression or the LINKs that follow it.

@@ -1,4 +1,5 @@
 -- What the readers' answers stand for.
+pub mod Prepared
 pub mod Results
 pub mod Steps
 pub mod Tables

@@ -7,6 +7,8 @@ use lib.ListN.{length}
 use Rattle.model.specs.Outcome.{Outcome, accepted, refused, fault, Parsed}
 use Rattle.model.specs.Program.{Expr, Link}
 use Rattle.reader.specs.declared.Entry.the-variants as Entry
+use Rattle.reader.specs.declared.Judged.{Judged}
+use Rattle.reader.specs.declared.Judged.the-variants as Judged
 use Rattle.reader.specs.declared.LinksRead.{LinksRead}
 use Rattle.reader.specs.declared.LinksRead.the-variants as Read
 use Rattle.reader.specs.declared.Reached.{Reached}
@@ -42,3 +44,8 @@ chainOf at (refused f) = Step.Refused f
 unfoldable pub endOf : Outcome (Unit {0}) → Step
 endOf (accepted a) = Step.End
 endOf (refused f) = Step.Refused f
+
+-- The judgement of a check.
+unfoldable pub judgementOf : Outcome (Unit {0}) → Judged
+judgementOf (accepted a) = Judged.Fine
+judgementOf (refused f) = Judged.Refused f

@@ -3,7 +3,6 @@
 use libc::STDIN_FILENO;
 use libc::STDOUT_FILENO;
 use model::Compiled;
-use model::Fault;
 use model::Ran;
 ghost use Prim.Native.Nat.{_*_, _≤_};
 ghost use lib.ListN.{length};
@@ -161,6 +160,7 @@ fn lend_state(lent: Lent, state: &mut [i32]) -> Lent {
     }
 }
 
+// The calls themselves, on just what is lent.
 fn reset(image: &[u8], state: &mut [i32]) {
     let ran = larderlate::reset(image, &mut state[..]);
     print_ran(ran, &state[..]);

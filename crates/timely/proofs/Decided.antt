@@ -16,7 +16,7 @@ use Rattle.latency.specs.declared.Hop.{Hop}
 use Rattle.latency.proofs.Chain.{timely-is, small-is}
 use Rattle.model.specs.Accepted.{All}
 use Rattle.model.specs.Command.{commandAt}
-use Rattle.model.specs.Latency.{readsBack, backwards, source, windowOf, keepsFrom, keeps}
+use Rattle.model.specs.Latency.{readsBack, backwards, source, fromOf, windowOf, keepsFrom, keeps}
 use Rattle.model.specs.Program.{Program, Read, count, signalAt}
 use Rattle.model.specs.Rates.{isLinked}
 use Rattle.model.specs.Reads.{Rate, rateOf, runCycle}
@@ -47,10 +47,12 @@ pub record Decided (text : List ℕ) (tables : Tables) (periods phases : List �
   pub positive : 0 < periodAt periods (route .last)
   pub few : route .count ≤ 15
   pub sound : Sound (route .hops) (route .count)
-  pub small : (k : ℕ) → k < windowBy (route .count) h (periodAt periods (route .last)) → Small (route .hops) (route .count) k
+  pub small : (i : ℕ) → i < windowBy h (periodAt periods (route .last)) →
+      Small (route .hops) (route .count) (route .count * windowBy h (periodAt periods (route .last)) + i)
   pub same :
       timelyBy (chainAt p chain .mode) (chainAt p chain .bound) (route .hops) (route .count) (rateAt periods phases (route .last))
-      (rateAt periods phases (route .source)) (windowBy (route .count) h (periodAt periods (route .last))) ≡
+      (rateAt periods phases (route .source)) (route .count * windowBy h (periodAt periods (route .last)))
+      (windowBy h (periodAt periods (route .last))) ≡
       keeps p s h (chainAt p chain)
 
 -- Every read on the way has its index below its factor.
@@ -65,9 +67,10 @@ sound-is p s hops r (ρ ∷ ρs) ch h j lt = go (eqb j (length ρs)) refl (λ l.
     go false e ih = let n = eqb-false j (length ρs) e in ih (omega arith)
 
 -- A run in the window is early.
-early : (n h q f k : ℕ) → n ≤ 15 → h ≤ 240 → f < q → k < suc n * (h / q) → k * q + f ≤ 1000000
-early n h q f k ln lh lf lk =
+early : (n h q f i : ℕ) → n ≤ 15 → h ≤ 240 → f < q → i < h / q → (n * (h / q) + i) * q + f ≤ 1000000
+early n h q f i ln lh lf li =
     let few : suc n ≤ 16 = omega arith in
+    let lk : n * (h / q) + i < suc n * (h / q) = omega arith in
     omega (arith, mul-le-mul-right q lk, mul-le-mul-left (suc n) (div-mul-le-self h q), mul-le-mul few lh)
 
 -- Where the command of a chain stands.
@@ -89,7 +92,7 @@ missed c e k = miss others 6 tt (subst (λ y. OneOf others (tagOf (sum enum) y))
 pub decided : (text : List ℕ) (tables : Tables) (periods phases : List ℕ) (h : ℕ) (p : Program) (s : Schedule) (chain : ℕ) (route : Route) →
     Timed text tables periods phases h p s → chain < tables .chains → RouteOf p s route (backwards (chainAt p chain)) →
     Decided text tables periods phases h p s chain route
-unfolding keeps windowOf
+unfolding keeps fromOf windowOf
 decided text tables periods phases h p s chain route t lt (ws, whole, few, along) =
     let j = t .joined in
     let r = route .last in
@@ -112,13 +115,14 @@ decided text tables periods phases h p s chain route t lt (ws, whole, few, along
       positive = rw period (le-trans (omega arith) (t .accepted .phases r (d .0)));
       few = few;
       sound = subst (Sound (route .hops)) n (sound-is p s (route .hops) r ρs ch (along .hops-are));
-      small = λ k lk.
-          subst (λ m. Small (route .hops) m k) n
-          (small-is p s (t .accepted) (route .hops) r k ρs (d .0) ch (along .hops-are)
-          (early (route .count) h (signalAt p r .period) (phaseOf s r) k few (t .hyper) (t .accepted .phases r (d .0)) (rw period at lk)));
+      small = λ i li.
+          rw period
+          (subst (λ m. Small (route .hops) m (route .count * (h / signalAt p r .period) + i)) n
+          (small-is p s (t .accepted) (route .hops) r (route .count * (h / signalAt p r .period) + i) ρs (d .0) ch (along .hops-are)
+          (early (route .count) h (signalAt p r .period) (phaseOf s r) i few (t .hyper) (t .accepted .phases r (d .0)) (rw period at li))));
       same = sym (ap (keepsFrom p s h (chainAt p chain)) whole ∙
-          timely-is p s (chainAt p chain .mode) (chainAt p chain .bound) (suc (length ρs) * (h / signalAt p r .period)) (route .hops) r ρs (along .hops-are) ∙
+          timely-is p s (chainAt p chain .mode) (chainAt p chain .bound) (length ρs * (h / signalAt p r .period)) (h / signalAt p r .period) (route .hops) r ρs (along .hops-are) ∙
           (λ i.
           timelyBy (chainAt p chain .mode) (chainAt p chain .bound) (route .hops) (n i) (sym last i) (sym first i)
-          (windowBy (n i) h (sym period i))));
+          (n i * windowBy h (sym period i)) (windowBy h (sym period i))));
     }

@@ -1,18 +1,23 @@
 -- What is known of a pair whose latencies are judged.
-use Prim.Native.Nat.{ℕ, suc, _*_, _/_, _≤_, _<_}
+use Prim.Native.Nat.{ℕ, _/_, _≤_, _<_}
 use mathlib.Core.List.{List, [], _∷_}
+use mathlib.Core.Logic.{_↔_}
 use mathlib.Core.Path.{_≡_}
 use lib.ListN.{length, getD}
 use Rattle.latency.specs.Hops.{HopsOf}
 use Rattle.model.specs.Accepted.{Accepted, Multiple}
+use Rattle.model.specs.Conditions.{_among_, KeepsTime}
 use Rattle.model.specs.Latency.{readsBack, source, timely}
-use Rattle.model.specs.Outcome.{accepted}
+use Rattle.model.specs.Outcome.{accepted, fault}
 use Rattle.model.specs.Program.{Program, Chain, count, parseProgram}
 use Rattle.model.specs.Rates.{declaredAndRated, linked}
+use Rattle.model.specs.Refusals.{LowestFault, ChainFault}
 use Rattle.model.specs.Schedule.{Schedule, phaseOf}
 use Rattle.model.specs.declared.Found.{Found}
 use Rattle.model.specs.declared.Found.the-variants.{At, Nowhere}
 use Rattle.reader.specs.Tables.{PeriodsOf, TablesOf}
+use Rattle.reader.specs.declared.Judged.{Judged}
+use Rattle.reader.specs.declared.Judged.the-variants as Judged
 use Rattle.reader.specs.declared.Tables.{Tables}
 use Rattle.timely.specs.declared.Route.{Route}
 
@@ -57,6 +62,12 @@ pub record Along (p : Program) (s : Schedule) (route : Route) (ws : List ℕ) : 
 abbrev pub RouteOf : Program → Schedule → Route → List ℕ → Type 0
 RouteOf p s route back = (ws : List ℕ) × (back ≡ route .last ∷ ws) × (route .count ≤ 15) × Along p s route ws
 
--- How many runs of the last link decide a chain of n hops.
-abbrev pub windowBy : ℕ → ℕ → ℕ → ℕ
-windowBy n h period = suc n * (h / period)
+-- How many runs of the last link decide a chain: those of one hypercycle.
+abbrev pub windowBy : ℕ → ℕ → ℕ
+windowBy h period = h / period
+
+-- An answer, as a statement over all runs: it is fine exactly if every chain keeps its limit, and 16 at the lowest LAT of those that
+-- do not.
+pub record OverAllRuns (p : Program) (s : Schedule) (r : Judged) : Type 0 where
+  pub fine : (r ≡ Judged.Fine) ↔ ((c : Chain) → c among p .chains → KeepsTime p s c)
+  pub refused : (n x : ℕ) → (r ≡ Judged.Refused (fault n x)) ↔ LowestFault (ChainFault p (KeepsTime p s) 16) n x

@@ -10,7 +10,7 @@ use reader::Judged;
 use reader::Tables;
 use reads::Timing;
 ghost use mathlib.Core.Path.{_≡_};
-ghost use Prim.Native.Nat.{ℕ, _≤_, _<_};
+ghost use Prim.Native.Nat.{ℕ, _*_, _≤_, _<_};
 ghost use Rattle.model.specs.Latency.{readOf, backwards, keeps, timely};
 ghost use Rattle.model.specs.Program.{Program, count, signalAt, bodyReads};
 ghost use Rattle.model.specs.Rates.{countReads};
@@ -19,10 +19,11 @@ ghost use Rattle.model.specs.Schedule.{Schedule};
 ghost use Rattle.model.specs.Search.{foundOr};
 ghost use Rattle.latency.specs.Back.{noHop};
 ghost use Rattle.latency.specs.Hops.{hopOf};
-ghost use Rattle.rates.specs.Answers.{judgementOf, periodAt};
+ghost use Rattle.rates.specs.Answers.{periodAt};
+ghost use Rattle.reader.specs.Results.{judgementOf};
 ghost use Rattle.reader.specs.Tables.{chainAt};
 ghost use Rattle.reads.specs.Reads.{rateIn};
-ghost use Rattle.timely.specs.Timely.{ByteFound, Known, Joined, Joinable, Timed, Judgeable, RouteOf, windowBy};
+ghost use Rattle.timely.specs.Timely.{ByteFound, Known, Joined, Joinable, Timed, Judgeable, RouteOf, windowBy, OverAllRuns};
 
 // The index found, or 0.
 fn index_found(found: Found) -> u8
@@ -138,13 +139,20 @@ fn follow(text: &[u8], tables: Tables, periods: &[u8; 64], phases: &[u8; 64], ch
     }
 }
 
-// How many runs of the last link decide a chain of so many hops.
-fn window_of(count: usize, h: usize, period: u8) -> usize
-    requires { ⌜ (count ≤ 15) × (h ≤ 240) × (0 < period) ⌝ }
-    ensures { λ r. ⌜ (r ≡ windowBy count h period) × (r ≤ 3840) ⌝ }
+// How many runs of the last link decide a chain: those of one hypercycle.
+fn window_of(h: usize, period: u8) -> usize
+    requires { ⌜ (h ≤ 240) × (0 < period) ⌝ }
+    ensures { λ r. ⌜ (r ≡ windowBy h period) × (r ≤ 240) ⌝ }
 {
-    let runs = h / (period as usize);
-    (count + 1) * runs
+    h / (period as usize)
+}
+
+// The first of these runs: after as many hypercycles as there are hops every run counts.
+fn first_run(count: usize, window: usize) -> usize
+    requires { ⌜ (count ≤ 15) × (window ≤ 240) ⌝ }
+    ensures { λ r. ⌜ (r ≡ count * window) × (r ≤ 3600) ⌝ }
+{
+    count * window
 }
 
 // Whether a chain keeps its limit.
@@ -169,8 +177,18 @@ fn keeps_time(
     let source = timing_at(periods, phases, route.source as usize);
     let hops = route.hops;
     let count = route.count;
-    let window = window_of(count, h, last.period);
-    latency::is_timely(mode, bound as usize, hops, count, last, source, window)
+    let window = window_of(h, last.period);
+    let from = first_run(count, window);
+    latency::is_timely(
+        mode,
+        bound as usize,
+        hops,
+        count,
+        last,
+        source,
+        from,
+        window,
+    )
 }
 
 // 16 at the lowest LAT whose chain does not keep its limit. (Chains × links × runs in the window.)
@@ -182,7 +200,8 @@ pub fn check_latency(
     h: usize,
 ) -> Judged
     requires { ⌜ Judgeable (now text) tables (now periods) (now phases) h ⌝ }
-    ensures { λ r. ⌜ ((p : Program) (s : Schedule) → Timed (now (text .entry)) tables (now (periods .entry)) (now (phases .entry)) h p s → r ≡ judgementOf (timely p s h)) ⌝ }
+    ensures answer { λ r. ⌜ ((p : Program) (s : Schedule) → Timed (now (text .entry)) tables (now (periods .entry)) (now (phases .entry)) h p s → r ≡ judgementOf (timely p s h)) ⌝ }
+    ensures runs { λ r. ⌜ ((p : Program) (s : Schedule) → Timed (now (text .entry)) tables (now (periods .entry)) (now (phases .entry)) h p s → OverAllRuns p s r) ⌝ }
 {
     let starts = tables.starts;
     let mut chain: usize = 0;

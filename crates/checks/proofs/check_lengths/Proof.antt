@@ -5,7 +5,7 @@ use lib.ListN.{length}
 use borrow.Author.Tests.{le-leb, lt-leb}
 use Rattle.model.specs.Outcome.{provided}
 use Rattle.model.specs.Compile.{shortEnough}
-use Rattle.rates.specs.Answers.{judgementOf}
+use Rattle.reader.specs.Results.{judgementOf}
 use borrow.Author.Needs.{needs}
 use Rattle.checks.proofs.check_lengths.Statement.{statement}
 use Rattle.checks.proofs.check_lengths.Tie as tie

@@ -208,6 +208,7 @@ returns-5 c =
             ranks = d .check-schedule .result .slots .ranks;
             slots = g .slots-are;
             only = placed-ordered p (g .puts) (a .0) (g .places) .0 .only;
+            phased = placed-ordered p (g .puts) (a .0) (g .places) .0 .phases;
           };
       hyper = refl;
       bound = hypercycle-least p _ .0 (g .hyper) .bound;

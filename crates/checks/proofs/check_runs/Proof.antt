@@ -12,11 +12,11 @@ use Rattle.model.specs.Schedule.{Schedule}
 use Rattle.model.proofs.Hypercycle.{hypercycle-least}
 use Rattle.model.proofs.Puts.{placed-ordered}
 use Rattle.model.proofs.Verdict.{steps-accepted}
-use Rattle.rates.specs.Answers.{judgementOf}
+use Rattle.reader.specs.Results.{judgementOf}
 use Rattle.timely.specs.Timely.{Timed}
 use Rattle.checks.specs.Answers.{Arranged}
 use Rattle.checks.specs.Steps.{runsOf}
-use Rattle.checks.proofs.Laws.{few-signals, positive, answers-then, answers-stop, answers-judgement, judgement-answers, judgement-fine, judgement-refused, load-judgement}
+use Rattle.checks.proofs.Laws.{few-signals, positive, answers-then, answers-stop, answers-judgement, judgement-answers, judgement-fine, judgement-refused}
 use Rattle.checks.proofs.check_runs.Statement.{statement}
 use Rattle.checks.proofs.check_runs.Tie as tie
 
@@ -46,8 +46,7 @@ load-judged : (l : tie.After-check-load) (p : Program) (s : Schedule) → Pair (
     l .check-load .result ≡ judgementOf (loaded p s (start (reads l) .args .h))
 load-judged l p s g =
     l .check-load .ensures p s (g .tables-are .counts .signals-are) (g .signals-are .periods) (g .signals-are .weights)
-    (g .slots-are .phases-are) (g .tables-are .cap) ∙
-    load-judgement _
+    (g .slots-are .phases-are) (g .tables-are .cap)
 
 -- the load is judged where the reads are met
 reads-met : (l : tie.After-check-load) (p : Program) (s : Schedule) → Pair (start (reads l)) p s → met p s ≡ accepted tt
@@ -127,7 +126,7 @@ returns-3 c p s g =
     answers-judgement _ _
     (answers-then _ _ _ _ _ m
     (answers-then _ _ _ _ _ (judgement-fine _ _ (load-judged l p s g) (c .before .before .before .enum-told3 .given .1))
-    (judgement-answers _ _ _ (c .check-latency .ensures p s (timed (start (reads l)) p s g m)) (λ _. tt))))
+    (judgement-answers _ _ _ (c .check-latency .ensures .0 p s (timed (start (reads l)) p s g m)) (λ _. tt))))
 
 pub check-runs-spec : {M : Type 1} → statement M
 check-runs-spec =

@@ -1,14 +1,11 @@
 -- `compiler::compile` meets its contract. Assumes nothing.
-use Prim.Native.Nat.{_≤_}
 use mathlib.Core.Path.{_≡_, ap, _∙_}
 use native.Mathlib.Omega.{arith}
 use denote.Ref.{now}
-use lib.ListN.{length}
 use borrow.Author.Needs.{needs}
 use Rattle.model.specs.Compile.{Pair, pairOf, compiledOf}
-use Rattle.model.specs.Image.{lengthOf}
 use Rattle.model.specs.Outcome.{accepted}
-use Rattle.emitter.specs.Prepared.{Ready}
+use Rattle.emitter.specs.Prepared.{LaidOut, Ready}
 use Rattle.checks.specs.Answers.{Checks}
 use Rattle.checks.proofs.Laws.{answers-fine, answers-refused}
 use Rattle.compiler.proofs.Answers.{compile-refused, compile-short, compile-done}
@@ -30,19 +27,13 @@ ready e =
     let k = pair e in
     record { program = k .0 .program; schedule = k .0 .schedule; prepared = k .2 .prepared; hyper = k .2 .bound }
 
-abbrev checked : tie.After-image-length → tie.After-enum-told
+abbrev checked : tie.After-lay-out → tie.After-enum-told
 checked l = l .before .before .before .before .before .before .before .before .before
 
--- L
-size : (l : tie.After-image-length) → let q = pair (checked l) .0 in
-    l .image-length .result ≡ lengthOf (q .program) (q .schedule) (checked l .before .before .check-pair .result .hypercycle)
-size l = l .image-length .ensures _ _ (pair (checked l) .2 .prepared)
-
--- the buffer has space for it
-room : (e : tie.Else1) → let k = ready (checked (e .before)) in
-    lengthOf (k .program) (k .schedule) (checked (e .before) .before .before .check-pair .result .hypercycle) ≤
-    length (now (start (checked (e .before) .before .before) .args .image))
-room e = omega (arith, size (e .before), e .if1 .left)
+-- the layout of its image, with L
+laid-out : (l : tie.After-lay-out) → let q = pair (checked l) .0 in
+    LaidOut (q .program) (q .schedule) (checked l .before .before .check-pair .result .hypercycle) (l .lay-out .result)
+laid-out l = l .lay-out .ensures _ _ (pair (checked l) .2 .prepared)
 
 check-pair-requires : tie.Need-check-pair-requires
 check-pair-requires c κs = search needs
@@ -62,19 +53,19 @@ returns c =
     let g = compile-refused _ _ _ _ (answers-refused _ _ _ _ (c .before .before .before .check-pair .ensures) told) in
     (ap compiledOf (c .refused .ensures _ told) ∙ g .0, g .1)
 
-image-length-requires : tie.Need-image-length-requires
-image-length-requires c κs = ready (c .before .before .before .before .before .before .before .before)
+lay-out-requires : tie.Need-lay-out-requires
+lay-out-requires c κs = ready (c .before .before .before .before .before .before .before .before)
 
 returns-2 : tie.Need-returns-2
 returns-2 c =
     let l = c .before in
     let k = pair (checked l) in
-    compile-short _ _ _ (k .0) _ _ (k .1) (k .2 .hyper) (size l) (c .if1 .taken)
+    compile-short _ _ _ (k .0) _ _ (k .1) (k .2 .hyper) (laid-out l .ends) (c .if1 .taken)
 
 emit-requires : tie.Need-emit-requires
 emit-requires c κs =
     let e = c .before .before .before .before in
-    record { ready = ready (checked (e .before)); room = room e }
+    record { ready = ready (checked (e .before)); laid-out = laid-out (e .before); room = omega (arith, e .if1 .left) }
 
 same-length : tie.Need-same-length
 same-length c = search needs
@@ -85,7 +76,7 @@ returns-3 c =
     let e = d .before .before .before .before .before in
     let l = e .before in
     let k = pair (checked l) in
-    compile-done _ _ _ (k .0) _ _ (k .1) (k .2 .hyper) (size l) _ (omega (arith, e .if1 .left)) (d .emit .ensures _ _ (k .2 .prepared))
+    compile-done _ _ _ (k .0) _ _ (k .1) (k .2 .hyper) (laid-out l .ends) _ (omega (arith, e .if1 .left)) (d .emit .ensures _ _ (k .2 .prepared))
 
 pub compile-spec : {M : Type 1} → statement M
 compile-spec =
@@ -96,7 +87,7 @@ compile-spec =
     enum-told-2
     refused-requires
     returns
-    image-length-requires
+    lay-out-requires
     returns-2
     emit-requires
     same-length

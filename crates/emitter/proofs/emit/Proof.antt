@@ -1,109 +1,120 @@
 -- `emitter::emit` meets its contract. Assumes nothing.
-use Prim.Native.Nat.{_+_, _≤_}
-use mathlib.Core.List.{_++_}
-use mathlib.Core.Path.{refl}
+use Prim.Native.Nat.{ℕ, _+_, _≤_}
+use mathlib.Core.List.{List, _++_}
+use mathlib.Core.Path.{_≡_, refl, ap, _∙_}
 use native.Mathlib.Omega.{arith}
-use lib.ListN.{length}
+use lib.ListN.{length, getD}
 use Rattle.model.specs.Image.{joined, offsets, records, listsAt}
 use Rattle.model.specs.Word.{twoBytes}
 use Rattle.emitter.specs.Codes.{signalsOf, codesFrom}
 use Rattle.emitter.specs.Lists.{listsBy, pairs}
-use Rattle.emitter.specs.Prepared.{codesBy, lengthBy}
-use Rattle.emitter.proofs.Left.{starts, room, turn, done}
-use Rattle.emitter.proofs.Imaged.{imageBy, head-first, both, last, declared, timed, length-by, image-size, image-written}
+use Rattle.emitter.proofs.Left.{Left, starts, room, turn, done}
+use Rattle.emitter.proofs.Imaged.{codesBy, lengthBy, imageBy, head-first, both, last, declared, timed, count-is, lists-by, starts-by, length-by, image-size, image-written}
+use Rattle.emitter.proofs.Coded.{records-by}
 use borrow.Author.Needs.{needs}
 use Rattle.emitter.proofs.emit.Statement.{statement}
 use Rattle.emitter.proofs.emit.Tie as tie
 
-space : (c : tie.Start) →
-    0 + length (imageBy (c .args .h) (c .args .tables .signals) (signalsOf (c .args .text .now)) (listsBy (c .args .periods .now) (c .args .order .now) (c .args .phases .now) (c .args .tables .signals) (c .args .h)) (codesFrom 0 (signalsOf (c .args .text .now)))) ≤ length (c .args .out .now)
-space c = omega (arith, image-size (c .pre .ready .prepared) (c .args .h), c .pre .room)
+-- the parts of the image, by the tables
+module _ (s : tie.Start) where
+  abbrev count : ℕ
+  count = s .args .tables .signals
 
-size : (c : tie.Start) →
-    lengthBy (c .args .h) (c .args .tables .signals) (listsBy (c .args .periods .now) (c .args .order .now) (c .args .phases .now) (c .args .tables .signals) (c .args .h)) (codesFrom 0 (signalsOf (c .args .text .now))) ≤ length (c .args .out .now)
-size c = omega (arith, length-by (c .pre .ready .prepared) (c .args .h), c .pre .room)
+  abbrev lists : List (List ℕ)
+  lists = listsBy (s .args .periods .now) (s .args .order .now) (s .args .phases .now) count (s .args .h)
 
-lay-out-requires : tie.Need-lay-out-requires
-lay-out-requires c κs =
-    let r = c .before .before .before .before .pre .ready in
-    (declared (r .prepared), timed (r .prepared), r .hyper)
+  abbrev codes : List (List ℕ)
+  codes = codesFrom 0 (signalsOf (s .args .text .now))
+
+  abbrev recorded : List ℕ
+  recorded = records (signalsOf (s .args .text .now)) (offsets (codesBy (s .args .h) count lists) codes)
+
+  abbrev paired : List ℕ
+  paired = pairs (offsets (listsAt count (s .args .h)) lists)
+
+  abbrev image : List ℕ
+  image = imageBy (s .args .h) count (signalsOf (s .args .text .now)) lists codes
+
+  -- what is left of it
+  abbrev Rest : List ℕ → ℕ → List ℕ → Type 0
+  Rest out to rest = Left (s .args .out .now) 0 image out to rest
+
+  -- the layout, by the tables
+  lists-at : s .args .layout .lists ≡ listsAt count (s .args .h)
+  lists-at = s .pre .laid-out .lists-at ∙ lists-by (s .pre .ready .prepared) (s .args .h)
+
+  codes-at : records (signalsOf (s .args .text .now)) (s .args .layout .codes) ≡ recorded
+  codes-at =
+      let r = s .pre .ready .prepared in
+      let d = declared r in
+      records-by 0 _ _ _ (omega (arith, d .few, d .count-is, s .pre .laid-out .space))
+      (λ x lt. s .pre .laid-out .codes-at x (omega (arith, d .count-is, count-is r)) ∙ ap (λ (l : List ℕ). getD l x 0) (starts-by r (s .args .h)))
+
+  ends : s .args .layout .end ≡ lengthBy (s .args .h) count lists codes
+  ends = s .pre .laid-out .ends ∙ length-by (s .pre .ready .prepared) (s .args .h)
+
+  space : 0 + length image ≤ length (s .args .out .now)
+  space = omega (arith, image-size (s .pre .ready .prepared) (s .args .h), s .pre .laid-out .ends, s .pre .room)
+
+-- what is left after each part
+after-head : (c : tie.After-put-head) → let s = c .before .before .before .before .before .before in
+    Rest s (c .put-head .last .1 .1 .1 .0) (c .put-head .result) (recorded s ++ (paired s ++ (joined (lists s) ++ joined (codes s))))
+after-head c =
+    let s = c .before .before .before .before .before .before in
+    turn (head-first (s .args .h) (count s) _ (lists s) (codes s)) starts (rw (ends s) at (c .put-head .ensures))
+
+after-records : (c : tie.After-emit-records) → let s = c .before .before .before .before .before .before .before .before .before .before .before .before in
+    Rest s (c .emit-records .last .1 .1 .1 .1 .0) (c .emit-records .result) (paired s ++ (joined (lists s) ++ joined (codes s)))
+after-records c =
+    let s = c .before .before .before .before .before .before .before .before .before .before .before .before in
+    turn (both (recorded s) _) (after-head (c .before .before .before .before .before .before)) (rw (codes-at s) at (c .emit-records .ensures))
+
+after-offsets : (c : tie.After-emit-offsets) → let s = c .before .before .before .before .before .before .before .before .before .before .before .before .before .before .before .before in
+    Rest s (c .emit-offsets .last .1 .1 .1 .1 .1 .1 .0) (c .emit-offsets .result) (joined (lists s) ++ joined (codes s))
+after-offsets c =
+    let s = c .before .before .before .before .before .before .before .before .before .before .before .before .before .before .before .before in
+    turn (both (paired s) _) (after-records (c .before .before .before .before)) (rw (lists-at s) at (c .emit-offsets .ensures))
+
+after-lists : (c : tie.After-emit-lists) → let s = c .before .before .before .before .before .before .before .before .before .before .before .before .before .before .before .before .before .before .before .before in
+    Rest s (c .emit-lists .last .1 .1 .1 .1 .1 .0) (c .emit-lists .result) (joined (codes s))
+after-lists c = let s = c .before .before .before .before .before .before .before .before .before .before .before .before .before .before .before .before .before .before .before .before in turn (both (joined (lists s)) _) (after-offsets (c .before .before .before .before)) (c .emit-lists .ensures)
 
 put-head-requires : tie.Need-put-head-requires
 unfolding twoBytes
 put-head-requires c κs =
-    let s = c .before .before .before .before .before .before in
-    let h = s .args .h in
-    let n = s .args .tables .signals in
-    let g = signalsOf (s .args .text .now) in
-    let ls = listsBy (s .args .periods .now) (s .args .order .now) (s .args .phases .now) n h in
-    let cs = codesFrom 0 g in
-    let r = s .pre .ready .prepared in
-    let fit = space s in
-    (omega (arith, s .pre .ready .hyper), omega (arith, declared r .few), room (head-first h n g ls cs) (starts {l = s .args .out .now} {to = 0}) fit)
+    let s = c .before .before .before .before .before in (
+      omega (arith, s .pre .ready .hyper),
+      omega (arith, declared (s .pre .ready .prepared) .few),
+      room (head-first (s .args .h) (count s) _ (lists s) (codes s)) (starts {l = s .args .out .now} {to = 0}) (space s),
+    )
 
 emit-records-requires : tie.Need-emit-records-requires
 emit-records-requires c κs =
     let s = c .before .before .before .before .before .before .before .before .before .before .before in
-    let h = s .args .h in
-    let n = s .args .tables .signals in
-    let g = signalsOf (s .args .text .now) in
-    let ls = listsBy (s .args .periods .now) (s .args .order .now) (s .args .phases .now) n h in
-    let cs = codesFrom 0 g in
-    let r = s .pre .ready .prepared in
-    let fit = space s in
-    let l1 = turn (head-first h n g ls cs) starts (rw (c .before .before .before .before .before .before .lay-out .ensures .ends) at (c .before .before .before .before .put-head .ensures)) in (
-      declared r,
-      omega (arith, c .before .before .before .before .before .before .lay-out .ensures .codes-at, size s, l1 .size),
-      rw (c .before .before .before .before .before .before .lay-out .ensures .codes-at) (room (both (records g (offsets (codesBy h n ls) cs)) (pairs (offsets (listsAt n h) ls) ++ (joined ls ++ joined cs))) l1 fit),
+    let l = after-head (c .before .before .before .before .before) in (
+      declared (s .pre .ready .prepared),
+      omega (arith, declared (s .pre .ready .prepared) .few, s .pre .laid-out .space),
+      rw (codes-at s) (room (both (recorded s) _) l (space s)),
     )
 
 emit-offsets-requires : tie.Need-emit-offsets-requires
 emit-offsets-requires c κs =
     let s = c .before .before .before .before .before .before .before .before .before .before .before .before .before .before .before in
-    let h = s .args .h in
-    let n = s .args .tables .signals in
-    let g = signalsOf (s .args .text .now) in
-    let ls = listsBy (s .args .periods .now) (s .args .order .now) (s .args .phases .now) n h in
-    let cs = codesFrom 0 g in
-    let r = s .pre .ready .prepared in
-    let fit = space s in
-    let l1 = turn (head-first h n g ls cs) starts (rw (c .before .before .before .before .before .before .before .before .before .before .lay-out .ensures .ends) at (c .before .before .before .before .before .before .before .before .put-head .ensures)) in
-    let l2 = turn (both (records g (offsets (codesBy h n ls) cs)) (pairs (offsets (listsAt n h) ls) ++ (joined ls ++ joined cs))) l1 (rw (c .before .before .before .before .before .before .before .before .before .before .lay-out .ensures .codes-at) at (c .before .before .before .emit-records .ensures)) in (
-      timed r,
-      omega (arith, c .before .before .before .before .before .before .before .before .before .before .lay-out .ensures .lists-at, size s, l2 .size),
-      rw (c .before .before .before .before .before .before .before .before .before .before .lay-out .ensures .lists-at) (room (both (pairs (offsets (listsAt n h) ls)) (joined ls ++ joined cs)) l2 fit),
+    let l = after-records (c .before .before .before) in (
+      timed (s .pre .ready .prepared),
+      omega (arith, lists-at s, ends s, s .pre .room, l .size),
+      rw (lists-at s) (room (both (paired s) _) l (space s)),
     )
 
 emit-lists-requires : tie.Need-emit-lists-requires
 emit-lists-requires c κs =
     let s = c .before .before .before .before .before .before .before .before .before .before .before .before .before .before .before .before .before .before .before in
-    let h = s .args .h in
-    let n = s .args .tables .signals in
-    let g = signalsOf (s .args .text .now) in
-    let ls = listsBy (s .args .periods .now) (s .args .order .now) (s .args .phases .now) n h in
-    let cs = codesFrom 0 g in
-    let r = s .pre .ready .prepared in
-    let fit = space s in
-    let l1 = turn (head-first h n g ls cs) starts (rw (c .before .before .before .before .before .before .before .before .before .before .before .before .before .before .lay-out .ensures .ends) at (c .before .before .before .before .before .before .before .before .before .before .before .before .put-head .ensures)) in
-    let l2 = turn (both (records g (offsets (codesBy h n ls) cs)) (pairs (offsets (listsAt n h) ls) ++ (joined ls ++ joined cs))) l1 (rw (c .before .before .before .before .before .before .before .before .before .before .before .before .before .before .lay-out .ensures .codes-at) at (c .before .before .before .before .before .before .before .emit-records .ensures)) in
-    let l3 = turn (both (pairs (offsets (listsAt n h) ls)) (joined ls ++ joined cs)) l2 (rw (c .before .before .before .before .before .before .before .before .before .before .before .before .before .before .lay-out .ensures .lists-at) at (c .before .before .before .emit-offsets .ensures)) in
-    (timed r, room (both (joined ls) (joined cs)) l3 fit)
+    (timed (s .pre .ready .prepared), room (both (joined (lists s)) _) (after-offsets (c .before .before .before)) (space s))
 
 emit-codes-requires : tie.Need-emit-codes-requires
 emit-codes-requires c κs =
     let s = c .before .before .before .before .before .before .before .before .before .before .before .before .before .before .before .before .before .before .before .before .before .before .before .before in
-    let h = s .args .h in
-    let n = s .args .tables .signals in
-    let g = signalsOf (s .args .text .now) in
-    let ls = listsBy (s .args .periods .now) (s .args .order .now) (s .args .phases .now) n h in
-    let cs = codesFrom 0 g in
-    let r = s .pre .ready .prepared in
-    let fit = space s in
-    let l1 = turn (head-first h n g ls cs) starts (rw (c .before .before .before .before .before .before .before .before .before .before .before .before .before .before .before .before .before .before .before .lay-out .ensures .ends) at (c .before .before .before .before .before .before .before .before .before .before .before .before .before .before .before .before .before .put-head .ensures)) in
-    let l2 = turn (both (records g (offsets (codesBy h n ls) cs)) (pairs (offsets (listsAt n h) ls) ++ (joined ls ++ joined cs))) l1 (rw (c .before .before .before .before .before .before .before .before .before .before .before .before .before .before .before .before .before .before .before .lay-out .ensures .codes-at) at (c .before .before .before .before .before .before .before .before .before .before .before .before .emit-records .ensures)) in
-    let l3 = turn (both (pairs (offsets (listsAt n h) ls)) (joined ls ++ joined cs)) l2 (rw (c .before .before .before .before .before .before .before .before .before .before .before .before .before .before .before .before .before .before .before .lay-out .ensures .lists-at) at (c .before .before .before .before .before .before .before .before .emit-offsets .ensures)) in
-    let l4 = turn (both (joined ls) (joined cs)) l3 (c .before .before .before .before .emit-lists .ensures) in
-    (declared r, room (last (joined cs)) l4 fit)
+    (declared (s .pre .ready .prepared), room (last (joined (codes s))) (after-lists (c .before .before .before .before)) (space s))
 
 same-length : tie.Need-same-length
 same-length c = search needs
@@ -111,25 +122,13 @@ same-length c = search needs
 returns : tie.Need-returns
 returns c =
     let s = c .before .before .before .before .before .before .before .before .before .before .before .before .before .before .before .before .before .before .before .before .before .before .before .before .before .before .before in
-    let h = s .args .h in
-    let n = s .args .tables .signals in
-    let g = signalsOf (s .args .text .now) in
-    let ls = listsBy (s .args .periods .now) (s .args .order .now) (s .args .phases .now) n h in
-    let cs = codesFrom 0 g in
-    let r = s .pre .ready .prepared in
-    let fit = space s in
-    let l1 = turn (head-first h n g ls cs) starts (rw (c .before .before .before .before .before .before .before .before .before .before .before .before .before .before .before .before .before .before .before .before .before .before .lay-out .ensures .ends) at (c .before .before .before .before .before .before .before .before .before .before .before .before .before .before .before .before .before .before .before .before .put-head .ensures)) in
-    let l2 = turn (both (records g (offsets (codesBy h n ls) cs)) (pairs (offsets (listsAt n h) ls) ++ (joined ls ++ joined cs))) l1 (rw (c .before .before .before .before .before .before .before .before .before .before .before .before .before .before .before .before .before .before .before .before .before .before .lay-out .ensures .codes-at) at (c .before .before .before .before .before .before .before .before .before .before .before .before .before .before .before .emit-records .ensures)) in
-    let l3 = turn (both (pairs (offsets (listsAt n h) ls)) (joined ls ++ joined cs)) l2 (rw (c .before .before .before .before .before .before .before .before .before .before .before .before .before .before .before .before .before .before .before .before .before .before .lay-out .ensures .lists-at) at (c .before .before .before .before .before .before .before .before .before .before .before .emit-offsets .ensures)) in
-    let l4 = turn (both (joined ls) (joined cs)) l3 (c .before .before .before .before .before .before .before .emit-lists .ensures) in
-    let l5 = turn (last (joined cs)) l4 (c .before .before .emit-codes .ensures) in
-    λ p q e. image-written e h (omega (arith, length-by e h, size s)) (done refl l5)
+    let l = turn (last (joined (codes s))) (after-lists (c .before .before .before .before .before .before .before)) (c .before .before .emit-codes .ensures) in
+    λ p q e. image-written e (s .args .h) (omega (arith, length-by e (s .args .h), ends s, s .pre .room)) (done refl l)
 
 pub emit-spec : {M : Type 1} → statement M
 emit-spec =
     tie.close
     (tie.spec
-    lay-out-requires
     put-head-requires
     emit-records-requires
     emit-offsets-requires

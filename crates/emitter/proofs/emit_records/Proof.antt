@@ -1,51 +1,47 @@
 -- `emitter::emit_records` meets its contract. Assumes nothing.
-use Prim.Native.Nat.{ℕ, _+_, _-_, _≤_}
-use mathlib.Core.List.{List}
-use mathlib.Core.Path.{_≡_, ap}
+use Prim.Native.Nat.{_-_, _≤_}
 use native.Mathlib.Omega.{arith}
-use lib.ListN.{length, getD}
-use Rattle.model.specs.Image.{joined, offsets, records}
-use Rattle.emitter.specs.Codes.{signalsOf, codesFrom}
-use Rattle.emitter.proofs.Left.{Left, parts-length, starts, room, turn, done}
-use Rattle.emitter.proofs.Coded.{nth, codesLeft, recordsLeft, codes-start, codes-next, records-start, records-next, records-at, records-end, initial-word, record-length}
+use lib.ListN.{getD}
+use Rattle.model.specs.Image.{records}
+use Rattle.emitter.specs.Codes.{signalsOf}
+use Rattle.emitter.proofs.Left.{Left, starts, room, turn, done}
+use Rattle.emitter.proofs.Coded.{nth, recordsLeft, records-start, records-next, records-at, records-end, initial-word, record-length}
 use Rattle.emitter.proofs.emit_records.Statement.{statement}
 use Rattle.emitter.proofs.emit_records.Tie as tie
 
 abbrev Inv-loop : tie.InvT-loop
-Inv-loop text places n start out₀ to offset₀ end₀ x₀ out offset end x =
-    (x ≤ n) × (offset + length (codesLeft (signalsOf text) x) ≡ start + length (joined (codesFrom 0 (signalsOf text)))) ×
-    Left out₀ to (records (signalsOf text) (offsets start (codesFrom 0 (signalsOf text)))) out end (recordsLeft (signalsOf text) offset x)
+Inv-loop text places n starts out₀ to end₀ x₀ out end x =
+    (x ≤ n) × Left out₀ to (records (signalsOf text) starts) out end (recordsLeft (signalsOf text) starts x)
 
 abbrev μ-loop : tie.MeasureT-loop
-μ-loop text places n start out₀ to offset₀ end₀ x₀ out offset end x = n - x
+μ-loop text places n starts out₀ to end₀ x₀ out end x = n - x
 
 loop-holds : tie.Need-loop-holds Inv-loop μ-loop
 loop-holds c =
-    let g = signalsOf (c .before .before .args .text .now) in
-    (omega arith, ap (λ (l : List ℕ). c .before .before .args .start + length l) (codes-start g), rw (records-start g (c .before .before .args .start)) starts)
+    let a = c .before .before .args in
+    (omega arith, rw (records-start (signalsOf (a .text .now)) (a .starts .now)) starts)
 
-mul-place : tie.Need-mul-place Inv-loop μ-loop
-mul-place c = omega (arith, c .before .before .before .before .pre .0 .few)
+mul-put-record : tie.Need-mul-put-record Inv-loop μ-loop
+mul-put-record c = omega (arith, c .before .before .before .before .pre .0 .few)
 
-element-copy-out-place : tie.Need-element-copy-out-place Inv-loop μ-loop
-element-copy-out-place c = omega (arith, c .before .before .before .before .pre .0 .few)
+element-copy-out-put-record : tie.Need-element-copy-out-put-record Inv-loop μ-loop
+element-copy-out-put-record c = omega (arith, c .before .before .before .before .pre .0 .few)
+
+mul-put-record-2 : tie.Need-mul-put-record-2 Inv-loop μ-loop
+mul-put-record-2 c = omega (arith, c .before .before .before .before .before .pre .0 .few)
+
+element-copy-out-put-record-2 : tie.Need-element-copy-out-put-record-2 Inv-loop μ-loop
+element-copy-out-put-record-2 c = omega (arith, c .before .before .before .before .before .pre .0 .few)
 
 put-record-requires : tie.Need-put-record-requires Inv-loop μ-loop
 put-record-requires c κs =
-    let g = signalsOf (c .before .before .before .before .before .before .args .text .now) in
-    let x = c .before .before .before .loop .x in
-    let d = c .before .before .before .before .before .before .pre .0 in (
-      omega (arith, initial-word (c .before .before .before .before .before .before .args .text .now) (nth g x) (d .spelled x (omega arith)) .1, d .stands x (omega arith)),
-      omega (arith, record-length (nth g x .initial) (c .before .before .before .loop .offset), room (records-next g (c .before .before .before .loop .offset) x (omega (arith, d .count-is))) (c .before .before .before .loop .inv .2) (c .before .before .before .before .before .before .pre .2)),
+    let s = c .before .before .before .before .before .before .before in
+    let g = signalsOf (s .args .text .now) in
+    let l = c .before .before .before .before .loop in
+    let d = s .pre .0 in (
+      omega (arith, initial-word (s .args .text .now) (nth g (l .x)) (d .spelled (l .x) (omega arith)) .1, d .stands (l .x) (omega arith)),
+      omega (arith, record-length (nth g (l .x) .initial) (getD (s .args .starts .now) (l .x) 0), room (records-next g (s .args .starts .now) (l .x) (omega (arith, d .count-is)) (omega (arith, s .pre .1))) (l .inv .1) (s .pre .2)),
     )
-
-signal-code-length-requires : tie.Need-signal-code-length-requires Inv-loop μ-loop
-signal-code-length-requires c κs = record { signal = nth (signalsOf (c .before .before .before .before .before .before .before .before .before .args .text .now)) (c .before .before .before .before .before .before .loop .x); stands = c .before .before .before .before .before .before .before .before .before .pre .0 .stands (c .before .before .before .before .before .before .loop .x) (omega arith); spelled = c .before .before .before .before .before .before .before .before .before .pre .0 .spelled (c .before .before .before .before .before .before .loop .x) (omega arith) }
-
-add-offset : tie.Need-add-offset Inv-loop μ-loop
-add-offset c =
-    let g = signalsOf (c .before .before .before .before .before .before .before .before .before .before .args .text .now) in
-    omega (arith, c .before .before .before .before .before .before .before .loop .inv .1, parts-length (codes-next g (c .before .before .before .before .before .before .before .loop .x) (omega (arith, c .before .before .before .before .before .before .before .before .before .before .pre .0 .count-is))), c .signal-code-length .ensures .is (nth g (c .before .before .before .before .before .before .before .loop .x)) (c .before .before .before .before .before .before .before .before .before .before .pre .0 .stands (c .before .before .before .before .before .before .before .loop .x) (omega arith)) (c .before .before .before .before .before .before .before .before .before .before .pre .0 .spelled (c .before .before .before .before .before .before .before .loop .x) (omega arith)) (c .before .before .before .before .before .before .before .loop .x), c .before .before .before .before .before .before .before .before .before .before .pre .1)
 
 add-x : tie.Need-add-x Inv-loop μ-loop
 add-x c = omega (arith, c .before .before .before .before .before .before .before .before .before .before .pre .0 .few)
@@ -55,22 +51,18 @@ loop-less c = omega arith
 
 loop-again : tie.Need-loop-again Inv-loop μ-loop
 loop-again c =
-    let g = signalsOf (c .before .before .before .before .before .before .before .before .before .before .args .text .now) in
-    let x = c .before .before .before .before .before .before .before .loop .x in
-    let d = c .before .before .before .before .before .before .before .before .before .before .pre .0 in
-    let m = c .signal-code-length .ensures .is (nth g (c .before .before .before .before .before .before .before .loop .x)) (c .before .before .before .before .before .before .before .before .before .before .pre .0 .stands (c .before .before .before .before .before .before .before .loop .x) (omega arith)) (c .before .before .before .before .before .before .before .before .before .before .pre .0 .spelled (c .before .before .before .before .before .before .before .loop .x) (omega arith)) (c .before .before .before .before .before .before .before .loop .x) in (
-      omega arith,
-      omega (arith, c .before .before .before .before .before .before .before .loop .inv .1, parts-length (codes-next g x (omega (arith, d .count-is))), m),
-      rw m (turn (records-at g (c .before .before .before .before .before .before .before .before .before .before .args .text .now) (c .before .before .before .before .before .before .before .loop .offset) x (getD (c .before .before .before .before .before .before .before .before .before .before .args .places .now) x 0) (omega (arith, d .count-is)) (d .stands x (omega arith)) (d .spelled x (omega arith))) (c .before .before .before .before .before .before .before .loop .inv .2) (c .before .before .before .put-record .ensures)),
-    )
+    let s = c .before .before .before .before .before .before .before .before .before .before in
+    let l = c .before .before .before .before .before .before .before .loop in
+    let d = s .pre .0 in
+    (omega arith, turn (records-at (signalsOf (s .args .text .now)) (s .args .starts .now) (s .args .text .now) (l .x) _ (omega (arith, d .count-is)) (omega (arith, s .pre .1)) (d .stands (l .x) (omega arith)) (d .spelled (l .x) (omega arith))) (l .inv .1) (c .before .before .put-record .ensures))
 
 same-length : tie.Need-same-length Inv-loop μ-loop
-same-length c = c .before .loop .inv .2 .size
+same-length c = c .before .loop .inv .1 .size
 
 returns : tie.Need-returns Inv-loop μ-loop
 returns c =
-    let g = signalsOf (c .before .before .before .before .args .text .now) in
-    done (records-end g (c .before .loop .offset) (c .before .loop .x) (omega (arith, c .before .before .before .before .pre .0 .count-is))) (c .before .loop .inv .2)
+    let s = c .before .before .before .before in
+    done (records-end (signalsOf (s .args .text .now)) (s .args .starts .now) (c .before .loop .x) (omega (arith, s .pre .0 .count-is))) (c .before .loop .inv .1)
 
 pub emit-records-spec : {M : Type 1} → statement M
 emit-records-spec =
@@ -79,11 +71,11 @@ emit-records-spec =
     Inv-loop
     μ-loop
     loop-holds
-    mul-place
-    element-copy-out-place
+    mul-put-record
+    element-copy-out-put-record
+    mul-put-record-2
+    element-copy-out-put-record-2
     put-record-requires
-    signal-code-length-requires
-    add-offset
     add-x
     loop-less
     loop-again

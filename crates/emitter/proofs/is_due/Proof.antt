@@ -19,10 +19,10 @@ wide-requires-3 : tie.Need-wide-requires-3
 wide-requires-3 c κs = search needs
 
 rem-result : tie.Need-rem-result
-rem-result c = rw (c .before .before .wide2 .ensures, c .before .before .before .before .wide .ensures) (c .before .before .before .before .before .pre .1)
+rem-result c = rw (c .before .before .wide2 .ensures .0, c .before .before .before .before .wide .ensures .0) (c .before .before .before .before .before .pre .1)
 
 returns : tie.Need-returns
-returns c = rw (c .wide3 .ensures, c .before .before .wide2 .ensures, c .before .before .before .before .wide .ensures)
+returns c = rw (c .wide3 .ensures .0, c .before .before .wide2 .ensures .0, c .before .before .before .before .wide .ensures .0)
 
 pub is-due-spec : {M : Type 1} → statement M
 is-due-spec =

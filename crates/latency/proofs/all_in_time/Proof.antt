@@ -1,5 +1,5 @@
 -- `latency::all_in_time` meets its contract. Assumes nothing.
-use Prim.Native.Nat.{ℕ, _-_, _≤_, _<_}
+use Prim.Native.Nat.{ℕ, _+_, _-_, _≤_, _<_}
 use mathlib.Core.Bool.{true, not}
 use mathlib.Core.Path.{_≡_, refl, sym, ap, subst, _∙_}
 use native.Mathlib.Omega.{arith}
@@ -12,16 +12,19 @@ use Rattle.latency.proofs.all_in_time.Statement.{statement}
 use Rattle.latency.proofs.all_in_time.Tie as tie
 
 abbrev Inv-loop : tie.InvT-loop
-Inv-loop bound hops count last source window k₀ k =
-    (count ≤ 15) × Sound hops count × ((k : ℕ) → k < window → Small hops count k) × (window ≤ 1000000) × (k ≤ window) × (allBelow k (λ k. not (lateBy bound (runLatencyBy hops count (rateIn last) (rateIn source) k))) ≡ true)
+Inv-loop bound hops count last source from window i₀ i =
+    (count ≤ 15) × Sound hops count × ((i : ℕ) → i < window → Small hops count (from + i)) × (from + window ≤ 1000000) × (i ≤ window) × (allBelow i (λ i. not (lateBy bound (runLatencyBy hops count (rateIn last) (rateIn source) (from + i)))) ≡ true)
 
 abbrev μ-loop : tie.MeasureT-loop
-μ-loop bound hops count last source window k₀ k = window - k
+μ-loop bound hops count last source from window i₀ i = window - i
 
 loop-holds : tie.Need-loop-holds Inv-loop μ-loop
 unfolding allBelow
 loop-holds c =
     (c .pre .0, c .pre .1, c .pre .2, c .pre .3, omega arith, refl)
+
+add-run-latency : tie.Need-add-run-latency Inv-loop μ-loop
+add-run-latency c = omega (arith, c .before .loop .inv .3)
 
 run-latency-requires : tie.Need-run-latency-requires Inv-loop μ-loop
 run-latency-requires c κs = let l = c .before .loop in (l .inv .0, l .inv .1, l .inv .2 _ (c .loop-test .taken), omega (arith, l .inv .3))
@@ -33,10 +36,10 @@ returns : tie.Need-returns Inv-loop μ-loop
 returns c =
     let l = c .before .before .before .before .loop in
     let a = c .before .before .before .before .before .args in
-    sym (all-fails (a .window) (l .k) (λ k. not (lateBy (a .bound) (runLatencyBy (a .hops) (a .count) (rateIn (a .last)) (rateIn (a .source)) k))) (c .before .before .before .loop-test .taken) (ap not (ap (lateBy (a .bound)) (sym (c .before .before .run-latency .ensures)) ∙ sym (c .before .is-late .ensures) ∙ c .if1 .taken)))
+    sym (all-fails (a .window) (l .i) (λ i. not (lateBy (a .bound) (runLatencyBy (a .hops) (a .count) (rateIn (a .last)) (rateIn (a .source)) (a .from + i)))) (c .before .before .before .loop-test .taken) (ap not (ap (lateBy (a .bound)) (sym (c .before .before .run-latency .ensures)) ∙ sym (c .before .is-late .ensures) ∙ c .if1 .taken)))
 
-add-k : tie.Need-add-k Inv-loop μ-loop
-add-k c = omega (arith, c .before .before .before .before .loop .inv .3)
+add-i : tie.Need-add-i Inv-loop μ-loop
+add-i c = omega (arith, c .before .before .before .before .loop .inv .3)
 
 loop-less : tie.Need-loop-less Inv-loop μ-loop
 loop-less c = omega arith
@@ -45,13 +48,13 @@ loop-again : tie.Need-loop-again Inv-loop μ-loop
 loop-again c =
     let l = c .before .before .before .before .loop in
     let a = c .before .before .before .before .before .args in
-    (l .inv .0, l .inv .1, l .inv .2, l .inv .3, omega arith, all-more (l .k) (λ k. not (lateBy (a .bound) (runLatencyBy (a .hops) (a .count) (rateIn (a .last)) (rateIn (a .source)) k))) (l .inv .5) (ap not (ap (lateBy (a .bound)) (sym (c .before .before .run-latency .ensures)) ∙ sym (c .before .is-late .ensures) ∙ c .if1 .left)))
+    (l .inv .0, l .inv .1, l .inv .2, l .inv .3, omega arith, all-more (l .i) (λ i. not (lateBy (a .bound) (runLatencyBy (a .hops) (a .count) (rateIn (a .last)) (rateIn (a .source)) (a .from + i)))) (l .inv .5) (ap not (ap (lateBy (a .bound)) (sym (c .before .before .run-latency .ensures)) ∙ sym (c .before .is-late .ensures) ∙ c .if1 .left)))
 
 returns-2 : tie.Need-returns-2 Inv-loop μ-loop
 returns-2 c =
     let l = c .before .loop in
     let a = c .before .before .args in
-    let e : l .k ≡ a .window = omega (arith, l .inv .4) in sym (subst (λ n. allBelow n (λ k. not (lateBy (a .bound) (runLatencyBy (a .hops) (a .count) (rateIn (a .last)) (rateIn (a .source)) k))) ≡ true) e (l .inv .5))
+    let e : l .i ≡ a .window = omega (arith, l .inv .4) in sym (subst (λ n. allBelow n (λ i. not (lateBy (a .bound) (runLatencyBy (a .hops) (a .count) (rateIn (a .last)) (rateIn (a .source)) (a .from + i)))) ≡ true) e (l .inv .5))
 
 pub all-in-time-spec : {M : Type 1} → statement M
 all-in-time-spec =
@@ -60,10 +63,11 @@ all-in-time-spec =
     Inv-loop
     μ-loop
     loop-holds
+    add-run-latency
     run-latency-requires
     is-late-requires
     returns
-    add-k
+    add-i
     loop-less
     loop-again
     returns-2)

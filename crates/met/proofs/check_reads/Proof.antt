@@ -10,7 +10,7 @@ use Rattle.model.specs.Outcome.{accepted}
 use Rattle.model.specs.Program.{Program, count, parseProgram}
 use Rattle.model.specs.Rates.{declaredAndRated}
 use Rattle.model.specs.Schedule.{Schedule}
-use Rattle.rates.specs.Answers.{judgementOf}
+use Rattle.reader.specs.Results.{judgementOf}
 use Rattle.rates.specs.Walk.{partOf}
 use Rattle.rates.specs.declared.Part.{Part}
 use Rattle.rates.proofs.Walk.{width-moves}

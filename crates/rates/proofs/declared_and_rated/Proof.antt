@@ -13,7 +13,8 @@ use Rattle.model.specs.Program.{Program, parseProgram}
 use Rattle.reader.specs.Tables.{PeriodsOf}
 use Rattle.rates.proofs.Turns.{Ahead, start, moves-on, ended}
 use borrow.Author.Needs.{needs}
-use Rattle.rates.specs.Answers.{judgementOf, partJudged}
+use Rattle.rates.specs.Answers.{partJudged}
+use Rattle.reader.specs.Results.{judgementOf}
 use Rattle.rates.specs.Walk.{partOf}
 use Rattle.rates.proofs.Walk.{width-moves}
 use Rattle.rates.proofs.Turns.{Says}

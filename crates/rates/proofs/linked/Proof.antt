@@ -11,7 +11,7 @@ use Rattle.model.specs.Program.{Program, Chain, parseProgram}
 use Rattle.model.specs.Rates.{isLinked, linked}
 use Rattle.reader.specs.Tables.{TablesOf}
 use Rattle.reader.specs.declared.Judged.the-variants as Judged
-use Rattle.rates.specs.Answers.{judgementOf}
+use Rattle.reader.specs.Results.{judgementOf}
 use Rattle.rates.proofs.Chains.{restFrom, rest-start, rest-later, rest-over, rest-broken}
 use Rattle.rates.proofs.Linking.{few-chains}
 use Rattle.rates.proofs.linked.Statement.{statement}

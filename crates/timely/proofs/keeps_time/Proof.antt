@@ -1,5 +1,5 @@
 -- `timely::keeps_time` meets its contract. Assumes nothing.
-use Prim.Native.Nat.{_<_}
+use Prim.Native.Nat.{_*_, _<_}
 use mathlib.Core.List.{List, [], _∷_}
 use mathlib.Core.Path.{_≡_, sym, ap, _∙_}
 use native.Mathlib.Omega.{arith}
@@ -62,25 +62,37 @@ window-of-requires c κs =
     let a = b .before .before .before .before .before .before .before .before .before in
     let t = a .pre .0 .2 in
     let d = decided _ _ _ _ _ _ _ _ _ t (a .pre .1) (i .ensures _ _ (t .joined)) in
-    (d .few, t .hyper, rw (b .timing-at .ensures) (d .positive))
+    (t .hyper, rw (b .timing-at .ensures) (d .positive))
+
+first-run-requires : tie.Need-first-run-requires
+first-run-requires c κs =
+    let i = c .before .before .before .before .before .before .follow in
+    let a = c .before .before .before .before .before .before .before .before .before .before .before .before .before in
+    let t = a .pre .0 .2 in
+    (decided _ _ _ _ _ _ _ _ _ t (a .pre .1) (i .ensures _ _ (t .joined)) .few, c .window-of .ensures .1)
 
 cast-is-timely : tie.Need-cast-is-timely
 cast-is-timely c = search needs
 
 is-timely-requires : tie.Need-is-timely-requires
 is-timely-requires c κs =
-    let b = c .before .before .before .before in
+    let g = c .before .window-of in
+    let b = c .before .before .before .before .before in
     let i = b .before .before .follow in
     let a = b .before .before .before .before .before .before .before .before .before in
     let t = a .pre .0 .2 in
     let d = decided _ _ _ _ _ _ _ _ _ t (a .pre .1) (i .ensures _ _ (t .joined)) in
-    let w : c .window-of .result ≡ windowBy (i .result .count) (a .args .h) (periodAt (now (a .args .periods)) (i .result .last)) =
-    c .window-of .ensures .0 ∙ ap (λ x. windowBy (i .result .count) (a .args .h) (x .period)) (b .timing-at .ensures) in
-    (d .few, d .sound, λ k lk. d .small k (rw w at lk), omega (arith, c .window-of .ensures .1))
+    let w : g .result ≡ windowBy (a .args .h) (periodAt (now (a .args .periods)) (i .result .last)) =
+    g .ensures .0 ∙ ap (λ x. windowBy (a .args .h) (x .period)) (b .timing-at .ensures) in (
+      d .few,
+      d .sound,
+      λ i li. rw (c .first-run .ensures .0, w) (d .small i (rw w at li)),
+      omega (arith, c .first-run .ensures .1, g .ensures .1),
+    )
 
 returns-2 : tie.Need-returns-2
 returns-2 c =
-    let e = c .before .before .before in
+    let e = c .before .before .before .before in
     let b = e .before .before in
     let i = b .before .before .follow in
     let m = b .before .before .before in
@@ -93,10 +105,13 @@ returns-2 c =
     sym (v .1) ∙ found .ensures ∙ chain-command _ _ _ _ _ p s _ t (a .pre .1) in
     let mode : v .0 .0 ≡ chainAt p (a .args .chain) .mode = cc same in
     let bound : v .0 .1 .0 ≡ chainAt p (a .args .chain) .bound = cc same in
-    let w : c .before .window-of .result ≡ windowBy (i .result .count) (a .args .h) (periodAt (now (a .args .periods)) (i .result .last)) =
-    c .before .window-of .ensures .0 ∙ ap (λ x. windowBy (i .result .count) (a .args .h) (x .period)) (b .timing-at .ensures) in
+    let g = c .before .before .window-of in
+    let w : g .result ≡ windowBy (a .args .h) (periodAt (now (a .args .periods)) (i .result .last)) =
+    g .ensures .0 ∙ ap (λ x. windowBy (a .args .h) (x .period)) (b .timing-at .ensures) in
+    let from : c .before .first-run .result ≡ i .result .count * windowBy (a .args .h) (periodAt (now (a .args .periods)) (i .result .last)) =
+    c .before .first-run .ensures .0 ∙ ap (i .result .count *_) w in
     c .is-timely .ensures ∙
-    (λ j. timelyBy (mode j) (bound j) (i .result .hops) (i .result .count) (rateIn (b .timing-at .ensures j)) (rateIn (e .timing-at2 .ensures j)) (w j)) ∙
+    (λ j. timelyBy (mode j) (bound j) (i .result .hops) (i .result .count) (rateIn (b .timing-at .ensures j)) (rateIn (e .timing-at2 .ensures j)) (from j) (w j)) ∙
     d .same
 
 pub keeps-time-spec : {M : Type 1} → statement M
@@ -114,6 +129,7 @@ keeps-time-spec =
     cast-timing-at-2
     timing-at-requires-2
     window-of-requires
+    first-run-requires
     cast-is-timely
     is-timely-requires
     returns-2)
