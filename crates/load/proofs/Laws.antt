@@ -1,5 +1,5 @@
 -- Laws of sums over tables, and of the load by tables. Assumes nothing.
-use mathlib.Core.Path.{_≡_, refl, sym, ap, _∙_, fun-ext}
+use mathlib.Core.Path.{_≡_, refl, sym, ap, ap₂, _∙_, fun-ext}
 use mathlib.Core.Bool.{Bool, true, false, cond}
 use mathlib.Core.List.{List, []}
 use Prim.Native.Nat.{ℕ, zero, suc, _+_, _*_, _-_, _≤_, _<_}
@@ -19,9 +19,8 @@ use Rattle.model.specs.declared.Found.the-variants.{At, Nowhere}
 use Rattle.reader.specs.Tables.{PeriodsOf, WeightsOf, capOf}
 use Rattle.reader.specs.declared.Judged.{Judged}
 use Rattle.reader.specs.declared.Judged.the-variants as Judged
-use Rattle.reads.proofs.Laws.{search-none}
 use Rattle.reader.specs.Results.{judgementOf}
-use Rattle.load.specs.Load.{addedIn, loadIn, PhasesOf}
+use Rattle.load.specs.Load.{addedIn, loadIn, LoadsOf, Raised, PhasesOf}
 
 -- A sum over a table with one entry more.
 sum-from : (i n : ℕ) (f : ℕ → ℕ) → sum (tableFrom i (suc n) f) ≡ sum (tableFrom i n f) + f (i + n)
@@ -36,12 +35,19 @@ module _ (periods phases weights : List ℕ) (c : ℕ) where
   unfolding loadIn table tableFrom sum
   load-none = refl
 
-  pub load-more : (x : ℕ) → loadIn periods phases weights (x + 1) c ≡ loadIn periods phases weights x c + addedIn periods phases weights c x
+  load-more : (x : ℕ) → loadIn periods phases weights (x + 1) c ≡ loadIn periods phases weights x c + addedIn periods phases weights c x
   unfolding loadIn table
   load-more x =
       ap (λ k. sum (tableFrom 0 k (addedIn periods phases weights c))) (add-one x) ∙
       sum-from 0 x (addedIn periods phases weights c) ∙
       ap (λ k. sum (tableFrom 0 x (addedIn periods phases weights c)) + addedIn periods phases weights c k) (zero-add x)
+
+-- The loads of one signal more.
+pub loads-more : (periods phases weights : List ℕ) (x h : ℕ) (old new : List ℕ) → LoadsOf periods phases weights x h old →
+    Raised (record { period = getD periods x 0; phase = getD phases x 0 }) (getD weights x 0) h old new →
+    LoadsOf periods phases weights (x + 1) h new
+loads-more periods phases weights x h old new l r c lt =
+    r .raised c lt ∙ ap (_+ addedIn periods phases weights c x) (l c lt) ∙ sym (load-more periods phases weights c x)
 
 -- Tables that are the same below n.
 table-same : {A : Type 0} (i n : ℕ) (f g : ℕ → A) → ((x : ℕ) → x < n → f (i + x) ≡ g (i + x)) → tableFrom i n f ≡ tableFrom i n g
@@ -92,16 +98,27 @@ unfolding loaded first
 judged-free p s h e =
     judged-found (first h (λ c. isOver (p .cap) (load p s c))) ∙ ap (λ f. judgedAt (firstFrom 0 h f)) (fun-ext (λ c. ap (λ l. isOver l (load p s c)) e)) ∙ ap judgedAt (never-found 0 h)
 
--- Whether the load of a cycle is over m, by the tables of n signals.
-abbrev pub over : List ℕ → List ℕ → List ℕ → ℕ → ℕ → ℕ → Bool
-over periods phases weights n m c = ltb m (loadIn periods phases weights n c)
+-- Searches by tests that are the same below n.
+first-same : (i n : ℕ) (f g : ℕ → Bool) → ((x : ℕ) → x < n → f (i + x) ≡ g (i + x)) → firstFrom i n f ≡ firstFrom i n g
+unfolding firstFrom
+first-same i zero f g h = refl
+first-same i (suc n) f g h =
+    let a : f i ≡ g i = ap f (sym (add-zero i)) ∙ h 0 (omega arith) ∙ ap g (add-zero i) in
+    let b = first-same (suc i) n f g (λ x lt. ap f (omega arith) ∙ h (suc x) (omega arith) ∙ ap g (omega arith)) in
+    ap₂ (λ (t : Bool) (r : Found). elim t [ true ↦ At i | false ↦ r ]) a b
 
-pub judged-capped : (p : Program) (s : Schedule) (periods phases weights : List ℕ) (n h m : ℕ) (capped : Bool) (f : Found) →
+-- Whether an entry of a table of loads is over m.
+abbrev pub over : List ℕ → ℕ → ℕ → Bool
+over loads m c = ltb m (getD loads c 0)
+
+pub judged-capped : (p : Program) (s : Schedule) (periods phases weights loads : List ℕ) (n h m : ℕ) (capped : Bool) (f : Found) →
     capped ≡ true → count p ≡ n → PeriodsOf p periods → WeightsOf p weights → PhasesOf p s phases → p .cap ≡ capOf capped m →
-    first h (over periods phases weights n m) ≡ f → judgedAt f ≡ judgementOf (loaded p s h)
-judged-capped p s periods phases weights n h m capped f t e hp hw hf cap g =
+    LoadsOf periods phases weights n h loads → first h (over loads m) ≡ f → judgedAt f ≡ judgementOf (loaded p s h)
+unfolding first
+judged-capped p s periods phases weights loads n h m capped f t e hp hw hf cap l g =
     sym (judged-load p s periods phases weights h m hp hw hf (cap ∙ ap (λ b. capOf b m) t) ∙
-    ap (λ k. judgedAt (first h (over periods phases weights k m))) e ∙ ap judgedAt g)
+    ap (λ k. judgedAt (first h (λ c. ltb m (loadIn periods phases weights k c)))) e ∙
+    ap judgedAt (first-same 0 h _ _ (λ x lt. ap (ltb m) (sym (l (0 + x) (omega arith)))) ∙ g))
 
 pub judged-uncapped : (p : Program) (s : Schedule) (h m : ℕ) (capped : Bool) → capped ≡ false → p .cap ≡ capOf capped m →
     Judged.Fine ≡ judgementOf (loaded p s h)

@@ -1,56 +1,52 @@
 // Load: in no cycle of the hypercycle does the summed weight of the signals run exceed CAP (15).
 use model::Fault;
+use model::Found;
 use reader::Judged;
 ghost use mathlib.Core.Path.{_≡_};
-ghost use mathlib.Core.Bool.{cond};
-ghost use Prim.Native.Nat.{ℕ, _≤_, _<_};
-ghost use lib.ListN.{getD};
+ghost use Prim.Native.Nat.{ℕ, _*_, _≤_, _<_};
+ghost use lib.Dec.{ltb};
+ghost use lib.ListN.{length, getD};
 ghost use Rattle.model.specs.Load.{loaded};
 ghost use Rattle.model.specs.Program.{Program, count};
-ghost use Rattle.model.specs.Reads.{due};
 ghost use Rattle.model.specs.Schedule.{Schedule};
+ghost use Rattle.model.specs.Search.{first};
 ghost use Rattle.reader.specs.Results.{judgementOf};
 ghost use Rattle.reader.specs.Tables.{PeriodsOf, WeightsOf, capOf};
-ghost use Rattle.load.specs.Load.{loadIn, PhasesOf};
+ghost use Rattle.load.specs.Load.{LoadsOf, Raised, PhasesOf};
 
-// Whether a signal runs in a cycle.
-fn runs_in(period: u8, phase: u8, cycle: usize) -> bool
-    requires { ⌜ 0 < period ⌝ }
-    ensures { λ r. ⌜ r ≡ due (record { period = period; phase = phase }) cycle ⌝ }
+// Adds a signal's weight to the loads of the cycles in which it runs, stepping from run to run. The loads so far are of at most
+// 63 signals, so that no sum wraps.
+fn add_runs(loads: &mut [u32; 240], period: u8, phase: u8, weight: u16, hypercycle: usize)
+    requires { ⌜ (phase < period) × (hypercycle ≤ 240) × (length (now loads) ≡ 240) × ((c : ℕ) → c < hypercycle → getD (now loads) c 0 ≤ 63 * 65535) ⌝ }
+    ensures { λ r. ⌜ Raised (record { period = period; phase = phase }) weight hypercycle (now (loads .entry)) (now (loads .exit)) ⌝ }
 {
-    cycle % (period as usize) == (phase as usize)
-}
-
-// What a signal adds to the load of a cycle.
-fn added(period: u8, phase: u8, weight: u16, cycle: usize) -> u64
-    requires { ⌜ 0 < period ⌝ }
-    ensures { λ r. ⌜ (r ≡ cond (due (record { period = period; phase = phase }) cycle) weight 0) × (r < 65536) ⌝ }
-{
-    if runs_in(period, phase, cycle) {
-        weight as u64
-    } else {
-        0
+    let step = period as usize;
+    let more = weight as u32;
+    let mut next = phase as usize;
+    while next < hypercycle {
+        loads[next] = loads[next] + more;
+        next = next + step;
     }
 }
 
-// The summed weight of the signals run in a cycle. It goes over every signal once.
-fn load_at(
+// The load of each cycle below the hypercycle. A step for each run of each signal.
+fn loads_of(
     signals: usize,
     periods: &[u8; 64],
     phases: &[u8; 64],
     weights: &[u16; 64],
-    cycle: usize,
-) -> u64
-    requires { ⌜ (signals ≤ 64) × ((x : ℕ) → x < signals → 0 < getD (now periods) x 0) ⌝ }
-    ensures { λ r. ⌜ r ≡ loadIn (now (periods .entry)) (now (phases .entry)) (now (weights .entry)) signals cycle ⌝ }
+    hypercycle: usize,
+) -> [u32; 240]
+    requires { ⌜ (signals ≤ 64) × (hypercycle ≤ 240) × ((x : ℕ) → x < signals → getD (now phases) x 0 < getD (now periods) x 0) ⌝ }
+    ensures { λ r. ⌜ LoadsOf (now (periods .entry)) (now (phases .entry)) (now (weights .entry)) signals hypercycle r ⌝ }
 {
-    let mut total: u64 = 0;
+    let mut loads: [u32; 240] = [0; 240];
     let mut x: usize = 0;
     while x < signals {
-        total = total + added(periods[x], phases[x], weights[x], cycle);
+        add_runs(&mut loads, periods[x], phases[x], weights[x], hypercycle);
         x = x + 1;
     }
-    total
+    loads
 }
 
 fn refuse(cycle: usize) -> Judged
@@ -62,7 +58,23 @@ fn refuse(cycle: usize) -> Judged
     })
 }
 
-// 15 at the lowest cycle of the hypercycle whose load is over CAP. Its cost is signals × hypercycle.
+// The lowest cycle below the hypercycle whose load is over the limit.
+fn first_over(loads: &[u32; 240], limit: u32, hypercycle: usize) -> Found
+    requires { ⌜ hypercycle ≤ 240 ⌝ }
+    ensures { λ r. ⌜ r ≡ first hypercycle (λ c. ltb limit (getD (now (loads .entry)) c 0)) ⌝ }
+{
+    let mut cycle: usize = 0;
+    while cycle < hypercycle {
+        let load = loads[cycle];
+        if limit < load {
+            return Found::At(cycle);
+        }
+        cycle = cycle + 1;
+    }
+    Found::Nowhere
+}
+
+// 15 at the lowest cycle of the hypercycle whose load is over CAP. Its cost is a step for each run and each cycle.
 pub fn check_load(
     signals: usize,
     periods: &[u8; 64],
@@ -72,20 +84,16 @@ pub fn check_load(
     limit: u32,
     hypercycle: usize,
 ) -> Judged
-    requires { ⌜ (signals ≤ 64) × ((x : ℕ) → x < signals → 0 < getD (now periods) x 0) ⌝ }
+    requires { ⌜ (signals ≤ 64) × (hypercycle ≤ 240) × ((x : ℕ) → x < signals → getD (now phases) x 0 < getD (now periods) x 0) ⌝ }
     ensures { λ r. ⌜ ((p : Program) (s : Schedule) → count p ≡ signals → PeriodsOf p (now (periods .entry)) → WeightsOf p (now (weights .entry)) → PhasesOf p s (now (phases .entry)) → p .cap ≡ capOf capped limit → r ≡ judgementOf (loaded p s hypercycle)) ⌝ }
 {
     if !capped {
         return Judged::Fine;
     }
-    let most = limit as u64;
-    let mut cycle: usize = 0;
-    while cycle < hypercycle {
-        let load = load_at(signals, periods, phases, weights, cycle);
-        if most < load {
-            return refuse(cycle);
-        }
-        cycle = cycle + 1;
+    let loads = loads_of(signals, periods, phases, weights, hypercycle);
+    let over = first_over(&loads, limit, hypercycle);
+    match over {
+        Found::At(cycle) => refuse(cycle),
+        Found::Nowhere => Judged::Fine,
     }
-    Judged::Fine
 }

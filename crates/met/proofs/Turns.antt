@@ -31,6 +31,7 @@ use Rattle.rates.specs.Walk.{
   anyPart,
   readsHere,
   linksHere,
+  PastOperators,
   Walk,
   allReads,
   allLinks,
@@ -38,6 +39,7 @@ use Rattle.rates.specs.Walk.{
 use Rattle.rates.specs.declared.Part.{Part}
 use Rattle.rates.specs.declared.Part.the-variants as Part
 use Rattle.rates.proofs.Joined.{each, each-joined, join-same, numbers-below, all-later, Beyond, lowest-inside}
+use Rattle.rates.proofs.Operators.{walk-past}
 use Rattle.rates.proofs.Walk.{walked, turn, over, walk-after, after-less}
 use Rattle.reader.specs.Tables.{PeriodsOf, SlotsOf}
 use Rattle.reader.specs.declared.Judged.{Judged}
@@ -129,6 +131,20 @@ pub record Ahead (text : List ℕ) (p : Program) (s : Schedule) (at d : ℕ) : T
   pub readers : All (λ m. m .number < count p) reads
   pub declared : All (λ m. m .item .operands .signal < count p) reads
   pub left : met p s ≡ rest p s reads
+
+-- Operators leave all of it.
+pub passes : (text : List ℕ) (p : Program) (s : Schedule) (at d to : ℕ) → Ahead text p s at d → PastOperators text at to →
+    Ahead text p s to d
+passes text p s at d to a o =
+    record {
+      chains = a .chains;
+      reads = a .reads;
+      links = a .links;
+      walk = walk-past to (o .1) (o .1) (a .walk) (o .0) (o .2);
+      readers = a .readers;
+      declared = a .declared;
+      left = a .left;
+    }
 
 -- What a judgement of a part at `at`, of w bytes, says.
 abbrev pub Says : List ℕ → Program → Schedule → ℕ → ℕ → ℕ → Part → Judged → Type 0

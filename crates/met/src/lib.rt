@@ -115,7 +115,7 @@ pub fn check_reads(
             return judged;
         };
         declared = declared + rates::signals_here(part);
-        at = at + width;
+        at = rates::skip_operators(text, at + width);
     }
     Judged::Fine
 }

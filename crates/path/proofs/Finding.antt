@@ -15,10 +15,10 @@ use Rattle.model.specs.Program.{Read, Expr, Body, input, equation, Link, Progra
 use Rattle.model.specs.declared.Command.{Command}
 use Rattle.model.specs.declared.Command.the-variants as Command
 use Rattle.model.proofs.Command.{enum}
-use Rattle.rates.specs.Walk.{widthOf, partOf, Numbered, readsHere, isOperand, Walk, done}
+use Rattle.rates.specs.Walk.{widthOf, partOf, Numbered, readsHere, isOperand, PastOperators, Walk, done}
 use Rattle.rates.specs.declared.Part.{Part}
 use Rattle.rates.specs.declared.Part.the-variants as Part
-use Rattle.rates.proofs.Counting.{Stops, Closed, closed, items, items-of, others}
+use Rattle.rates.proofs.Counting.{Stops, Closed, closed, walk-on, items, items-of, others}
 use Rattle.rates.proofs.Walk.{walk-within, walk-expr, turn, over}
 use Rattle.path.specs.Path.{takenOf, isReadOf, takenAt}
 use Rattle.path.specs.declared.Taken.{Taken}
@@ -118,6 +118,20 @@ module _ (text : List ℕ) (w : ℕ) where
         let t = turn (h .walk) (inside c e o) c (sym e) in
         find-at w at (h .signals) (partOf c) (t .reads) is ∙
         ap takenOf (ap (λ rs. readOf w (items rs)) (sym (t .reads-are)) ∙ h .finds)
+
+    -- Operators are no reads.
+    pub find-passes : (to : ℕ) → PastOperators text at to → Ahead text w found to
+    find-passes to o =
+        record {
+          next = h .next;
+          signals = h .signals;
+          chains = h .chains;
+          reads = h .reads;
+          links = h .links;
+          walk = walk-on to (h .walk) (h .stop) o;
+          stop = h .stop;
+          finds = h .finds;
+        }
 
     -- By what is known of the command: its part, its width, and whether it is a read of w.
     pub find-moves : (c : Command) (x : Part) (k : ℕ) → c ≡ commandAt text at → x ≡ partOf c → k ≡ widthOf c →

@@ -77,7 +77,7 @@ fn find_from(text: &[u8], from: usize, signal: u8) -> Taken
         if is_read_of(part, signal) {
             return taken_at(part);
         }
-        at = at + rates::width_of(command);
+        at = rates::skip_operators(text, at + rates::width_of(command));
     }
     no_read()
 }

@@ -24,9 +24,10 @@ use Rattle.model.proofs.Command.{enum}
 use Rattle.model.specs.Grammar.{Spells, Declares}
 use Rattle.model.proofs.Spelled.{declared}
 use Rattle.rates.specs.Answers.{countedOf}
-use Rattle.rates.specs.Walk.{widthOf, partOf, Numbered, numbered, readsHere, isOperand, Walk, done}
+use Rattle.rates.specs.Walk.{widthOf, partOf, Numbered, numbered, readsHere, isOperand, PastOperators, Walk, done}
 use Rattle.rates.specs.declared.Part.{Part}
 use Rattle.rates.specs.declared.Part.the-variants as Part
+use Rattle.rates.proofs.Operators.{operator-one, walk-past}
 use Rattle.rates.proofs.Walk.{read-width, width-moves, walk-within, walk-expr, turn, over}
 
 -- Where no part of an expression stands.
@@ -83,6 +84,17 @@ operand-width (Command.Read kind x) e = read-width kind
 operand-width (Command.Binary operator) e = omega arith
 operand-width Command.Negate e = omega arith
 operand-width Command.If e = omega arith
+
+-- Operators do not go past the end of an expression.
+pub walk-on : {text : List ℕ} {next at s k : ℕ} {rs : List (Numbered Read)} {ls : List (Numbered Link)} (to : ℕ) →
+    Walk isOperand text next at s k rs ls → Stops text next → PastOperators text at to → Walk isOperand text next to s k rs ls
+walk-on {text} {next} to w stop o = walk-past to (o .1) (go (decLt next to)) w (o .0) (o .2)
+  where
+    go : Dec (next < to) → to ≤ next
+    go (yes lt) =
+        absurd (false≢true (sym stop ∙
+        ap isOperand (operator-one text next (omega (arith, o .1)) (o .2 next (walk-within w) lt) .1)))
+    go (no ge) = omega arith
 
 -- The reads of a list of numbered ones.
 abbrev pub items : List (Numbered Read) → List Read
@@ -177,6 +189,20 @@ module _ (text : List ℕ) (w : ℕ) where
         go (no ge) =
             let same : at ≡ h .next = omega (arith, walk-within (h .walk)) in
             absurd (false≢true (sym (subst (Stops text) (sym same) (h .stop)) ∙ ap (λ k. isOperand (partOf k)) (sym e) ∙ o))
+
+    -- Operators count nothing.
+    pub count-past : (to : ℕ) → PastOperators text at to → Left text w total to n
+    count-past to o =
+        record {
+          next = h .next;
+          signals = h .signals;
+          chains = h .chains;
+          reads = h .reads;
+          links = h .links;
+          walk = walk-on to (h .walk) (h .stop) o;
+          stop = h .stop;
+          counts = h .counts;
+        }
 
     -- By what is known of the command: its part, its width, and what it counts.
     pub count-moves : (c : Command) (x : Part) (k m : ℕ) → c ≡ commandAt text at → x ≡ partOf c → k ≡ widthOf c →

@@ -4,5 +4,6 @@ pub mod Counting
 pub mod Joined
 pub mod Linking
 pub mod Multiples
+pub mod Operators
 pub mod Turns
 pub mod Walk

@@ -22,10 +22,11 @@ use Rattle.reader.specs.Tables.{PeriodsOf}
 use Rattle.reader.specs.declared.Judged.{Judged}
 use Rattle.reader.specs.declared.Judged.the-variants as Judged
 use Rattle.rates.specs.Answers.{periodAt, rateJudged, readJudged, partJudged}
-use Rattle.rates.specs.Walk.{widthOf, partOf, signalsAfter, Numbered, anyPart, readsHere, linksHere, Walk, allReads, allLinks}
+use Rattle.rates.specs.Walk.{widthOf, partOf, signalsAfter, Numbered, anyPart, readsHere, linksHere, PastOperators, Walk, allReads, allLinks}
 use Rattle.rates.specs.declared.Part.{Part}
 use Rattle.rates.specs.declared.Part.the-variants as Part
 use Rattle.rates.proofs.Joined.{each, each-joined, join-same, numbers-below, all-later, Beyond, lowest-inside}
+use Rattle.rates.proofs.Operators.{walk-past}
 use Rattle.rates.proofs.Walk.{walked, turn, over, walk-after, after-less}
 
 -- What a judgement leaves of the rest.
@@ -124,6 +125,18 @@ pub record Ahead (text : List ℕ) (p : Program) (at s : ℕ) : Type 0 where
   pub walk : Walk anyPart text (length text) at s chains reads links
   pub readers : All (λ m. m .number < count p) reads
   pub left : declaredAndRated p ≡ rest p reads links
+
+-- Operators leave all of it.
+pub passes : (text : List ℕ) (p : Program) (at s to : ℕ) → Ahead text p at s → PastOperators text at to → Ahead text p to s
+passes text p at s to a o =
+    record {
+      chains = a .chains;
+      reads = a .reads;
+      links = a .links;
+      walk = walk-past to (o .1) (o .1) (a .walk) (o .0) (o .2);
+      readers = a .readers;
+      left = a .left;
+    }
 
 -- What a judgement of a part at `at`, of w bytes, says.
 abbrev pub Says : List ℕ → Program → ℕ → ℕ → ℕ → Part → Judged → Type 0

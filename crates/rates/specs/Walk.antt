@@ -1,11 +1,14 @@
 -- The flat walk over the commands of a program text, and what they mention.
-use Prim.Native.Nat.{ℕ, _+_, _-_, _<_}
-use mathlib.Core.Bool.{Bool, true, false}
+use Prim.Native.Nat.{ℕ, _+_, _-_, _≤_, _<_}
+use mathlib.Core.Bool.{Bool, true, false, _&&_, _||_}
 use mathlib.Core.List.{List, [], _∷_, _++_, map}
 use mathlib.Core.Path.{_≡_}
+use lib.Dec.{leb, eqb}
+use lib.ListN.{length}
 use Rattle.model.specs.Command.{commandAt}
 use Rattle.model.specs.Program.{Read, Link, Program, readWidth, bodyReads}
 use Rattle.model.specs.Search.{joinFrom}
+use Rattle.model.specs.Word.{byteAt}
 use Rattle.model.specs.declared.Command.{Command}
 use Rattle.model.specs.declared.Command.the-variants as Command
 use Rattle.rates.specs.declared.Part.{Part}
@@ -98,6 +101,19 @@ isOperand Part.Chain = false
 isOperand (Part.Link signal) = false
 isOperand Part.Operand = true
 isOperand (Part.Read kind x) = true
+
+-- An operator's byte: 30 ADD to 36 MAX, 38 NEG, 3A IF. It is a whole command, since operands are commands of their own.
+abbrev pub isOperator : ℕ → Bool
+isOperator b = (leb 0x30 b && leb b 0x36) || (eqb b 0x38 || eqb b 0x3A)
+
+-- From `from` up to `to` there are operators only.
+abbrev pub Operators : List ℕ → ℕ → ℕ → Type 0
+Operators text from to = (i : ℕ) → from ≤ i → i < to → isOperator (byteAt text i) ≡ true
+
+-- The first offset from `from` on that holds no operator, or the end of the text.
+abbrev pub PastOperators : List ℕ → ℕ → ℕ → Type 0
+PastOperators text from at =
+    (from ≤ at) × (at ≤ length text) × Operators text from at × (at < length text → isOperator (byteAt text at) ≡ false)
 
 -- From `at`, after s signals and k chains, commands follow one another up to `end`, all of them such parts, and these are
 -- the reads and LINKs that they mention.

@@ -16,7 +16,7 @@ ghost use Rattle.model.specs.Rates.{periodRule, declaredAndRated, isMultiple, h
 ghost use Rattle.reader.specs.Tables.{TablesOf, PeriodsOf, chainAt};
 ghost use Rattle.rates.specs.Answers.{cyclesOf, periodAt, rateJudged, readJudged, partJudged, countedOf, ReadAs};
 ghost use Rattle.reader.specs.Results.{judgementOf};
-ghost use Rattle.rates.specs.Walk.{widthOf, partOf, signalsAfter, isOperand};
+ghost use Rattle.rates.specs.Walk.{widthOf, partOf, signalsAfter, isOperand, isOperator, PastOperators};
 
 // The bytes of a command without the expression or the LINKs that follow it.
 pub fn width_of(command: Command) -> usize
@@ -70,6 +70,35 @@ pub fn part_of(command: Command) -> Part
         Command::Negate => Part::Operand,
         Command::If => Part::Operand,
     }
+}
+
+// Whether a byte is an operator's.
+fn is_operator(byte: u8) -> bool
+    ensures { λ r. ⌜ r ≡ isOperator byte ⌝ }
+{
+    if byte < 0x30 {
+        return false;
+    }
+    if byte <= 0x36 {
+        return true;
+    }
+    byte == 0x38 || byte == 0x3A
+}
+
+// The first offset from `from` on that holds no operator, or the end of the text. A walk passes over operators by their byte, since
+// there is nothing to judge and most of its time goes into decoding.
+pub fn skip_operators(text: &[u8], from: usize) -> usize
+    requires { ⌜ from ≤ length (now text) ⌝ }
+    ensures { λ r. ⌜ PastOperators (now (text .entry)) from r ⌝ }
+{
+    let mut at = from;
+    while at < text.len() {
+        if !is_operator(text[at]) {
+            return at;
+        }
+        at = at + 1;
+    }
+    at
 }
 
 // How many signals a part declares.
@@ -208,7 +237,7 @@ pub fn declared_and_rated(text: &[u8], count: usize, periods: &[u8; 64]) -> Judg
             return judged;
         };
         signals = signals + signals_here(part);
-        at = at + width;
+        at = skip_operators(text, at + width);
     }
     Judged::Fine
 }
@@ -306,7 +335,7 @@ fn count_from(text: &[u8], from: usize, signal: u8) -> usize
             return count;
         }
         count = count + counted(part, signal);
-        at = at + width_of(command);
+        at = skip_operators(text, at + width_of(command));
     }
     count
 }

@@ -1,12 +1,13 @@
 -- `checks::check_runs` meets its contract. Assumes nothing.
 use Prim.Native.Nat.{ℕ, _≤_, _<_}
 use mathlib.Core.Path.{_≡_, _∙_}
+use native.Mathlib.Omega.{arith}
 use denote.Ref.{now}
 use lib.ListN.{getD}
 use borrow.Author.Needs.{needs}
 use Rattle.model.specs.Load.{loaded}
 use Rattle.model.specs.Outcome.{accepted}
-use Rattle.model.specs.Program.{Program}
+use Rattle.model.specs.Program.{Program, count}
 use Rattle.model.specs.Reads.{met}
 use Rattle.model.specs.Schedule.{Schedule}
 use Rattle.model.proofs.Hypercycle.{hypercycle-least}
@@ -29,12 +30,26 @@ start r = r .before .before .before .before .before .before .before .before
 abbrev reads : tie.After-check-load → tie.After-check-reads
 reads l = l .before .before .before .before .before .before .before
 
--- what the first two checks ask
+-- what the check of the reads asks
 bounded : (b : tie.Start) → (b .args .tables .signals ≤ 64) ×
     ((x : ℕ) → x < b .args .tables .signals → 0 < getD (b .args .signals .periods) x 0)
 bounded b =
     let g = b .pre .2 in
     (few-signals _ _ _ (g .parsed) (g .tables-are), positive _ _ _ (g .parsed) (g .tables-are) (b .args .signals .periods) (g .signals-are .periods))
+
+-- what the load asks
+phased : (b : tie.Start) → (b .args .tables .signals ≤ 64) × (b .args .h ≤ 240) ×
+    ((x : ℕ) → x < b .args .tables .signals → getD (b .args .slots .phases) x 0 < getD (b .args .signals .periods) x 0)
+phased b =
+    let p = b .pre .0 in
+    let s = b .pre .1 in
+    let g = b .pre .2 in (
+      few-signals _ _ _ (g .parsed) (g .tables-are),
+      hypercycle-least p (b .args .h) .0 (g .hyper) .bound,
+      (λ x lt.
+          let l : x < count p = omega (arith, g .tables-are .counts .signals-are) in
+          omega (arith, g .slots-are .phases-are x l, g .signals-are .periods x l, placed-ordered p (g .puts) s (g .places) .0 .phases x l)),
+    )
 
 -- what the first two checks find of a pair
 reads-judged : (r : tie.After-check-reads) (p : Program) (s : Schedule) → Pair (start r) p s →
@@ -92,7 +107,7 @@ returns c p s g =
     answers-judgement _ _ (answers-stop _ _ _ _ _ (judgement-refused _ _ _ (reads-judged (c .before .before) p s g) told) told)
 
 check-load-requires : tie.Need-check-load-requires
-check-load-requires c κs = bounded (start (c .before .before .before .before .before .before))
+check-load-requires c κs = phased (start (c .before .before .before .before .before .before))
 
 enum-told-3 : tie.Need-enum-told-3
 enum-told-3 c = search needs

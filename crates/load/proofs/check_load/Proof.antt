@@ -1,89 +1,68 @@
 -- `load::check_load` meets its contract. Assumes nothing.
-use Rattle.load.proofs.Laws.{over, judged-capped, judged-uncapped}
-use Prim.Native.Nat.{ℕ, _-_, _≤_, _<_}
-use mathlib.Core.Path.{_≡_, _∙_}
-use mathlib.Core.Bool.{true, false}
-use native.Mathlib.Omega.{arith}
-use native.Mathlib.Nat.{sub-zero}
-use lib.ListN.{getD}
+use mathlib.Core.Path.{_≡_, sym, _∙_}
 use borrow.Author.Needs.{needs}
-use borrow.Author.Tests.{lt-ltb, le-ltb, not-true, not-false}
+use borrow.Author.Tests.{not-true, not-false}
 use denote.Ref.{now}
-use Rattle.model.specs.Search.{first, firstFrom}
-use Rattle.reads.proofs.Laws.{search-none, search-here, search-next}
-use Rattle.load.specs.Load.{loadIn}
+use Rattle.model.specs.Load.{loaded}
+use Rattle.model.specs.Program.{Program, count}
+use Rattle.model.specs.Schedule.{Schedule}
+use Rattle.model.specs.declared.Found.{Found}
+use Rattle.reader.specs.Results.{judgementOf}
+use Rattle.reader.specs.Tables.{PeriodsOf, WeightsOf, capOf}
+use Rattle.load.specs.Load.{PhasesOf}
+use Rattle.load.proofs.Laws.{judgedAt, judged-capped, judged-uncapped}
 use Rattle.load.proofs.check_load.Statement.{statement}
 use Rattle.load.proofs.check_load.Tie as tie
 
-abbrev Inv-loop : tie.InvT-loop
-Inv-loop signals periods phases weights capped limit hypercycle most cycle₀ cycle =
-    (signals ≤ 64) × ((y : ℕ) → y < signals → 0 < getD periods y 0) ×
-    (first hypercycle (over periods phases weights signals limit) ≡
-    firstFrom cycle (hypercycle - cycle) (over periods phases weights signals limit))
+abbrev start : tie.After-first-over → tie.Start
+start f = f .before .before .before .before
 
-abbrev μ-loop : tie.MeasureT-loop
-μ-loop signals periods phases weights capped limit hypercycle most cycle₀ cycle = hypercycle - cycle
+-- what the search over the cycles says of the load
+judged : (f : tie.After-first-over) (found : Found) → f .first-over .result ≡ found →
+    let a = start f .args in
+    (p : Program) (s : Schedule) → count p ≡ a .signals → PeriodsOf p (now (a .periods)) → WeightsOf p (now (a .weights)) →
+    PhasesOf p s (now (a .phases)) → p .cap ≡ capOf (a .capped) (a .limit) → judgedAt found ≡ judgementOf (loaded p s (a .hypercycle))
+judged f found e p s n hp hw hf cap =
+    let a = start f .args in
+    judged-capped p s (now (a .periods)) (now (a .phases)) (now (a .weights)) (f .before .before .loads-of .result) (a .signals) (a .hypercycle) (a .limit) (a .capped) found
+    (not-false _ (f .before .before .before .if1 .left)) n hp hw hf cap (f .before .before .loads-of .ensures) (sym (f .first-over .ensures) ∙ e)
 
-returns : tie.Need-returns Inv-loop μ-loop
+returns : tie.Need-returns
 returns c =
     let a = c .before .args in
     λ p s n hp hw hf cap. judged-uncapped p s (a .hypercycle) (a .limit) (a .capped) (not-true _ (c .if1 .taken)) cap
 
-loop-holds : tie.Need-loop-holds Inv-loop μ-loop
-unfolding first
-loop-holds c = (c .before .pre .0, c .before .pre .1, rw sub-zero)
+loads-of-requires : tie.Need-loads-of-requires
+loads-of-requires c κs = search needs
 
-load-at-requires : tie.Need-load-at-requires Inv-loop μ-loop
-load-at-requires c κs = (c .before .loop .inv .0, c .before .loop .inv .1)
+first-over-requires : tie.Need-first-over-requires
+first-over-requires c κs = search needs
 
-refuse-requires : tie.Need-refuse-requires Inv-loop μ-loop
+enum-known-over : tie.Need-enum-known-over
+enum-known-over c = search needs
+
+refuse-requires : tie.Need-refuse-requires
 refuse-requires c κs = search needs
 
-returns-2 : tie.Need-returns-2 Inv-loop μ-loop
-returns-2 c =
-    let l = c .before .before .before .before .loop in
-    let a = c .before .before .before .before .before .before .args in
-    let large : over (now (a .periods)) (now (a .phases)) (now (a .weights)) (a .signals) (a .limit) (l .cycle) ≡ true = lt-ltb (a .limit) (loadIn (now (a .periods)) (now (a .phases)) (now (a .weights)) (a .signals) (l .cycle)) (omega (arith, c .before .before .load-at .ensures)) in
-    λ p s n hp hw hf cap.
-    c .refuse .ensures ∙
-    judged-capped p s (now (a .periods)) (now (a .phases)) (now (a .weights)) (a .signals) (a .hypercycle) (a .limit) (a .capped) _
-    (not-false _ (c .before .before .before .before .before .if1 .left)) n hp hw hf cap
-    (l .inv .2 ∙ search-here _ (l .cycle) (a .hypercycle) (c .before .before .before .loop-test .taken) large)
+enum-told : tie.Need-enum-told
+enum-told c = search needs
 
-add-cycle : tie.Need-add-cycle Inv-loop μ-loop
-add-cycle c = omega arith
+returns-2 : tie.Need-returns-2
+returns-2 c p s n hp hw hf cap =
+    c .refuse .ensures ∙ judged (c .before .before .before .before) _ (c .before .before .over .given .1) p s n hp hw hf cap
 
-loop-less : tie.Need-loop-less Inv-loop μ-loop
-loop-less c = omega arith
-
-loop-again : tie.Need-loop-again Inv-loop μ-loop
-loop-again c =
-    let l = c .before .before .before .loop in
-    let a = c .before .before .before .before .before .args in
-    let small : over (now (a .periods)) (now (a .phases)) (now (a .weights)) (a .signals) (a .limit) (l .cycle) ≡ false = le-ltb (a .limit) (loadIn (now (a .periods)) (now (a .phases)) (now (a .weights)) (a .signals) (l .cycle)) (omega (arith, c .before .load-at .ensures)) in
-    (l .inv .0, l .inv .1, l .inv .2 ∙ search-next _ (l .cycle) (a .hypercycle) (c .before .before .loop-test .taken) small)
-
-returns-3 : tie.Need-returns-3 Inv-loop μ-loop
-returns-3 c =
-    let l = c .before .loop in
-    let a = c .before .before .before .args in
-    λ p s n hp hw hf cap.
-    judged-capped p s (now (a .periods)) (now (a .phases)) (now (a .weights)) (a .signals) (a .hypercycle) (a .limit) (a .capped) _
-    (not-false _ (c .before .before .if1 .left)) n hp hw hf cap
-    (l .inv .2 ∙ search-none _ (l .cycle) (a .hypercycle) (c .loop-test .left))
+returns-3 : tie.Need-returns-3
+returns-3 c = judged (c .before .before) _ (c .enum-told .given .1)
 
 pub check-load-spec : {M : Type 1} → statement M
 check-load-spec =
     tie.close
     (tie.spec
-    Inv-loop
-    μ-loop
     returns
-    loop-holds
-    load-at-requires
+    loads-of-requires
+    first-over-requires
+    enum-known-over
     refuse-requires
+    enum-told
     returns-2
-    add-cycle
-    loop-less
-    loop-again
     returns-3)

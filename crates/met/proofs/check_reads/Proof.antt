@@ -18,7 +18,7 @@ use Rattle.reader.specs.Tables.{PeriodsOf, SlotsOf}
 use Rattle.reader.specs.declared.Judged.{Judged}
 use Rattle.reader.specs.declared.Judged.the-variants as Judged
 use Rattle.met.specs.Met.{Positive, partMet}
-use Rattle.met.proofs.Turns.{Ahead, Says, start, moves-on, ended}
+use Rattle.met.proofs.Turns.{Ahead, Says, start, passes, moves-on, ended}
 use Rattle.met.proofs.check_reads.Statement.{statement}
 use Rattle.met.proofs.check_reads.Tie as tie
 
@@ -116,26 +116,37 @@ add-declared c =
     let m = moves (c .before .before .before .before .before .before) (c .before .before .before .before .before .if1 .left) in
     omega (arith, m, c .signals-here .ensures .1)
 
-add-at : tie.Need-add-at Inv-loop μ-loop
-add-at c =
+add-skip-operators : tie.Need-add-skip-operators Inv-loop μ-loop
+add-skip-operators c =
     let m = moves (c .before .before .before .before .before .before) (c .before .before .before .before .before .if1 .left) in
     omega (arith, m)
+
+skip-operators-requires : tie.Need-skip-operators-requires Inv-loop μ-loop
+skip-operators-requires c κs =
+    moves (c .before .before .before .before .before .before) (c .before .before .before .before .before .if1 .left) .1
 
 loop-less : tie.Need-loop-less Inv-loop μ-loop
 loop-less c =
-    let m = moves (c .before .before .before .before .before .before) (c .before .before .before .before .before .if1 .left) in
-    omega (arith, m)
+    let b = c .before .before .before .before .before .before in
+    let m = moves (b .before) (b .if1 .left) in
+    omega (arith, m, c .skip-operators .ensures .0)
 
 loop-again : tie.Need-loop-again Inv-loop μ-loop
 loop-again c =
-    let b = c .before .before .before .before .before .before in
+    let h = c .before in
+    let b = h .before .before .before .before .before .before in
     let l = b .before .before .before .loop in
-    let m = moves b (c .before .before .before .before .before .if1 .left) in (
-      omega (arith, m, c .signals-here .ensures .1),
-      m .1,
+    let m = moves b (h .before .before .before .before .before .if1 .left) in
+    let k = c .skip-operators .ensures in (
+      omega (arith, m, h .signals-here .ensures .1, k .0),
+      k .1,
       l .inv .2,
       l .inv .3,
-      λ p s order e n r t o. subst (Ahead (text b) p s _) (c .signals-here .ensures .0 _) (on b p s order e n r t o _ Judged.Fine (c .before .before .before .before .part-of .ensures) (sym (c .before .enum-told .given .1) ∙ c .before .before .before .judge-part .ensures) .1),
+      λ p s order e n r t o.
+          passes (text b) p s _ _ _
+          (subst (Ahead (text b) p s _) (h .signals-here .ensures .0 _)
+          (on b p s order e n r t o _ Judged.Fine (h .before .before .before .before .part-of .ensures)
+          (sym (h .before .enum-told .given .1) ∙ h .before .before .before .judge-part .ensures) .1)) k,
     )
 
 returns-3 : tie.Need-returns-3 Inv-loop μ-loop
@@ -159,7 +170,8 @@ check-reads-spec =
     returns-2
     signals-here-requires
     add-declared
-    add-at
+    add-skip-operators
+    skip-operators-requires
     loop-less
     loop-again
     returns-3)

@@ -12,7 +12,7 @@ use Rattle.model.specs.Outcome.{accepted}
 use Rattle.model.specs.Program.{Program, Expr, equation, signalAt, parseProgram, readsOf}
 use Rattle.rates.specs.Walk.{partOf, isOperand}
 use Rattle.rates.proofs.Counting.{stops-past, operand-moves}
-use Rattle.path.proofs.Finding.{Ahead, find-start, find-stop, find-moves, find-ends}
+use Rattle.path.proofs.Finding.{Ahead, find-start, find-stop, find-passes, find-moves, find-ends}
 use Rattle.path.proofs.find_from.Statement.{statement}
 use Rattle.path.proofs.find_from.Tie as tie
 
@@ -80,20 +80,25 @@ returns-2 c =
 width-of-requires : tie.Need-width-of-requires Inv-loop μ-loop
 width-of-requires c κs = search needs
 
-add-at : tie.Need-add-at Inv-loop μ-loop
-add-at c = omega (arith, moves c)
+add-skip-operators : tie.Need-add-skip-operators Inv-loop μ-loop
+add-skip-operators c = omega (arith, moves c)
+
+skip-operators-requires : tie.Need-skip-operators-requires Inv-loop μ-loop
+skip-operators-requires c κs = moves c .1
 
 loop-less : tie.Need-loop-less Inv-loop μ-loop
-loop-less c = omega (arith, moves c)
+loop-less c = omega (arith, moves (c .before), c .skip-operators .ensures .0)
 
 loop-again : tie.Need-loop-again Inv-loop μ-loop
 loop-again c =
-    let s = c .before .before in
+    let h = c .before in
+    let s = h .before .before in
     let b = s .before .before .before in
     λ p x weight e q lt d f.
-    find-moves _ _ _ _ (b .before .before .before .loop .inv p x weight e q lt d f) _ _ _
-    (b .before .command-at .ensures) (b .part-of .ensures) (c .width-of .ensures) (operand c)
-    (sym (s .is-read-of .ensures) ∙ c .before .if2 .left)
+    find-passes _ _ _ _
+    (find-moves _ _ _ _ (b .before .before .before .loop .inv p x weight e q lt d f) _ _ _
+    (b .before .command-at .ensures) (b .part-of .ensures) (h .width-of .ensures) (operand h)
+    (sym (s .is-read-of .ensures) ∙ h .before .if2 .left)) _ (c .skip-operators .ensures)
 
 no-read-requires-2 : tie.Need-no-read-requires-2 Inv-loop μ-loop
 no-read-requires-2 c κs = search needs
@@ -120,7 +125,8 @@ find-from-spec =
     taken-at-requires
     returns-2
     width-of-requires
-    add-at
+    add-skip-operators
+    skip-operators-requires
     loop-less
     loop-again
     no-read-requires-2

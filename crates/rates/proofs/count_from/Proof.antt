@@ -10,7 +10,7 @@ use Rattle.model.specs.Outcome.{accepted}
 use Rattle.model.specs.Program.{Program, Expr, equation, signalAt, parseProgram, readsOf}
 use Rattle.model.specs.Rates.{countReads}
 use Rattle.rates.specs.Walk.{partOf, isOperand}
-use Rattle.rates.proofs.Counting.{Left, count-start, count-stop, count-moves, counted-most, stops-past, operand-moves}
+use Rattle.rates.proofs.Counting.{Left, count-start, count-stop, count-past, count-moves, counted-most, stops-past, operand-moves}
 use Rattle.rates.proofs.count_from.Statement.{statement}
 use Rattle.rates.proofs.count_from.Tie as tie
 
@@ -62,21 +62,27 @@ add-count c = omega (arith, c .counted .ensures, counted-most (c .before .before
 width-of-requires : tie.Need-width-of-requires Inv-loop μ-loop
 width-of-requires c κs = search needs
 
-add-at : tie.Need-add-at Inv-loop μ-loop
-add-at c = omega (arith, moves c)
+add-skip-operators : tie.Need-add-skip-operators Inv-loop μ-loop
+add-skip-operators c = omega (arith, moves c)
+
+skip-operators-requires : tie.Need-skip-operators-requires Inv-loop μ-loop
+skip-operators-requires c κs = moves c .1
 
 loop-less : tie.Need-loop-less Inv-loop μ-loop
-loop-less c = omega (arith, moves c)
+loop-less c = omega (arith, moves (c .before), c .skip-operators .ensures .0)
 
 loop-again : tie.Need-loop-again Inv-loop μ-loop
 loop-again c =
-    let b = c .before .before .before in
-    let a = b .before .before .before .before .before .before .args in (
-      omega (arith, moves c, c .before .counted .ensures, counted-most (a .signal) (b .before .part-of .result)),
+    let h = c .before in
+    let b = h .before .before .before in
+    let a = b .before .before .before .before .before .before .args in
+    let o = c .skip-operators .ensures in (
+      omega (arith, moves h, h .before .counted .ensures, counted-most (a .signal) (b .before .part-of .result), o .0),
       λ p x weight e q lt d f.
-          count-moves _ _ _ _ _ (b .before .before .before .before .loop .inv .1 p x weight e q lt d f) _ _ _ _
-          (b .before .before .command-at .ensures) (b .before .part-of .ensures) (c .width-of .ensures) (c .before .counted .ensures)
-          (sym (b .is-operand .ensures) ∙ not-false (b .is-operand .result) (c .before .before .if1 .left)),
+          count-past _ _ _ _ _
+          (count-moves _ _ _ _ _ (b .before .before .before .before .loop .inv .1 p x weight e q lt d f) _ _ _ _
+          (b .before .before .command-at .ensures) (b .before .part-of .ensures) (h .width-of .ensures) (h .before .counted .ensures)
+          (sym (b .is-operand .ensures) ∙ not-false (b .is-operand .result) (h .before .before .if1 .left))) _ o,
     )
 
 returns-2 : tie.Need-returns-2 Inv-loop μ-loop
@@ -98,7 +104,8 @@ count-from-spec =
     counted-requires
     add-count
     width-of-requires
-    add-at
+    add-skip-operators
+    skip-operators-requires
     loop-less
     loop-again
     returns-2)

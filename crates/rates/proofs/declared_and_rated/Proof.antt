@@ -11,7 +11,7 @@ use native.Mathlib.Omega.{arith}
 use Rattle.model.specs.Outcome.{accepted}
 use Rattle.model.specs.Program.{Program, parseProgram}
 use Rattle.reader.specs.Tables.{PeriodsOf}
-use Rattle.rates.proofs.Turns.{Ahead, start, moves-on, ended}
+use Rattle.rates.proofs.Turns.{Ahead, start, passes, moves-on, ended}
 use borrow.Author.Needs.{needs}
 use Rattle.rates.specs.Answers.{partJudged}
 use Rattle.reader.specs.Results.{judgementOf}
@@ -98,27 +98,35 @@ add-signals c =
     let m = moves (c .before .before .before .before .before .before) (c .before .before .before .before .before .if1 .left) in
     omega (arith, m, c .signals-here .ensures .1)
 
-add-at : tie.Need-add-at Inv-loop μ-loop
-add-at c =
+add-skip-operators : tie.Need-add-skip-operators Inv-loop μ-loop
+add-skip-operators c =
     let m = moves (c .before .before .before .before .before .before) (c .before .before .before .before .before .if1 .left) in
     omega (arith, m)
+
+skip-operators-requires : tie.Need-skip-operators-requires Inv-loop μ-loop
+skip-operators-requires c κs =
+    moves (c .before .before .before .before .before .before) (c .before .before .before .before .before .if1 .left) .1
 
 loop-less : tie.Need-loop-less Inv-loop μ-loop
 loop-less c =
-    let m = moves (c .before .before .before .before .before .before) (c .before .before .before .before .before .if1 .left) in
-    omega (arith, m)
+    let b = c .before .before .before .before .before .before in
+    let m = moves (b .before) (b .if1 .left) in
+    omega (arith, m, c .skip-operators .ensures .0)
 
 loop-again : tie.Need-loop-again Inv-loop μ-loop
 loop-again c =
-    let x = c .before .before .before .before in
+    let h = c .before in
+    let x = h .before .before .before .before in
     let b = x .before .before in
-    let m = moves b (x .before .if1 .left) in (
-      omega (arith, m, c .signals-here .ensures .1),
-      m .1,
+    let m = moves b (x .before .if1 .left) in
+    let o = c .skip-operators .ensures in (
+      omega (arith, m, h .signals-here .ensures .1, o .0),
+      o .1,
       λ p e n t.
-          subst (Ahead (text b) p _) (c .signals-here .ensures .0 _)
-          (on b p e n t (x .part-of .result) (c .before .before .before .judge-part .result) Judged.Fine (x .part-of .ensures)
-          (c .before .before .before .judge-part .ensures) (c .before .enum-told .given .1) .1),
+          passes (text b) p _ _ _
+          (subst (Ahead (text b) p _) (h .signals-here .ensures .0 _)
+          (on b p e n t (x .part-of .result) (h .before .before .before .judge-part .result) Judged.Fine (x .part-of .ensures)
+          (h .before .before .before .judge-part .ensures) (h .before .enum-told .given .1) .1)) o,
     )
 
 returns-3 : tie.Need-returns-3 Inv-loop μ-loop
@@ -142,7 +150,8 @@ declared-and-rated-spec =
     returns-2
     signals-here-requires
     add-signals
-    add-at
+    add-skip-operators
+    skip-operators-requires
     loop-less
     loop-again
     returns-3)
