@@ -385,24 +385,23 @@ pub struct ProgramRead {
     pub tables: Tables,
 }
 
-fn judged_of(step: Step) -> Judged
-    ensures { λ r. ⌜ r ≡ judgedOf step ⌝ }
-{
-    match step {
-        Step::Adds(_, _) => Judged::Fine,
-        Step::End => Judged::Fine,
-        Step::Refused(fault) => Judged::Refused(fault),
-    }
-}
-
 // The answer at a step that adds nothing.
 fn stopped(step: Step, tables: Tables) -> ProgramRead
     ensures { λ r. ⌜ r ≡ record { judged = judgedOf step; tables = tables } ⌝ }
 {
-    let judged = judged_of(step);
-    ProgramRead {
-        judged: judged,
-        tables: tables,
+    match step {
+        Step::Adds(_, _) => ProgramRead {
+            judged: Judged::Fine,
+            tables: tables,
+        },
+        Step::End => ProgramRead {
+            judged: Judged::Fine,
+            tables: tables,
+        },
+        Step::Refused(fault) => ProgramRead {
+            judged: Judged::Refused(fault),
+            tables: tables,
+        },
     }
 }
 

@@ -1,13 +1,30 @@
 -- `reader::stopped` meets its contract. Assumes nothing.
+use Rattle.reader.specs.Tables.{judgedOf}
 use borrow.Author.Needs.{needs}
 use Rattle.reader.proofs.stopped.Statement.{statement}
 use Rattle.reader.proofs.stopped.Tie as tie
 
-judged-of-requires : tie.Need-judged-of-requires
-judged-of-requires c κs = search needs
+enum-told : tie.Need-enum-told
+enum-told c = search needs
+
+enum-told-2 : tie.Need-enum-told-2
+enum-told-2 c = search needs
+
+enum-known-step : tie.Need-enum-known-step
+enum-known-step c = search needs
 
 returns : tie.Need-returns
-returns c = rw (c .judged-of .ensures)
+unfolding judgedOf
+returns c = rw (c .enum-told .given .1)
+
+returns-2 : tie.Need-returns-2
+unfolding judgedOf
+returns-2 c = rw (c .enum-told2 .given .1)
+
+returns-3 : tie.Need-returns-3
+unfolding judgedOf
+returns-3 c = rw (c .before .step .given .1)
 
 pub stopped-spec : {M : Type 1} → statement M
-stopped-spec = tie.close (tie.spec judged-of-requires returns)
+stopped-spec =
+    tie.close (tie.spec enum-told enum-told-2 enum-known-step returns returns-2 returns-3)
