@@ -30,6 +30,9 @@ int main(void)
 {
     static uint8_t image[LARDERLATE_IMAGE_BYTES];
     static int32_t state[LARDERLATE_STATE_WORDS];
+    static uint32_t counts[LARDERLATE_COUNTS];
+    static uint32_t commands[8];
+    size_t stack = 0;
     uint64_t answer = larderlate_compile(program, sizeof program, schedule, sizeof schedule, image, sizeof image);
     if (refused("compile", answer))
         return 1;
@@ -40,9 +43,19 @@ int main(void)
     print_state(state);
     for (int32_t input = 10; input <= 17; input++) {
         const int32_t samples[3] = {input, 0, 0};
-        if (refused("cycle", larderlate_cycle(image, length, state, LARDERLATE_STATE_WORDS, samples, 3)))
+        answer = larderlate_cycle(image, length, state, LARDERLATE_STATE_WORDS, samples, 3);
+        if (refused("cycle", answer))
             return 1;
+        commands[input - 10] = larderlate_value(answer);
         print_state(state);
     }
+    answer = larderlate_report(program, sizeof program, schedule, sizeof schedule, counts, &stack);
+    if (refused("report", answer))
+        return 1;
+    printf("report: %" PRIu32 " bytes, stack %zu, commands %" PRIu32 " %" PRIu32 " %" PRIu32 " and so on\n", larderlate_value(answer),
+           stack, counts[0], counts[1], counts[2]);
+    for (int i = 0; i < 8; i++)
+        if (commands[i] != counts[i % 2])
+            return 1;
     return 0;
 }

@@ -1,6 +1,7 @@
 /* The calls of Larderlate's static library for C and C++.
  *
  *     larderlate_compile   reads a program and a schedule, checks both, writes a step image
+ *     larderlate_report    checks both and tells what they need, with no image
  *     larderlate_reset     puts a state to its start
  *     larderlate_cycle     runs one cycle on a state
  *
@@ -8,14 +9,15 @@
  * The calls keep nothing between them and need no memory but their stack, so any number may run at once on different state.
  *
  * THE ANSWER is one number of 64 bits: number x 2^32 + value. Number 0 says done; the value is then the image's length L for a
- * compile, and 0 for a reset or a cycle. Any other number is that of the refusal, and the value is its place.
+ * compile or a report, 0 for a reset, and the number of commands run for a cycle. Any other number is that of the refusal, and the
+ * value is its place.
  *
  * WHAT IS LENT is a pointer and a length: bytes for uint8_t, words (not bytes) for int32_t. The caller keeps these rules, which no
  * call can test:
  *   - the pointer is to that many bytes or words, all of them set, and is not null, also where the length is 0;
- *   - int32_t pointers are aligned to 4 bytes; uint8_t pointers need no alignment;
- *   - what a call may change (the image of a compile, the state of a reset or cycle) overlaps nothing else that is lent to the
- *     same call; what it only reads may overlap;
+ *   - int32_t and uint32_t pointers are aligned to 4 bytes, a size_t pointer to 8; uint8_t pointers need no alignment;
+ *   - what a call may change (the image of a compile, the counts and the stack use of a report, the state of a reset or cycle)
+ *     overlaps nothing else that is lent to the same call; what it only reads may overlap;
  *   - until the call returns nobody else writes what is lent, nor reads what the call may change;
  *   - nothing lent spans more than PTRDIFF_MAX bytes.
  */
@@ -35,6 +37,7 @@ enum {
     LARDERLATE_SCHEDULE_BYTES = 193,
     LARDERLATE_SIGNALS = 64,
     LARDERLATE_STATE_WORDS = 65,
+    LARDERLATE_COUNTS = 240,
     /* 4 + 64 x 6 + 241 x 2 + 240 x 64 bytes before the code, which is no longer than the program. */
     LARDERLATE_IMAGE_BYTES = 24422
 };
@@ -94,6 +97,13 @@ uint64_t larderlate_compile(const uint8_t *program, size_t program_length,
                             const uint8_t *schedule, size_t schedule_length,
                             uint8_t *image, size_t image_length);
 
+/* Checks the program and the schedule and tells what they need, without an image. The answer's value is the image's length L;
+ * `counts` gets the commands of each cycle of the hypercycle H, those from H on being 0, and `stack` the most words that the code
+ * of any signal has on the working stack. Gives 1 to 16, and then leaves both as they were. */
+uint64_t larderlate_report(const uint8_t *program, size_t program_length,
+                           const uint8_t *schedule, size_t schedule_length,
+                           uint32_t counts[LARDERLATE_COUNTS], size_t *stack);
+
 /* Puts 0 into word 0 of the state, the position, and each signal's initial word into word 1 + its number. Words beyond the signals
  * stay. The image is lent at its exact length L. Gives 20 and 21. */
 uint64_t larderlate_reset(const uint8_t *image, size_t image_length,
@@ -101,7 +111,8 @@ uint64_t larderlate_reset(const uint8_t *image, size_t image_length,
 
 /* Runs the signals due at the state's position, in order, and moves the position on by one, from H - 1 to 0. Word s of the samples
  * is the sample of input s; the other words are not used, but there are at least as many as signals. The image is lent at its
- * exact length L. Gives 20 to 23. */
+ * exact length L. The answer's value is the number of commands that it ran; for the image of a pair, the count of the pair's report
+ * for the position. Gives 20 to 23. */
 uint64_t larderlate_cycle(const uint8_t *image, size_t image_length,
                           int32_t *state, size_t state_words,
                           const int32_t *samples, size_t samples_words);

@@ -1,5 +1,5 @@
 -- An expression as its first command and its operands: one law for every number of operands. Assumes nothing.
-use Prim.Native.Nat.{ℕ, suc, _+_, _-_, _≤_, _<_}
+use Prim.Native.Nat.{ℕ, suc, _+_, _-_, _≤_, _<_, max}
 use mathlib.Core.Bool.{true, false, false≢true}
 use mathlib.Core.List.{List, [], _∷_, _++_, append-assoc, append-nil}
 use mathlib.Core.Path.{_≡_, refl, sym, ap, subst, _∙_}
@@ -14,6 +14,7 @@ use Rattle.model.specs.Accepted.{All}
 use Rattle.model.specs.Command.{commandAt}
 use Rattle.model.specs.Image.{exprCode}
 use Rattle.model.specs.Program.{Expr, readWidth}
+use Rattle.model.specs.Report.{exprCommands, exprHeight}
 use Rattle.model.specs.Word.{wordBytes, fourBytes}
 use Rattle.model.specs.declared.Command.{Command}
 use Rattle.model.specs.declared.Command.the-variants as Command
@@ -23,6 +24,7 @@ use Rattle.model.specs.Grammar.{depth}
 use Rattle.model.proofs.Bounds.{depth-some}
 use Rattle.model.proofs.Command.{enum}
 use Rattle.model.proofs.Commands.{command-sound}
+use Rattle.model.proofs.Heights.{height-some}
 use Rattle.model.specs.Grammar.{Spells}
 use Rattle.emit_code.specs.Code.{Puts, Room, Emits}
 use Rattle.emit_code.specs.Shape.{Lead, noLead, leadOf}
@@ -36,6 +38,15 @@ unfoldable pub codeOfAll : List Expr → List ℕ
 codeOfAll [] = []
 codeOfAll (x ∷ xs) = exprCode x ++ codeOfAll xs
 
+-- Their commands, and the most words that they have on the stack one after another, each above the values of those before it.
+unfoldable pub commandsOfAll : List Expr → ℕ
+commandsOfAll [] = 0
+commandsOfAll (x ∷ xs) = exprCommands x + commandsOfAll xs
+
+unfoldable pub heightOfAll : List Expr → ℕ
+heightOfAll [] = 0
+heightOfAll (x ∷ xs) = max (exprHeight x) (heightOfAll xs + 1)
+
 abbrev pub Below : ℕ → Expr → Type 0
 Below d x = depth x ≤ d
 
@@ -46,20 +57,22 @@ pub record Opened (text : List ℕ) (at : ℕ) (e : Expr) (n : ℕ) (c : Command
   pub spelled : SpellsAll text (at + leadOf c .width) operands n
   pub arity : length operands ≡ leadOf c .arity
   pub code : exprCode e ≡ codeOfAll operands ++ leadOf c .last
+  pub commands : exprCommands e ≡ commandsOfAll operands + 1
+  pub height : exprHeight e ≡ max 1 (heightOfAll operands)
   pub deep : (d : ℕ) → depth e ≤ suc d → All (Below d) operands
 
 module _ {text : List ℕ} where
   opens : {at n : ℕ} {e : Expr} → Spells text at e n → (c : Command) × (commandAt text at ≡ c) × Opened text at e n c
-  unfolding exprCode codeOfAll
+  unfolding exprCode codeOfAll commandsOfAll heightOfAll
   opens (Spells.constants {w = w} e) = (
     Command.Constant w,
     e,
-    record { operator = refl; operands = []; spelled = none; arity = refl; code = refl; deep = λ d h. tt },
+    record { operator = refl; operands = []; spelled = none; arity = refl; code = refl; commands = refl; height = refl; deep = λ d h. tt },
   )
   opens (Spells.reads {kind = kind} {x = x} e) = (
     Command.Read kind x,
     e,
-    record { operator = refl; operands = []; spelled = none; arity = refl; code = refl; deep = λ d h. tt },
+    record { operator = refl; operands = []; spelled = none; arity = refl; code = refl; commands = refl; height = refl; deep = λ d h. tt },
   )
   opens (Spells.two {operator = operator} {x = x} {y = y} e u v) = (
     Command.Binary operator,
@@ -70,6 +83,8 @@ module _ {text : List ℕ} where
       spelled = more u (more v none);
       arity = refl;
       code = simp (append-assoc, append-nil);
+      commands = omega arith;
+      height = omega (arith, height-some x, height-some y);
       deep = λ d h. (omega arith, (omega arith, tt));
     },
   )
@@ -82,6 +97,8 @@ module _ {text : List ℕ} where
       spelled = more u none;
       arity = refl;
       code = simp append-nil;
+      commands = omega arith;
+      height = omega (arith, height-some x);
       deep = λ d h. (omega arith, tt);
     },
   )
@@ -94,6 +111,8 @@ module _ {text : List ℕ} where
       spelled = more u (more v (more w none));
       arity = refl;
       code = simp (append-assoc, append-nil);
+      commands = omega arith;
+      height = omega (arith, height-some x, height-some y, height-some z);
       deep = λ d h. (omega arith, (omega arith, (omega arith, tt)));
     },
   )

@@ -68,7 +68,7 @@ module _ {text : List ℕ} {t : Tables} {periods order phases : List ℕ} {p : P
   pub count-is : count p ≡ t .signals
   count-is = r .tables .counts .signals-are
 
-  signals-are : p .signals ≡ signalsOf text
+  pub signals-are : p .signals ≡ signalsOf text
   unfolding signalsOf
   signals-are = sym (ap signalsIn (r .parsed))
 
@@ -88,7 +88,7 @@ module _ {text : List ℕ} {t : Tables} {periods order phases : List ℕ} {p : P
         short = rw (← codes-are) (omega (arith, l .1 .code, l .2));
       }
 
-  in-order : (j : ℕ) → j < t .signals → getD order j 0 < count p
+  pub in-order : (j : ℕ) → j < t .signals → getD order j 0 < count p
   in-order j lt =
       let e = r .slots .all-put in
       let n = count-is in
@@ -119,7 +119,7 @@ module _ {text : List ℕ} {t : Tables} {periods order phases : List ℕ} {p : P
       (e ∙ n ∙ sym (table-length (t .signals) (λ j. getD order j 0)))
       (λ i lt. sym (r .slots .order-is i lt) ∙ sym (table-at (t .signals) (λ j. getD order j 0) i 0 (omega arith)))
 
-  list-is : (c : ℕ) → runList p s c ≡ listBy periods order phases (t .signals) c
+  pub list-is : (c : ℕ) → runList p s c ≡ listBy periods order phases (t .signals) c
   unfolding runList listBy due
   list-is c =
       chosen-same (λ x. due (rateOf p s x) c) (isDue periods phases c) (s .order)

@@ -2,6 +2,7 @@
 // the answer of each call and the words after each.
 use libc::STDOUT_FILENO;
 use model::Compiled;
+use model::Cycled;
 use model::Fault;
 use model::Ran;
 ghost use Prim.Native.Nat.{_≤_};
@@ -115,11 +116,18 @@ fn write_ran(name: &[u8], ran: Ran, state: &[i32]) {
     }
 }
 
+fn write_cycled(name: &[u8], cycled: Cycled, state: &[i32]) {
+    match cycled {
+        Cycled::Commands(_) => write_words(name, state),
+        Cycled::Refused(fault) => write_fault(fault),
+    }
+}
+
 // One cycle whose input is `sample`.
 fn run_cycle(image: &[u8], state: &mut [i32], sample: i32) {
     let samples = [sample, 0, 0];
-    let ran = larderlate::cycle(image, &mut state[..], &samples);
-    write_ran(b"cycle:", ran, &state[..]);
+    let cycled = larderlate::cycle(image, &mut state[..], &samples);
+    write_cycled(b"cycle:", cycled, &state[..]);
 }
 
 fn run(image: &[u8], state: &mut [i32]) {

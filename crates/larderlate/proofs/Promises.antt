@@ -1,7 +1,7 @@
 -- What the calls promise together: the buyer's three demands. The contracts in src/lib.rt say that each call answers and leaves
 -- what compileOf, resetOf and cycleOf say; here is what these say. Each proof is a few lines over the laws of the model.
 -- Assumes nothing.
-use Prim.Native.Nat.{ℕ, suc, _+_, _*_, _≤_, _<_}
+use Prim.Native.Nat.{ℕ, suc, _+_, _*_, _%_, _^_, _≤_, _<_}
 use mathlib.Core.Bool.{Bool, true, false}
 use mathlib.Core.List.{List, [], _∷_, _++_, map}
 use mathlib.Core.Logic.{_↔_}
@@ -17,27 +17,31 @@ use Rattle.model.specs.Calls.{Call, callOf, after, Supplied, Holds}
 use Rattle.model.specs.Compile.{Pair, pairOf, verdictOf, compileOf}
 use Rattle.model.specs.Conditions.{LegalPair}
 use Rattle.model.specs.Height.{Within}
-use Rattle.model.specs.Image.{imageOf}
-use Rattle.model.specs.Machine.{Job, effect, isPosition, hyperOf, countOf, codeOf, wellFormed, resetWords, cycleWords, resetOf, cycleOf}
+use Rattle.model.specs.Image.{lengthOf, imageOf}
+use Rattle.model.specs.Machine.{Job, effect, isPosition, hyperOf, countOf, listOf, codeOf, wellFormed, countSignals}
+use Rattle.model.specs.Machine.{resetWords, cycleWords, cycleCount, resetOf, cycleOf}
 use Rattle.model.specs.Outcome.{Outcome, accepted, refused, refuse, fault, _▷_, provided}
 use Rattle.model.specs.Program.{Program, count, signalAt, bodyReads}
 use Rattle.model.specs.Rates.{hypercycle}
 use Rattle.model.specs.Reads.{settled}
+use Rattle.model.specs.Report.{highest, countsOf, toldOf, reportOf}
 use Rattle.model.specs.Refusals.{RefusedAt}
 use Rattle.model.specs.Schedule.{Schedule}
 use Rattle.model.specs.Streams.{Satisfies}
 use Rattle.model.specs.declared.Fault.{Fault}
 use Rattle.model.specs.declared.Index.the-variants.{Open}
+use Rattle.model.specs.declared.Sizes.{Sizes}
 use Rattle.model.proofs.Alike.{open-alike, alike-satisfy}
 use Rattle.model.proofs.AlikeBytes.{Agree, Ends, element-alike}
 use Rattle.model.proofs.Bounds.{Bounded}
 use Rattle.model.proofs.Bytes as Bytes
 use Rattle.model.proofs.Bytes.{answerTo, stateBy, logBy}
 use Rattle.model.proofs.Commands as Texts
+use Rattle.model.proofs.Counts.{cycle-count, counts-length, counts-at, counts-past, count-fits}
 use Rattle.model.proofs.Exact as Exact
 use Rattle.model.proofs.Examples as Examples
 use Rattle.model.proofs.Formed.{image-well-formed}
-use Rattle.model.proofs.Heights.{stack-31}
+use Rattle.model.proofs.Heights.{stack-least, stack-31}
 use Rattle.model.proofs.Offsets.{OffsetsFit, offsets-fit}
 use Rattle.model.proofs.Places.{places-small, places-zero}
 use Rattle.model.proofs.Stretches.{image-length, image-count}
@@ -75,7 +79,7 @@ call-keeps image state (Call.cycle samples) f e =
     provided (ltb (countOf image) (length state)) 21 0 ▷ λ _.
     provided (isPosition (hyperOf image) (getD state 0 (pos 0))) 22 0 ▷ λ _.
     provided (leb (countOf image) (length samples)) 23 0 ▷ λ _.
-    accepted (record { yields = 0; leaves = cycleWords image state samples })) f e
+    accepted (record { yields = cycleCount image state; leaves = cycleWords image state samples })) f e
 
 -- Demand 2, exact. A pair is accepted exactly if it is legal by the paper; each refusal comes under its stated condition, in
 -- the stated order, and under no other.
@@ -113,12 +117,90 @@ pub record OneImage (program schedule : List ℕ) (p : Program) (s : Schedule) (
   pub space : (buffer : List ℕ) → length buffer < length image →
       compileOf program schedule buffer ≡ record { answer = refuse 17 (length image); left = buffer }
 
+-- Request a. A report refuses exactly as the pair is refused, and then leaves the counts as they were. Otherwise the L that it
+-- tells is the length of the image that compile writes.
+pub record ReportsExactly (program schedule counts : List ℕ) : Type 0 where
+  pub refuses : (f : Fault) → (reportOf program schedule counts .answer ≡ refused f) ↔ (pairOf program schedule ≡ refused f)
+  pub tells : (sizes : Sizes) → reportOf program schedule counts .answer ≡ accepted sizes →
+      (image : List ℕ) × (verdictOf program schedule ≡ accepted image) × (sizes .length ≡ length image)
+
+pub report-exactly : (program schedule counts : List ℕ) → ReportsExactly program schedule counts
+unfolding reportOf verdictOf _▷_
+report-exactly program schedule counts =
+    record { refuses = refuses (pairOf program schedule); tells = tells (pairOf program schedule) }
+  where
+    refuses : (o : Outcome Pair) (f : Fault) → (toldOf counts o .answer ≡ refused f) ↔ (o ≡ refused f)
+    refuses (accepted q) f =
+        ((λ e. let z : _≡_ {A = ℕ} 0 1 = cc in absurd (omega arith)), (λ e. let z : _≡_ {A = ℕ} 0 1 = cc in absurd (omega arith)))
+    refuses (refused g) f = ((λ e. let same : g ≡ f = cc in ap refused same), (λ e. let same : g ≡ f = cc in ap refused same))
+
+    tells : (o : Outcome Pair) (sizes : Sizes) → toldOf counts o .answer ≡ accepted sizes → (image : List ℕ) ×
+        ((o ▷ λ q. accepted (imageOf (q .program) (q .schedule) (q .hypercycle))) ≡ accepted image) × (sizes .length ≡ length image)
+    tells (accepted q) sizes e =
+        let image = imageOf (q .program) (q .schedule) (q .hypercycle) in
+        let told : Sizes = record { length = lengthOf (q .program) (q .schedule) (q .hypercycle); stack = highest (q .program .signals) } in
+        let same : told ≡ sizes = cc in
+        (image, refl, ap (λ x. x .length) (sym same) ∙ sym (image-length (q .program) (q .schedule) (q .hypercycle)))
+    tells (refused g) sizes e = let z : _≡_ {A = ℕ} 0 1 = cc in absurd (omega arith)
+
+-- Its places are small, too.
+pub report-code : (program schedule counts : List ℕ) → Texts.Bytes program → (f : Fault) →
+    reportOf program schedule counts .answer ≡ refused f → codeNumber (refused f) ≡ f .number * 4294967296 + f .place
+unfolding compileOf verdictOf _▷_
+report-code program schedule counts bytes f e =
+    small-code f (places-small program schedule [] bytes f (rw (report-exactly program schedule counts .refuses f .0 e) refl))
+
+pub report-keeps : (program schedule counts : List ℕ) (f : Fault) → reportOf program schedule counts .answer ≡ refused f →
+    reportOf program schedule counts .left ≡ counts
+unfolding reportOf
+report-keeps program schedule counts f = go (pairOf program schedule)
+  where
+    go : (o : Outcome Pair) → toldOf counts o .answer ≡ refused f → toldOf counts o .left ≡ counts
+    go (accepted q) e = let z : _≡_ {A = ℕ} 0 1 = cc in absurd (omega arith)
+    go (refused g) e = refl
+
+-- Of an accepted pair it tells L, the length of the image that compile writes; the least number of words that the code of every
+-- signal keeps within on that image's bytes; and 240 counts, those of the hypercycle being the commands that the image's lists
+-- run and the others 0.
+pub record Reports (program schedule : List ℕ) (p : Program) (s : Schedule) (h : ℕ) (image : List ℕ) : Type 0 where
+  pub told : (counts : List ℕ) → reportOf program schedule counts ≡
+      record { answer = accepted (record { length = length image; stack = highest (p .signals) }); left = countsOf p s h }
+  pub stack : (m : ℕ) → ((x : ℕ) → x < count p → Within m (codeOf image x) 0 0) ↔ (highest (p .signals) ≤ m)
+  pub size : length (countsOf p s h) ≡ 240
+  pub counted : (c : ℕ) → c < h → getD (countsOf p s h) c 0 ≡ countSignals image (listOf image c)
+  pub past : (c : ℕ) → h ≤ c → c < 240 → getD (countsOf p s h) c 0 ≡ 0
+
+-- Whatever well-formed image a cycle is lent, its count has 32 bits.
+pub count-small : (image : List ℕ) (state samples : List ℤ) → Texts.Bytes image → (n : ℕ) →
+    cycleOf image state samples .answer ≡ accepted n → n < 2 ^ 32
+unfolding cycleOf _▷_ provided
+count-small image state samples bytes n e =
+    go (wellFormed image) (ltb (countOf image) (length state)) (isPosition (hyperOf image) (getD state 0 (pos 0)))
+    (leb (countOf image) (length samples)) refl e
+  where
+    go : (a b c d : Bool) → wellFormed image ≡ a →
+        effect state
+        (provided a 20 0 ▷ λ _.
+        provided b 21 0 ▷ λ _.
+        provided c 22 0 ▷ λ _.
+        provided d 23 0 ▷ λ _.
+        accepted (record { yields = cycleCount image state; leaves = cycleWords image state samples })) .answer ≡ accepted n →
+        n < 2 ^ 32
+    go true true true true w e = let same : cycleCount image state ≡ n = cc in omega (arith, count-fits image state bytes w)
+    go true true true false w e = let z : _≡_ {A = ℕ} 0 1 = cc in absurd (omega arith)
+    go true true false d w e = let z : _≡_ {A = ℕ} 0 1 = cc in absurd (omega arith)
+    go true false c d w e = let z : _≡_ {A = ℕ} 0 1 = cc in absurd (omega arith)
+    go false b c d w e = let z : _≡_ {A = ℕ} 0 1 = cc in absurd (omega arith)
+
 -- After a reset that is not refused and any list of resets and cycles: no reset is refused, and a cycle exactly when it is lent
--- fewer than N samples (23). Word 0 is the remainder of c by H, where c is the number of cycles since the latest reset; signal s
--- holds its element floor((c − 1 − p)/P), or its initial word if c ≤ p, of every stream that satisfies the equations with the
--- inputs that the cycles were lent; words beyond N are as before the first reset.
-pub record Kept (p : Program) (s : Schedule) (h : ℕ) (image : List ℕ) (old : List ℤ) (cs : List Call) : Type 0 where
-  pub answers : (c : Call) → callOf image (stateBy image old cs) c .answer ≡ answerTo p c
+-- fewer than N samples (23); a cycle that is not refused answers the report's count of its position. The position, word 0, is the
+-- remainder of c by H, where c is the number of cycles since the latest reset; signal s holds its element floor((c − 1 − p)/P), or
+-- its initial word if c ≤ p, of every stream that satisfies the equations with the inputs that the cycles were lent; words beyond
+-- N are as before the first reset.
+pub record Kept (program schedule : List ℕ) (p : Program) (s : Schedule) (h : ℕ) (image : List ℕ) (old : List ℤ) (cs : List Call) :
+    Type 0 where
+  pub answers : (counts : List ℕ) (c : Call) → callOf image (stateBy image old cs) c .answer ≡
+      answerTo p (reportOf program schedule counts .left) (length (logBy image old cs) % h) c
   pub holds : (inputs X : ℕ → ℕ → ℤ) → Supplied p s (logBy image old cs) inputs → Satisfies p (settled p s) inputs X →
       Holds p s h X old (length (logBy image old cs)) (stateBy image old cs)
 
@@ -148,6 +230,17 @@ module _ (program schedule : List ℕ) (bytes : Texts.Bytes program) (p : Progra
         space = λ buffer lt. rw (e, lt-leb (length image) (length buffer) lt);
       }
 
+  pub one-report : Reports program schedule p s h (imageOf p s h)
+  unfolding reportOf
+  one-report =
+      record {
+        told = λ counts. rw (e, image-length p s h);
+        stack = stack-least p s h bounded;
+        size = counts-length p s h (bounded .hyper);
+        counted = λ c lt. counts-at p s h c lt ∙ sym (cycle-count p s h bounded (accepts .only) c lt);
+        past = counts-past p s h;
+      }
+
   -- Demand 3, right for ever. For any input elements there are streams that satisfy all equations of the program, each open
   -- read at its settled index ..
   pub streams-exist : (inputs : ℕ → ℕ → ℤ) → (X : ℕ → ℕ → ℤ) × Satisfies p (settled p s) inputs X
@@ -169,10 +262,11 @@ module _ (program schedule : List ℕ) (bytes : Texts.Bytes program) (p : Progra
       go false q t = let z : _≡_ {A = ℕ} 0 1 = cc in absurd (omega arith)
 
   pub calls-hold : (old : List ℤ) → resetOf (imageOf p s h) old .answer ≡ accepted 0 → (cs : List Call) →
-      Kept p s h (imageOf p s h) old cs
+      Kept program schedule p s h (imageOf p s h) old cs
+  unfolding reportOf
   calls-hold old r cs =
       record {
-        answers = Bytes.calls-answer p s h accepts whole bounded old (reset-long old r) cs;
+        answers = λ counts c. rw e (Bytes.calls-answer p s h accepts whole bounded old (reset-long old r) cs c);
         holds = Bytes.calls-hold p s h accepts whole bounded old (reset-long old r) cs;
       }
 

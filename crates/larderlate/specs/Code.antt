@@ -1,8 +1,18 @@
 -- The answer of a call as one number, for a C caller.
 use Prim.Native.Nat.{ℕ, _+_, _*_, _%_}
 use Rattle.model.specs.Outcome.{Outcome, accepted, refused}
+use Rattle.model.specs.declared.Sizes.{Sizes}
 
 -- What the call yields; or the refusal's number × 2^32 + its place, which is always below 2^32 (`compile-code`, `call-code` of proofs/Promises.antt).
 abbrev pub codeNumber : Outcome ℕ → ℕ
 codeNumber (accepted n) = n
 codeNumber (refused f) = f .number * 4294967296 + f .place % 4294967296
+
+-- Of what a report answers: L, and the stack use or what was there before.
+abbrev pub lengthIn : Outcome Sizes → Outcome ℕ
+lengthIn (accepted x) = accepted (x .length)
+lengthIn (refused f) = refused f
+
+abbrev pub stackIn : ℕ → Outcome Sizes → ℕ
+stackIn old (accepted x) = x .stack
+stackIn old (refused f) = old

@@ -1,13 +1,16 @@
-// Larderlate: compile, reset and cycle. Each call takes any bytes and words, and its answer and what it leaves are the
+// Larderlate: compile, report, reset and cycle. Each call takes any bytes and words, and its answer and what it leaves are the
 // definition's. What they promise together is in proofs/Promises.antt.
 use model::Compiled;
+use model::Cycled;
 use model::Fault;
 use model::Ran;
+use model::Reported;
 ghost use mathlib.Core.Path.{_≡_};
 ghost use Rattle.model.specs.Compile.{compiledOf, compileOf};
-ghost use Rattle.model.specs.Machine.{ranOf, resetOf, cycleOf};
+ghost use Rattle.model.specs.Machine.{ranOf, cycledOf, resetOf, cycleOf};
 ghost use Rattle.model.specs.Outcome.{refused};
-ghost use Rattle.larderlate.specs.Code.{codeNumber};
+ghost use Rattle.model.specs.Report.{reportedOf, reportOf};
+ghost use Rattle.larderlate.specs.Code.{codeNumber, lengthIn, stackIn};
 
 // Writes the image of an accepted program and schedule to the start of `image`, and yields its length.
 pub fn compile(program: &[u8], schedule: &[u8], image: &mut [u8]) -> Compiled
@@ -15,6 +18,15 @@ pub fn compile(program: &[u8], schedule: &[u8], image: &mut [u8]) -> Compiled
     ensures left { λ _. ⌜ now (image .exit) ≡ compileOf (now (program .entry)) (now (schedule .entry)) (now (image .entry)) .left ⌝ }
 {
     compiler::compile(program, schedule, &mut image[..])
+}
+
+// Tells what an accepted program and schedule need: the length of their image, the highest stack use of any signal, and in
+// `counts` the commands of each cycle.
+pub fn report(program: &[u8], schedule: &[u8], counts: &mut [u32; 240]) -> Reported
+    ensures answer { λ r. ⌜ reportedOf r ≡ reportOf (now (program .entry)) (now (schedule .entry)) (now (counts .entry)) .answer ⌝ }
+    ensures left { λ _. ⌜ now (counts .exit) ≡ reportOf (now (program .entry)) (now (schedule .entry)) (now (counts .entry)) .left ⌝ }
+{
+    report::report(program, schedule, counts)
 }
 
 // Puts position 0 and every signal's initial word into the state.
@@ -25,9 +37,9 @@ pub fn reset(image: &[u8], state: &mut [i32]) -> Ran
     machine::reset(image, &mut state[..])
 }
 
-// Runs one cycle: the list of the state's position, and then the position moves on.
-pub fn cycle(image: &[u8], state: &mut [i32], samples: &[i32]) -> Ran
-    ensures answer { λ r. ⌜ ranOf r ≡ cycleOf (now (image .entry)) (now (state .entry)) (now (samples .entry)) .answer ⌝ }
+// Runs one cycle: the list of the state's position, and then the position moves on. Yields how many commands it ran.
+pub fn cycle(image: &[u8], state: &mut [i32], samples: &[i32]) -> Cycled
+    ensures answer { λ r. ⌜ cycledOf r ≡ cycleOf (now (image .entry)) (now (state .entry)) (now (samples .entry)) .answer ⌝ }
     ensures left { λ _. ⌜ now (state .exit) ≡ cycleOf (now (image .entry)) (now (state .entry)) (now (samples .entry)) .left ⌝ }
 {
     machine::cycle(image, &mut state[..], samples)
@@ -58,6 +70,34 @@ fn code_of_ran(ran: Ran) -> u64
     }
 }
 
+fn code_of_cycled(cycled: Cycled) -> u64
+    ensures { λ r. ⌜ r ≡ codeNumber (cycledOf cycled) ⌝ }
+{
+    match cycled {
+        Cycled::Commands(n) => n as u64,
+        Cycled::Refused(fault) => code_of_fault(fault),
+    }
+}
+
+fn code_of_reported(reported: Reported) -> u64
+    ensures { λ r. ⌜ r ≡ codeNumber (lengthIn (reportedOf reported)) ⌝ }
+{
+    match reported {
+        Reported::Sizes(sizes) => sizes.length as u64,
+        Reported::Refused(fault) => code_of_fault(fault),
+    }
+}
+
+// The stack use of a report, or what is there where it is refused.
+fn stack_of_reported(reported: Reported, old: usize) -> usize
+    ensures { λ r. ⌜ r ≡ stackIn old (reportedOf reported) ⌝ }
+{
+    match reported {
+        Reported::Sizes(sizes) => sizes.stack,
+        Reported::Refused(_) => old,
+    }
+}
+
 // The same calls for a C caller (include/larderlate.h).
 #[no_mangle]
 pub extern "C" fn larderlate_compile(program: &[u8], schedule: &[u8], image: &mut [u8]) -> u64
@@ -66,6 +106,22 @@ pub extern "C" fn larderlate_compile(program: &[u8], schedule: &[u8], image: &mu
 {
     let compiled = compile(program, schedule, &mut image[..]);
     code_of_compiled(compiled)
+}
+
+#[no_mangle]
+pub extern "C" fn larderlate_report(
+    program: &[u8],
+    schedule: &[u8],
+    counts: &mut [u32; 240],
+    stack: &mut usize,
+) -> u64
+    ensures answer { λ r. ⌜ r ≡ codeNumber (lengthIn (reportOf (now (program .entry)) (now (schedule .entry)) (now (counts .entry)) .answer)) ⌝ }
+    ensures left { λ _. ⌜ now (counts .exit) ≡ reportOf (now (program .entry)) (now (schedule .entry)) (now (counts .entry)) .left ⌝ }
+    ensures height { λ _. ⌜ now (stack .exit) ≡ stackIn (now (stack .entry)) (reportOf (now (program .entry)) (now (schedule .entry)) (now (counts .entry)) .answer) ⌝ }
+{
+    let reported = report(program, schedule, counts);
+    *stack = stack_of_reported(reported, *stack);
+    code_of_reported(reported)
 }
 
 #[no_mangle]
@@ -82,6 +138,6 @@ pub extern "C" fn larderlate_cycle(image: &[u8], state: &mut [i32], samples: &[i
     ensures answer { λ r. ⌜ r ≡ codeNumber (cycleOf (now (image .entry)) (now (state .entry)) (now (samples .entry)) .answer) ⌝ }
     ensures left { λ _. ⌜ now (state .exit) ≡ cycleOf (now (image .entry)) (now (state .entry)) (now (samples .entry)) .left ⌝ }
 {
-    let ran = cycle(image, &mut state[..], samples);
-    code_of_ran(ran)
+    let cycled = cycle(image, &mut state[..], samples);
+    code_of_cycled(cycled)
 }

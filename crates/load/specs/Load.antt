@@ -28,6 +28,7 @@ pub record Raised (a : Rate) (weight h : ℕ) (old new : List ℕ) : Type 0 wher
   pub long : length new ≡ 240
   pub raised : (c : ℕ) → c < h → getD new c 0 ≡ getD old c 0 + cond (due a c) weight 0
   pub bounded : (c : ℕ) → c < h → getD new c 0 ≤ getD old c 0 + 65535
+  pub beyond : (c : ℕ) → h ≤ c → getD new c 0 ≡ getD old c 0
 
 -- A table has the phase of every signal by its number.
 abbrev pub PhasesOf : Program → Schedule → List ℕ → Type 0

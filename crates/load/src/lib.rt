@@ -16,7 +16,7 @@ ghost use Rattle.load.specs.Load.{LoadsOf, Raised, PhasesOf};
 
 // Adds a signal's weight to the loads of the cycles in which it runs, stepping from run to run. The loads so far are of at most
 // 63 signals, so that no sum wraps.
-fn add_runs(loads: &mut [u32; 240], period: u8, phase: u8, weight: u16, hypercycle: usize)
+pub fn add_runs(loads: &mut [u32; 240], period: u8, phase: u8, weight: u16, hypercycle: usize)
     requires { ⌜ (phase < period) × (hypercycle ≤ 240) × (length (now loads) ≡ 240) × ((c : ℕ) → c < hypercycle → getD (now loads) c 0 ≤ 63 * 65535) ⌝ }
     ensures { λ r. ⌜ Raised (record { period = period; phase = phase }) weight hypercycle (now (loads .entry)) (now (loads .exit)) ⌝ }
 {

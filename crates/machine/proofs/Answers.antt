@@ -6,23 +6,24 @@ use Prim.Native.Nat.{ℕ}
 use lib.Dec.{leb, ltb}
 use lib.IntN.{ℤ, pos}
 use lib.ListN.{length, getD}
-use Rattle.model.specs.Machine.{hyperOf, countOf, wellFormed, isPosition, resetWords, cycleWords, Effect, effect, resetOf, cycleOf}
+use Rattle.model.specs.Machine.{hyperOf, countOf, wellFormed, isPosition, resetWords, cycleWords, cycleCount, Effect, effect, resetOf, cycleOf}
 use Rattle.model.specs.Outcome.{Outcome, accepted, refuse, _▷_, provided}
 
 -- a refusal leaves the state as it was
 abbrev pub refusal : ℕ → List ℤ → Effect ℤ
 refusal number state = record { answer = refuse number 0; left = state }
 
-abbrev pub done : List ℤ → Effect ℤ
-done state = record { answer = accepted 0; left = state }
+abbrev pub done : ℕ → List ℤ → Effect ℤ
+done n state = record { answer = accepted n; left = state }
 
 -- what a call that was refused, or has done its job, hands back
 pub gives-refusal : {e : Effect ℤ} {number : ℕ} {state : List ℤ} {a : Outcome ℕ} → e ≡ refusal number state → a ≡ refuse number 0
     → (a ≡ e .answer) × (state ≡ e .left)
 gives-refusal q h = (h ∙ sym (ap (λ (e : Effect ℤ). e .answer) q), sym (ap (λ (e : Effect ℤ). e .left) q))
 
-pub gives-done : {e : Effect ℤ} {state after : List ℤ} → e ≡ done state → after ≡ state → (accepted 0 ≡ e .answer) × (after ≡ e .left)
-gives-done q h = (sym (ap (λ (e : Effect ℤ). e .answer) q), h ∙ sym (ap (λ (e : Effect ℤ). e .left) q))
+pub gives-done : {e : Effect ℤ} {m n : ℕ} {state after : List ℤ} → e ≡ done n state → m ≡ n → after ≡ state
+    → (accepted m ≡ e .answer) × (after ≡ e .left)
+gives-done q k h = (ap accepted k ∙ sym (ap (λ (e : Effect ℤ). e .answer) q), h ∙ sym (ap (λ (e : Effect ℤ). e .left) q))
 
 module _ (image : List ℕ) (state : List ℤ) where
   pub reset-image : wellFormed image ≡ false → resetOf image state ≡ refusal 20 state
@@ -33,7 +34,7 @@ module _ (image : List ℕ) (state : List ℤ) where
   unfolding resetOf provided _▷_
   reset-state a b = rw (a, b)
 
-  pub reset-done : wellFormed image ≡ true → ltb (countOf image) (length state) ≡ true → resetOf image state ≡ done (resetWords image state)
+  pub reset-done : wellFormed image ≡ true → ltb (countOf image) (length state) ≡ true → resetOf image state ≡ done 0 (resetWords image state)
   unfolding resetOf provided _▷_
   reset-done a b = rw (a, b)
 
@@ -57,6 +58,6 @@ module _ (image : List ℕ) (state samples : List ℤ) where
   cycle-samples a b c d = rw (a, b, c, d)
 
   pub cycle-done : wellFormed image ≡ true → ltb (countOf image) (length state) ≡ true → isPosition (hyperOf image) (getD state 0 (pos 0)) ≡ true
-      → leb (countOf image) (length samples) ≡ true → cycleOf image state samples ≡ done (cycleWords image state samples)
+      → leb (countOf image) (length samples) ≡ true → cycleOf image state samples ≡ done (cycleCount image state) (cycleWords image state samples)
   unfolding cycleOf provided _▷_
   cycle-done a b c d = rw (a, b, c, d)

@@ -14,7 +14,7 @@ use lib.Seq.{drop-cons, set-at, append-snoc}
 use lib.Signed.{mag, ltZ}
 use mir.Syntax.{w32}
 use mir.Val.{toZ, ofZ}
-use Rattle.model.specs.Machine.{countOf, codeOf, runCode, runSignals, resetWords, isPosition, positionOf}
+use Rattle.model.specs.Machine.{countOf, codeOf, runCode, runSignals, countCode, countSignals, resetWords, isPosition, positionOf}
 use Rattle.model.specs.Search.{table, tableFrom}
 use Rattle.model.specs.Word.{byteAt, wordAt}
 use Rattle.word.proofs.Laws.{kept}
@@ -29,6 +29,17 @@ module _ (image list : List ℕ) (i : ℕ) (samples state : List ℤ) where
   pub signals-done : length list ≤ i → runSignals image (drop i list) samples state ≡ state
   unfolding runSignals
   signals-done h = ap (λ (l : List ℕ). runSignals image l samples state) (drop-of-length-le list h)
+
+-- and their commands
+module _ (image list : List ℕ) (i : ℕ) where
+  pub counts-next : i < length list
+      → countSignals image (drop i list) ≡ countCode (codeOf image (byteAt list i)) + countSignals image (drop (i + 1) list)
+  unfolding countSignals
+  counts-next h = ap (countSignals image) (drop-cons list i 0 h) ∙ rw (add-one i)
+
+  pub counts-done : length list ≤ i → countSignals image (drop i list) ≡ 0
+  unfolding countSignals
+  counts-done h = ap (countSignals image) (drop-of-length-le list h)
 
 -- a table grows at its end
 module _ {A : Type 0} (f : ℕ → A) where

@@ -1,4 +1,5 @@
 // Reset and cycle, on any image, state and samples. A refused call changes nothing.
+use model::Cycled;
 use model::Fault;
 use model::Ran;
 ghost use mathlib.Core.Path.{_≡_};
@@ -6,8 +7,8 @@ ghost use mathlib.Core.Bool.{true};
 ghost use Prim.Native.Nat.{ℕ, _<_, _≤_};
 ghost use lib.IntN.{pos};
 ghost use lib.ListN.{length};
-ghost use Rattle.model.specs.Machine.{hyperOf, countOf, wellFormed, listOf, runSignals, nextPosition, resetWords};
-ghost use Rattle.model.specs.Machine.{ranOf, resetOf, cycleOf};
+ghost use Rattle.model.specs.Machine.{hyperOf, countOf, wellFormed, listOf, runSignals, countSignals, nextPosition, resetWords};
+ghost use Rattle.model.specs.Machine.{ranOf, cycledOf, resetOf, cycleOf};
 ghost use Rattle.model.specs.Outcome.{refuse};
 ghost use Rattle.model.specs.Word.{byteAt};
 
@@ -32,6 +33,12 @@ fn refused(number: u8) -> Ran
     Ran::Refused(Fault { number, place: 0 })
 }
 
+fn stopped(number: u8) -> Cycled
+    ensures { λ r. ⌜ cycledOf r ≡ refuse number 0 ⌝ }
+{
+    Cycled::Refused(Fault { number, place: 0 })
+}
+
 // The run list of cycle c: a stretch of the lent image.
 pub fn run_list(image: &[u8], c: usize) -> &[u8]
     requires { ⌜ (wellFormed (now image) ≡ true) × (c < hyperOf (now image)) ⌝ }
@@ -43,24 +50,29 @@ pub fn run_list(image: &[u8], c: usize) -> &[u8]
     &image[from..to]
 }
 
-// Runs the signals of a list in order: the word of each is stored.
-fn run_signals(list: &[u8], image: &[u8], n: u8, state: &mut [i32], samples: &[i32])
+// Runs the signals of a list in order: the word of each is stored. Yields how many commands have run.
+fn run_signals(list: &[u8], image: &[u8], n: u8, state: &mut [i32], samples: &[i32]) -> u32
     requires { ⌜ (wellFormed (now image) ≡ true) × (n ≡ countOf (now image)) ⌝ }
     requires { ⌜ ((k : ℕ) → k < length (now list) → byteAt (now list) k < n) ⌝ }
-    requires { ⌜ (n < length (now state)) × (n ≤ length (now samples)) ⌝ }
-    ensures { λ _. ⌜ now (state .exit) ≡ runSignals (now (image .entry)) (now (list .entry)) (now (samples .entry)) (now (state .entry)) ⌝ }
+    requires { ⌜ (n < length (now state)) × (n ≤ length (now samples)) × (length (now image) ≤ 65535) × (length (now list) ≤ length (now image)) ⌝ }
+    ensures count { λ r. ⌜ r ≡ countSignals (now (image .entry)) (now (list .entry)) ⌝ }
+    ensures left { λ _. ⌜ now (state .exit) ≡ runSignals (now (image .entry)) (now (list .entry)) (now (samples .entry)) (now (state .entry)) ⌝ }
 {
     let count = wide(n);
+    let mut total: u32 = 0;
     let mut i: usize = 0;
     while i < list.len() {
         let x = list[i];
         let own = wide(x);
         let from = image_check::code_offset(image, count, own);
         let to = image_check::code_offset(image, count, own + 1);
-        let w = runner::run_code(&image[from..to], n, x, &state[..], samples);
+        let run = runner::run_code(&image[from..to], n, x, &state[..], samples);
+        let w = run.word;
         state[own + 1] = w;
+        total = total + run.count;
         i = i + 1;
     }
+    total
 }
 
 // The position after c, as a word.
@@ -101,33 +113,34 @@ pub fn reset(image: &[u8], state: &mut [i32]) -> Ran
     Ran::Done
 }
 
-// Runs one cycle: the list of the state's position, and then the position moves on.
-pub fn cycle(image: &[u8], state: &mut [i32], samples: &[i32]) -> Ran
-    ensures answer { λ r. ⌜ ranOf r ≡ cycleOf (now (image .entry)) (now (state .entry)) (now (samples .entry)) .answer ⌝ }
+// Runs one cycle: the list of the state's position, and then the position moves on. Yields how many commands it
+// ran.
+pub fn cycle(image: &[u8], state: &mut [i32], samples: &[i32]) -> Cycled
+    ensures answer { λ r. ⌜ cycledOf r ≡ cycleOf (now (image .entry)) (now (state .entry)) (now (samples .entry)) .answer ⌝ }
     ensures left { λ _. ⌜ now (state .exit) ≡ cycleOf (now (image .entry)) (now (state .entry)) (now (samples .entry)) .left ⌝ }
 {
     if !image_check::well_formed(image) {
-        return refused(BAD_IMAGE);
+        return stopped(BAD_IMAGE);
     }
     let h = wide(image[0]);
     let n = image[1];
     let count = wide(n);
     if state.len() <= count {
-        return refused(SHORT_STATE);
+        return stopped(SHORT_STATE);
     }
     let position = state[0];
     if position < 0 {
-        return refused(BAD_POSITION);
+        return stopped(BAD_POSITION);
     }
     let c = position as usize;
     if h <= c {
-        return refused(BAD_POSITION);
+        return stopped(BAD_POSITION);
     }
     if samples.len() < count {
-        return refused(FEW_SAMPLES);
+        return stopped(FEW_SAMPLES);
     }
-    run_signals(run_list(image, c), image, n, &mut state[..], samples);
+    let total = run_signals(run_list(image, c), image, n, &mut state[..], samples);
     let next = next_position(h, c);
     state[0] = next;
-    Ran::Done
+    Cycled::Commands(total)
 }

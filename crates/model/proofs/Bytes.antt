@@ -1,8 +1,9 @@
 -- Any list of reset and cycle calls on the bytes of an accepted pair's image leaves every signal at its stream. Assumes nothing.
-use Prim.Native.Nat.{ℕ, zero, suc, _+_, _-_, _*_, _<_}
+use Prim.Native.Nat.{ℕ, zero, suc, _+_, _-_, _*_, _%_, _<_}
 use mathlib.Core.Bool.{Bool, true, false, cond}
 use mathlib.Core.List.{List, [], _∷_, _++_}
-use mathlib.Core.Path.{_≡_, refl, ap, subst, _∙_, fun-ext}
+use mathlib.Core.Path.{_≡_, refl, sym, ap, subst, _∙_, fun-ext}
+use native.Mathlib.Nat.{zero-mod}
 use native.Mathlib.Numerals.{add-one}
 use native.Mathlib.Omega.{arith}
 use borrow.Author.Tests.{ltb-true, ltb-false, lt-ltb, le-leb, lt-leb, eqb-true, eqb-false}
@@ -22,6 +23,7 @@ use Rattle.model.specs.Machine.{
   nextPosition,
   resetWords,
   cycleWords,
+  cycleCount,
   Effect,
   effect,
   resetOf,
@@ -30,13 +32,15 @@ use Rattle.model.specs.Machine.{
 use Rattle.model.specs.Outcome.{Outcome, accepted, refuse, _▷_, provided}
 use Rattle.model.specs.Program.{Program, count, signalAt}
 use Rattle.model.specs.Reads.{rateOf, due, settled}
+use Rattle.model.specs.Report.{countsOf}
 use Rattle.model.specs.Schedule.{Schedule}
 use Rattle.model.specs.Search.{chosen, table}
 use Rattle.model.specs.Streams.{next, Satisfies}
 use Rattle.model.specs.Word.{wordAt}
 use Rattle.model.proofs.Bounds.{Bounded}
+use Rattle.model.proofs.Counts.{cycle-count, counts-at}
 use Rattle.model.proofs.Formed.{image-well-formed}
-use Rattle.model.proofs.Lists.{sampleOf, logOf, stateAfter, After, machine-holds}
+use Rattle.model.proofs.Lists.{sampleOf, logOf, stateAfter, calls-position, After, machine-holds}
 use Rattle.model.proofs.Runs.{run-signal}
 use Rattle.model.proofs.Stretches.{table-length, table-at, image-hyper, image-count, image-initial, list-stretch, code-stretch}
 use Rattle.model.proofs.Turns
@@ -85,15 +89,15 @@ cycle-length : (image : List ℕ) (state samples : List ℤ) → length (cycleWo
 unfolding cycleWords
 cycle-length image state samples = simp (length-set, run-length)
 
--- What a call on the image of a program answers, in a state that is ready.
-abbrev pub answerTo : Program → Call → Outcome ℕ
-answerTo p reset = accepted 0
-answerTo p (cycle samples) = cond (ltb (length samples) (count p)) (refuse 23 0) (accepted 0)
+-- What a call on the image of a program answers, in a state that is ready: a cycle at position c the count c of the report.
+abbrev pub answerTo : Program → List ℕ → ℕ → Call → Outcome ℕ
+answerTo p counts c reset = accepted 0
+answerTo p counts c (cycle samples) = cond (ltb (length samples) (count p)) (refuse 23 0) (accepted (getD counts c 0))
 
 -- A cycle that is lent too few samples is refused by 23, and changes nothing.
-abbrev pub cycled : List ℤ → List ℤ → Bool → Effect ℤ
-cycled state left true = record { answer = refuse 23 0; left = state }
-cycled state left false = record { answer = accepted 0; left = left }
+abbrev pub cycled : ℕ → List ℤ → List ℤ → Bool → Effect ℤ
+cycled n state left true = record { answer = refuse 23 0; left = state }
+cycled n state left false = record { answer = accepted n; left = left }
 
 -- The state and the log after a reset and a list of calls.
 abbrev pub stateBy : List ℕ → List ℤ → List Call → List ℤ
@@ -227,9 +231,15 @@ module _ (p : Program) (s : Schedule) (h : ℕ) (acc : Accepted p s) (whole : Mu
           position = rw cycle-first (lt-ltb moved h (next-below h at at-below));
         }
 
+    -- The number of its commands is the report's for its position.
+    cycle-counts : cycleCount (imageOf p s h) state ≡ getD (countsOf p s h) (positionOf (getD state 0 (pos 0))) 0
+    unfolding cycleCount at
+    cycle-counts = cycle-count p s h bounded (acc .only) at at-below ∙ sym (counts-at p s h at at-below)
+
     -- It is accepted exactly if it is lent enough samples, and refused by 23 otherwise.
     pub cycle-call : cycleOf (imageOf p s h) state samples ≡
-        cycled state (cycleWords (imageOf p s h) state samples) (ltb (length samples) (count p))
+        cycled (getD (countsOf p s h) (positionOf (getD state 0 (pos 0))) 0) state (cycleWords (imageOf p s h) state samples)
+        (ltb (length samples) (count p))
     unfolding cycleOf _▷_ provided
     cycle-call =
         rw (
@@ -238,13 +248,18 @@ module _ (p : Program) (s : Schedule) (h : ℕ) (acc : Accepted p s) (whole : Mu
           image-hyper p s h,
           lt-ltb (count p) (length state) (ready .long),
           ready .position,
+          cycle-counts,
         ) (go (ltb (length samples) (count p)) refl)
       where
         go : (b : Bool) → ltb (length samples) (count p) ≡ b →
             effect state
             (provided (leb (count p) (length samples)) 23 0 ▷ λ _.
-            accepted (record { yields = 0; leaves = cycleWords (imageOf p s h) state samples })) ≡
-            cycled state (cycleWords (imageOf p s h) state samples) b
+            accepted
+            (record {
+              yields = getD (countsOf p s h) (positionOf (getD state 0 (pos 0))) 0;
+              leaves = cycleWords (imageOf p s h) state samples;
+            })) ≡
+            cycled (getD (countsOf p s h) (positionOf (getD state 0 (pos 0))) 0) state (cycleWords (imageOf p s h) state samples) b
         go true e = rw (lt-leb (count p) (length samples) (ltb-true (length samples) (count p) e))
         go false e = rw (le-leb (count p) (length samples) (ltb-false (length samples) (count p) e))
 
@@ -287,8 +302,11 @@ module _ (p : Program) (s : Schedule) (h : ℕ) (acc : Accepted p s) (whole : Mu
       left : List ℤ
       left = cycleWords (imageOf p s h) state samples
 
-      go : (b : Bool) → Shown p h n (cycled state left b .left) (cond b st (Turns.cycle p s h (sampleOf samples) st))
-          (logged (cycle samples) (cycled state left b .answer) log) (cond b log′ (samples ∷ log′))
+      counted : ℕ
+      counted = getD (countsOf p s h) (positionOf (getD state 0 (pos 0))) 0
+
+      go : (b : Bool) → Shown p h n (cycled counted state left b .left) (cond b st (Turns.cycle p s h (sampleOf samples) st))
+          (logged (cycle samples) (cycled counted state left b .answer) log) (cond b log′ (samples ∷ log′))
       go true = x
       go false =
           record {
@@ -307,13 +325,15 @@ module _ (p : Program) (s : Schedule) (h : ℕ) (acc : Accepted p s) (whole : Mu
   calls-shown (cycle samples ∷ cs) x = calls-shown cs (cycle-shown samples x)
 
   -- In a state that is ready no reset is refused, and a cycle exactly if it is lent too few samples. The state stays ready.
-  pub call-answers : (state : List ℤ) (c : Call) → Ready p h state → callOf (imageOf p s h) state c .answer ≡ answerTo p c
+  pub call-answers : (state : List ℤ) (c : Call) → Ready p h state →
+      callOf (imageOf p s h) state c .answer ≡ answerTo p (countsOf p s h) (positionOf (getD state 0 (pos 0))) c
   unfolding callOf
   call-answers state reset ready = rw (reset-call state (ready .long))
   call-answers state (cycle samples) ready = rw (cycle-call samples state ready) (go (ltb (length samples) (count p)))
     where
       go : (b : Bool) →
-          cycled state (cycleWords (imageOf p s h) state samples) b .answer ≡ cond b (refuse 23 0) (accepted 0)
+          cycled (getD (countsOf p s h) (positionOf (getD state 0 (pos 0))) 0) state (cycleWords (imageOf p s h) state samples) b
+          .answer ≡ cond b (refuse 23 0) (accepted (getD (countsOf p s h) (positionOf (getD state 0 (pos 0))) 0))
       go true = refl
       go false = refl
 
@@ -339,12 +359,26 @@ module _ (p : Program) (s : Schedule) (h : ℕ) (acc : Accepted p s) (whole : Mu
         (logBy (imageOf p s h) old cs) (logOf p [] cs)
     list-shown cs = calls-shown cs first-shown
 
-    -- Which calls are refused and how: the first reset is not, and of the calls that follow it a cycle with too few samples.
+    -- The position is the remainder of the number of cycles since the latest reset.
+    list-position : (cs : List Call) →
+        positionOf (getD (stateBy (imageOf p s h) old cs) 0 (pos 0)) ≡ length (logBy (imageOf p s h) old cs) % h
+    list-position cs =
+        let shown = list-shown cs in
+        ap (λ v. v .position) (shown .shows) ∙
+        calls-position p s h (whole .positive) cs [] (Turns.reset p (view old)) (sym (zero-mod h)) ∙
+        ap (λ l. length l % h) (sym (shown .logs))
+
+    -- Which calls are refused and how: the first reset is not, and of the calls that follow it a cycle with too few samples. A
+    -- cycle that is accepted answers the report's count of its position.
     pub first-answers : resetOf (imageOf p s h) old .answer ≡ accepted 0
     first-answers = rw (reset-call old long)
 
-    pub calls-answer : (cs : List Call) (c : Call) → callOf (imageOf p s h) (stateBy (imageOf p s h) old cs) c .answer ≡ answerTo p c
-    calls-answer cs c = call-answers (stateBy (imageOf p s h) old cs) c (list-shown cs .ready)
+    pub calls-answer : (cs : List Call) (c : Call) →
+        callOf (imageOf p s h) (stateBy (imageOf p s h) old cs) c .answer ≡
+        answerTo p (countsOf p s h) (length (logBy (imageOf p s h) old cs) % h) c
+    calls-answer cs c =
+        call-answers (stateBy (imageOf p s h) old cs) c (list-shown cs .ready) ∙
+        ap (λ q. answerTo p (countsOf p s h) q c) (list-position cs)
 
     -- What the state is after the list.
     machine-words : (cs : List Call) (X : ℕ → ℕ → ℤ) →

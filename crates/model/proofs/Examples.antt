@@ -18,6 +18,7 @@ use Rattle.model.specs.Latency.{readOf, readsBack, used, back, source, l
 use Rattle.model.specs.Image.{exprCode, codes, runList, runLists, offsets, records, codesAt, lengthOf, head, imageOf}
 use Rattle.model.specs.Machine.{operatorCode, codeAt, listOffset, codeOffset, listOf, codeOf, commandOk, codeOkFrom, codeOk, headOk, listsOk, entriesOk, codesOk, wellFormed, runCommand, runFrom, runCode, runSignals, nextPosition, resetWords, cycleWords, resetOf, cycleOf}
 use Rattle.model.specs.Compile.{shortEnough, pairOf, verdictOf, compileOf}
+use Rattle.model.specs.Report.{listCommands, cycleCommands, highest, countsOf, Told, reportOf}
 use Rattle.model.specs.Calls.{callOf, after, logAfter, lentAt}
 use Rattle.model.specs.Calls.{Call, reset, cycle}
 use Rattle.model.specs.Compile.{Pair}
@@ -26,11 +27,12 @@ use Rattle.model.specs.Machine.{hyperOf, countOf}
 use Rattle.model.specs.Program.{bodyReads}
 use Rattle.model.specs.Word.{binaryWord}
 use Rattle.model.specs.declared.Binary.{Binary}
+use Rattle.model.specs.declared.Sizes.{Sizes}
 use Rattle.model.specs.declared.Binary.the-variants.{Add, Mul}
 
 -- A question about a program and its schedule, or about an operator.
 pub data Question : Type 0 where
-  verdict hypercycles indices runs codeOffsets size : List ℕ → List ℕ → Question
+  verdict hypercycles indices runs codeOffsets size needs : List ℕ → List ℕ → Question
   -- the words of a signal after each cycle, given the words of input 0
   words : List ℕ → List ℕ → ℕ → List ℤ → Question
   binary : Binary → ℤ → ℤ → Question
@@ -51,6 +53,14 @@ ofPair f (refused e) = refuses (e .number) (e .place)
 abbrev ofImage : (List ℕ → Answer) → Outcome (List ℕ) → Answer
 ofImage f (accepted image) = f image
 ofImage f (refused e) = refuses (e .number) (e .place)
+
+-- The numbers of a report: L, the stack use, and the counts.
+abbrev ofAnswer : List ℕ → Outcome Sizes → Answer
+ofAnswer counts (accepted x) = numbers (x .length ∷ x .stack ∷ counts)
+ofAnswer counts (refused e) = refuses (e .number) (e .place)
+
+abbrev ofReport : Told → Answer
+ofReport r = ofAnswer (r .left) (r .answer)
 
 -- The settled index of every read, from left to right.
 abbrev settledIndices : Pair → List ℕ
@@ -75,6 +85,7 @@ answerTo (runs program schedule) =
 answerTo (codeOffsets program schedule) =
     ofImage (λ image. numbers (table (countOf image) (codeOffset image))) (verdictOf program schedule)
 answerTo (size program schedule) = ofImage (λ image. numbers (length image ∷ [])) (verdictOf program schedule)
+answerTo (needs program schedule) = ofReport (reportOf program schedule [])
 answerTo (words program schedule x inputs) =
     ofImage (λ image. signals (wordsFrom image (callOf image (replicate 65 (pos 9)) reset .left) x inputs))
     (verdictOf program schedule)
@@ -138,6 +149,8 @@ cases =
     (runs A in-order gives lists ((0 ∷ 2 ∷ []) ∷ (0 ∷ 1 ∷ 2 ∷ []) ∷ [])) ∷
     (codeOffsets A in-order gives numbers (33 ∷ 37 ∷ 41 ∷ [])) ∷
     (size A in-order gives numbers (48 ∷ [])) ∷
+    -- the report: L 48, stack 2, and 6, 8 commands in its two cycles (request a)
+    (needs A in-order gives numbers (48 ∷ 2 ∷ 6 ∷ 8 ∷ replicate 238 0)) ∷
     -- inputs 10, 11, 12, 13: signal 2 is 5, 16, 27, 40
     (words A in-order 2 (pos 10 ∷ pos 11 ∷ pos 12 ∷ pos 13 ∷ []) gives signals (pos 5 ∷ pos 16 ∷ pos 27 ∷ pos 40 ∷ [])) ∷
     -- signals 1 and 0 put in the other order: 14, place 14
@@ -168,5 +181,5 @@ cases =
 
 -- The definitions answer every question of the table as the paper does.
 pub examples : map (λ c. answerTo (c .question)) cases ≡ map (λ c. c .answer) cases
-unfolding _▷_ provided lowest firstFrom first allBelow tableFrom table chosen joinFrom sum bitsOf wordOf wrap addWord subWord mulWord negWord lessWord sameWord minWord maxWord ifWord twoAt fourAt wordAt twoBytes fourBytes wordBytes operatorOf keywordOf keywordAt plainRead sampledRead commandOf commandAt node parseExpr parseLinks declare parseCommands parseProgram readsOf readFaults linkFaults declaredAndRated isMultiple hypercycle countReads isLinked linked scheduleCommandAt scheduleCommand parsePuts parseSchedule isPut putFaults putsFaults putPhase scheduleOf placed due stored between share ordered place settle settled isMet met value load loaded readOf readsBack used back source latencyOf runLatency fromOf windowOf keeps timely exprCode codes runList runLists offsets records codesAt lengthOf head imageOf operatorCode codeAt listOffset codeOffset listOf codeOf commandOk codeOkFrom codeOk headOk listsOk entriesOk codesOk wellFormed runCommand runFrom runCode runSignals nextPosition resetWords cycleWords resetOf cycleOf shortEnough pairOf verdictOf compileOf callOf after logAfter lentAt
+unfolding _▷_ provided lowest firstFrom first allBelow tableFrom table chosen joinFrom sum bitsOf wordOf wrap addWord subWord mulWord negWord lessWord sameWord minWord maxWord ifWord twoAt fourAt wordAt twoBytes fourBytes wordBytes operatorOf keywordOf keywordAt plainRead sampledRead commandOf commandAt node parseExpr parseLinks declare parseCommands parseProgram readsOf readFaults linkFaults declaredAndRated isMultiple hypercycle countReads isLinked linked scheduleCommandAt scheduleCommand parsePuts parseSchedule isPut putFaults putsFaults putPhase scheduleOf placed due stored between share ordered place settle settled isMet met value load loaded readOf readsBack used back source latencyOf runLatency fromOf windowOf keeps timely exprCode codes runList runLists offsets records codesAt lengthOf head imageOf operatorCode codeAt listOffset codeOffset listOf codeOf commandOk codeOkFrom codeOk headOk listsOk entriesOk codesOk wellFormed runCommand runFrom runCode runSignals nextPosition resetWords cycleWords resetOf cycleOf shortEnough pairOf verdictOf compileOf listCommands cycleCommands highest countsOf reportOf callOf after logAfter lentAt
 examples = refl

@@ -51,6 +51,7 @@ use Rattle.model.specs.Program.{
   bodyReads,
 }
 use Rattle.model.specs.Reads.{rateOf, due}
+use Rattle.model.specs.Report.{exprCommands}
 use Rattle.model.specs.Schedule.{Schedule}
 use Rattle.model.specs.Search.{chosen, joinFrom}
 use Rattle.model.specs.Word.{byteAt, fourBytes, wordBytes}
@@ -69,7 +70,6 @@ use Rattle.model.proofs.Runs.{
   binary-parts,
   negate-parts,
   choose-parts,
-  steps,
   spare,
   code-room,
 }
@@ -104,7 +104,7 @@ step code n own f at height c d = rw d
 -- it takes at most 2(d − 1) + 1.
 module _ (Q : Read → Type 0) (n own : ℕ) (known : (ρ : Read) → Q ρ → ρ .operands .signal < n) (code : List ℕ) where
   expr-ok : (e : Expr) (f at height : ℕ) → Words e → All Q (readsOf e) → height + 2 * depth e ≤ 33 → Stands code at (exprCode e) →
-      codeOkFrom (steps e + f) code n own at height ≡ codeOkFrom f code n own (at + length (exprCode e)) (height + 1)
+      codeOkFrom (exprCommands e + f) code n own at height ≡ codeOkFrom f code n own (at + length (exprCode e)) (height + 1)
   unfolding exprCode readsOf commandOk wordBytes fourBytes
   expr-ok (constant w) f at height fit q room h =
       ap (λ (k : ℕ). codeOkFrom k code n own at height) (omega arith) ∙
@@ -118,7 +118,7 @@ module _ (Q : Read → Type 0) (n own : ℕ) (known : (ρ : Read) → Q ρ → �
       let parts = binary-parts operator x y h in
       let r = all-split Q (readsOf x) (readsOf y) q in
       ap (λ (k : ℕ). codeOkFrom k code n own at height) (omega arith) ∙
-      expr-ok x (steps y + suc f) at height (fit .0) (r .0) (omega arith) (parts .0) ∙
+      expr-ok x (exprCommands y + suc f) at height (fit .0) (r .0) (omega arith) (parts .0) ∙
       expr-ok y (suc f) _ _ (fit .1) (r .1) (omega arith) (parts .1) ∙
       step code n own f _ _ _ (binary-at operator (parts .2)) ∙
       rw (le-leb 2 (height + 1 + 1) (omega arith))
@@ -135,8 +135,8 @@ module _ (Q : Read → Type 0) (n own : ℕ) (known : (ρ : Read) → Q ρ → �
       let r = all-split Q (readsOf x) (readsOf y ++ readsOf z) q in
       let t = all-split Q (readsOf y) (readsOf z) (r .1) in
       ap (λ (k : ℕ). codeOkFrom k code n own at height) (omega arith) ∙
-      expr-ok x (steps y + (steps z + suc f)) at height (fit .0) (r .0) (omega arith) (parts .0) ∙
-      expr-ok y (steps z + suc f) _ _ (fit .1) (t .0) (omega arith) (parts .1) ∙
+      expr-ok x (exprCommands y + (exprCommands z + suc f)) at height (fit .0) (r .0) (omega arith) (parts .0) ∙
+      expr-ok y (exprCommands z + suc f) _ _ (fit .1) (t .0) (omega arith) (parts .1) ∙
       expr-ok z (suc f) _ _ (fit .2) (t .1) (omega arith) (parts .2) ∙
       step code n own f _ _ _ (if-at (parts .3)) ∙
       rw (le-leb 3 (height + 1 + 1 + 1) (omega arith))

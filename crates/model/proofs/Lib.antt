@@ -12,6 +12,7 @@ pub mod Window
 pub mod Bounds
 pub mod Stretches
 pub mod Runs
+pub mod Counts
 pub mod Formed
 pub mod Offsets
 pub mod Heights

@@ -20,6 +20,7 @@ use Rattle.model.specs.Machine.{
   isPosition,
   resetWords,
   cycleWords,
+  cycleCount,
   Job,
   effect,
   resetOf,
@@ -219,5 +220,5 @@ places-zero image state (Call.cycle samples) f e =
     provided (ltb (countOf image) (length state)) 21 0 ▷ λ _.
     provided (isPosition (hyperOf image) (getD state 0 (pos 0))) 22 0 ▷ λ _.
     provided (leb (countOf image) (length samples)) 23 0 ▷ λ _.
-    accepted (record { yields = 0; leaves = cycleWords image state samples })) f
+    accepted (record { yields = cycleCount image state; leaves = cycleWords image state samples })) f
     (at-zero _ 20 _ (at-zero _ 21 _ (at-zero _ 22 _ (at-zero _ 23 (accepted _) tt)))) e

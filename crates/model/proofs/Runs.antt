@@ -14,6 +14,7 @@ use mir.Val.{SFits}
 use Rattle.model.specs.Image.{binaryByte, exprCode, signalCode}
 use Rattle.model.specs.Machine.{operatorCode, codeAt, runCommand, runFrom, runCode}
 use Rattle.model.specs.Program.{Body, input, equation, Expr, constant, read, binary, negate, choose, Read}
+use Rattle.model.specs.Report.{exprCommands}
 use Rattle.model.specs.Streams.{value, next}
 use Rattle.model.specs.Word.{fourBytes, wordBytes, binaryWord, negWord, ifWord}
 use Rattle.model.specs.declared.Binary.{Binary}
@@ -99,21 +100,13 @@ module _ {code : List ℕ} {at : ℕ} where
         behind (exprCode z) (0x3A ∷ []) k,
       )
 
--- The number of commands in the code of an expression.
-abbrev pub steps : Expr → ℕ
-steps (constant w) = 1
-steps (read ρ) = 1
-steps (binary operator x y) = steps x + (steps y + 1)
-steps (negate x) = steps x + 1
-steps (choose x y z) = steps x + (steps y + (steps z + 1))
-
-steps-most : (e : Expr) → steps e ≤ length (exprCode e)
+pub commands-most : (e : Expr) → exprCommands e ≤ length (exprCode e)
 unfolding exprCode wordBytes fourBytes
-steps-most (constant w) = omega arith
-steps-most (read ρ) = omega arith
-steps-most (binary operator x y) = simp length-append (omega (arith, steps-most x, steps-most y))
-steps-most (negate x) = simp length-append (omega (arith, steps-most x))
-steps-most (choose x y z) = simp length-append (omega (arith, steps-most x, steps-most y, steps-most z))
+commands-most (constant w) = omega arith
+commands-most (read ρ) = omega arith
+commands-most (binary operator x y) = simp length-append (omega (arith, commands-most x, commands-most y))
+commands-most (negate x) = simp length-append (omega (arith, commands-most x))
+commands-most (choose x y z) = simp length-append (omega (arith, commands-most x, commands-most y, commands-most z))
 
 module _ (code : List ℕ) (state samples : List ℤ) where
   -- The word that a read finds in the state.
@@ -126,7 +119,7 @@ module _ (code : List ℕ) (state samples : List ℤ) where
   step f at stack c d = rw d
 
   run-expr : (e : Expr) (f at : ℕ) (stack : List ℤ) → Words e → Stands code at (exprCode e) →
-      runFrom (steps e + f) code state samples at stack ≡
+      runFrom (exprCommands e + f) code state samples at stack ≡
       runFrom f code state samples (at + length (exprCode e)) (value word e ∷ stack)
   unfolding exprCode value runCommand wordBytes fourBytes
   run-expr (constant w) f at stack fit h =
@@ -137,7 +130,7 @@ module _ (code : List ℕ) (state samples : List ℤ) where
   run-expr (binary operator x y) f at stack fit h =
       let parts = binary-parts operator x y h in
       ap (λ (k : ℕ). runFrom k code state samples at stack) (omega arith) ∙
-      run-expr x (steps y + suc f) at stack (fit .0) (parts .0) ∙
+      run-expr x (exprCommands y + suc f) at stack (fit .0) (parts .0) ∙
       run-expr y (suc f) _ _ (fit .1) (parts .1) ∙
       step f _ _ _ (binary-at operator (parts .2)) ∙
       ap (λ (k : ℕ). runFrom f code state samples k (binaryWord operator (value word x) (value word y) ∷ stack))
@@ -151,8 +144,8 @@ module _ (code : List ℕ) (state samples : List ℤ) where
   run-expr (choose x y z) f at stack fit h =
       let parts = choose-parts x y z h in
       ap (λ (k : ℕ). runFrom k code state samples at stack) (omega arith) ∙
-      run-expr x (steps y + (steps z + suc f)) at stack (fit .0) (parts .0) ∙
-      run-expr y (steps z + suc f) _ _ (fit .1) (parts .1) ∙
+      run-expr x (exprCommands y + (exprCommands z + suc f)) at stack (fit .0) (parts .0) ∙
+      run-expr y (exprCommands z + suc f) _ _ (fit .1) (parts .1) ∙
       run-expr z (suc f) _ _ (fit .2) (parts .2) ∙
       step f _ _ _ (if-at (parts .3)) ∙
       ap (λ (k : ℕ). runFrom f code state samples k (ifWord (value word x) (value word y) (value word z) ∷ stack))
@@ -160,10 +153,10 @@ module _ (code : List ℕ) (state samples : List ℤ) where
 
 -- The commands that the code of an equation has room for after its expression.
 abbrev pub spare : Expr → ℕ
-spare e = suc (length (exprCode e)) - steps e
+spare e = suc (length (exprCode e)) - exprCommands e
 
-pub code-room : (e : Expr) (x : ℕ) → length (exprCode e ++ (0x5F ∷ x ∷ [])) ≡ steps e + suc (spare e)
-code-room e x = simp length-append (omega (arith, steps-most e))
+pub code-room : (e : Expr) (x : ℕ) → length (exprCode e ++ (0x5F ∷ x ∷ [])) ≡ exprCommands e + suc (spare e)
+code-room e x = simp length-append (omega (arith, commands-most e))
 
 pub run-signal : (x : ℕ) (body : Body) (state samples : List ℤ) → BodyWords body →
     runCode (signalCode x body) state samples ≡

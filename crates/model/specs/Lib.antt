@@ -18,6 +18,7 @@ pub mod Image
 pub mod Machine
 pub mod Height
 pub mod Compile
+pub mod Report
 pub mod Conditions
 pub mod Refusals
 pub mod Calls

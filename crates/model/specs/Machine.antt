@@ -12,6 +12,8 @@ use Rattle.model.specs.Word.{byteAt, twoAt, wordAt, binaryWord, negWord,
 use Rattle.model.specs.declared.Binary.the-variants as Binary
 use Rattle.model.specs.declared.Code.{Code}
 use Rattle.model.specs.declared.Code.the-variants as Code
+use Rattle.model.specs.declared.Cycled.{Cycled}
+use Rattle.model.specs.declared.Cycled.the-variants as Cycled
 use Rattle.model.specs.declared.Ran.{Ran}
 use Rattle.model.specs.declared.Ran.the-variants as Ran
 
@@ -161,11 +163,35 @@ runFrom (suc left) code state samples at stack =
 unfoldable pub runCode : List ℕ → List ℤ → List ℤ → ℤ
 runCode code state samples = runFrom (length code) code state samples 0 []
 
+-- How many commands a code runs: one for each, up to and with its STORE; `next` counts on.
+unfoldable pub countCommand : (ℕ → ℕ) → ℕ → Code → ℕ
+countCommand next at Code.EndsEarly = 0
+countCommand next at Code.Unknown = 0
+countCommand next at (Code.Push w) = suc (next (at + 5))
+countCommand next at (Code.Load x) = suc (next (at + 2))
+countCommand next at (Code.Fetch x) = suc (next (at + 2))
+countCommand next at (Code.Store x) = 1
+countCommand next at (Code.Binary operator) = suc (next (at + 1))
+countCommand next at Code.Negate = suc (next (at + 1))
+countCommand next at Code.If = suc (next (at + 1))
+
+unfoldable pub countFrom : ℕ → List ℕ → ℕ → ℕ
+countFrom zero code at = 0
+countFrom (suc left) code at = countCommand (λ a. countFrom left code a) at (codeAt code at)
+
+unfoldable pub countCode : List ℕ → ℕ
+countCode code = countFrom (length code) code 0
+
 -- The state after the signals of a list have run, in order.
 unfoldable pub runSignals : List ℕ → List ℕ → List ℤ → List ℤ → List ℤ
 runSignals image [] samples state = state
 runSignals image (x ∷ xs) samples state =
     runSignals image xs samples (set state (x + 1) (runCode (codeOf image x) state samples))
+
+-- How many commands the signals of a list run: a signal that stands twice in it counts twice.
+unfoldable pub countSignals : List ℕ → List ℕ → ℕ
+countSignals image [] = 0
+countSignals image (x ∷ xs) = countCode (codeOf image x) + countSignals image xs
 
 -- Word 0 is the position, 0 to H − 1.
 abbrev pub isPosition : ℕ → ℤ → Bool
@@ -191,6 +217,10 @@ cycleWords image state samples =
     let c = positionOf (getD state 0 (pos 0)) in
     set (runSignals image (listOf image c) samples state) 0 (pos (nextPosition (hyperOf image) c))
 
+-- How many commands that list runs.
+unfoldable pub cycleCount : List ℕ → List ℤ → ℕ
+cycleCount image state = countSignals image (listOf image (positionOf (getD state 0 (pos 0))))
+
 -- What a call answers, and what it leaves in what was lent to it.
 pub record Effect (A : Type 0) : Type 0 where
   pub answer : Outcome ℕ
@@ -206,10 +236,14 @@ abbrev pub effect : {A : Type 0} → List A → Outcome (Job A) → Effect A
 effect lent (accepted job) = record { answer = accepted (job .yields); left = job .leaves }
 effect lent (refused f) = record { answer = refused f; left = lent }
 
--- What the answer of reset and cycle stands for.
+-- What the answers of reset and of cycle stand for.
 abbrev pub ranOf : Ran → Outcome ℕ
 ranOf Ran.Done = accepted 0
 ranOf (Ran.Refused f) = refused f
+
+abbrev pub cycledOf : Cycled → Outcome ℕ
+cycledOf (Cycled.Commands n) = accepted n
+cycledOf (Cycled.Refused f) = refused f
 
 unfoldable pub resetOf : List ℕ → List ℤ → Effect ℤ
 resetOf image state =
@@ -218,6 +252,7 @@ resetOf image state =
     provided (ltb (countOf image) (length state)) 21 0 ▷ λ _.
     accepted (record { yields = 0; leaves = resetWords image state }))
 
+-- A cycle yields the number of commands that it ran.
 unfoldable pub cycleOf : List ℕ → List ℤ → List ℤ → Effect ℤ
 cycleOf image state samples =
     effect state
@@ -225,4 +260,4 @@ cycleOf image state samples =
     provided (ltb (countOf image) (length state)) 21 0 ▷ λ _.
     provided (isPosition (hyperOf image) (getD state 0 (pos 0))) 22 0 ▷ λ _.
     provided (leb (countOf image) (length samples)) 23 0 ▷ λ _.
-    accepted (record { yields = 0; leaves = cycleWords image state samples }))
+    accepted (record { yields = cycleCount image state; leaves = cycleWords image state samples }))

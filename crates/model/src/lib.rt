@@ -128,8 +128,26 @@ pub enum Compiled {
     Refused(Fault),
 }
 
-// What `reset` and `cycle` answer.
+// What `reset` answers.
 pub enum Ran {
     Done,
+    Refused(Fault),
+}
+
+// What `cycle` answers: how many commands it ran, or the refusal.
+pub enum Cycled {
+    Commands(u32),
+    Refused(Fault),
+}
+
+// What an accepted pair needs: the image's length, and the highest stack use of any signal.
+pub struct Sizes {
+    pub length: usize,
+    pub stack: usize,
+}
+
+// What `report` answers.
+pub enum Reported {
+    Sizes(Sizes),
     Refused(Fault),
 }

@@ -3,7 +3,9 @@
 use libc::STDIN_FILENO;
 use libc::STDOUT_FILENO;
 use model::Compiled;
+use model::Cycled;
 use model::Ran;
+use model::Reported;
 ghost use Prim.Native.Nat.{_*_, _≤_};
 ghost use lib.ListN.{length};
 
@@ -102,6 +104,21 @@ fn hash_words(words: &[i32]) -> u32 {
     hash
 }
 
+// The hash of the counts, four bytes each, low byte first.
+fn hash_counts(counts: &[u32; 240]) -> u32 {
+    let mut hash: u32 = 2166136261;
+    let mut i: usize = 0;
+    while i < 240 {
+        let count = counts[i];
+        let first = mix(hash, (count % 256) as u8);
+        let second = mix(first, (count / 256 % 256) as u8);
+        let third = mix(second, (count / 65536 % 256) as u8);
+        hash = mix(third, (count / 16777216 % 256) as u8);
+        i = i + 1;
+    }
+    hash
+}
+
 fn print_line(number: u8, value: usize, hash: u32) {
     io::print_decimal(STDOUT_FILENO, number as u64);
     io::write_all(STDOUT_FILENO, b" ");
@@ -116,6 +133,37 @@ fn print_ran(ran: Ran, state: &[i32]) {
     match ran {
         Ran::Done => print_line(0, 0, hash),
         Ran::Refused(fault) => print_line(fault.number, fault.place, hash),
+    }
+}
+
+fn print_cycled(cycled: Cycled, state: &[i32]) {
+    let hash = hash_words(state);
+    match cycled {
+        Cycled::Commands(n) => print_line(0, n as usize, hash),
+        Cycled::Refused(fault) => print_line(fault.number, fault.place, hash),
+    }
+}
+
+fn print_sizes(number: u8, value: usize, stack: usize, hash: u32) {
+    io::print_decimal(STDOUT_FILENO, number as u64);
+    io::write_all(STDOUT_FILENO, b" ");
+    io::print_decimal(STDOUT_FILENO, value as u64);
+    io::write_all(STDOUT_FILENO, b" ");
+    print_rest(stack, hash);
+}
+
+fn print_rest(stack: usize, hash: u32) {
+    io::print_decimal(STDOUT_FILENO, stack as u64);
+    io::write_all(STDOUT_FILENO, b" ");
+    io::print_decimal(STDOUT_FILENO, hash as u64);
+    io::write_all(STDOUT_FILENO, b"\n");
+}
+
+fn print_reported(reported: Reported, counts: &[u32; 240]) {
+    let hash = hash_counts(counts);
+    match reported {
+        Reported::Sizes(sizes) => print_sizes(0, sizes.length, sizes.stack, hash),
+        Reported::Refused(fault) => print_sizes(fault.number, fault.place, 0, hash),
     }
 }
 
@@ -167,8 +215,8 @@ fn reset(image: &[u8], state: &mut [i32]) {
 }
 
 fn cycle(image: &[u8], state: &mut [i32], samples: &[i32]) {
-    let ran = larderlate::cycle(image, &mut state[..], samples);
-    print_ran(ran, &state[..]);
+    let cycled = larderlate::cycle(image, &mut state[..], samples);
+    print_cycled(cycled, &state[..]);
 }
 
 // 03: a reset.
@@ -244,6 +292,40 @@ fn compile_next(lent: Lent, p: usize, s: usize, b: usize) -> Lent
     lent
 }
 
+fn report(program: &[u8], schedule: &[u8], fill: u8) {
+    let mut counts: [u32; 240] = [(fill as u32) * 16843009; 240];
+    let reported = larderlate::report(program, schedule, &mut counts);
+    print_reported(reported, &counts);
+}
+
+// 06: a report.
+fn call_report(lent: Lent) -> Lent {
+    let Number::Is(p) = two() else {
+        return stop();
+    };
+    let Number::Is(s) = two() else {
+        return stop();
+    };
+    if 9000 < p || 400 < s {
+        return stop();
+    }
+    report_next(lent, p, s)
+}
+
+// A report on p bytes of program and s of schedule.
+fn report_next(lent: Lent, p: usize, s: usize) -> Lent
+    requires { ⌜ (p ≤ 9000) × (s ≤ 400) ⌝ }
+{
+    let mut byte = [0u8; 1];
+    let mut program = [0u8; 9000];
+    let mut schedule = [0u8; 400];
+    if !fill(&mut byte, 1) || !fill(&mut program, p) || !fill(&mut schedule, s) {
+        return stop();
+    }
+    report(&program[..p], &schedule[..s], byte[0]);
+    lent
+}
+
 // The next call of the stream, or its end.
 fn step(lent: Lent, image: &mut [u8], state: &mut [i32]) -> Lent {
     let mut byte = [0u8; 1];
@@ -257,6 +339,7 @@ fn step(lent: Lent, image: &mut [u8], state: &mut [i32]) -> Lent {
         3 => call_reset(lent, image, &mut state[..]),
         4 => call_cycle(lent, image, &mut state[..]),
         5 => call_compile(lent),
+        6 => call_report(lent),
         _ => stop(),
     }
 }

@@ -6,7 +6,7 @@ ghost use mathlib.Core.Path.{_≡_};
 ghost use mathlib.Core.Bool.{true};
 ghost use Prim.Native.Nat.{_<_, _≤_};
 ghost use lib.ListN.{length};
-ghost use Rattle.model.specs.Machine.{operatorCode, codeAt, codeOk, runCode};
+ghost use Rattle.model.specs.Machine.{operatorCode, codeAt, codeOk, runCode, countCode};
 ghost use Rattle.model.specs.Word.{byteAt};
 ghost use Rattle.runner.specs.Leaf.{leafWord, leafOk, leafLength};
 
@@ -54,41 +54,57 @@ fn leaf_length(byte: u8) -> usize
     if byte == 0x50 { 5 } else { 2 }
 }
 
-// The word that the code of signal `own` stores, in an image of n signals. A leaf and the operator or STORE that follows it
-// are run in one turn: its word is not pushed.
-pub fn run_code(code: &[u8], n: u8, own: u8, state: &[i32], samples: &[i32]) -> i32
-    requires { ⌜ (codeOk (now code) n own ≡ true) × (n < length (now state)) × (n ≤ length (now samples)) × (own < n) ⌝ }
-    ensures { λ r. ⌜ r ≡ runCode (now (code .entry)) (now (state .entry)) (now (samples .entry)) ⌝ }
+// What a run of a code yields: the word that it stores, and how many commands it ran.
+pub struct Run {
+    pub word: i32,
+    pub count: u32,
+}
+
+// Runs the code of signal `own`, in an image of n signals. A leaf and the operator or STORE that follows it are run in one
+// turn, which counts 2: its word is not pushed.
+pub fn run_code(code: &[u8], n: u8, own: u8, state: &[i32], samples: &[i32]) -> Run
+    requires { ⌜ (codeOk (now code) n own ≡ true) × (n < length (now state)) × (n ≤ length (now samples)) × (own < n) × (length (now code) ≤ 65535) ⌝ }
+    ensures { λ r. ⌜ (r .word ≡ runCode (now (code .entry)) (now (state .entry)) (now (samples .entry))) × (r .count ≡ countCode (now (code .entry))) ⌝ }
 {
     let mut at: usize = 0;
+    let mut count: u32 = 0;
     let mut stack = Stack::new();
     while at < code.len() {
         let here = at;
         let byte = code[here];
         at = here + 1;
+        count = count + 1;
         match byte {
             0x50..=0x52 => {
                 let w = leaf_word(code, here, state, samples);
                 at = here + leaf_length(byte);
                 let next = code[at];
                 if next == 0x5F {
-                    return w;
+                    let total = count + 1;
+                    return Run {
+                        word: w,
+                        count: total,
+                    };
                 }
                 if next < 0x37 {
                     stack = stack.binary_with(operator(next), w);
                     at = at + 1;
+                    count = count + 1;
                 } else {
                     stack = stack.push(w);
                 }
             }
             0x5F => {
                 let popped = stack.pop();
-                return popped.word;
+                return Run {
+                    word: popped.word,
+                    count: count,
+                };
             }
             0x38 => stack = stack.negate(),
             0x3A => stack = stack.choose(),
             _ => stack = stack.binary(operator(byte)),
         }
     }
-    0
+    Run { word: 0, count: 0 }
 }

@@ -8,8 +8,8 @@ use Rattle.larderlate.proofs.larderlate_cycle.Tie as tie
 cycle-requires : tie.Need-cycle-requires
 cycle-requires c κs = search needs
 
-code-of-ran-requires : tie.Need-code-of-ran-requires
-code-of-ran-requires c κs = search needs
+code-of-cycled-requires : tie.Need-code-of-cycled-requires
+code-of-cycled-requires c κs = search needs
 
 same-length : tie.Need-same-length
 same-length c = search needs
@@ -17,8 +17,8 @@ same-length c = search needs
 returns : tie.Need-returns
 returns c =
     let e = c .before .before .cycle .ensures in
-    (c .code-of-ran .ensures ∙ ap codeNumber (e .0), e .1)
+    (c .code-of-cycled .ensures ∙ ap codeNumber (e .0), e .1)
 
 pub larderlate-cycle-spec : {M : Type 1} → statement M
 larderlate-cycle-spec =
-    tie.close (tie.spec cycle-requires code-of-ran-requires same-length returns)
+    tie.close (tie.spec cycle-requires code-of-cycled-requires same-length returns)

@@ -1,10 +1,11 @@
 -- `load::add_runs` meets its contract. Assumes nothing.
 use Prim.Native.Nat.{ℕ, _*_, _-_, _≤_, _<_}
 use mathlib.Core.Bool.{true}
-use mathlib.Core.Path.{_≡_, _∙_}
+use mathlib.Core.Path.{_≡_, refl, _∙_}
 use native.Mathlib.Omega.{arith}
 use denote.Ref.{now}
 use lib.ListN.{length, getD, length-set}
+use lib.Seq.{getD-set-other}
 use borrow.Author.Needs.{needs}
 use Rattle.model.specs.Reads.{due}
 use Rattle.load.proofs.Runs.{RaisedTo, due-first, due-next, raised-none, raised-next, added-most}
@@ -15,7 +16,8 @@ abbrev Inv-loop : tie.InvT-loop
 Inv-loop loads₀ period phase weight hypercycle step more next₀ loads next =
     (phase < period) × (hypercycle ≤ 240) × ((c : ℕ) → c < hypercycle → getD loads₀ c 0 ≤ 63 * 65535) × (length loads ≡ 240) ×
     (due (record { period = period; phase = phase }) next ≡ true) ×
-    RaisedTo (record { period = period; phase = phase }) weight loads₀ loads next
+    RaisedTo (record { period = period; phase = phase }) weight loads₀ loads next ×
+    ((c : ℕ) → hypercycle ≤ c → getD loads c 0 ≡ getD loads₀ c 0)
 
 abbrev μ-loop : tie.MeasureT-loop
 μ-loop loads₀ period phase weight hypercycle step more next₀ loads next = hypercycle - next
@@ -23,7 +25,7 @@ abbrev μ-loop : tie.MeasureT-loop
 loop-holds : tie.Need-loop-holds Inv-loop μ-loop
 loop-holds c =
     let v = c .pre .0 in
-    (v, c .pre .1, c .pre .3, c .pre .2, due-first _ v, raised-none _ v (c .args .weight) (now (c .args .loads)))
+    (v, c .pre .1, c .pre .3, c .pre .2, due-first _ v, raised-none _ v (c .args .weight) (now (c .args .loads)), (λ d le. refl))
 
 mul-loads : tie.Need-mul-loads Inv-loop μ-loop
 mul-loads c = search needs
@@ -59,6 +61,7 @@ loop-again c =
       length-set (l .loads) (l .next) _ ∙ i .3,
       due-next _ v (l .next) (i .4),
       raised-next _ v _ (now (c .before .before .before .args .loads)) (l .loads) (l .next) (i .4) (omega arith) (i .5),
+      (λ d le. getD-set-other (l .loads) (l .next) d _ 0 (λ e. omega arith) ∙ i .6 d le),
     )
 
 returns : tie.Need-returns Inv-loop μ-loop
@@ -69,6 +72,7 @@ returns c =
       long = i .3;
       raised = λ d lt. i .5 .0 d (omega arith);
       bounded = λ d lt. omega (arith, i .5 .0 d (omega arith), added-most (record { period = a .period; phase = a .phase }) (a .weight) d 65535 (omega arith));
+      beyond = i .6;
     }
 
 pub add-runs-spec : {M : Type 1} → statement M

@@ -2,7 +2,7 @@
 use mathlib.Core.Path.{_≡_, refl, sym, ap, ap₂, _∙_}
 use mathlib.Core.Bool.{true}
 use mathlib.Core.List.{List}
-use Prim.Native.Nat.{ℕ, _<_}
+use Prim.Native.Nat.{ℕ, _≤_, _<_}
 use native.Mathlib.Omega.{arith}
 use borrow.Author.Tests.{not-true, not-false, lt-ltb, le-ltb, le-leb, lt-leb}
 use lib.Dec.{ltb}
@@ -10,7 +10,8 @@ use lib.IntN.{ℤ, pos, natAbs}
 use lib.ListN.{length, getD, set}
 use mir.Syntax.{w32}
 use mir.Val.{toZ, ofZ}
-use Rattle.model.specs.Machine.{hyperOf, countOf, wellFormed, listOf, runSignals, isPosition, positionOf, nextPosition, cycleWords, cycleOf}
+use Rattle.model.specs.Machine.{hyperOf, countOf, wellFormed, listOf, runSignals, isPosition, positionOf, countSignals, nextPosition, cycleWords, cycleCount, cycleOf}
+use Rattle.model.proofs.Counts.{image-short, lists-inside}
 use Rattle.word.proofs.Laws.{kept}
 use Rattle.image_check.proofs.Parts.{head, lists, entries, formed}
 use Rattle.machine.proofs.Laws.{Position, position, no-position}
@@ -65,7 +66,7 @@ list-is r = r .run-list .ensures ∙ ap (listOf (image (r .before))) (place (r .
 
 -- the cycle has run
 ran : (e : tie.Else5) → let a = start (at2 e) .args in
-    cycleOf (a .image .now) (a .state .now) (a .samples .now) ≡ done (cycleWords (a .image .now) (a .state .now) (a .samples .now))
+    cycleOf (a .image .now) (a .state .now) (a .samples .now) ≡ done (cycleCount (a .image .now) (a .state .now)) (cycleWords (a .image .now) (a .state .now) (a .samples .now))
 ran e =
     cycle-done _ _ _ (well (checked (at2 e))) (room (at2 e)) (stands (e .before))
     (le-leb (countOf (image e)) (length (start (at2 e) .args .samples .now)) (omega (arith, count e, e .if5 .left)))
@@ -76,18 +77,31 @@ left g =
     let r = g .before .before in
     let e = r .before in
     let a = start (at2 e) .args in
-    g .run-signals .ensures ∙ ap (λ (l : List ℕ). runSignals (image e) l (a .samples .now) (a .state .now)) (list-is r)
+    g .run-signals .ensures .1 ∙ ap (λ (l : List ℕ). runSignals (image e) l (a .samples .now) (a .state .now)) (list-is r)
+
+-- its commands, by the definition
+counted : (g : tie.After-run-signals) → let e = g .before .before .before in let a = start (at2 e) .args in
+    g .run-signals .result ≡ cycleCount (image e) (a .state .now)
+unfolding cycleCount
+counted g = let r = g .before .before in g .run-signals .ensures .0 ∙ ap (countSignals (image (r .before))) (list-is r)
+
+-- no image is longer than two bytes can say, and no list than the image
+short : (e : tie.Else5) → length (image e) ≤ 65535
+short e = image-short (image e) (λ i. checked (at2 e) .before .before .shared-slice-known .given i .fits) (well (checked (at2 e)))
+
+inside : (r : tie.After-run-list) → length (r .run-list .result .now) ≤ length (image (r .before))
+inside r = rw (list-is r) (lists-inside (image (r .before)) _)
 
 well-formed-requires : tie.Need-well-formed-requires
 well-formed-requires c κs = search needs
 
-refused-requires : tie.Need-refused-requires
-refused-requires c κs = search needs
+stopped-requires : tie.Need-stopped-requires
+stopped-requires c κs = search needs
 
 returns : tie.Need-returns
 returns c =
     let w = c .before .before in
-    gives-refusal (cycle-image _ _ _ (sym (w .well-formed .ensures) ∙ not-true _ (c .before .if1 .taken))) (c .refused .ensures)
+    gives-refusal (cycle-image _ _ _ (sym (w .well-formed .ensures) ∙ not-true _ (c .before .if1 .taken))) (c .stopped .ensures)
 
 shared-slice-read-wide : tie.Need-shared-slice-read-wide
 shared-slice-read-wide c = omega (arith, head _ (formed _ (well (c .before)) .good) .four)
@@ -101,8 +115,8 @@ shared-slice-read-n c = omega (arith, head _ (formed _ (well (c .before .before 
 wide-requires-2 : tie.Need-wide-requires-2
 wide-requires-2 c κs = search needs
 
-refused-requires-2 : tie.Need-refused-requires-2
-refused-requires-2 c κs = search needs
+stopped-requires-2 : tie.Need-stopped-requires-2
+stopped-requires-2 c κs = search needs
 
 returns-2 : tie.Need-returns-2
 returns-2 c =
@@ -112,13 +126,13 @@ returns-2 c =
     let s = e .before .before .before in
     gives-refusal
     (cycle-state _ _ _ (well e) (le-ltb (countOf (s .args .image .now)) (length (s .args .state .now)) (omega (arith, w .wide2 .ensures .0, t .if2 .taken))))
-    (c .refused2 .ensures)
+    (c .stopped2 .ensures)
 
 slice-copy-out-position : tie.Need-slice-copy-out-position
 slice-copy-out-position c = omega arith
 
-refused-requires-3 : tie.Need-refused-requires-3
-refused-requires-3 c κs = search needs
+stopped-requires-3 : tie.Need-stopped-requires-3
+stopped-requires-3 c κs = search needs
 
 returns-3 : tie.Need-returns-3
 returns-3 c =
@@ -128,13 +142,13 @@ returns-3 c =
     gives-refusal
     (cycle-position _ _ _ (well (checked e)) (room e)
     (no-position (getD (s .args .state .now) 0 (pos 0)) (hyperOf (s .args .image .now)) (t .before .position .given) (t .if3 .taken)))
-    (c .refused3 .ensures)
+    (c .stopped3 .ensures)
 
 cast-c : tie.Need-cast-c
 cast-c c = rw (here c .back) (tt, record { fits = omega (arith, here c .small) })
 
-refused-requires-4 : tie.Need-refused-requires-4
-refused-requires-4 c κs = search needs
+stopped-requires-4 : tie.Need-stopped-requires-4
+stopped-requires-4 c κs = search needs
 
 returns-4 : tie.Need-returns-4
 returns-4 c =
@@ -144,10 +158,10 @@ returns-4 c =
     gives-refusal
     (cycle-position _ _ _ (well (checked e)) (room e)
     (here q .test _ ∙ le-ltb (positionOf (word q)) (hyperOf (start e .args .image .now)) (omega (arith, hyper e, rw (here q .back) at (t .if4 .taken)))))
-    (c .refused4 .ensures)
+    (c .stopped4 .ensures)
 
-refused-requires-5 : tie.Need-refused-requires-5
-refused-requires-5 c κs = search needs
+stopped-requires-5 : tie.Need-stopped-requires-5
+stopped-requires-5 c κs = search needs
 
 returns-5 : tie.Need-returns-5
 returns-5 c =
@@ -157,7 +171,7 @@ returns-5 c =
     gives-refusal
     (cycle-samples _ _ _ (well (checked e)) (room e) (stands q)
     (lt-leb (countOf (start e .args .image .now)) (length (start e .args .samples .now)) (omega (arith, e .before .wide2 .ensures .0, t .if5 .taken))))
-    (c .refused5 .ensures)
+    (c .stopped5 .ensures)
 
 run-list-requires : tie.Need-run-list-requires
 run-list-requires c κs = (well (checked (at2 c)), rw (place c) (below (c .before)))
@@ -170,7 +184,7 @@ run-signals-requires c κs =
       (well (checked (at2 e)), refl),
       (
         λ k l. rw (list-is r) (entries _ (lists _ (f .listed)) (f .entered) _ (below (e .before)) k (rw (list-is r) at l)),
-        (omega (arith, count e, at2 e .if2 .left), omega (arith, count e, e .if5 .left)),
+        (omega (arith, count e, at2 e .if2 .left), omega (arith, count e, e .if5 .left), short e, inside r),
       ),
     )
 
@@ -194,28 +208,28 @@ returns-6 c =
     let e = g .before .before .before in
     let next : toZ w32 (ofZ w32 (c .next-position .result)) ≡ pos (nextPosition (hyperOf (image e)) (positionOf (word (e .before .before)))) =
     kept _ (c .next-position .ok) ∙ c .next-position .ensures ∙ ap₂ (λ (h p : ℕ). pos (nextPosition h p)) (hyper (at2 e)) (place e) in
-    gives-done (ran e) (ap₂ (λ (l : List ℤ) (w : ℤ). set l 0 w) (left g) next)
+    gives-done (ran e) (counted g) (ap₂ (λ (l : List ℤ) (w : ℤ). set l 0 w) (left g) next)
 
 pub cycle-spec : {M : Type 1} → statement M
 cycle-spec =
     tie.close
     (tie.spec
     well-formed-requires
-    refused-requires
+    stopped-requires
     returns
     shared-slice-read-wide
     wide-requires
     shared-slice-read-n
     wide-requires-2
-    refused-requires-2
+    stopped-requires-2
     returns-2
     slice-copy-out-position
-    refused-requires-3
+    stopped-requires-3
     returns-3
     cast-c
-    refused-requires-4
+    stopped-requires-4
     returns-4
-    refused-requires-5
+    stopped-requires-5
     returns-5
     run-list-requires
     run-signals-requires

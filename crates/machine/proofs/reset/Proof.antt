@@ -1,5 +1,5 @@
 -- `machine::reset` meets its contract. Assumes nothing.
-use mathlib.Core.Path.{_≡_, sym, _∙_}
+use mathlib.Core.Path.{_≡_, refl, sym, _∙_}
 use mathlib.Core.Bool.{true}
 use native.Mathlib.Omega.{arith}
 use borrow.Author.Tests.{not-true, not-false, lt-ltb, le-ltb}
@@ -59,7 +59,7 @@ returns-3 c =
     let s = start w in
     gives-done
     (reset-done _ _ (well (w .before .before)) (lt-ltb (countOf (s .args .image .now)) (length (s .args .state .now)) (omega (arith, w .wide .ensures .0, e .if2 .left))))
-    (c .before .initial-words .ensures)
+    refl (c .before .initial-words .ensures)
 
 pub reset-spec : {M : Type 1} → statement M
 reset-spec =

@@ -6,23 +6,25 @@ use Prim.Native.Nat.{ℕ, _+_, _-_, _≤_, _<_}
 use native.Mathlib.Omega.{arith}
 use borrow.Author.Needs.{needs}
 use lib.IntN.{ℤ}
-use lib.ListN.{length, drop, set, length-set}
+use lib.ListN.{length, take, drop, set, length-set, length-take, length-drop}
 use mir.Syntax.{w32}
 use mir.Val.{toZ, ofZ}
-use Rattle.model.specs.Machine.{stretch, countOf, codeOffset, headOk, codeOf, codeOk, runCode, runSignals}
+use Rattle.model.specs.Machine.{stretch, countOf, codeOffset, headOk, codeOf, codeOk, runCode, runSignals, countCode, countSignals}
 use Rattle.model.specs.Word.{byteAt}
+use Rattle.model.proofs.Counts.{signals-fit}
 use Rattle.word.proofs.Laws.{kept}
 use Rattle.image_check.proofs.Parts.{CodePart, codes, formed}
-use Rattle.machine.proofs.Laws.{signals-next, signals-done}
+use Rattle.machine.proofs.Laws.{signals-next, signals-done, counts-next, counts-done}
 use Rattle.machine.proofs.run_signals.Statement.{statement}
 use Rattle.machine.proofs.run_signals.Tie as tie
 
 abbrev Inv-loop : tie.InvT-loop
-Inv-loop list image n state₀ samples count i₀ state i =
+Inv-loop list image n state₀ samples count total₀ i₀ state total i =
     (runSignals image (drop i list) samples state ≡ runSignals image list samples state₀) × (length state ≡ length state₀) × (i ≤ length list)
+    × (total + countSignals image (drop i list) ≡ countSignals image list)
 
 abbrev μ-loop : tie.MeasureT-loop
-μ-loop list image n state₀ samples count i₀ state i = length list - i
+μ-loop list image n state₀ samples count total₀ i₀ state total i = length list - i
 
 abbrev start : tie.At-loop Inv-loop μ-loop → tie.Start Inv-loop μ-loop
 start l = l .before .before .before .before
@@ -45,10 +47,11 @@ record Part (image : List ℕ) (n x from to : ℕ) : Type 0 where
   within : to ≤ length image
   formed : codeOk (stretch image from to) n x ≡ true
   part : stretch image from to ≡ codeOf image x
+  short : length (stretch image from to) ≤ length image
 
 part : (image : List ℕ) (n x from to : ℕ) → CodePart image x → n ≡ countOf image → from ≡ codeOffset image x → to ≡ codeOffset image (x + 1) → Part image n x from to
 unfolding codeOf
-part image n x from to p e f t = record { ordered = rw (f, t) (p .ordered); within = rw t (p .within); formed = rw (e, f, t) (p .formed); part = rw (f, t) }
+part image n x from to p e f t = record { ordered = rw (f, t) (p .ordered); within = rw t (p .within); formed = rw (e, f, t) (p .formed); part = rw (f, t); short = simp (length-take, length-drop) (omega arith) }
 
 this : (o : tie.After-code-offset2 Inv-loop μ-loop)
     → Part (start (turn o) .args .image .now) (start (turn o) .args .n) (signal o) (o .before .code-offset .result) (o .code-offset2 .result)
@@ -64,7 +67,7 @@ wide-requires : tie.Need-wide-requires Inv-loop μ-loop
 wide-requires c κs = search needs
 
 loop-holds : tie.Need-loop-holds Inv-loop μ-loop
-loop-holds c = (refl, refl, omega arith)
+loop-holds c = (refl, refl, omega arith, omega arith)
 
 shared-slice-read-x : tie.Need-shared-slice-read-x Inv-loop μ-loop
 shared-slice-read-x c = omega arith
@@ -95,20 +98,38 @@ run-code-requires c κs =
     let o = c .before .before in
     let l = turn o in
     let s = start l in
-    (this o .formed, omega (arith, l .loop .inv .1, s .pre .1 .1 .0), s .pre .1 .1 .1, s .pre .1 .0 (l .loop .i) (taken o))
+    (this o .formed, omega (arith, l .loop .inv .1, s .pre .1 .1 .0), s .pre .1 .1 .1, s .pre .1 .0 (l .loop .i) (taken o), omega (arith, this o .short, s .pre .1 .1 .2))
 
 add-w : tie.Need-add-w Inv-loop μ-loop
-add-w c = let o = c .before .before .before in omega (arith, o .before .before .wide2 .ensures .1)
+add-w c = let o = c .before .before .before .before in omega (arith, o .before .before .wide2 .ensures .1)
 
 mul-w : tie.Need-mul-w Inv-loop μ-loop
-mul-w c = let o = c .before .before .before in omega (arith, o .before .before .wide2 .ensures .1)
+mul-w c = let o = c .before .before .before .before in omega (arith, o .before .before .wide2 .ensures .1)
 
 slice-set-from-w : tie.Need-slice-set-from-w Inv-loop μ-loop
 slice-set-from-w c =
-    let o = c .before .before .before in
+    let o = c .before .before .before .before in
     let l = turn o in
     let s = start l in
     omega (arith, o .before .before .wide2 .ensures .0, l .loop .inv .1, s .pre .1 .1 .0, s .pre .1 .0 (l .loop .i) (taken o))
+
+-- the commands of the turn's code
+counted : (r : tie.After-run-code Inv-loop μ-loop) → let o = r .before .before .before in
+    r .run-code .result .count ≡ countCode (codeOf (start (turn o) .args .image .now) (signal o))
+counted r = r .run-code .ensures .1 ∙ ap countCode (this (r .before .before .before) .part)
+
+counts : (r : tie.After-run-code Inv-loop μ-loop) → let l = turn (r .before .before .before) in let a = start l .args in
+    l .loop .total + r .run-code .result .count + countSignals (a .image .now) (drop (l .loop .i + 1) (a .list .now)) ≡ countSignals (a .image .now) (a .list .now)
+counts r =
+    let o = r .before .before .before in
+    let l = turn o in
+    omega (arith, counted r, counts-next (start l .args .image .now) (start l .args .list .now) (l .loop .i) (taken o), l .loop .inv .3)
+
+add-total : tie.Need-add-total Inv-loop μ-loop
+add-total c =
+    let r = c .before .before in
+    let s = start (turn (r .before .before .before)) in
+    omega (arith, counts r, signals-fit (s .args .image .now) (s .args .list .now) (s .pre .1 .1 .2) (s .pre .1 .1 .3))
 
 add-i : tie.Need-add-i Inv-loop μ-loop
 add-i c = omega arith
@@ -118,16 +139,18 @@ loop-less c = omega arith
 
 loop-again : tie.Need-loop-again Inv-loop μ-loop
 loop-again c =
-    let o = c .before .before .before in
+    let r = c .before .before in
+    let o = r .before .before .before in
     let l = turn o in
     let a = start l .args in
-    let word : toZ w32 (ofZ w32 (c .run-code .result)) ≡ runCode (codeOf (a .image .now) (signal o)) (l .loop .state) (a .samples .now) =
-    kept _ (c .run-code .ok) ∙ c .run-code .ensures ∙ ap (λ (x : List ℕ). runCode x (l .loop .state) (a .samples .now)) (this o .part) in (
+    let word : toZ w32 (ofZ w32 (r .run-code .result .word)) ≡ runCode (codeOf (a .image .now) (signal o)) (l .loop .state) (a .samples .now) =
+    kept (r .run-code .result .word) (c .before .struct-told .given .0 .1) ∙ r .run-code .ensures .0 ∙ ap (λ (x : List ℕ). runCode x (l .loop .state) (a .samples .now)) (this o .part) in (
       ap₂ (λ (k : ℕ) (w : ℤ). runSignals (a .image .now) (drop (l .loop .i + 1) (a .list .now)) (a .samples .now) (set (l .loop .state) (k + 1) w))
           (o .before .before .wide2 .ensures .0) word
           ∙ sym (signals-next (a .image .now) (a .list .now) (l .loop .i) (a .samples .now) (l .loop .state) (taken o)) ∙ l .loop .inv .0,
       simp length-set (l .loop .inv .1),
       omega arith,
+      counts r,
     )
 
 same-length : tie.Need-same-length Inv-loop μ-loop
@@ -136,8 +159,10 @@ same-length c = c .before .loop .inv .1
 returns : tie.Need-returns Inv-loop μ-loop
 returns c =
     let l = c .before in
-    let a = start l .args in
-    sym (signals-done (a .image .now) (a .list .now) (l .loop .i) (a .samples .now) (l .loop .state) (c .loop-test .left)) ∙ l .loop .inv .0
+    let a = start l .args in (
+      omega (arith, counts-done (a .image .now) (a .list .now) (l .loop .i) (c .loop-test .left), l .loop .inv .3),
+      sym (signals-done (a .image .now) (a .list .now) (l .loop .i) (a .samples .now) (l .loop .state) (c .loop-test .left)) ∙ l .loop .inv .0,
+    )
 
 pub run-signals-spec : {M : Type 1} → statement M
 run-signals-spec =
@@ -159,6 +184,7 @@ run-signals-spec =
     add-w
     mul-w
     slice-set-from-w
+    add-total
     add-i
     loop-less
     loop-again

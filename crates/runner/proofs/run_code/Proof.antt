@@ -7,10 +7,11 @@ use native.Mathlib.Omega.{arith}
 use borrow.Author.Needs.{needs}
 use lib.IntN.{ℤ, pos}
 use lib.ListN.{length, getD}
-use Rattle.model.specs.Machine.{operatorCode, codeOk, runFrom, runCode, onTwo}
+use Rattle.model.specs.Machine.{operatorCode, codeOk, runFrom, runCode, countCode, onTwo}
 use Rattle.model.specs.Word.{byteAt, binaryWord}
 use Rattle.model.specs.declared.Code.{Code}
 use Rattle.model.specs.declared.Code.the-variants as Code
+use Rattle.model.proofs.Counts.{code-most}
 use Rattle.stack.specs.View.{view}
 use Rattle.word.proofs.Laws.{kept}
 use Rattle.runner.proofs.Laws.{Goes, Command, Leaf, leaf, leaf-some, moved, shifted, more, store, negate, choose, combine, ended, last, negated, chosen, combined}
@@ -18,10 +19,11 @@ use Rattle.runner.proofs.run_code.Statement.{statement}
 use Rattle.runner.proofs.run_code.Tie as tie
 
 abbrev Inv-loop : tie.InvT-loop
-Inv-loop code n own state samples at₀ stack₀ at stack = Goes code n own state samples (runCode code state samples) at (view stack) (stack .height)
+Inv-loop code n own state samples at₀ count₀ stack₀ at count stack =
+    Goes code n own state samples (runCode code state samples) (countCode code) count at (view stack) (stack .height)
 
 abbrev μ-loop : tie.MeasureT-loop
-μ-loop code n own state samples at₀ stack₀ at stack = length code - at
+μ-loop code n own state samples at₀ count₀ stack₀ at count stack = length code - at
 
 -- the command of a turn, by the arm that its byte came to
 abbrev start : tie.At-loop Inv-loop μ-loop → tie.Start Inv-loop μ-loop
@@ -36,7 +38,7 @@ stored l = runCode (code l) (start l .args .state .now) (start l .args .samples 
 abbrev Here : tie.At-loop Inv-loop μ-loop → Code → Type 0
 Here l k =
     let a = start l .args in
-    Command (code l) (a .n) (a .own) (a .state .now) (a .samples .now) (stored l) (l .loop .at) (view (l .loop .stack)) (l .loop .stack .height) k
+    Command (code l) (a .n) (a .own) (a .state .now) (a .samples .now) (stored l) (countCode (code l)) (l .loop .count) (l .loop .at) (view (l .loop .stack)) (l .loop .stack .height) k
 
 at-store : (m : tie.At-match-keys1 Inv-loop μ-loop)
     → let l = m .before .before .before in (l .loop .at + 2 ≤ length (code l)) × Here l (Code.Store (byteAt (code l) (l .loop .at + 1)))
@@ -70,7 +72,7 @@ abbrev turn : tie.Then2 Inv-loop μ-loop → tie.At-loop Inv-loop μ-loop
 turn t = t .before .before .before .before .before
 
 at-leaf : (t : tie.Then2 Inv-loop μ-loop) → let l = turn t in let a = start l .args in
-    Leaf (code l) (a .n) (a .own) (a .state .now) (a .samples .now) (stored l) (l .loop .at) (view (l .loop .stack)) (l .loop .stack .height)
+    Leaf (code l) (a .n) (a .own) (a .state .now) (a .samples .now) (stored l) (countCode (code l)) (l .loop .count) (l .loop .at) (view (l .loop .stack)) (l .loop .stack .height)
 at-leaf t =
     let l = turn t in
     let s = start l in
@@ -84,11 +86,11 @@ abbrev Follows : tie.After-leaf-length Inv-loop μ-loop → Code → Type 0
 Follows o k =
     let l = turn (leaf-of o) in
     let a = start l .args in
-    Command (code l) (a .n) (a .own) (a .state .now) (a .samples .now) (stored l) (l .loop .at + o .leaf-length .result)
+    Command (code l) (a .n) (a .own) (a .state .now) (a .samples .now) (stored l) (countCode (code l)) (l .loop .count + 1) (l .loop .at + o .leaf-length .result)
     (o .before .leaf-word .result ∷ view (l .loop .stack)) (l .loop .stack .height + 1) k
 
 follows : (o : tie.After-leaf-length Inv-loop μ-loop) → let l = turn (leaf-of o) in let a = start l .args in
-    Goes (code l) (a .n) (a .own) (a .state .now) (a .samples .now) (stored l) (l .loop .at + o .leaf-length .result)
+    Goes (code l) (a .n) (a .own) (a .state .now) (a .samples .now) (stored l) (countCode (code l)) (l .loop .count + 1) (l .loop .at + o .leaf-length .result)
     (o .before .leaf-word .result ∷ view (l .loop .stack)) (l .loop .stack .height + 1)
 follows o =
     let l = turn (leaf-of o) in
@@ -108,11 +110,15 @@ then-binary t =
 then-operator : (o : tie.After-operator Inv-loop μ-loop) → Follows (o .before .before .before .before) (Code.Binary (o .operator .result))
 then-operator o = rw (o .operator .ensures) at (then-binary (o .before) .2)
 
+-- no more commands have run than the code has bytes
+few : (l : tie.At-loop Inv-loop μ-loop) → l .loop .count ≤ 65535
+few l = omega (arith, l .loop .inv .counts, code-most (code l), start l .pre .4)
+
 new-requires : tie.Need-new-requires Inv-loop μ-loop
 new-requires c κs = search needs
 
 loop-holds : tie.Need-loop-holds Inv-loop μ-loop
-unfolding codeOk runCode
+unfolding codeOk runCode countCode
 loop-holds c =
     let s = c .before .before in
     let code = s .args .code .now in
@@ -120,6 +126,7 @@ loop-holds c =
       left = length code;
       good = rw (c .new .ensures .1) (s .pre .0);
       runs = ap (runFrom (length code) code (s .args .state .now) (s .args .samples .now) 0) (c .new .ensures .0);
+      counts = omega arith;
       most = omega (arith, c .new .ensures .1);
     }
 
@@ -129,13 +136,17 @@ shared-slice-read-byte c = search needs
 add-at : tie.Need-add-at Inv-loop μ-loop
 add-at c = search needs
 
+add-count : tie.Need-add-count Inv-loop μ-loop
+add-count c = omega (arith, few (c .before .before))
+
 pop-requires : tie.Need-pop-requires Inv-loop μ-loop
 pop-requires c κs = (omega (arith, last _ _ _ _ _ (at-store c .1) .0), c .before .before .before .loop .inv .most)
 
 returns : tie.Need-returns Inv-loop μ-loop
 returns c =
     let p = c .before in
-    kept (p .pop .result .word) (c .struct-told .given .0 .1) ∙ sym (ap (λ (s : List ℤ). getD s 0 (pos 0)) (p .pop .ensures .0)) ∙ last _ _ _ _ _ (at-store (p .before) .1) .1
+    let ends = last _ _ _ _ _ (at-store (p .before) .1) in
+    (kept (p .pop .result .word) (c .struct-told .given .0 .1) ∙ sym (ap (λ (s : List ℤ). getD s 0 (pos 0)) (p .pop .ensures .0)) ∙ ends .1, ends .2)
 
 negate-requires : tie.Need-negate-requires Inv-loop μ-loop
 negate-requires c κs = (negated _ _ _ _ _ (at-negate c) .0, c .before .before .before .loop .inv .most)
@@ -167,10 +178,14 @@ add-at-2 c = omega (arith, inside c)
 shared-slice-read-next : tie.Need-shared-slice-read-next Inv-loop μ-loop
 shared-slice-read-next c = inside (c .before)
 
+add-total : tie.Need-add-total Inv-loop μ-loop
+add-total c = omega (arith, few (turn (leaf-of (c .before .before))))
+
 returns-2 : tie.Need-returns-2 Inv-loop μ-loop
 returns-2 c =
     let o = c .before .before in
-    kept _ (o .before .leaf-word .ok) ∙ last _ _ _ _ _ (store _ _ _ _ _ (inside o) (follows o) (c .if3 .taken) .1) .1
+    let ends = last _ _ _ _ _ (store _ _ _ _ _ (inside o) (follows o) (c .if3 .taken) .1) in
+    (kept _ (o .before .leaf-word .ok) ∙ ends .1, ends .2)
 
 operator-requires : tie.Need-operator-requires Inv-loop μ-loop
 operator-requires c κs = (then-binary c .0, then-binary c .1)
@@ -180,6 +195,9 @@ binary-with-requires c κs = (omega (arith, combined _ _ _ _ _ (then-operator c)
 
 add-at-3 : tie.Need-add-at-3 Inv-loop μ-loop
 add-at-3 c = omega (arith, inside (c .before .before .before .before .before))
+
+add-count-2 : tie.Need-add-count-2 Inv-loop μ-loop
+add-count-2 c = omega (arith, few (turn (leaf-of (c .before .before .before .before .before))))
 
 push-requires : tie.Need-push-requires Inv-loop μ-loop
 push-requires c κs = at-leaf (leaf-of (c .before .before .before)) .high
@@ -231,6 +249,7 @@ run-code-spec =
     loop-holds
     shared-slice-read-byte
     add-at
+    add-count
     pop-requires
     returns
     negate-requires
@@ -243,10 +262,12 @@ run-code-spec =
     leaf-length-requires
     add-at-2
     shared-slice-read-next
+    add-total
     returns-2
     operator-requires
     binary-with-requires
     add-at-3
+    add-count-2
     push-requires
     loop-less-3
     loop-again-3
