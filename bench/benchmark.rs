@@ -12,7 +12,7 @@ mod reference;
 mod rows;
 
 use generate::Pair;
-use rows::{image_of, images_of, measure, print, program_a, program_of, row, Row, ROUNDS};
+use rows::{image_of, images_of, long_chains, measure, open_reads, print, program_a, program_of, row, Row, ROUNDS};
 use std::hint::black_box;
 
 fn compile_row(name: &str, pair: &Pair) -> Row {
@@ -90,8 +90,9 @@ fn main() {
     for signals in [4, 8, 16, 32, 64] {
         rows.push(compile_row(&format!("{signals} signals"), &program_of(signals, &[1, 2, 4, 8, 24], 24)));
     }
+    rows.extend([compile_row("long chains", &long_chains()), compile_row("open reads", &open_reads())]);
     measure(&mut rows);
     println!("medians of {ROUNDS} interleaved rounds; buffers and states not cleared between calls\n");
     print("call", ["ours", "Rust"], &mut rows[..calls]);
-    print("compile by length", ["ours", "Rust"], &mut rows[calls..]);
+    print("compile by length and shape", ["ours", "Rust"], &mut rows[calls..]);
 }

@@ -11,6 +11,7 @@ mod library;
 mod random;
 #[allow(dead_code, unused_imports)]
 mod reference;
+#[allow(dead_code)]
 mod rows;
 
 use generate::Pair;

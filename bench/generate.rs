@@ -383,8 +383,9 @@ fn excess(random: &mut Random, signals: &[Signal], twist: Twist, commands: &mut 
         Twist::LinkUnread if !signals.is_empty() => {
             let (before, link) = (random.below(signals.len()), random.below(signals.len()));
             if reads_of(signals, link, before).len() != 1 {
+                let full = commands.iter().filter(|command| command[0] == 0x12).count() == 16;
                 commands.push(chain_text(true, 65535, &[before, link]));
-                *expected = 10;
+                *expected = if full { 4 } else { 10 };
             }
         }
         _ => {}

@@ -69,6 +69,38 @@ pub fn image_of(pair: &Pair) -> Vec<u8> {
     image
 }
 
+/// A sum of leaves, as flat as it can be.
+fn sum_of(leaves: &[Vec<u8>]) -> Vec<u8> {
+    match leaves {
+        [leaf] => leaf.clone(),
+        _ => {
+            let (first, second) = leaves.split_at(leaves.len() / 2);
+            [vec![0x30], sum_of(first), sum_of(second)].concat()
+        }
+    }
+}
+
+fn pair_of(commands: &[Vec<u8>], schedule: &[u8]) -> Pair {
+    Pair { program: [&commands.concat()[..], &[0]].concat(), schedule: schedule.to_vec(), expected: 0 }
+}
+
+/// 16 chains of 16 links, all over one equation of some 7,600 bytes that reads itself once, at its end; hypercycle 240.
+pub fn long_chains() -> Pair {
+    let mut leaves = vec![vec![0x20, 1, 0, 0, 0]; 1264];
+    leaves.push(vec![0x22, 0]);
+    let equation = [vec![0x11, 1, 0, 0, 0, 0, 0, 0], sum_of(&leaves)].concat();
+    let chain = [vec![0x12, 1, 0xFF, 0xFF], [0x13, 0].repeat(16)].concat();
+    let mut commands = vec![chain; 16];
+    commands.extend([equation, vec![0x10, 240, 0, 0, 0, 0]]);
+    pair_of(&commands, &[0x40, 0, 0, 0x40, 1, 0, 0])
+}
+
+/// 1,560 open reads by 240 that settle at 239.
+pub fn open_reads() -> Pair {
+    let equation = [vec![0x11, 240, 0, 0, 0, 0, 0, 0], sum_of(&vec![vec![0x23, 0, 255, 240]; 1560])].concat();
+    pair_of(&[vec![0x10, 1, 0, 0, 0, 0], equation], &[0x40, 0, 0, 0x40, 1, 239, 0])
+}
+
 /// The images that reset and cycle are measured on: of the two programs, and two that no program was compiled to.
 pub fn images_of(small: &Pair, large: &Pair) -> [(&'static str, Vec<u8>); 4] {
     let mut random = Random(SEED);
