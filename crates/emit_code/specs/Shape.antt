@@ -6,7 +6,7 @@ use mathlib.Core.List.{List, [], _∷_}
 use mathlib.Core.Path.{_≡_}
 use lib.ListN.{length}
 use Rattle.model.specs.Image.{binaryByte}
-use Rattle.model.specs.Program.{readWidth}
+use Rattle.model.specs.Width.{readWidth}
 use Rattle.model.specs.Word.{wordBytes}
 use Rattle.model.specs.declared.Command.{Command}
 use Rattle.model.specs.declared.Command.the-variants as Command

@@ -23,7 +23,7 @@ use Rattle.model.specs.Command.{
   commandAt,
 }
 use Rattle.model.specs.Image.{binaryByte}
-use Rattle.model.specs.Program.{readWidth}
+use Rattle.model.specs.Width.{readWidth}
 use Rattle.model.specs.Schedule.{scheduleCommandAt}
 use Rattle.model.specs.Word.{byteAt, twoAt}
 use Rattle.model.specs.Written.{InPeriods, readByte, Written, PutWritten, Whole, PutWhole}

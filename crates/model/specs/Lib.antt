@@ -2,6 +2,7 @@
 pub mod Outcome
 pub mod Search
 pub mod Word
+pub mod Width
 pub mod Command
 pub mod Program
 pub mod Rates

@@ -7,7 +7,7 @@ use mathlib.Core.Path.{_≡_}
 use lib.ListN.{length}
 use Rattle.model.specs.Command.{indexOf, modeOf}
 use Rattle.model.specs.Image.{binaryByte}
-use Rattle.model.specs.Program.{readWidth}
+use Rattle.model.specs.Width.{inProgram, inExpression, inSchedule, readWidth}
 use Rattle.model.specs.Word.{byteAt, twoAt, fourAt, wordAt}
 use Rattle.model.specs.declared.Binary.{Binary}
 use Rattle.model.specs.declared.Command.{Command}
@@ -32,34 +32,39 @@ readByte Current = 0x25
 
 -- The command at an offset of the program text.
 pub data Written (text : List ℕ) (at : ℕ) : Command → Type 0 where
-  end : at + 1 ≤ length text → byteAt text at ≡ 0x00 → Written text at Command.End
-  input : at + 6 ≤ length text → byteAt text at ≡ 0x10 → InPeriods (byteAt text (at + 1)) →
+  end : at + inProgram 0x00 ≤ length text → byteAt text at ≡ 0x00 → Written text at Command.End
+  input : at + inProgram 0x10 ≤ length text → byteAt text at ≡ 0x10 → InPeriods (byteAt text (at + 1)) →
       Written text at (Command.Input (byteAt text (at + 1)) (wordAt text (at + 2)))
-  equation : at + 8 ≤ length text → byteAt text at ≡ 0x11 → InPeriods (byteAt text (at + 1)) →
+  equation : at + inProgram 0x11 ≤ length text → byteAt text at ≡ 0x11 → InPeriods (byteAt text (at + 1)) →
       Written text at (Command.Equation (byteAt text (at + 1)) (wordAt text (at + 2)) (twoAt text (at + 6)))
-  latency : at + 4 ≤ length text → byteAt text at ≡ 0x12 → byteAt text (at + 1) ≤ 1 →
+  latency : at + inProgram 0x12 ≤ length text → byteAt text at ≡ 0x12 → byteAt text (at + 1) ≤ 1 →
       Written text at (Command.Latency (modeOf (byteAt text (at + 1))) (twoAt text (at + 2)))
-  link : at + 2 ≤ length text → byteAt text at ≡ 0x13 → Written text at (Command.Link (byteAt text (at + 1)))
-  cap : at + 5 ≤ length text → byteAt text at ≡ 0x14 → Written text at (Command.Cap (fourAt text (at + 1)))
-  constant : at + 5 ≤ length text → byteAt text at ≡ 0x20 → Written text at (Command.Constant (wordAt text (at + 1)))
+  link : at + inProgram 0x13 ≤ length text → byteAt text at ≡ 0x13 →
+      Written text at (Command.Link (byteAt text (at + 1)))
+  cap : at + inProgram 0x14 ≤ length text → byteAt text at ≡ 0x14 →
+      Written text at (Command.Cap (fourAt text (at + 1)))
+  constant : at + inExpression 0x20 ≤ length text → byteAt text at ≡ 0x20 →
+      Written text at (Command.Constant (wordAt text (at + 1)))
   -- NOW and LAST: a signal.
-  plain : (kind : Kind) → readWidth kind ≡ 2 → at + 2 ≤ length text → byteAt text at ≡ readByte kind →
+  plain : (kind : Kind) → readWidth kind ≡ inExpression 0x21 → at + inExpression 0x21 ≤ length text →
+      byteAt text at ≡ readByte kind →
       Written text at (Command.Read kind (record { signal = byteAt text (at + 1); factor = 1; index = Fixed 0 }))
   -- WHEN, LASTWHEN and CURRENT: a signal, i and n; i is below n, or 255.
-  sampled : (kind : Kind) → readWidth kind ≡ 4 → at + 4 ≤ length text → byteAt text at ≡ readByte kind →
-      InPeriods (byteAt text (at + 3)) → (byteAt text (at + 2) < byteAt text (at + 3)) ⊎ (byteAt text (at + 2) ≡ 255) →
+  sampled : (kind : Kind) → readWidth kind ≡ inExpression 0x23 → at + inExpression 0x23 ≤ length text →
+      byteAt text at ≡ readByte kind → InPeriods (byteAt text (at + 3)) →
+      (byteAt text (at + 2) < byteAt text (at + 3)) ⊎ (byteAt text (at + 2) ≡ 255) →
       Written text at (Command.Read kind
       (record { signal = byteAt text (at + 1); factor = byteAt text (at + 3); index = indexOf (byteAt text (at + 2)) }))
   -- 30 ADD to 36 MAX, 38 NEG, 3A IF.
-  binary : (operator : Binary) → at + 1 ≤ length text → byteAt text at ≡ binaryByte operator →
+  binary : (operator : Binary) → at + inExpression 0x30 ≤ length text → byteAt text at ≡ binaryByte operator →
       Written text at (Command.Binary operator)
-  negate : at + 1 ≤ length text → byteAt text at ≡ 0x38 → Written text at Command.Negate
-  choose : at + 1 ≤ length text → byteAt text at ≡ 0x3A → Written text at Command.If
+  negate : at + inExpression 0x38 ≤ length text → byteAt text at ≡ 0x38 → Written text at Command.Negate
+  choose : at + inExpression 0x3A ≤ length text → byteAt text at ≡ 0x3A → Written text at Command.If
 
 -- The command at an offset of the schedule text.
 pub data PutWritten (text : List ℕ) (at : ℕ) : ScheduleCommand → Type 0 where
-  end : at + 1 ≤ length text → byteAt text at ≡ 0x00 → PutWritten text at ScheduleCommand.End
-  put : at + 3 ≤ length text → byteAt text at ≡ 0x40 →
+  end : at + inSchedule 0x00 ≤ length text → byteAt text at ≡ 0x00 → PutWritten text at ScheduleCommand.End
+  put : at + inSchedule 0x40 ≤ length text → byteAt text at ≡ 0x40 →
       PutWritten text at (ScheduleCommand.Put (byteAt text (at + 1)) (byteAt text (at + 2)))
 
 -- A command that is read whole: neither cut, nor unknown, nor with an operand outside its range.

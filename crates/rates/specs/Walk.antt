@@ -6,8 +6,9 @@ use mathlib.Core.Path.{_≡_}
 use lib.Dec.{leb, eqb}
 use lib.ListN.{length}
 use Rattle.model.specs.Command.{commandAt}
-use Rattle.model.specs.Program.{Read, Link, Program, readWidth, bodyReads}
+use Rattle.model.specs.Program.{Read, Link, Program, bodyReads}
 use Rattle.model.specs.Search.{joinFrom}
+use Rattle.model.specs.Width.{readWidth}
 use Rattle.model.specs.Word.{byteAt}
 use Rattle.model.specs.declared.Command.{Command}
 use Rattle.model.specs.declared.Command.the-variants as Command
