@@ -37,7 +37,7 @@ use Rattle.emit_code.proofs.binary_byte.Reads as binary-byte-reads
 use Rattle.emit_code.proofs.put_access.Reads as put-access-reads
 use Rattle.emit_code.proofs.put_operator.Reads as put-operator-reads
 use Rattle.emit_code.proofs.put_push.Reads as put-push-reads
-use Rattle.reader.proofs.read_width.Reads as read-width-reads
+use Rattle.reader.proofs.read_width.Reads as of-read-reads
 use Rattle.emit_code.proofs.+emit_expression.{statement}
 use Rattle.emit_code.proofs.+emit_expression.Tie.{close}
 
@@ -56,8 +56,8 @@ known t = (
   command-at-reads.Learnt,
   put-push-reads.Asked,
   put-push-reads.Learnt,
-  read-width-reads.Asked,
-  read-width-reads.Learnt,
+  of-read-reads.Asked,
+  of-read-reads.Learnt,
   put-access-reads.Asked,
   put-access-reads.Learnt,
   below t,
@@ -116,11 +116,11 @@ put-push-requires t c κs = omega (arith, word-length (c .before .before .comman
 enum-known-command-2 : (t : ℕ) → lts.Need-enum-known-command-2 (known t) (given t) own.Post
 enum-known-command-2 t c = search needs
 
-read-width-requires : (t : ℕ) → lts.Need-read-width-requires (known t) (given t) own.Post
-read-width-requires t c κs = search needs
+of-read-requires : (t : ℕ) → lts.Need-of-read-requires (known t) (given t) own.Post
+of-read-requires t c κs = search needs
 
 add-put-access : (t : ℕ) → lts.Need-add-put-access (known t) (given t) own.Post
-add-put-access t c = omega (arith, inside t (c .before .before .before .before .before) _ (c .before .before .before .command2 .given .1), c .read-width .ensures, c .before .before .before .before .before .before .before .before .good .0 .1)
+add-put-access t c = omega (arith, inside t (c .before .before .before .before .before) _ (c .before .before .before .command2 .given .1), c .of-read .ensures, c .before .before .before .before .before .before .before .before .good .0 .1)
 
 put-access-requires : (t : ℕ) → lts.Need-put-access-requires (known t) (given t) own.Post
 put-access-requires t c κs = omega (arith, no-rooms (rooms-at t (c .before .before .before .before .before) _ (c .before .before .before .command2 .given .1)))
@@ -201,7 +201,7 @@ same-length-2 : (t : ℕ) → lts.Need-same-length-2 (known t) (given t) own.Pos
 same-length-2 t c = c .before .before .put-access .kept .0
 
 returns-2 : (t : ℕ) → lts.Need-returns-2 (known t) (given t) own.Post
-returns-2 t c = emits-last _ (is t (c .before .before .before .before .before .before .before .before) _ (c .before .before .before .before .before .before .command2 .given .1)) emits-none (rw (c .before .before .before .read-width .ensures) at (c .before .before .put-access .ensures))
+returns-2 t c = emits-last _ (is t (c .before .before .before .before .before .before .before .before) _ (c .before .before .before .before .before .before .command2 .given .1)) emits-none (rw (c .before .before .before .of-read .ensures) at (c .before .before .put-access .ensures))
 
 same-length-3 : (t : ℕ) → lts.Need-same-length-3 (known t) (given t) own.Post
 same-length-3 t c = search needs
@@ -232,7 +232,7 @@ pub +emit-expression-spec : {M : Type 1} → statement M
     (add-put-push t)
     (put-push-requires t)
     (enum-known-command-2 t)
-    (read-width-requires t)
+    (of-read-requires t)
     (add-put-access t)
     (put-access-requires t)
     (enum-known-command-3 t)

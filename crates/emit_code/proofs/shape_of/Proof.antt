@@ -13,8 +13,8 @@ enum-told c = search needs
 enum-known-command : tie.Need-enum-known-command
 enum-known-command c = search needs
 
-read-width-requires : tie.Need-read-width-requires
-read-width-requires c κs = search needs
+of-read-requires : tie.Need-of-read-requires
+of-read-requires c κs = search needs
 
 enum-told-2 : tie.Need-enum-told-2
 enum-told-2 c = search needs
@@ -29,7 +29,7 @@ returns : tie.Need-returns
 returns c = rw (c .enum-told .given .1) (record { width = refl; operands = refl; code = omega (arith, word-length (c .enum-told .given .0 .0)) })
 
 returns-2 : tie.Need-returns-2
-returns-2 c = rw (c .before .before .command .given .1) (record { width = c .read-width .ensures; operands = refl; code = refl })
+returns-2 c = rw (c .before .before .command .given .1) (record { width = c .of-read .ensures; operands = refl; code = refl })
 
 returns-3 : tie.Need-returns-3
 returns-3 c = search needs
@@ -49,7 +49,7 @@ shape-of-spec =
     (tie.spec
     enum-told
     enum-known-command
-    read-width-requires
+    of-read-requires
     enum-told-2
     enum-told-3
     enum-told-4

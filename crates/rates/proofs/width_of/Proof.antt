@@ -36,8 +36,8 @@ enum-told-10 c = search needs
 enum-known-command : tie.Need-enum-known-command
 enum-known-command c = search needs
 
-read-width-requires : tie.Need-read-width-requires
-read-width-requires c κs = search needs
+of-read-requires : tie.Need-of-read-requires
+of-read-requires c κs = search needs
 
 enum-told-11 : tie.Need-enum-told-11
 enum-told-11 c = search needs
@@ -79,7 +79,7 @@ returns-10 : tie.Need-returns-10
 returns-10 c = search needs
 
 returns-11 : tie.Need-returns-11
-returns-11 c = rw (c .before .before .command .given .1) (c .read-width .ensures)
+returns-11 c = rw (c .before .before .command .given .1) (c .of-read .ensures)
 
 returns-12 : tie.Need-returns-12
 returns-12 c = search needs
@@ -105,7 +105,7 @@ width-of-spec =
     enum-told-9
     enum-told-10
     enum-known-command
-    read-width-requires
+    of-read-requires
     enum-told-11
     enum-told-12
     enum-told-13
