@@ -1,5 +1,4 @@
 -- `path::find_read` meets its contract. Assumes nothing.
-use Prim.Native.Nat.{_+_}
 use mathlib.Core.Path.{sym, ap, _∙_}
 use denote.Ref.{now}
 use native.Mathlib.Omega.{arith}
@@ -41,7 +40,7 @@ returns-2 c =
     let text = now (b .before .before .args .text) in
     λ p x q lt e.
     find-body text _ p x q lt (c .find-from .result) _ _ _ (ap (commandAt text) (sym e) ∙ sym (b .command-at .ensures) ∙ c .before .enum-told .given .1)
-    (λ n d s. c .find-from .ensures p x n d q lt s (ap (λ n. n + 8) e))
+    (λ n d s. c .find-from .ensures p x n d q lt s (omega (arith, e, c .before .in-program .ensures)))
 
 pub find-read-spec : {M : Type 1} → statement M
 find-read-spec =
