@@ -71,13 +71,14 @@ pub fn run_code(code: &[u8], n: u8, own: u8, state: &[i32], samples: &[i32]) -> 
     requires { ⌜ (codeOk (now code) n own ≡ true) × (n < length (now state)) × (n ≤ length (now samples)) × (own < n) × (length (now code) ≤ 65535) ⌝ }
     ensures { λ r. ⌜ (r .word ≡ runCode (now (code .entry)) (now (state .entry)) (now (samples .entry))) × (r .count ≡ countCode (now (code .entry))) ⌝ }
 {
+    let operator_width = width::in_code(0x30);
     let mut at: usize = 0;
     let mut count: u32 = 0;
     let mut stack = Stack::new();
     while at < code.len() {
         let here = at;
         let byte = code[here];
-        at = here + width::in_code(0x30);
+        at = here + operator_width;
         count = count + 1;
         match byte {
             0x50..=0x52 => {
@@ -93,7 +94,7 @@ pub fn run_code(code: &[u8], n: u8, own: u8, state: &[i32], samples: &[i32]) -> 
                 }
                 if next < 0x37 {
                     stack = stack.binary_with(operator(next), w);
-                    at = at + width::in_code(0x30);
+                    at = at + operator_width;
                     count = count + 1;
                 } else {
                     stack = stack.push(w);
