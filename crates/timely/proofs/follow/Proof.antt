@@ -39,7 +39,7 @@ next : (c : tie.In-loop Inv-loop μ-loop) →
     (c .before .loop .at + 4 ≤ length (now (c .before .before .before .before .before .before .before .before .args .text))) ×
     (c .before .loop .count < 15)
 next c =
-    let s = c .before .before .before .before .before .before .before in
+    let s = c .before .before .before .before .before .before .before .before in
     let n = next-link _ _ _ _ _ _ _ _ _ _ (c .before .loop .inv (s .pre .0 .0) (s .pre .0 .1) (s .pre .0 .2)) (c .loop-test .taken) in
     (n .inside, n .room)
 
@@ -53,7 +53,7 @@ in-program-requires : tie.Need-in-program-requires Inv-loop μ-loop
 in-program-requires c κs = search needs
 
 add-at : tie.Need-add-at Inv-loop μ-loop
-add-at c = omega (arith, begins c .inside)
+add-at c = omega (arith, begins (c .before) .inside)
 
 mul-left : tie.Need-mul-left Inv-loop μ-loop
 mul-left c = omega (arith, few (c .before))
@@ -62,7 +62,7 @@ array-read-left : tie.Need-array-read-left Inv-loop μ-loop
 array-read-left c = few (c .before)
 
 add-source : tie.Need-add-source Inv-loop μ-loop
-add-source c = omega (arith, begins c .inside)
+add-source c = omega (arith, begins (c .before) .inside)
 
 shared-slice-read-source : tie.Need-shared-slice-read-source Inv-loop μ-loop
 shared-slice-read-source c = omega (arith, begins (c .before .before) .inside)
@@ -73,16 +73,16 @@ no-hop-requires c κs = search needs
 loop-holds : tie.Need-loop-holds Inv-loop μ-loop
 loop-holds c =
     let s = c .before .before .before .before .before .before in
-    λ p s₀ j. begun _ _ _ _ p s₀ _ j (s .pre .1) .start _ refl
+    λ p s₀ j. rw (c .before .before .in-program .ensures) (begun _ _ _ _ p s₀ _ j (s .pre .1) .start _ refl)
 
 in-program-requires-2 : tie.Need-in-program-requires-2 Inv-loop μ-loop
 in-program-requires-2 c κs = search needs
 
 add-second : tie.Need-add-second Inv-loop μ-loop
-add-second c = omega (arith, next c .0)
+add-second c = omega (arith, next (c .before) .0)
 
 add-signal : tie.Need-add-signal Inv-loop μ-loop
-add-signal c = omega (arith, next c .0)
+add-signal c = omega (arith, next (c .before) .0)
 
 shared-slice-read-signal : tie.Need-shared-slice-read-signal Inv-loop μ-loop
 shared-slice-read-signal c = omega (arith, next (c .before .before) .0)
@@ -108,9 +108,10 @@ loop-less c = omega (arith, c .before .before .before .loop-test .taken)
 loop-again : tie.Need-loop-again Inv-loop μ-loop
 loop-again c =
     let b = c .before .before .before in
+    let two = c .before .before .in-program2 .ensures in
     λ p s j.
     let n = next-link _ _ _ _ _ _ _ _ _ _ (b .before .loop .inv p s j) (b .loop-test .taken) in
-    n .on _ (c .hop-at .ensures p s (j .known) (n .read) (n .reader) (n .once))
+    rw two (n .on _ ((rw two at (c .hop-at .ensures)) p s (j .known) (n .read) (n .reader) (n .once)))
 
 returns : tie.Need-returns Inv-loop μ-loop
 returns c = λ p s j. route-of _ _ _ _ _ _ _ _ _ _ (c .before .loop .inv p s j) (omega (arith, c .loop-test .left))
