@@ -18,6 +18,7 @@ pub mod Latency
 pub mod Image
 pub mod Machine
 pub mod Height
+pub mod Reach
 pub mod Compile
 pub mod Report
 pub mod Conditions

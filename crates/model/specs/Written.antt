@@ -1,5 +1,5 @@
--- One command of a text, byte for byte: it lies within the text, its first byte is its own, and its operands are in their
--- ranges. The grammar takes a command from `commandAt` and `scheduleCommandAt`; these relations say the same of the bytes.
+-- One command of a text or a code, byte for byte: it lies within the text, its first byte is its own, and its operands are in
+-- their ranges. The grammar takes a command from `commandAt` and `scheduleCommandAt`; these relations say the same of the bytes.
 use Prim.Native.Nat.{ℕ, _+_, _≤_, _<_}
 use mathlib.Core.List.{List}
 use mathlib.Core.Logic.{_⊎_}
@@ -7,9 +7,11 @@ use mathlib.Core.Path.{_≡_}
 use lib.ListN.{length}
 use Rattle.model.specs.Command.{indexOf, modeOf}
 use Rattle.model.specs.Image.{binaryByte}
-use Rattle.model.specs.Width.{inProgram, inExpression, inSchedule, readWidth}
+use Rattle.model.specs.Width.{inProgram, inExpression, inSchedule, inCode, readWidth}
 use Rattle.model.specs.Word.{byteAt, twoAt, fourAt, wordAt}
 use Rattle.model.specs.declared.Binary.{Binary}
+use Rattle.model.specs.declared.Code.{Code}
+use Rattle.model.specs.declared.Code.the-variants as Code
 use Rattle.model.specs.declared.Command.{Command}
 use Rattle.model.specs.declared.Command.the-variants as Command
 use Rattle.model.specs.declared.Index.the-variants.{Fixed}
@@ -67,6 +69,17 @@ pub data PutWritten (text : List ℕ) (at : ℕ) : ScheduleCommand → Type 0 wh
   put : at + inSchedule 0x40 ≤ length text → byteAt text at ≡ 0x40 →
       PutWritten text at (ScheduleCommand.Put (byteAt text (at + 1)) (byteAt text (at + 2)))
 
+-- The command at an offset of an image's code.
+pub data CodeWritten (code : List ℕ) (at : ℕ) : Code → Type 0 where
+  push : at + inCode 0x50 ≤ length code → byteAt code at ≡ 0x50 → CodeWritten code at (Code.Push (wordAt code (at + 1)))
+  load : at + inCode 0x51 ≤ length code → byteAt code at ≡ 0x51 → CodeWritten code at (Code.Load (byteAt code (at + 1)))
+  fetch : at + inCode 0x52 ≤ length code → byteAt code at ≡ 0x52 → CodeWritten code at (Code.Fetch (byteAt code (at + 1)))
+  store : at + inCode 0x5F ≤ length code → byteAt code at ≡ 0x5F → CodeWritten code at (Code.Store (byteAt code (at + 1)))
+  binary : (operator : Binary) → at + inCode 0x30 ≤ length code → byteAt code at ≡ binaryByte operator →
+      CodeWritten code at (Code.Binary operator)
+  negate : at + inCode 0x38 ≤ length code → byteAt code at ≡ 0x38 → CodeWritten code at Code.Negate
+  choose : at + inCode 0x3A ≤ length code → byteAt code at ≡ 0x3A → CodeWritten code at Code.If
+
 -- A command that is read whole: neither cut, nor unknown, nor with an operand outside its range.
 abbrev pub Whole : Command → Type 0
 Whole Command.EndsEarly = ⊥
@@ -89,3 +102,14 @@ PutWhole ScheduleCommand.EndsEarly = ⊥
 PutWhole ScheduleCommand.Unknown = ⊥
 PutWhole ScheduleCommand.End = Unit {0}
 PutWhole (ScheduleCommand.Put signal phase) = Unit {0}
+
+abbrev pub CodeWhole : Code → Type 0
+CodeWhole Code.EndsEarly = ⊥
+CodeWhole Code.Unknown = ⊥
+CodeWhole (Code.Push w) = Unit {0}
+CodeWhole (Code.Load x) = Unit {0}
+CodeWhole (Code.Fetch x) = Unit {0}
+CodeWhole (Code.Store x) = Unit {0}
+CodeWhole (Code.Binary operator) = Unit {0}
+CodeWhole Code.Negate = Unit {0}
+CodeWhole Code.If = Unit {0}
