@@ -93,11 +93,23 @@ pub fn emit_expression(text: &[u8], at: usize, depth: usize, out: &mut [u8], to:
             put_operator(out, second, binary_byte(operator))
         }
         Command::Negate => {
-            let operand = emit_expression(text, at + width::in_expression(0x38), depth - 1, out, to);
+            let operand = emit_expression(
+                text,
+                at + width::in_expression(0x38),
+                depth - 1,
+                out,
+                to,
+            );
             put_operator(out, operand, 0x38)
         }
         Command::If => {
-            let condition = emit_expression(text, at + width::in_expression(0x3A), depth - 1, out, to);
+            let condition = emit_expression(
+                text,
+                at + width::in_expression(0x3A),
+                depth - 1,
+                out,
+                to,
+            );
             let first = emit_expression(text, condition.next, depth - 1, out, condition.end);
             let second = emit_expression(text, first.next, depth - 1, out, first.end);
             put_operator(out, second, 0x3A)
