@@ -1,4 +1,5 @@
 -- What is proved of the definitions alone: their laws, and the paper's examples.
+pub mod Widths
 pub mod Rate
 pub mod Lines
 pub mod Decide
@@ -23,7 +24,6 @@ pub mod Faults
 pub mod Hypercycle
 pub mod Commands
 pub mod Written
-pub mod Widths
 pub mod Spelled
 pub mod All
 pub mod Legal
