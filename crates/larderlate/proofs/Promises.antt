@@ -15,21 +15,23 @@ use lib.ListN.{length, getD, drop}
 use Rattle.model.specs.Accepted.{All, Accepted, Multiple}
 use Rattle.model.specs.Calls.{Call, callOf, after, Supplied, Holds}
 use Rattle.model.specs.Compile.{Pair, pairOf, verdictOf, compileOf}
-use Rattle.model.specs.Conditions.{LegalPair}
+use Rattle.model.specs.Conditions.{_among_, LegalPair}
 use Rattle.model.specs.Height.{Within}
 use Rattle.model.specs.Image.{lengthOf, imageOf}
+use Rattle.model.specs.Latency.{readsBack, backwards, back, source, latencyOf}
 use Rattle.model.specs.Machine.{Job, effect, isPosition, hyperOf, countOf, listOf, codeOf, wellFormed, countSignals}
 use Rattle.model.specs.Machine.{resetWords, cycleWords, cycleCount, resetOf, cycleOf}
 use Rattle.model.specs.Outcome.{Outcome, accepted, refused, refuse, fault, _▷_, provided}
-use Rattle.model.specs.Program.{Program, count, signalAt, bodyReads}
+use Rattle.model.specs.Program.{Program, Chain, count, signalAt, bodyReads}
 use Rattle.model.specs.Rates.{hypercycle}
-use Rattle.model.specs.Reads.{settled}
+use Rattle.model.specs.Reads.{rateOf, runCycle, settled}
 use Rattle.model.specs.Report.{highest, countsOf, toldOf, reportOf}
 use Rattle.model.specs.Reach.{WidthsListed}
 use Rattle.model.specs.Refusals.{RefusedAt}
 use Rattle.model.specs.Schedule.{Schedule}
 use Rattle.model.specs.Streams.{Satisfies}
 use Rattle.model.specs.declared.Fault.{Fault}
+use Rattle.model.specs.declared.Found.the-variants.{At}
 use Rattle.model.specs.declared.Index.the-variants.{Open}
 use Rattle.model.specs.declared.Sizes.{Sizes}
 use Rattle.model.proofs.Alike.{open-alike, alike-satisfy}
@@ -43,6 +45,7 @@ use Rattle.model.proofs.Exact as Exact
 use Rattle.model.proofs.Examples as Examples
 use Rattle.model.proofs.Formed.{image-well-formed}
 use Rattle.model.proofs.Heights.{stack-least, stack-31}
+use Rattle.model.proofs.Latency as Latency
 use Rattle.model.proofs.Offsets.{OffsetsFit, offsets-fit}
 use Rattle.model.proofs.Places.{places-small, places-zero}
 use Rattle.model.proofs.Stretches.{image-length, image-count}
@@ -92,6 +95,23 @@ accepted-exactly = Exact.accepted-exactly
 pub refused-exactly : (program schedule : List ℕ) (n x : ℕ) →
     (pairOf program schedule ≡ refused (fault n x)) ↔ RefusedAt program schedule n x
 refused-exactly = Exact.refused-exactly
+
+-- Request c. In an accepted pair let r be the last link of a chain and ws the links before it, the nearest first. If one goes
+-- back from element k of r to element m of the first link a, the latency is 1 more than the cycles from m to k, and no
+-- difference is cut ..
+pub latency-whole : (program schedule : List ℕ) (q : Pair) → pairOf program schedule ≡ accepted q → (c : Chain) →
+    c among q .program .chains → (r : ℕ) (ws : List ℕ) → backwards c ≡ r ∷ ws → (k m : ℕ) →
+    let p = q .program in
+    let s = q .schedule in
+    let a = source p s r (readsBack p r ws) in
+    back p s r k (readsBack p r ws) ≡ At m →
+    latencyOf (rateOf p s r) k (rateOf p s a) m + runCycle (rateOf p s a) m ≡ runCycle (rateOf p s r) k + 1
+latency-whole = Latency.latency-whole
+
+-- .. so that no chain keeps a bound of 0, in either mode: some run of every chain counts.
+pub no-zero-bound : (program schedule : List ℕ) (q : Pair) → pairOf program schedule ≡ accepted q → (c : Chain) →
+    c among q .program .chains → 0 < c .bound
+no-zero-bound = Latency.no-zero-bound
 
 small-code : (f : Fault) → f .place ≤ 65535 → codeNumber (refused f) ≡ f .number * 4294967296 + f .place
 small-code f le = ap (λ n. f .number * 4294967296 + n) (mod-eq-of-lt (omega arith))

@@ -158,10 +158,11 @@ cases =
     -- CAP 4 accepted; CAP 3 refused 15, place 1
     (verdict (A-with (cap 4)) in-order gives accepts) ∷
     (verdict (A-with (cap 3)) in-order gives refuses 15 1) ∷
-    -- chain 0, 1, 2: backward 1 accepted, 0 refused 16 at the LAT; exists 0 accepted
-    (verdict (A-with (chain 1 1)) in-order gives accepts) ∷
-    (verdict (A-with (chain 1 0)) in-order gives refuses 16 33) ∷
-    (verdict (A-with (chain 0 0)) in-order gives accepts) ∷
+    -- chain 0, 1, 2: backward 2 accepted, 1 refused 16 at the LAT; exists 1 accepted, 0 refused 16 (request c)
+    (verdict (A-with (chain 1 2)) in-order gives accepts) ∷
+    (verdict (A-with (chain 1 1)) in-order gives refuses 16 33) ∷
+    (verdict (A-with (chain 0 1)) in-order gives accepts) ∷
+    (verdict (A-with (chain 0 0)) in-order gives refuses 16 33) ∷
     -- periods 15 and 16 give H 240; 16 and 17 refused 9
     (hypercycles (two-inputs 15 16) (at-phases 0 0) gives numbers (240 ∷ [])) ∷
     (verdict (two-inputs 16 17) (at-phases 0 0) gives refuses 9 0) ∷

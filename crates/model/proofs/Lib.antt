@@ -32,6 +32,7 @@ pub mod Parses
 pub mod Stopped
 pub mod Links
 pub mod Verdict
+pub mod Latency
 pub mod Judged
 pub mod JudgedPuts
 pub mod JudgedRuns
