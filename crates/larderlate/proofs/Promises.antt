@@ -30,6 +30,7 @@ use Rattle.model.specs.Reach.{WidthsListed}
 use Rattle.model.specs.Refusals.{RefusedAt}
 use Rattle.model.specs.Schedule.{Schedule}
 use Rattle.model.specs.Streams.{Satisfies}
+use Rattle.model.specs.Word.{NearestResults}
 use Rattle.model.specs.declared.Fault.{Fault}
 use Rattle.model.specs.declared.Found.the-variants.{At}
 use Rattle.model.specs.declared.Index.the-variants.{Open}
@@ -46,6 +47,7 @@ use Rattle.model.proofs.Examples as Examples
 use Rattle.model.proofs.Formed.{image-well-formed}
 use Rattle.model.proofs.Heights.{stack-least, stack-31}
 use Rattle.model.proofs.Latency as Latency
+use Rattle.model.proofs.Nearest as Nearest
 use Rattle.model.proofs.Offsets.{OffsetsFit, offsets-fit}
 use Rattle.model.proofs.Places.{places-small, places-zero}
 use Rattle.model.proofs.Stretches.{image-length, image-count}
@@ -373,6 +375,11 @@ same-program program schedule schedule′ q q′ e e′ =
     let t′ = pair-passed program schedule′ q′ e′ in
     let one : q .program ≡ q′ .program = cc (sym (t .parses) ∙ t′ .parses) in
     (one, cc (sym (t .hyper) ∙ ap hypercycle one ∙ t′ .hyper))
+
+-- Request d. ADD, SUB, MUL and NEG, in the streams as in a cycle, give the nearest word to the true result: a word; the result
+-- itself, where it is one; and no word is nearer to it.
+pub nearest-word : (a b : ℤ) → NearestResults a b
+nearest-word = Nearest.nearest-word
 
 -- The paper's examples marked m: one table, which the definitions answer by computation.
 pub examples : map (λ c. Examples.answerTo (c .question)) Examples.cases ≡ map (λ c. c .answer) Examples.cases

@@ -1,5 +1,6 @@
 -- What is proved of the definitions alone: their laws, and the paper's examples.
 pub mod Widths
+pub mod Nearest
 pub mod Rate
 pub mod Lines
 pub mod Decide
