@@ -1,1 +1,2 @@
-pub mod Ready
+-- The definitions that the contracts of `machine` cite.
+pub mod Runnable

@@ -9,7 +9,7 @@ ghost use lib.IntN.{pos};
 ghost use lib.ListN.{length};
 ghost use Rattle.model.specs.Machine.{hyperOf, countOf, wellFormed, listOf, runSignals, countSignals, nextPosition, resetWords};
 ghost use Rattle.model.specs.Machine.{cycleWords, cycleCount, ranOf, cycledOf, resetOf, cycleOf};
-ghost use Rattle.machine.specs.Ready.{Ready};
+ghost use Rattle.machine.specs.Runnable.{Runnable};
 ghost use Rattle.model.specs.Outcome.{refuse};
 ghost use Rattle.model.specs.Word.{byteAt};
 
@@ -117,7 +117,7 @@ pub fn reset(image: &[u8], state: &mut [i32]) -> Ran
 // Runs one cycle on an image that is known to be well formed and a state that is ready: nothing is left to refuse. Yields how
 // many commands it ran.
 pub fn run_cycle(image: &[u8], state: &mut [i32], samples: &[i32]) -> u32
-    requires { ⌜ Ready (now image) (now state) (now samples) ⌝ }
+    requires { ⌜ Runnable (now image) (now state) (now samples) ⌝ }
     ensures count { λ r. ⌜ r ≡ cycleCount (now (image .entry)) (now (state .entry)) ⌝ }
     ensures left { λ _. ⌜ now (state .exit) ≡ cycleWords (now (image .entry)) (now (state .entry)) (now (samples .entry)) ⌝ }
 {
