@@ -94,14 +94,14 @@ module _ (text : List ℕ) where
   step at = step-from (length text) at refl
 
   -- What stands where a command is decoded.
-  abbrev Stands : ℕ → ScriptCommand → Type 0
+  abbrev pub Stands : ℕ → ScriptCommand → Type 0
   Stands at ScriptCommand.EndsEarly = StopsScript text at (length text)
   Stands at ScriptCommand.Unknown = StopsScript text at at
   Stands at ScriptCommand.End = EndAt text at
   Stands at (ScriptCommand.Set x w) = SetAt text at × (byteAt text (at + 1) ≡ x) × (wordAt text (at + 2) ≡ w)
   Stands at (ScriptCommand.Run n) = RunAt text at × (byteAt text (at + 1) ≡ n)
 
-  stands : (at : ℕ) → Stands at (scriptCommandAt text at)
+  pub stands : (at : ℕ) → Stands at (scriptCommandAt text at)
   unfolding scriptCommandAt
   stands at =
       go (ltb at (length text)) (eqb (byteAt text at) 0x00) (eqb (byteAt text at) 0x70) (eqb (byteAt text at) 0x71)

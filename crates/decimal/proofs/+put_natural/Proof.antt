@@ -1,5 +1,5 @@
 -- `decimal::put_natural` meets its contract. Assumes nothing.
-use Rattle.decimal.proofs.Laws.{put-one, put-then, put-is, put-length}
+use Rattle.decimal.proofs.Puts.{put-one, put-then, put-is, put-length}
 use Rattle.model.proofs.Decimals.{natural-one, natural-more, natural-length}
 use Rattle.model.specs.Decimal.{natural, digit}
 use Rattle.decimal.specs.Put.{Put}

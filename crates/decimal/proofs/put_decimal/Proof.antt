@@ -1,5 +1,5 @@
 -- `decimal::put_decimal` meets its contract. Assumes nothing.
-use Rattle.decimal.proofs.Laws.{decimal-minus, decimal-plus, put-one, put-then, put-is, put-length}
+use Rattle.decimal.proofs.Puts.{decimal-minus, decimal-plus, put-one, put-then, put-is, put-length}
 use Rattle.model.specs.Decimal.{natural, decimal}
 use Rattle.decimal.specs.Put.{Put}
 use Rattle.word.proofs.Laws.{of-local, minus}

@@ -1,6 +1,6 @@
 -- `decimal::put_line` meets its contract. Assumes nothing.
 use Prim.Native.Nat.{_*_}
-use Rattle.decimal.proofs.Laws.{spaced-more, spaced-none, line-is, put-one, put-then, put-is, put-length}
+use Rattle.decimal.proofs.Puts.{spaced-more, spaced-none, line-is, put-one, put-then, put-is, put-length}
 use Rattle.model.proofs.Decimals.{natural-length, decimal-length}
 use Rattle.model.specs.Decimal.{natural, decimal, spaced, lineOf}
 use Rattle.decimal.specs.Put.{Put}
