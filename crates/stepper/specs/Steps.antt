@@ -62,13 +62,13 @@ Stepped image text p samples state samples′ state′ line′ (Next.Line size n
     Lined image text p samples state samples′ state′ line′ size next
 Stepped image text p samples state samples′ state′ line′ Next.Ended = linesLeft image text p samples state ≡ []
 
--- A block holds the first of what is left; fewer lines are left then, or none.
+-- A block holds the first of what is left: some lines, or all that are left.
 pub record Filled (image text : List ℕ) (p : Progress) (samples state : List ℤ) (samples′ state′ : List ℤ) (block′ : List ℕ)
     (r : Block) : Type 0 where
-  pub bytes : joined (linesLeft image text p samples state) ≡
-      take (r .size) block′ ++ joined (linesLeft image text (r .progress) samples′ state′)
   pub fits : r .size ≤ length block′
+  pub more : r .ended ≡ false → joined (linesLeft image text p samples state) ≡
+      take (r .size) block′ ++ joined (linesLeft image text (r .progress) samples′ state′)
   pub underway : r .ended ≡ false → Underway image text (r .progress) samples′ state′
   pub fewer : r .ended ≡ false →
       length (linesLeft image text (r .progress) samples′ state′) < length (linesLeft image text p samples state)
-  pub last : r .ended ≡ true → linesLeft image text (r .progress) samples′ state′ ≡ []
+  pub last : r .ended ≡ true → joined (linesLeft image text p samples state) ≡ take (r .size) block′

@@ -1,90 +1,138 @@
+-- `stepper::next_block` meets its contract. Assumes nothing.
+use Prim.Native.Nat.{ℕ, _+_, _-_, _≤_, _<_}
+use mathlib.Core.List.{List, _++_}
+use mathlib.Core.Path.{_≡_, refl, sym, ap, _∙_}
+use native.Mathlib.Omega.{arith}
+use borrow.Author.Needs.{needs}
+use borrow.Rule.Slice.PartMut.{putMid, postOf, same-len-mid, take-put}
+use lib.IntN.{ℤ}
+use lib.ListN.{length, take, length-take, length-drop}
+use Rattle.stepper.specs.Steps.{linesLeft, Underway, Lined, Stepped, Filled}
+use Rattle.stepper.proofs.Left.{is-lined, is-ended}
+use Rattle.stepper.proofs.Filling.{Filling, filling-none, filling-all, filling-more}
 use Rattle.stepper.proofs.next_block.Statement.{statement}
 use Rattle.stepper.proofs.next_block.Tie as tie
-use Rattle.stepper.proofs.next_block.Reads as reads
-use Rattle.stepper.proofs.next_block.Lts as lts
-use Rattle.stepper.proofs.next_line.Reads as next-line-reads
 
 abbrev Inv-loop : tie.InvT-loop
-Inv-loop image text samples₀ state₀ block₀ reached₀ size₀ samples state block reached size = ?
+Inv-loop image text samples₀ state₀ block₀ reached₀ size₀ samples state block reached size = Filling image text reached₀ samples₀ state₀ block₀ samples state block reached size
 
 abbrev μ-loop : tie.MeasureT-loop
-μ-loop image text samples₀ state₀ block₀ reached₀ size₀ samples state block reached size = ?
+μ-loop image text samples₀ state₀ block₀ reached₀ size₀ samples state block reached size = length (linesLeft image text reached samples state)
 
--- src/lib.rt:169:5
+abbrev turn : tie.After-next-line Inv-loop μ-loop → tie.At-loop Inv-loop μ-loop
+turn n = n .before .before .before .before .before
+
+-- the block as the step has left it is as long as before
+block-same : (b : tie.After-block Inv-loop μ-loop) → let n = b .before .before .before in
+    length (putMid (turn n .loop .size) (length (turn n .loop .block) - turn n .loop .size) (turn n .loop .block) (n .next-line .last .1 .1 .1 .1 .1 .0)) ≡
+    length (turn n .loop .block)
+block-same b =
+    let n = b .before .before .before in
+    let l = turn n .loop in
+    same-len-mid (l .size) (length (l .block) - l .size) (l .block) (n .next-line .last .1 .1 .1 .1 .1 .0)
+    (n .next-line .kept .1 .1 .1 .1 .1 .0)
+
 loop-holds : tie.Need-loop-holds Inv-loop μ-loop
-loop-holds c = ?
+loop-holds c = let s = c .before .before .before in filling-none _ (s .pre .0)
 
--- src/lib.rt:169:19
 sub-loop : tie.Need-sub-loop Inv-loop μ-loop
-sub-loop c = ?
+sub-loop c = c .loop .inv .fits
 
--- src/lib.rt:176:13
 sub-next-line : tie.Need-sub-next-line Inv-loop μ-loop
-sub-next-line c = ?
+sub-next-line c = c .before .before .before .loop .inv .fits
 
--- src/lib.rt:176:13
 part-next-line-start : tie.Need-part-next-line-start Inv-loop μ-loop
-part-next-line-start c = ?
+part-next-line-start c = search needs
 
--- src/lib.rt:176:13
 part-next-line-end : tie.Need-part-next-line-end Inv-loop μ-loop
-part-next-line-end c = ?
+part-next-line-end c = search needs
 
--- src/lib.rt:170:13
 next-line-requires : tie.Need-next-line-requires Inv-loop μ-loop
-next-line-requires c κs = ?
+next-line-requires c κs = let l = c .before .before .before .before in (l .loop .inv .underway, simp (length-take, length-drop) (omega (arith, c .before .before .before .loop-test .taken)))
 
--- src/lib.rt:178:24
 enum-known-next : tie.Need-enum-known-next Inv-loop μ-loop
-enum-known-next c = ?
+enum-known-next c = search needs
 
--- src/lib.rt:179:13
 enum-told : tie.Need-enum-told Inv-loop μ-loop
-enum-told c = ?
+enum-told c = search needs
 
--- src/lib.rt:179:13
 same-length : tie.Need-same-length Inv-loop μ-loop
-same-length c = ?
+same-length c = let n = c .before .before .before .before .before .before in n .next-line .kept .1 .1 .1 .0 ∙ turn n .loop .inv .samples-kept
 
--- src/lib.rt:179:13
 same-length-2 : tie.Need-same-length-2 Inv-loop μ-loop
-same-length-2 c = ?
+same-length-2 c = let n = c .before .before .before .before .before .before in n .next-line .kept .1 .1 .1 .1 .0 ∙ turn n .loop .inv .state-kept
 
--- src/lib.rt:179:13
 same-length-3 : tie.Need-same-length-3 Inv-loop μ-loop
-same-length-3 c = ?
+same-length-3 c = let b = c .before .before .before in block-same b ∙ turn (b .before .before .before) .loop .inv .block-kept
 
--- src/lib.rt:179:13
 returns : tie.Need-returns Inv-loop μ-loop
-returns c = ?
+returns c =
+    let b = c .before .before .before in
+    let n = b .before .before .before in
+    let l = turn n in
+    let s = l .before .before .before .before in
+    let f = l .loop .inv in
+    let none = is-ended (s .args .image .now) (s .args .text .now) (l .loop .reached) (l .loop .samples) (l .loop .state) _ _ _
+            (c .enum-told .given .1) (n .next-line .ensures) in
+    record {
+      fits = omega (arith, f .fits, block-same b);
+      more = λ e. let z : _≡_ {A = ℕ} 0 1 = cc in absurd (omega arith);
+      underway = λ e. let z : _≡_ {A = ℕ} 0 1 = cc in absurd (omega arith);
+      fewer = λ e. let z : _≡_ {A = ℕ} 0 1 = cc in absurd (omega arith);
+      last = λ e. filling-all f none ∙ sym (take-put (l .loop .size) (length (l .loop .block) - l .loop .size) (l .loop .block) (n .next-line .last .1 .1 .1 .1 .1 .0) (f .fits));
+    }
 
--- src/lib.rt:185:16
+-- the line of this turn
+abbrev at-step : tie.After-known-told Inv-loop μ-loop → tie.After-next-line Inv-loop μ-loop
+at-step c = c .before .before .before .before .before .before .before
+
+this : (c : tie.After-known-told Inv-loop μ-loop) →
+    let n = at-step c in
+    let l = turn n in
+    let a = l .before .before .before .before .args in
+    let line = n .next-line .last .1 .1 .1 in
+    Lined (a .image .now) (a .text .now) (l .loop .reached) (l .loop .samples) (l .loop .state) (line .0) (line .1 .0) (line .1 .1 .0)
+    (c .before .next .given .0 .0) (c .before .next .given .0 .1 .0)
+this c =
+    let o = c .before .next .given in is-lined (o .0 .0) (o .0 .1 .0) (o .1) (at-step c .next-line .ensures)
+
 add-size : tie.Need-add-size Inv-loop μ-loop
-add-size c = ?
+add-size c =
+    let l = turn (at-step c) in
+    omega (arith, l .loop .inv .fits, this c .fits, at-step c .next-line .kept .1 .1 .1 .1 .1 .0)
 
--- src/lib.rt:169:5
 loop-less : tie.Need-loop-less Inv-loop μ-loop
-loop-less c = ?
+loop-less c = omega (arith, ap length (this c .first))
 
--- src/lib.rt:169:5
 loop-again : tie.Need-loop-again Inv-loop μ-loop
-loop-again c = ?
+loop-again c =
+    let n = at-step c in
+    let l = turn n in
+    filling-more (postOf (l .loop .size) (length (l .loop .block) - l .loop .size) (l .loop .block)) (l .loop .inv) (this c)
+    (n .next-line .kept .1 .1 .1 .0) (n .next-line .kept .1 .1 .1 .1 .0) (block-same (c .before .before .before .before))
 
--- src/lib.rt:156:1
 same-length-4 : tie.Need-same-length-4 Inv-loop μ-loop
-same-length-4 c = ?
+same-length-4 c = c .before .loop .inv .samples-kept
 
--- src/lib.rt:156:1
 same-length-5 : tie.Need-same-length-5 Inv-loop μ-loop
-same-length-5 c = ?
+same-length-5 c = c .before .loop .inv .state-kept
 
--- src/lib.rt:156:1
 same-length-6 : tie.Need-same-length-6 Inv-loop μ-loop
-same-length-6 c = ?
+same-length-6 c = c .before .loop .inv .block-kept
 
--- src/lib.rt:156:1
 returns-2 : tie.Need-returns-2 Inv-loop μ-loop
-returns-2 c = ?
+returns-2 c =
+    let l = c .before in
+    let s = l .before .before .before .before in
+    let f = l .loop .inv in
+    let some : 0 < l .loop .size = omega (arith, c .loop-test .left, s .pre .1, f .block-kept) in
+    record {
+      fits = f .fits;
+      more = λ e. f .bytes;
+      underway = λ e. f .underway;
+      fewer = λ e. f .fewer some;
+      last = λ e. let z : _≡_ {A = ℕ} 0 1 = cc in absurd (omega arith);
+    }
 
 pub next-block-spec : {M : Type 1} → statement M
 next-block-spec =
