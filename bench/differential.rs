@@ -2,8 +2,8 @@
 //!
 //!     differential [COUNT [SEED]]
 //!
-//! Each of COUNT rounds lends one pair to compile, and then images, states and samples to reset and cycle. After each call the
-//! answers and all that was lent must be equal. It stops at the first difference with the bytes lent. Round r depends on the seed
+//! Each of COUNT rounds lends one pair to compile and to report, and then images, states and samples to reset and cycle. After each
+//! call the answers and all that was lent must be equal. It stops at the first difference with the bytes lent. Round r depends on the seed
 //! and on r alone.
 mod generate;
 // The benchmark uses the rest of these.
@@ -28,8 +28,15 @@ const NUMBERS: [usize; 21] = [1, 2, 3, 4, 5, 6, 7, 8, 9, 10, 11, 12, 13, 14, 15,
 #[derive(Default)]
 struct Seen {
     compile: [u64; 24],
+    report: [u64; 24],
     reset: [u64; 24],
     cycle: [u64; 24],
+}
+
+impl Seen {
+    fn calls(&self) -> [&[u64; 24]; 4] {
+        [&self.compile, &self.report, &self.reset, &self.cycle]
+    }
 }
 
 fn hexadecimal(bytes: &[u8]) -> String {
@@ -136,6 +143,22 @@ impl Round<'_> {
         image
     }
 
+    /// Reports on the pair by both into equal counts.
+    fn report(&mut self, pair: &Pair) {
+        let (fill, old) = (self.random.next() as u32, self.random.next() as usize);
+        let (mut ours, mut other, mut stack) = ([fill; 240], [fill; 240], old);
+        let library = library::report(&pair.program, &pair.schedule, &mut ours, &mut stack);
+        let sizes = reference::report(&pair.program, &pair.schedule, &mut other);
+        let reference = reference::answer(sizes.map(|sizes| sizes.length));
+        let kept = ours == other && stack == sizes.map_or(old, |sizes| sizes.stack);
+        if library != reference || !kept {
+            let program = format!("program: {}", hexadecimal(&pair.program));
+            let schedule = format!("schedule: {}", hexadecimal(&pair.schedule));
+            differ(self.number, "report", &[program, schedule, format!("counts of {fill}, stack {old}")], library, reference, kept);
+        }
+        count(&mut self.seen.report, library);
+    }
+
     /// A state for the image: mostly long enough and at a position of the hypercycle.
     fn state(&mut self, image: &[u8]) -> Vec<i32> {
         let random = &mut self.random;
@@ -180,7 +203,7 @@ impl Round<'_> {
         let before = state.clone();
         let mut other = state.clone();
         let library = library::cycle(image, state, &samples);
-        let reference = reference::answer(reference::cycle(image, &mut other, &samples).map(|()| 0));
+        let reference = reference::answer(reference::cycle(image, &mut other, &samples).map(|commands| commands as usize));
         if library != reference || *state != other {
             let [state_words, samples] = [format!("state: {before:?}"), format!("samples: {samples:?}")];
             let lent = [format!("image: {}", hexadecimal(image)), state_words, samples];
@@ -205,6 +228,7 @@ impl Round<'_> {
     fn run(&mut self) {
         let pair = self.pair();
         let own = self.compile(&pair);
+        self.report(&pair);
         let mut image = own.unwrap_or_else(|| images::foreign_image(&mut self.random));
         self.calls(&image);
         for _ in 0..1 + self.random.below(2) {
@@ -218,16 +242,16 @@ impl Round<'_> {
 }
 
 fn print_seen(seen: &Seen) -> bool {
-    println!("number    compile      reset      cycle");
+    println!("number    compile     report      reset      cycle");
     let mut all = true;
     for number in [0].into_iter().chain(NUMBERS) {
-        let [compile, reset, cycle] = [seen.compile[number], seen.reset[number], seen.cycle[number]];
-        println!("{number:>6} {compile:>10} {reset:>10} {cycle:>10}");
-        all &= compile + reset + cycle > 0;
+        let row = seen.calls().map(|counts| counts[number]);
+        println!("{number:>6} {}", row.map(|count| format!("{count:>10}")).join(" "));
+        all &= row.iter().sum::<u64>() > 0;
     }
-    let calls = [seen.compile, seen.reset, seen.cycle].map(|counts| counts.iter().sum::<u64>());
-    println!(" calls {:>10} {:>10} {:>10}", calls[0], calls[1], calls[2]);
-    all && [seen.compile, seen.reset, seen.cycle].iter().zip(calls).all(|(seen, calls)| seen[0] * 4 >= calls)
+    let totals = seen.calls().map(|counts| counts.iter().sum::<u64>());
+    println!(" calls {}", totals.map(|total| format!("{total:>10}")).join(" "));
+    all && seen.calls().iter().zip(totals).all(|(counts, total)| counts[0] * 4 >= total)
 }
 
 fn main() {

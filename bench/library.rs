@@ -8,6 +8,14 @@ extern "C" {
         image: *mut u8,
         image_length: usize,
     ) -> u64;
+    fn larderlate_report(
+        program: *const u8,
+        program_length: usize,
+        schedule: *const u8,
+        schedule_length: usize,
+        counts: *mut u32,
+        stack: *mut usize,
+    ) -> u64;
     fn larderlate_reset(image: *const u8, image_length: usize, state: *mut i32, state_words: usize) -> u64;
     fn larderlate_cycle(
         image: *const u8,
@@ -24,6 +32,11 @@ extern "C" {
 pub fn compile(program: &[u8], schedule: &[u8], image: &mut [u8]) -> u64 {
     let (length, image) = (image.len(), image.as_mut_ptr());
     unsafe { larderlate_compile(program.as_ptr(), program.len(), schedule.as_ptr(), schedule.len(), image, length) }
+}
+
+pub fn report(program: &[u8], schedule: &[u8], counts: &mut [u32; 240], stack: &mut usize) -> u64 {
+    let counts = counts.as_mut_ptr();
+    unsafe { larderlate_report(program.as_ptr(), program.len(), schedule.as_ptr(), schedule.len(), counts, stack) }
 }
 
 pub fn reset(image: &[u8], state: &mut [i32]) -> u64 {

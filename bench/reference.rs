@@ -1,4 +1,4 @@
-//! Paper 01 in plain Rust: compile, reset and cycle.
+//! Paper 01 in plain Rust: compile, report, reset and cycle.
 //!
 //! Written from the paper alone and sharing nothing with the crates, so that a misreading on one side shows as a difference.
 //! It is also the baseline of the benchmark: what one would write without a prover, with the same checks.
@@ -7,9 +7,13 @@ mod image;
 mod latency;
 mod machine;
 mod program;
+mod report;
 mod schedule;
 
 pub use machine::{cycle, reset};
+pub use report::report;
+use program::Program;
+use schedule::Schedule;
 
 /// The number of a refusal and its place.
 pub type Refusal = (u8, usize);
@@ -17,8 +21,8 @@ pub type Refusal = (u8, usize);
 const PROGRAM_BYTES: usize = 8192;
 const SCHEDULE_BYTES: usize = 193;
 
-/// Writes the image of an accepted pair to the start of `image` and yields its length L.
-pub fn compile(program: &[u8], schedule: &[u8], image: &mut [u8]) -> Result<usize, Refusal> {
+/// The program, schedule and hypercycle of an accepted pair (1 to 16).
+fn check(program: &[u8], schedule: &[u8]) -> Result<(Program, Schedule, u32), Refusal> {
     if program.len() > PROGRAM_BYTES || schedule.len() > SCHEDULE_BYTES {
         return Err((1, 0));
     }
@@ -30,6 +34,12 @@ pub fn compile(program: &[u8], schedule: &[u8], image: &mut [u8]) -> Result<usiz
     checks::reads_met(&program, &schedule)?;
     checks::load(&program, &schedule, hypercycle)?;
     latency::check(&program, &schedule, hypercycle)?;
+    Ok((program, schedule, hypercycle))
+}
+
+/// Writes the image of an accepted pair to the start of `image` and yields its length L.
+pub fn compile(program: &[u8], schedule: &[u8], image: &mut [u8]) -> Result<usize, Refusal> {
+    let (program, schedule, hypercycle) = check(program, schedule)?;
     let length = image::length(&program, hypercycle);
     if image.len() < length {
         return Err((17, length));

@@ -41,6 +41,17 @@ fn compile(cases: &mut Cases) -> String {
     line(reference::answer(result), hash(buffer.into_iter()))
 }
 
+fn report(cases: &mut Cases) -> String {
+    let (program, schedule) = (cases.number(2), cases.number(2));
+    let mut counts = [u32::from_le_bytes([cases.number(1) as u8; 4]); 240];
+    let (program, schedule) = (cases.take(program), cases.take(schedule));
+    let sizes = reference::report(program, schedule, &mut counts);
+    let answer = reference::answer(sizes.map(|sizes| sizes.length));
+    let stack = sizes.map_or(0, |sizes| sizes.stack);
+    let hash = hash(counts.iter().flat_map(|count| count.to_le_bytes()));
+    format!("{} {} {stack} {hash}", answer >> 32, answer as u32)
+}
+
 /// The lines that the cases print.
 fn replay(cases: &[u8]) -> Vec<String> {
     let mut cases = Cases(cases);
@@ -56,15 +67,19 @@ fn replay(cases: &[u8]) -> Vec<String> {
                 state = cases.words();
                 continue;
             }
-            3 => reference::reset(image, &mut state),
+            3 => reference::reset(image, &mut state).map(|()| 0),
             4 => reference::cycle(image, &mut state, &cases.words()),
             5 => {
                 lines.push(compile(&mut cases));
                 continue;
             }
+            6 => {
+                lines.push(report(&mut cases));
+                continue;
+            }
             command => panic!("no such case: {command}"),
         };
-        let answer = reference::answer(result.map(|()| 0));
+        let answer = reference::answer(result.map(|commands| commands as usize));
         lines.push(line(answer, hash(state.iter().flat_map(|word| word.to_le_bytes()))));
     }
     lines

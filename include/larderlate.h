@@ -9,14 +9,15 @@
  * The calls keep nothing between them and need no memory but their stack, so any number may run at once on different state.
  *
  * THE ANSWER is one number of 64 bits: number x 2^32 + value. Number 0 says done; the value is then the image's length L for a
- * compile or a report, 0 for a reset, and the number of commands run for a cycle. Any other number is that of the refusal, and the value is its place.
+ * compile or a report, 0 for a reset, and the number of commands run for a cycle. Any other number is that of the refusal, and the
+ * value is its place.
  *
  * WHAT IS LENT is a pointer and a length: bytes for uint8_t, words (not bytes) for int32_t. The caller keeps these rules, which no
  * call can test:
  *   - the pointer is to that many bytes or words, all of them set, and is not null, also where the length is 0;
  *   - int32_t and uint32_t pointers are aligned to 4 bytes, a size_t pointer to 8; uint8_t pointers need no alignment;
- *   - what a call may change (the image of a compile, the counts and the stack use of a report, the state of a reset or cycle) overlaps nothing else that is lent to the
- *     same call; what it only reads may overlap;
+ *   - what a call may change (the image of a compile, the counts and the stack use of a report, the state of a reset or cycle)
+ *     overlaps nothing else that is lent to the same call; what it only reads may overlap;
  *   - until the call returns nobody else writes what is lent, nor reads what the call may change;
  *   - nothing lent spans more than PTRDIFF_MAX bytes.
  */

@@ -136,7 +136,8 @@ pub fn reset(image: &[u8], state: &mut [i32]) -> Result<(), Refusal> {
     Ok(())
 }
 
-pub fn cycle(image: &[u8], state: &mut [i32], samples: &[i32]) -> Result<(), Refusal> {
+/// Yields how many commands ran.
+pub fn cycle(image: &[u8], state: &mut [i32], samples: &[i32]) -> Result<u32, Refusal> {
     let image = Image::check(image)?;
     if state.len() <= image.signals {
         return Err((21, 0));
@@ -148,19 +149,21 @@ pub fn cycle(image: &[u8], state: &mut [i32], samples: &[i32]) -> Result<(), Ref
     if samples.len() < image.signals {
         return Err((23, 0));
     }
-    let mut stack = Stack { words: [0; STACK], height: 0 };
+    let mut stack = Stack { words: [0; STACK], height: 0, commands: 0 };
     for &signal in image.list(position) {
         let signal = usize::from(signal);
         state[signal + 1] = stack.run(image.code(signal), state, samples);
     }
     state[0] = if position + 1 == image.hypercycle { 0 } else { position as i32 + 1 };
-    Ok(())
+    Ok(stack.commands)
 }
 
 /// The working stack, never short or full in a checked code.
 struct Stack {
     words: [i32; STACK],
     height: usize,
+    /// How many commands have run.
+    commands: u32,
 }
 
 impl Stack {
@@ -193,6 +196,7 @@ impl Stack {
         loop {
             let operator = code[at];
             at += 1;
+            self.commands += 1;
             match operator {
                 0x50 => {
                     self.push(i32::from_le_bytes(code[at..at + 4].try_into().expect("four bytes")));

@@ -17,8 +17,9 @@ use Rattle.model.specs.Calls.{Call, callOf, after, Supplied, Holds}
 use Rattle.model.specs.Compile.{Pair, pairOf, verdictOf, compileOf}
 use Rattle.model.specs.Conditions.{LegalPair}
 use Rattle.model.specs.Height.{Within}
-use Rattle.model.specs.Image.{imageOf}
-use Rattle.model.specs.Machine.{Job, effect, isPosition, hyperOf, countOf, listOf, codeOf, wellFormed, countSignals, resetWords, cycleWords, cycleCount, resetOf, cycleOf}
+use Rattle.model.specs.Image.{lengthOf, imageOf}
+use Rattle.model.specs.Machine.{Job, effect, isPosition, hyperOf, countOf, listOf, codeOf, wellFormed, countSignals}
+use Rattle.model.specs.Machine.{resetWords, cycleWords, cycleCount, resetOf, cycleOf}
 use Rattle.model.specs.Outcome.{Outcome, accepted, refused, refuse, fault, _▷_, provided}
 use Rattle.model.specs.Program.{Program, count, signalAt, bodyReads}
 use Rattle.model.specs.Rates.{hypercycle}
@@ -29,6 +30,7 @@ use Rattle.model.specs.Schedule.{Schedule}
 use Rattle.model.specs.Streams.{Satisfies}
 use Rattle.model.specs.declared.Fault.{Fault}
 use Rattle.model.specs.declared.Index.the-variants.{Open}
+use Rattle.model.specs.declared.Sizes.{Sizes}
 use Rattle.model.proofs.Alike.{open-alike, alike-satisfy}
 use Rattle.model.proofs.AlikeBytes.{Agree, Ends, element-alike}
 use Rattle.model.proofs.Bounds.{Bounded}
@@ -115,16 +117,38 @@ pub record OneImage (program schedule : List ℕ) (p : Program) (s : Schedule) (
   pub space : (buffer : List ℕ) → length buffer < length image →
       compileOf program schedule buffer ≡ record { answer = refuse 17 (length image); left = buffer }
 
--- Request a. A report refuses exactly as the pair is refused, and then leaves the counts as they were.
-pub report-refused-exactly : (program schedule counts : List ℕ) (f : Fault) →
-    (reportOf program schedule counts .answer ≡ refused f) ↔ (pairOf program schedule ≡ refused f)
-unfolding reportOf
-report-refused-exactly program schedule counts f = go (pairOf program schedule)
+-- Request a. A report refuses exactly as the pair is refused, and then leaves the counts as they were. Otherwise the L that it
+-- tells is the length of the image that compile writes.
+pub record ReportsExactly (program schedule counts : List ℕ) : Type 0 where
+  pub refuses : (f : Fault) → (reportOf program schedule counts .answer ≡ refused f) ↔ (pairOf program schedule ≡ refused f)
+  pub tells : (sizes : Sizes) → reportOf program schedule counts .answer ≡ accepted sizes →
+      (image : List ℕ) × (verdictOf program schedule ≡ accepted image) × (sizes .length ≡ length image)
+
+pub report-exactly : (program schedule counts : List ℕ) → ReportsExactly program schedule counts
+unfolding reportOf verdictOf _▷_
+report-exactly program schedule counts =
+    record { refuses = refuses (pairOf program schedule); tells = tells (pairOf program schedule) }
   where
-    go : (o : Outcome Pair) → (toldOf counts o .answer ≡ refused f) ↔ (o ≡ refused f)
-    go (accepted q) =
+    refuses : (o : Outcome Pair) (f : Fault) → (toldOf counts o .answer ≡ refused f) ↔ (o ≡ refused f)
+    refuses (accepted q) f =
         ((λ e. let z : _≡_ {A = ℕ} 0 1 = cc in absurd (omega arith)), (λ e. let z : _≡_ {A = ℕ} 0 1 = cc in absurd (omega arith)))
-    go (refused g) = ((λ e. let same : g ≡ f = cc in ap refused same), (λ e. let same : g ≡ f = cc in ap refused same))
+    refuses (refused g) f = ((λ e. let same : g ≡ f = cc in ap refused same), (λ e. let same : g ≡ f = cc in ap refused same))
+
+    tells : (o : Outcome Pair) (sizes : Sizes) → toldOf counts o .answer ≡ accepted sizes → (image : List ℕ) ×
+        ((o ▷ λ q. accepted (imageOf (q .program) (q .schedule) (q .hypercycle))) ≡ accepted image) × (sizes .length ≡ length image)
+    tells (accepted q) sizes e =
+        let image = imageOf (q .program) (q .schedule) (q .hypercycle) in
+        let told : Sizes = record { length = lengthOf (q .program) (q .schedule) (q .hypercycle); stack = highest (q .program .signals) } in
+        let same : told ≡ sizes = cc in
+        (image, refl, ap (λ x. x .length) (sym same) ∙ sym (image-length (q .program) (q .schedule) (q .hypercycle)))
+    tells (refused g) sizes e = let z : _≡_ {A = ℕ} 0 1 = cc in absurd (omega arith)
+
+-- Its places are small, too.
+pub report-code : (program schedule counts : List ℕ) → Texts.Bytes program → (f : Fault) →
+    reportOf program schedule counts .answer ≡ refused f → codeNumber (refused f) ≡ f .number * 4294967296 + f .place
+unfolding compileOf verdictOf _▷_
+report-code program schedule counts bytes f e =
+    small-code f (places-small program schedule [] bytes f (rw (report-exactly program schedule counts .refuses f .0 e) refl))
 
 pub report-keeps : (program schedule counts : List ℕ) (f : Fault) → reportOf program schedule counts .answer ≡ refused f →
     reportOf program schedule counts .left ≡ counts
@@ -169,9 +193,10 @@ count-small image state samples bytes n e =
     go false b c d w e = let z : _≡_ {A = ℕ} 0 1 = cc in absurd (omega arith)
 
 -- After a reset that is not refused and any list of resets and cycles: no reset is refused, and a cycle exactly when it is lent
--- fewer than N samples (23); a cycle that is not answers the report's count of its position, the remainder of c by H. Word 0 is the remainder of c by H, where c is the number of cycles since the latest reset; signal s
--- holds its element floor((c − 1 − p)/P), or its initial word if c ≤ p, of every stream that satisfies the equations with the
--- inputs that the cycles were lent; words beyond N are as before the first reset.
+-- fewer than N samples (23); a cycle that is not refused answers the report's count of its position. The position, word 0, is the
+-- remainder of c by H, where c is the number of cycles since the latest reset; signal s holds its element floor((c − 1 − p)/P), or
+-- its initial word if c ≤ p, of every stream that satisfies the equations with the inputs that the cycles were lent; words beyond
+-- N are as before the first reset.
 pub record Kept (program schedule : List ℕ) (p : Program) (s : Schedule) (h : ℕ) (image : List ℕ) (old : List ℤ) (cs : List Call) :
     Type 0 where
   pub answers : (counts : List ℕ) (c : Call) → callOf image (stateBy image old cs) c .answer ≡

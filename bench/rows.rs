@@ -1,0 +1,109 @@
+//! Rows of a benchmark: the same call by two sides, the medians of one interleaved run.
+//!
+//! Every round goes through all rows, and in a row through both sides, so that what disturbs the machine disturbs both. Buffers
+//! and states are used again and not cleared first.
+use crate::generate::{self, Pair, Shape, Twist};
+use crate::images;
+use crate::random::Random;
+use crate::reference;
+use std::time::Instant;
+
+pub const ROUNDS: usize = 201;
+/// How long one side of a row takes in a round, so that the clock's own time does not count.
+const BATCH_NANOSECONDS: f64 = 100_000.0;
+const SEED: u64 = 20_260_101;
+
+pub type Call = Box<dyn FnMut()>;
+
+pub struct Row {
+    name: String,
+    /// The length of the image.
+    length: usize,
+    calls: [Call; 2],
+    repeats: usize,
+    times: [Vec<f64>; 2],
+}
+
+fn nanoseconds(repeats: usize, call: &mut Call) -> f64 {
+    let start = Instant::now();
+    for _ in 0..repeats {
+        call();
+    }
+    start.elapsed().as_nanos() as f64 / repeats as f64
+}
+
+pub fn row(name: String, length: usize, mut calls: [Call; 2]) -> Row {
+    // The first call warms up, the second tells how often to repeat.
+    let slowest = calls.iter_mut().map(|call| nanoseconds(1, call).min(nanoseconds(1, call))).fold(1.0, f64::max);
+    let repeats = (BATCH_NANOSECONDS / slowest).ceil() as usize;
+    Row { name, length, calls, repeats, times: [vec![], vec![]] }
+}
+
+pub fn program_a() -> Pair {
+    let program = [
+        0x10, 1, 0, 0, 0, 0, 0x11, 2, 5, 0, 0, 0, 3, 0, 0x23, 0, 1, 2, 0x11, 1, 0, 0, 0, 0, 1, 0, 0x30, 0x25, 1, 0xFF, 2, 0x22,
+        2, 0,
+    ];
+    let schedule = [0x40, 0, 0, 0x40, 1, 1, 0x40, 2, 0, 0];
+    Pair { program: program.to_vec(), schedule: schedule.to_vec(), expected: 0 }
+}
+
+/// A legal program of so many signals, with as long expressions for each as the text's bound allows for 64.
+pub fn program_of(signals: usize, periods: &[usize], hypercycle: usize) -> Pair {
+    let bytes = signals * 124;
+    let chains = signals / 4;
+    let shape = Shape { signals, periods: periods.to_vec(), hypercycle, depth: 16, bushy: true, chains, capped: true, bytes };
+    let mut random = Random(SEED);
+    loop {
+        let pair = generate::pair(&mut random, &shape, Twist::None);
+        if pair.expected == 0 {
+            return pair;
+        }
+    }
+}
+
+pub fn image_of(pair: &Pair) -> Vec<u8> {
+    let mut image = vec![0; 24_422];
+    let length = reference::compile(&pair.program, &pair.schedule, &mut image).expect("a legal pair");
+    image.truncate(length);
+    image
+}
+
+/// The images that reset and cycle are measured on: of the two programs, and two that no program was compiled to.
+pub fn images_of(small: &Pair, large: &Pair) -> [(&'static str, Vec<u8>); 4] {
+    let mut random = Random(SEED);
+    [
+        ("program A", image_of(small)),
+        ("64 signals, hypercycle 240", image_of(large)),
+        ("64 signals in each of 24 cycles", images::large_image(&mut random, 24)),
+        ("64 signals in each of 240 cycles", images::large_image(&mut random, 240)),
+    ]
+}
+
+pub fn measure(rows: &mut [Row]) {
+    for round in 0..ROUNDS {
+        for row in rows.iter_mut() {
+            // The sides take turns to be first.
+            for side in [round % 2, 1 - round % 2] {
+                row.times[side].push(nanoseconds(row.repeats, &mut row.calls[side]));
+            }
+        }
+    }
+}
+
+fn median(times: &mut [f64]) -> f64 {
+    times.sort_by(f64::total_cmp);
+    times[times.len() / 2]
+}
+
+/// The medians of both sides, named, and their ratio.
+pub fn print(title: &str, sides: [&str; 2], rows: &mut [Row]) {
+    let [ours, other] = sides.map(|side| format!("{side} (ns)"));
+    println!("{title:<52} {:>7} {ours:>11} {other:>11} {:>6} {:>11}", "L", "ratio", "ns / L");
+    for row in rows {
+        let [ours, other] = row.times.each_mut().map(|times| median(times));
+        let length = row.length;
+        println!("{:<52} {length:>7} {ours:>11.0} {other:>11.0} {:>6.2} {:>11.2}", row.name, ours / other, ours / length as f64);
+    }
+    println!();
+}
