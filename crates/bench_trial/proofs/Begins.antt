@@ -177,3 +177,9 @@ pub checked-short : (isInput : ℕ → Bool) (text : List ℕ) → checkOf isInp
 unfolding checkOf
 checked-short isInput text e =
     leb-true (length text) 2048 (provided-true _ 24 0 (then-accepted _ _ tt e .1))
+
+-- A start that is fine.
+pub is-started : (program schedule text : List ℕ) (r : Start) {j : Judged} → j ≡ Judged.Fine → Prepares program schedule text r j →
+    Started program schedule text r
+unfolding Prepares
+is-started program schedule text r e s = subst (λ (j : Judged). Prepares program schedule text r j) e s

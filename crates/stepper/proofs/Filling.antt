@@ -1,5 +1,6 @@
 -- A block that fills, line after line. Assumes nothing.
-use Prim.Native.Nat.{ℕ, _+_, _-_, _≤_, _<_}
+use Prim.Native.Nat.{ℕ, suc, _+_, _≤_, _<_}
+use mathlib.Core.Bool.{Bool, true, false, cond}
 use mathlib.Core.List.{List, [], _∷_, _++_, append-assoc, append-nil}
 use mathlib.Core.Path.{_≡_, refl, sym, ap, _∙_}
 use native.Mathlib.Omega.{arith}
@@ -9,7 +10,8 @@ use lib.Seq.{take-append-le, take-append-add}
 use Rattle.model.specs.Image.{joined}
 use Rattle.model.specs.Search.{joinFrom}
 use Rattle.model.proofs.Stretches.{joined-cons}
-use Rattle.stepper.specs.Steps.{linesLeft, Underway, Lined}
+use Rattle.stepper.specs.Steps.{linesLeft, Underway, Lined, Filled}
+use Rattle.stepper.specs.declared.Block.{Block}
 use Rattle.stepper.specs.declared.Progress.{Progress}
 
 -- So many bytes of the block are lines, and what was left then is these and what is left now.
@@ -81,3 +83,14 @@ module _ {image text : List ℕ} {p₀ : Progress} {samples₀ state₀ : List �
         state-kept = state-same ∙ f .state-kept;
         block-kept = block-same ∙ f .block-kept;
       }
+
+-- A loop over blocks that ends with the script: fewer lines are left after each block, or it is the last.
+pub falls : {image text : List ℕ} {p : Progress} {samples state samples′ state′ : List ℤ} {block′ : List ℕ} {r : Block} →
+    Filled image text p samples state samples′ state′ block′ r →
+    cond (r .ended) 0 (suc (length (linesLeft image text (r .progress) samples′ state′))) < suc (length (linesLeft image text p samples state))
+falls {image} {text} {p} {samples} {state} {samples′} {state′} {block′} {r} f = go (r .ended) refl
+  where
+    go : (b : Bool) → r .ended ≡ b →
+        cond b 0 (suc (length (linesLeft image text (r .progress) samples′ state′))) < suc (length (linesLeft image text p samples state))
+    go true e = omega arith
+    go false e = omega (arith, f .fewer e)
