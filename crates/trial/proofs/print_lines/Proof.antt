@@ -1,4 +1,4 @@
--- `trial::print_lines` meets its contract. Assumes nothing.
+-- `trial::print_lines` is safe and ends. Assumes nothing.
 use Prim.Native.Nat.{ℕ, suc, _+_, _≤_, _<_}
 use mathlib.Core.Bool.{Bool, true, false, cond}
 use mathlib.Core.List.{List}

@@ -1,4 +1,4 @@
--- `trial::run` meets its contract. Assumes nothing.
+-- `trial::run` is safe. Assumes nothing.
 use native.Mathlib.Omega.{arith}
 use borrow.Author.Needs.{needs}
 use lib.ListN.{length, length-take}
