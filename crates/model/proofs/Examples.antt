@@ -175,8 +175,8 @@ cases =
     (words A in-order 2 (pos 10 ∷ pos 11 ∷ pos 12 ∷ pos 13 ∷ []) gives signals (pos 5 ∷ pos 16 ∷ pos 27 ∷ pos 40 ∷ [])) ∷
     -- RUN 1 after each SET of 10, 11, 12: `0 10 5 5`, `1 11 11 16`, `2 12 11 27` (request e)
     (printed A in-order (set-to 0 10 ++ run-for 1 ++ set-to 0 11 ++ run-for 1 ++ set-to 0 12 ++ run-for 1 ++ end) gives
-        lists ((48 ∷ 32 ∷ 49 ∷ 48 ∷ 32 ∷ 53 ∷ 32 ∷ 53 ∷ 10 ∷ []) ∷ (49 ∷ 32 ∷ 49 ∷ 49 ∷ 32 ∷ 49 ∷ 49 ∷ 32 ∷ 49 ∷ 54 ∷ 10 ∷ []) ∷
-        (50 ∷ 32 ∷ 49 ∷ 50 ∷ 32 ∷ 49 ∷ 49 ∷ 32 ∷ 50 ∷ 55 ∷ 10 ∷ []) ∷ [])) ∷
+    lists ((48 ∷ 32 ∷ 49 ∷ 48 ∷ 32 ∷ 53 ∷ 32 ∷ 53 ∷ 10 ∷ []) ∷ (49 ∷ 32 ∷ 49 ∷ 49 ∷ 32 ∷ 49 ∷ 49 ∷ 32 ∷ 49 ∷ 54 ∷ 10 ∷ []) ∷
+    (50 ∷ 32 ∷ 49 ∷ 50 ∷ 32 ∷ 49 ∷ 49 ∷ 32 ∷ 50 ∷ 55 ∷ 10 ∷ []) ∷ [])) ∷
     -- cut, unknown, after END; SET of no input and of no signal; 24 anywhere before 25
     (printed A in-order [] gives refuses 24 0) ∷
     (printed A in-order (set-to 0 1 ++ (0x71 ∷ [])) gives refuses 24 7) ∷

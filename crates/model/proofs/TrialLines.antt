@@ -219,10 +219,10 @@ module _ (program schedule text : List ℕ) (bytes : Bytes program) (lines : Lis
     tried-line X sat j lt =
         let image = imageOf p s h in
         let inside : j < length (callsOf text) =
-                omega (arith, ap length (tried .lines-are), lines-count image 0 (startOf image) (callsOf text)) in
+        omega (arith, ap length (tried .lines-are), lines-count image 0 (startOf image) (callsOf text)) in
         let long : count p < length (replicate 65 (pos 0)) = omega (arith, bounded .signals, length-replicate 65 (pos 0)) in
         let full : Full (count p) (callsOf text) =
-                full-calls (count p) noSamples (scriptOf text .actions) (omega (arith, bounded .signals, length-replicate 64 (pos 0))) in
+        full-calls (count p) noSamples (scriptOf text .actions) (omega (arith, bounded .signals, length-replicate 64 (pos 0))) in
         ap (λ (ls : List (List ℕ)). getD ls j []) (tried .lines-are) ∙
         line-at image (startOf image) (callsOf text) j inside ∙
         ap (lineOf j)

@@ -55,7 +55,7 @@ module _ (p : Program) (text : List ℕ) where
 
   legal-checked : {acts : List Action} → LegalScript p text acts → checkOf (isInputOf p) text ≡ accepted tt
   unfolding checkOf
-  legal-checked {acts} l =
+  legal-checked l =
       let same = script-actions text (l .spells) in
       accepted-then _ _ _ (long-judged text .accepts tt .1 (l .short)) ∙
       accepted-then _ _ _ (script-judged text .accepts tt .1 (rw same (l .spells))) ∙
@@ -130,6 +130,11 @@ module _ (program schedule text : List ℕ) where
   -- A trial is refused with number n at place x exactly under that number's condition.
   pub trial-refused : (n x : ℕ) → (trialOf program schedule text ≡ refused (fault n x)) ↔ TrialRefusedAt program schedule text n x
   trial-refused n x = (answers-refused _ _ _ n x trial-answers, trial-back)
+
+  -- A legal pair with a legal script is tried.
+  pub trial-accepts : {q : Pair} {acts : List Action} → LegalPair program schedule q → LegalScript (q .program) text acts →
+      trialOf program schedule text ≡ accepted (linesOf q text)
+  trial-accepts {q} l s = passed l (accepted-then _ _ _ (legal-checked (q .program) text s))
 
   pub trial-tried : (lines : List (List ℕ)) → trialOf program schedule text ≡ accepted lines → Tried lines
   trial-tried lines e = answers-accepted _ _ _ lines trial-answers e

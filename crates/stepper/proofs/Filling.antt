@@ -74,8 +74,14 @@ module _ {image text : List ℕ} {p₀ : Progress} {samples₀ state₀ : List �
             sym (append-assoc (take size block) (take n line′) (joined after)) ∙
             ap (λ (b : List ℕ). b ++ joined after) (sym (behind-taken block line′ rest size n (f .fits) (l .fits)));
         fits =
-            omega (arith, l .fits, f .fits, length-take size block, length-append line′ rest,
-            length-append (take size block) (line′ ++ rest));
+            omega (
+              arith,
+              l .fits,
+              f .fits,
+              length-take size block,
+              length-append line′ rest,
+              length-append (take size block) (line′ ++ rest),
+            );
         underway = l .underway;
         most = omega arith;
         fewer = λ h. falls;
@@ -94,3 +100,18 @@ falls {image} {text} {p} {samples} {state} {samples′} {state′} {block′} {r
         cond b 0 (suc (length (linesLeft image text (r .progress) samples′ state′))) < suc (length (linesLeft image text p samples state))
     go true e = omega arith
     go false e = omega (arith, f .fewer e)
+
+-- Blocks one after another to the end, and the bytes that they hold.
+pub data Blocks (image text : List ℕ) : Progress → List ℤ → List ℤ → List ℕ → Type 0 where
+  final : {p : Progress} {samples state : List ℤ} (samples′ state′ : List ℤ) (block′ : List ℕ) (r : Block) →
+      Filled image text p samples state samples′ state′ block′ r → r .ended ≡ true →
+      Blocks image text p samples state (take (r .size) block′)
+  onward : {p : Progress} {samples state : List ℤ} {out : List ℕ} (samples′ state′ : List ℤ) (block′ : List ℕ) (r : Block) →
+      Filled image text p samples state samples′ state′ block′ r → r .ended ≡ false →
+      Blocks image text (r .progress) samples′ state′ out → Blocks image text p samples state (take (r .size) block′ ++ out)
+
+-- They hold all lines that were left, and nothing else.
+pub blocks-hold : {image text : List ℕ} {p : Progress} {samples state : List ℤ} {out : List ℕ} → Blocks image text p samples state out →
+    out ≡ joined (linesLeft image text p samples state)
+blocks-hold (Blocks.final samples′ state′ block′ r f e) = sym (f .last e)
+blocks-hold (Blocks.onward samples′ state′ block′ r f e b) = ap (take (r .size) block′ ++_) (blocks-hold b) ∙ sym (f .more e)

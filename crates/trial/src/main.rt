@@ -40,13 +40,7 @@ fn tell(before: u32, done: u32, lines: usize) {
 }
 
 // Prints all lines, block after block.
-fn print_lines(
-    image: &[u8],
-    text: &[u8],
-    lines: usize,
-    samples: &mut [i32],
-    state: &mut [i32],
-)
+fn print_lines(image: &[u8], text: &[u8], lines: usize, samples: &mut [i32], state: &mut [i32])
     requires { ⌜ Underway (now image) (now text) atStart (now samples) (now state) ⌝ }
 {
     let mut block = io::large_buffer();
@@ -83,7 +77,13 @@ fn run(program: &[u8], schedule: &[u8], text: &[u8]) {
     let length = start.length;
     let mut samples = ready.samples;
     let mut state = ready.state;
-    print_lines(&image[..length], text, ready.lines, &mut samples, &mut state);
+    print_lines(
+        &image[..length],
+        text,
+        ready.lines,
+        &mut samples,
+        &mut state,
+    );
 }
 
 // Each file is read one byte past its bound, so that a longer one is seen.

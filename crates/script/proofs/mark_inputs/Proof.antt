@@ -43,11 +43,10 @@ loop-again : tie.Need-loop-again Inv-loop μ-loop
 loop-again c =
     let l = c .before .before .before in
     let image = l .before .before .before .args .image .now in
-    let below : l .loop .x < 256 = omega arith in
-    (
+    let below : l .loop .x < 256 = omega arith in (
       subst (λ (t : List ℕ). Marks image (l .loop .x + 1) t)
-      (sym (ap₂ (set (l .loop .inputs)) (c .wide .ensures .0) (c .before .mark-of .ensures)))
-      (marks-more (l .loop .inv .0) below),
+          (sym (ap₂ (set (l .loop .inputs)) (c .wide .ensures .0) (c .before .mark-of .ensures)))
+          (marks-more (l .loop .inv .0) below),
       omega arith,
     )
 

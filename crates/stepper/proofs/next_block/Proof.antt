@@ -73,7 +73,7 @@ returns c =
     let s = l .before .before .before .before in
     let f = l .loop .inv in
     let none = is-ended (s .args .image .now) (s .args .text .now) (l .loop .reached) (l .loop .samples) (l .loop .state) _ _ _
-            (c .enum-told .given .1) (n .next-line .ensures) in
+    (c .enum-told .given .1) (n .next-line .ensures) in
     record {
       fits = omega (arith, f .fits, block-same b);
       more = λ e. let z : _≡_ {A = ℕ} 0 1 = cc in absurd (omega arith);
