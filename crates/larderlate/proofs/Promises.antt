@@ -385,7 +385,7 @@ trial-lines program schedule text bytes q actions legal script =
       prints = trial-accepts program schedule text legal script;
       number = tried-count program schedule text bytes lines tried ∙ ap cyclesOf same;
       line = λ X sat j lt. tried-line program schedule text bytes lines tried X
-          (subst (λ (as : List Action). Satisfies p (settled p s) (inputsOf p s (callsFrom noSamples acts)) X) (sym same) sat) j lt;
+          (subst (λ (acts : List Action). Satisfies p (settled p s) (inputsOf p s (callsFrom noSamples acts)) X) (sym same) sat) j lt;
     }
 
 -- A decimal by its value: digits, the fewest, that read back give the number; a word's have one minus sign before them exactly if
