@@ -1,6 +1,6 @@
 -- Digits by tens: how long decimals are, and that they say their number and their word. Assumes nothing.
 use Prim.Native.Nat.{ℕ, zero, suc, _+_, _-_, _*_, _/_, _%_, _^_, _≤_, _<_}
-use mathlib.Core.Bool.{Bool, true, false, cond}
+use mathlib.Core.Bool.{Bool, true, false}
 use mathlib.Core.List.{List, [], _∷_, _++_}
 use mathlib.Core.Path.{_≡_, refl, sym, ap, subst, _∙_}
 use native.Mathlib.Omega.{arith}
@@ -13,6 +13,10 @@ use Rattle.model.specs.Accepted.{All}
 use Rattle.model.specs.Decimal.{digit, digitsUpTo, natural, decimal, valueOf, SaysNumber, SaysWord}
 use Rattle.model.proofs.All.{all-append}
 
+-- The digits of n by the test whether it is below 10, where f more are allowed.
+abbrev digitsBy : ℕ → ℕ → Bool → List ℕ
+digitsBy f n b = elim b [ true ↦ digit n ∷ [] | false ↦ digitsUpTo f (n / 10) ++ (digit (n % 10) ∷ []) ]
+
 -- More digits allowed change nothing.
 enough : (f g n : ℕ) → n < f → n < g → digitsUpTo f n ≡ digitsUpTo g n
 unfolding digitsUpTo
@@ -21,8 +25,7 @@ enough (suc f) zero n hf hg = absurd (omega arith)
 enough (suc f) (suc g) n hf hg = go (ltb n 10) refl (λ a b. enough f g (n / 10) a b)
   where
     go : (b : Bool) → ltb n 10 ≡ b → (n / 10 < f → n / 10 < g → digitsUpTo f (n / 10) ≡ digitsUpTo g (n / 10)) →
-        cond b (digit n ∷ []) (digitsUpTo f (n / 10) ++ (digit (n % 10) ∷ [])) ≡
-        cond b (digit n ∷ []) (digitsUpTo g (n / 10) ++ (digit (n % 10) ∷ []))
+        digitsBy f n b ≡ digitsBy g n b
     go true e ih = refl
     go false e ih =
         let ten = ltb-false n 10 e in
@@ -30,13 +33,13 @@ enough (suc f) (suc g) n hf hg = go (ltb n 10) refl (λ a b. enough f g (n / 10)
 
 pub natural-one : (n : ℕ) → n < 10 → natural n ≡ digit n ∷ []
 unfolding natural digitsUpTo
-natural-one n h = rw (lt-ltb n 10 h)
+natural-one n h = ap (digitsBy n n) (lt-ltb n 10 h)
 
 pub natural-more : (n : ℕ) → 10 ≤ n → natural n ≡ natural (n / 10) ++ (digit (n % 10) ∷ [])
 unfolding natural digitsUpTo
 natural-more n h =
-    rw (le-ltb n 10 h)
-    (ap (λ (l : List ℕ). l ++ (digit (n % 10) ∷ [])) (enough n (suc (n / 10)) (n / 10) (omega arith) (omega arith)))
+    ap (digitsBy n n) (le-ltb n 10 h) ∙
+    ap (λ (l : List ℕ). l ++ (digit (n % 10) ∷ [])) (enough n (suc (n / 10)) (n / 10) (omega arith) (omega arith))
 
 -- What holds below 10, and of n where it holds of n / 10, holds of every number.
 by-tens-up-to : (Q : ℕ → Type 0) → ((n : ℕ) → n < 10 → Q n) → ((n : ℕ) → 10 ≤ n → Q (n / 10) → Q n) → (f n : ℕ) → n < f → Q n

@@ -1,6 +1,6 @@
 -- Decimals (request e): a number and a word as digits, a line of them; and what a decimal is, by its value.
 use Prim.Native.Nat.{ℕ, zero, suc, _+_, _-_, _*_, _/_, _%_, _≤_, _<_}
-use mathlib.Core.Bool.{cond}
+use mathlib.Core.Bool.{true, false}
 use mathlib.Core.List.{List, [], _∷_, _++_}
 use mathlib.Core.Path.{_≡_}
 use lib.Dec.{ltb}
@@ -15,7 +15,8 @@ digit d = 48 + d
 -- The digits of n: below 10 the digit itself, else those of n / 10 and then the last one. A number n has no more than n + 1.
 unfoldable pub digitsUpTo : ℕ → ℕ → List ℕ
 digitsUpTo zero n = []
-digitsUpTo (suc most) n = cond (ltb n 10) (digit n ∷ []) (digitsUpTo most (n / 10) ++ (digit (n % 10) ∷ []))
+digitsUpTo (suc most) n =
+    elim (ltb n 10) [ true ↦ digit n ∷ [] | false ↦ digitsUpTo most (n / 10) ++ (digit (n % 10) ∷ []) ]
 
 unfoldable pub natural : ℕ → List ℕ
 natural n = digitsUpTo (suc n) n
