@@ -134,16 +134,6 @@ module _ (text : List ℕ) (at : ℕ) (p : Program) where
   unfolding Stepped parseCommands _▷_
   step-stopped e left = rw e
 
-  -- One that may stands within the text.
-  pub command-present : commandHere text at p (keywordAt text at) ≡ accepted tt → at < length text
-  unfolding keywordAt
-  command-present e = go (ltb at (length text)) refl e
-    where
-      go : (b : Bool) → ltb at (length text) ≡ b →
-          commandHere text at p (cond b (keywordOf (byteAt text at)) Keyword.Missing) ≡ accepted tt → at < length text
-      go true h e = ltb-true _ _ h
-      go false h e = let z : _≡_ {A = ℕ} 0 1 = cc in absurd (omega arith)
-
   module _ (here : commandHere text at p (keywordAt text at) ≡ accepted tt) where
     -- It is declared as its operands say.
     declared : (c : Command) → commandAt text at ≡ c → (left : ℕ) →
