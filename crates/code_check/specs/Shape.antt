@@ -4,6 +4,7 @@ use mathlib.Core.Path.{_≡_}
 use mathlib.Core.Bool.{Bool, cond, _&&_}
 use mathlib.Core.List.{List}
 use lib.Dec.{leb, ltb, eqb}
+use Rattle.model.specs.Width.{inCode}
 use Rattle.model.specs.Word.{byteAt}
 
 -- 0: no command, or STORE; else 1 and the words that it takes off the stack, and 8 more for LOAD.
@@ -29,7 +30,7 @@ pub record Shapes (table : List ℕ) : Type 0 where
 
 -- The bytes of a command that is not STORE.
 unfoldable pub lengthOf : ℕ → ℕ
-lengthOf b = cond (eqb b 0x50) 5 (cond (ltb b 0x50) 1 2)
+lengthOf b = cond (eqb b 0x50) (inCode 0x50) (cond (ltb b 0x50) (inCode 0x30) (inCode 0x51))
 
 -- The words on the stack after the command of a shape with byte b and then x, where it held h; 33 where it may not stand there.
 unfoldable pub afterOf : ℕ → ℕ → ℕ → ℕ → ℕ → ℕ → ℕ

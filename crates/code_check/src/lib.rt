@@ -38,17 +38,17 @@ fn shape(table: &[u8; 256], byte: u8) -> usize
     wide(table[i])
 }
 
-// The bytes of a command that is not STORE.
+// The bytes of a command that is not STORE. The operators are as wide as ADD.
 fn length_of(byte: u8) -> usize
     ensures { λ r. ⌜ r ≡ lengthOf byte ⌝ }
 {
     if byte == 0x50 {
-        return 5;
+        return width::in_code(0x50);
     }
     if byte < 0x50 {
-        return 1;
+        return width::in_code(0x30);
     }
-    2
+    width::in_code(0x51)
 }
 
 // The words on the stack after the command of a shape with `byte` and then x, where it held h; 33 where it may not stand there.
@@ -98,7 +98,7 @@ pub fn code_ok(code: &[u8], n: u8, own: u8, table: &[u8; 256]) -> bool
         let found = shape(table, byte);
         if found == 0 {
             if is_last(byte, x, own, h) {
-                return at + 2 == code.len();
+                return at + width::in_code(0x5F) == code.len();
             }
             return false;
         }

@@ -100,7 +100,7 @@ fn plain_read(kind: Kind, text: &[u8], at: usize) -> Command
     ensures { λ r. ⌜ r ≡ plainRead kind (now (text .entry)) at ⌝ }
 {
     let left = text.len() - at;
-    if left < 2 {
+    if left < width::in_expression(0x21) {
         return Command::EndsEarly;
     }
     let signal = text[at + 1];
@@ -120,7 +120,7 @@ fn sampled_read(kind: Kind, text: &[u8], at: usize) -> Command
     ensures { λ r. ⌜ r ≡ sampledRead kind (now (text .entry)) at ⌝ }
 {
     let left = text.len() - at;
-    if left < 4 {
+    if left < width::in_expression(0x23) {
         return Command::EndsEarly;
     }
     let signal = text[at + 1];
@@ -143,7 +143,7 @@ fn sampled_read(kind: Kind, text: &[u8], at: usize) -> Command
     )
 }
 
-// IN: period, initial word.
+// IN: period, initial word. The period is judged before the rest is looked for, so its 2 is no width; likewise in EQ and LAT.
 fn input_at(text: &[u8], at: usize) -> Command
     requires { ⌜ at < length (now text) ⌝ }
     ensures { λ r. ⌜ r ≡ commandOf Keyword.Input (now (text .entry)) at ⌝ }
@@ -156,7 +156,7 @@ fn input_at(text: &[u8], at: usize) -> Command
     if !is_period(period) {
         return Command::OutOfRange;
     }
-    if left < 6 {
+    if left < width::in_program(0x10) {
         return Command::EndsEarly;
     }
     let initial = word::word_at(text, at + 2);
@@ -176,7 +176,7 @@ fn equation_at(text: &[u8], at: usize) -> Command
     if !is_period(period) {
         return Command::OutOfRange;
     }
-    if left < 8 {
+    if left < width::in_program(0x11) {
         return Command::EndsEarly;
     }
     let initial = word::word_at(text, at + 2);
@@ -197,7 +197,7 @@ fn latency_at(text: &[u8], at: usize) -> Command
     if 1 < byte {
         return Command::OutOfRange;
     }
-    if left < 4 {
+    if left < width::in_program(0x12) {
         return Command::EndsEarly;
     }
     let mode = mode_of(byte);
@@ -211,7 +211,7 @@ fn link_at(text: &[u8], at: usize) -> Command
     ensures { λ r. ⌜ r ≡ commandOf Keyword.Link (now (text .entry)) at ⌝ }
 {
     let left = text.len() - at;
-    if left < 2 {
+    if left < width::in_program(0x13) {
         return Command::EndsEarly;
     }
     Command::Link(text[at + 1])
@@ -223,7 +223,7 @@ fn cap_at(text: &[u8], at: usize) -> Command
     ensures { λ r. ⌜ r ≡ commandOf Keyword.Cap (now (text .entry)) at ⌝ }
 {
     let left = text.len() - at;
-    if left < 5 {
+    if left < width::in_program(0x14) {
         return Command::EndsEarly;
     }
     let limit = word::four_at(text, at + 1);
@@ -236,7 +236,7 @@ fn constant_at(text: &[u8], at: usize) -> Command
     ensures { λ r. ⌜ r ≡ commandOf Keyword.Constant (now (text .entry)) at ⌝ }
 {
     let left = text.len() - at;
-    if left < 5 {
+    if left < width::in_expression(0x20) {
         return Command::EndsEarly;
     }
     let w = word::word_at(text, at + 1);
@@ -303,7 +303,7 @@ pub fn schedule_command_at(text: &[u8], at: usize) -> ScheduleCommand
         return ScheduleCommand::Unknown;
     }
     let left = text.len() - at;
-    if left < 3 {
+    if left < width::in_schedule(0x40) {
         return ScheduleCommand::EndsEarly;
     }
     ScheduleCommand::Put(text[at + 1], text[at + 2])

@@ -13,8 +13,9 @@ use denote.Enum.Declared.{tagOf, declared}
 use Rattle.model.specs.Accepted.{All}
 use Rattle.model.specs.Command.{commandAt}
 use Rattle.model.specs.Image.{exprCode}
-use Rattle.model.specs.Program.{Expr, readWidth}
+use Rattle.model.specs.Program.{Expr}
 use Rattle.model.specs.Report.{exprCommands, exprHeight}
+use Rattle.model.specs.Width.{readWidth}
 use Rattle.model.specs.Word.{wordBytes, fourBytes}
 use Rattle.model.specs.declared.Command.{Command}
 use Rattle.model.specs.declared.Command.the-variants as Command

@@ -6,7 +6,7 @@ use mathlib.Core.List.{List, [], _∷_}
 use mathlib.Core.Path.{_≡_}
 use lib.ListN.{length}
 use Rattle.model.specs.Image.{binaryByte}
-use Rattle.model.specs.Program.{readWidth}
+use Rattle.model.specs.Width.{inExpression, readWidth}
 use Rattle.model.specs.Word.{wordBytes}
 use Rattle.model.specs.declared.Command.{Command}
 use Rattle.model.specs.declared.Command.the-variants as Command
@@ -19,6 +19,7 @@ pub record Lead : Type 0 where
   pub arity : ℕ
   pub last : List ℕ
 
+-- No command of an expression: the 1 is no width, only a step.
 abbrev pub noLead : Lead
 noLead = record { operator = false; width = 1; arity = 0; last = [] }
 
@@ -32,11 +33,11 @@ leadOf (Command.Equation period initial weight) = noLead
 leadOf (Command.Latency mode bound) = noLead
 leadOf (Command.Link signal) = noLead
 leadOf (Command.Cap n) = noLead
-leadOf (Command.Constant w) = record { operator = true; width = 5; arity = 0; last = 0x50 ∷ wordBytes w }
+leadOf (Command.Constant w) = record { operator = true; width = inExpression 0x20; arity = 0; last = 0x50 ∷ wordBytes w }
 leadOf (Command.Read kind x) = record { operator = true; width = readWidth kind; arity = 0; last = 0x51 ∷ x .signal ∷ [] }
-leadOf (Command.Binary operator) = record { operator = true; width = 1; arity = 2; last = binaryByte operator ∷ [] }
-leadOf Command.Negate = record { operator = true; width = 1; arity = 1; last = 0x38 ∷ [] }
-leadOf Command.If = record { operator = true; width = 1; arity = 3; last = 0x3A ∷ [] }
+leadOf (Command.Binary operator) = record { operator = true; width = inExpression 0x30; arity = 2; last = binaryByte operator ∷ [] }
+leadOf Command.Negate = record { operator = true; width = inExpression 0x38; arity = 1; last = 0x38 ∷ [] }
+leadOf Command.If = record { operator = true; width = inExpression 0x3A; arity = 3; last = 0x3A ∷ [] }
 
 pub record ShapeOf (c : Command) (r : Shape) : Type 0 where
   pub width : r .width ≡ leadOf c .width

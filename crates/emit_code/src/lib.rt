@@ -6,6 +6,7 @@ ghost use mathlib.Core.List.{[], _∷_};
 ghost use Prim.Native.Nat.{_+_, _≤_, _<_};
 ghost use lib.ListN.{length};
 ghost use Rattle.model.specs.Image.{binaryByte};
+ghost use Rattle.model.specs.Width.{inCode};
 ghost use Rattle.model.specs.Word.{wordBytes};
 ghost use Rattle.emit_code.specs.Code.{Puts, Room, Emits, Stands, Measures, SignalRoom, EmitsSignal, SignalStands, MeasuresSignal};
 ghost use Rattle.emit_code.specs.Shape.{ShapeOf};
@@ -33,7 +34,7 @@ fn binary_byte(operator: Binary) -> u8
 
 // Writes a PUSH.
 fn put_push(out: &mut [u8], to: usize, w: i32, next: usize) -> Emitted
-    requires { ⌜ to + 5 ≤ length (now out) ⌝ }
+    requires { ⌜ to + inCode 0x50 ≤ length (now out) ⌝ }
     ensures { λ r. ⌜ Puts (now (out .entry)) to (0x50 ∷ wordBytes w) next (now (out .exit)) (r .next) (r .end) ⌝ }
 {
     out[to] = 0x50;
@@ -41,33 +42,33 @@ fn put_push(out: &mut [u8], to: usize, w: i32, next: usize) -> Emitted
     word::put_word(out, operand, w);
     Emitted {
         next: next,
-        end: to + 5,
+        end: to + width::in_code(0x50),
     }
 }
 
-// Writes a LOAD, FETCH or STORE of a signal.
+// Writes a LOAD, FETCH or STORE of a signal; FETCH and STORE are as wide as LOAD.
 fn put_access(out: &mut [u8], to: usize, code: u8, signal: u8, next: usize) -> Emitted
-    requires { ⌜ to + 2 ≤ length (now out) ⌝ }
+    requires { ⌜ to + inCode 0x51 ≤ length (now out) ⌝ }
     ensures { λ r. ⌜ Puts (now (out .entry)) to (code ∷ signal ∷ []) next (now (out .exit)) (r .next) (r .end) ⌝ }
 {
     out[to] = code;
     out[to + 1] = signal;
     Emitted {
         next: next,
-        end: to + 2,
+        end: to + width::in_code(0x51),
     }
 }
 
-// Writes an operator after its operands.
+// Writes an operator after its operands; all are as wide as ADD.
 fn put_operator(out: &mut [u8], operands: Emitted, code: u8) -> Emitted
-    requires { ⌜ operands .end + 1 ≤ length (now out) ⌝ }
+    requires { ⌜ operands .end + inCode 0x30 ≤ length (now out) ⌝ }
     ensures { λ r. ⌜ Puts (now (out .entry)) (operands .end) (code ∷ []) (operands .next) (now (out .exit)) (r .next) (r .end) ⌝ }
 {
     let to = operands.end;
     out[to] = code;
     Emitted {
         next: operands.next,
-        end: to + 1,
+        end: to + width::in_code(0x30),
     }
 }
 
@@ -78,25 +79,37 @@ pub fn emit_expression(text: &[u8], at: usize, depth: usize, out: &mut [u8], to:
 {
     let command = commands::command_at(text, at);
     match command {
-        Command::Constant(w) => put_push(out, to, w, at + 5),
+        Command::Constant(w) => put_push(out, to, w, at + width::in_expression(0x20)),
         Command::Read(kind, operands) => put_access(
             out,
             to,
             0x51,
             operands.signal,
-            at + reader::read_width(kind),
+            at + width::of_read(kind),
         ),
         Command::Binary(operator) => {
-            let first = emit_expression(text, at + 1, depth - 1, out, to);
+            let first = emit_expression(text, at + width::in_expression(0x30), depth - 1, out, to);
             let second = emit_expression(text, first.next, depth - 1, out, first.end);
             put_operator(out, second, binary_byte(operator))
         }
         Command::Negate => {
-            let operand = emit_expression(text, at + 1, depth - 1, out, to);
+            let operand = emit_expression(
+                text,
+                at + width::in_expression(0x38),
+                depth - 1,
+                out,
+                to,
+            );
             put_operator(out, operand, 0x38)
         }
         Command::If => {
-            let condition = emit_expression(text, at + 1, depth - 1, out, to);
+            let condition = emit_expression(
+                text,
+                at + width::in_expression(0x3A),
+                depth - 1,
+                out,
+                to,
+            );
             let first = emit_expression(text, condition.next, depth - 1, out, condition.end);
             let second = emit_expression(text, first.next, depth - 1, out, first.end);
             put_operator(out, second, 0x3A)
@@ -117,33 +130,34 @@ fn shape_of(command: Command) -> Shape
 {
     match command {
         Command::Constant(_) => Shape {
-            width: 5,
+            width: width::in_expression(0x20),
             operands: 0,
-            code: 5,
+            code: width::in_code(0x50),
         },
         Command::Read(kind, _) => {
-            let width = reader::read_width(kind);
+            let width = width::of_read(kind);
             Shape {
                 width: width,
                 operands: 0,
-                code: 2,
+                code: width::in_code(0x51),
             }
         }
         Command::Binary(_) => Shape {
-            width: 1,
+            width: width::in_expression(0x30),
             operands: 2,
-            code: 1,
+            code: width::in_code(0x30),
         },
         Command::Negate => Shape {
-            width: 1,
+            width: width::in_expression(0x38),
             operands: 1,
-            code: 1,
+            code: width::in_code(0x38),
         },
         Command::If => Shape {
-            width: 1,
+            width: width::in_expression(0x3A),
             operands: 3,
-            code: 1,
+            code: width::in_code(0x3A),
         },
+        // No command of an expression: the 1 is no width, only a step.
         _ => Shape {
             width: 1,
             operands: 0,
@@ -177,8 +191,10 @@ pub fn signal_code_length(text: &[u8], place: usize) -> usize
 {
     let command = commands::command_at(text, place);
     match command {
-        Command::Equation(_, _, _) => expression_length(text, place + 8) + 2,
-        _ => 4,
+        Command::Equation(_, _, _) => {
+            expression_length(text, place + width::in_program(0x11)) + width::in_code(0x5F)
+        }
+        _ => width::in_code(0x52) + width::in_code(0x5F),
     }
 }
 
@@ -190,7 +206,7 @@ pub fn emit_signal(text: &[u8], place: usize, x: u8, out: &mut [u8], to: usize) 
     let command = commands::command_at(text, place);
     match command {
         Command::Equation(_, _, _) => {
-            let value = emit_expression(text, place + 8, 16, out, to);
+            let value = emit_expression(text, place + width::in_program(0x11), 16, out, to);
             let code = put_access(out, value.end, 0x5F, x, place);
             code.end
         }

@@ -8,6 +8,7 @@ ghost use Rattle.model.specs.Image.{joined, offsets, records, lengthOf, imageOf
 ghost use Rattle.model.specs.Program.{Program};
 ghost use Rattle.model.specs.Reads.{stored};
 ghost use Rattle.model.specs.Schedule.{Schedule};
+ghost use Rattle.model.specs.Width.{inProgram};
 ghost use Rattle.model.specs.Word.{twoBytes, wordAt, wordBytes};
 ghost use Rattle.emitter.specs.Codes.{signalsOf, codesFrom, Declared, CodesLaidOut};
 ghost use Rattle.emitter.specs.Lists.{rateAt, isDue, runOf, listBy, listsBy, pairs, Timed, Phased};
@@ -230,7 +231,7 @@ fn emit_codes(text: &[u8], places: &[usize; 64], n: usize, out: &mut [u8], to: u
 
 // Writes the record of the signal declared at `place`, whose code starts at `offset`.
 fn put_record(text: &[u8], place: usize, offset: usize, out: &mut [u8], to: usize) -> usize
-    requires { ⌜ (place + 6 ≤ length (now text)) × (to + 6 ≤ length (now out)) ⌝ }
+    requires { ⌜ (place + inProgram 0x10 ≤ length (now text)) × (to + 6 ≤ length (now out)) ⌝ }
     ensures { λ r. ⌜ Wrote (now (out .entry)) to (wordBytes (wordAt (now (text .entry)) (place + 2)) ++ twoBytes offset) (now (out .exit)) r ⌝ }
 {
     let initial = word::word_at(text, place + 2);

@@ -25,6 +25,7 @@ use Rattle.model.specs.Program.{Program, count, signalAt, bodyReads}
 use Rattle.model.specs.Rates.{hypercycle}
 use Rattle.model.specs.Reads.{settled}
 use Rattle.model.specs.Report.{highest, countsOf, toldOf, reportOf}
+use Rattle.model.specs.Reach.{WidthsListed}
 use Rattle.model.specs.Refusals.{RefusedAt}
 use Rattle.model.specs.Schedule.{Schedule}
 use Rattle.model.specs.Streams.{Satisfies}
@@ -46,6 +47,7 @@ use Rattle.model.proofs.Offsets.{OffsetsFit, offsets-fit}
 use Rattle.model.proofs.Places.{places-small, places-zero}
 use Rattle.model.proofs.Stretches.{image-length, image-count}
 use Rattle.model.proofs.Unique as Unique
+use Rattle.model.proofs.Widths as Widths
 use Rattle.larderlate.specs.Code.{codeNumber}
 use Rattle.model.proofs.Verdict.{pair-passed, pair-accepted, pair-multiple, pair-bounded}
 
@@ -191,6 +193,11 @@ count-small image state samples bytes n e =
     go true true false d w e = let z : _≡_ {A = ℕ} 0 1 = cc in absurd (omega arith)
     go true false c d w e = let z : _≡_ {A = ℕ} 0 1 = cc in absurd (omega arith)
     go false b c d w e = let z : _≡_ {A = ℕ} 0 1 = cc in absurd (omega arith)
+
+-- Request b. Each of the four lists of widths is that of its decoder: over all 256 bytes, a byte has a width exactly if it is
+-- known in its kind of text, and a command that is read whole reaches exactly as far as its width.
+pub widths-listed : WidthsListed
+widths-listed = Widths.widths-listed
 
 -- After a reset that is not refused and any list of resets and cycles: no reset is refused, and a cycle exactly when it is lent
 -- fewer than N samples (23); a cycle that is not refused answers the report's count of its position. The position, word 0, is the

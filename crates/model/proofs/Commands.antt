@@ -25,7 +25,7 @@ use Rattle.model.specs.Command.{
   commandOf,
   commandAt,
 }
-use Rattle.model.specs.Program.{readWidth}
+use Rattle.model.specs.Width.{readWidth}
 use Rattle.model.specs.Word.{byteAt, twoAt, fourAt, wordOf, wordAt}
 use Rattle.model.specs.declared.Command.{Command}
 use Rattle.model.specs.declared.Command.the-variants as Command

@@ -126,7 +126,7 @@ runs-share w r vw vr e = go (decLe (w .period) (r .period)) (eqb-true _ _ e)
         (_, _, sym (meet r w vr (sym (rw (min-eq-right g) at f))))
 
 -- The order.
-beq-true : (b c : Bool) → Bool·beq b c ≡ true → b ≡ c
+pub beq-true : (b c : Bool) → Bool·beq b c ≡ true → b ≡ c
 beq-true true true e = refl
 beq-true true false e = sym e
 beq-true false true e = e

@@ -27,12 +27,12 @@ use Rattle.model.specs.Program.{
   noSignal,
   count,
   signalAt,
-  readWidth,
   parseProgram,
   readsOf,
   bodyReads,
 }
 use Rattle.model.specs.Search.{joinFrom}
+use Rattle.model.specs.Width.{readWidth}
 use Rattle.model.specs.Word.{wordBytes, fourBytes}
 use Rattle.model.specs.declared.Command.the-variants as Command
 use Rattle.model.specs.declared.Kind.{Kind}

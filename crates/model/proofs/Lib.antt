@@ -23,6 +23,7 @@ pub mod Faults
 pub mod Hypercycle
 pub mod Commands
 pub mod Written
+pub mod Widths
 pub mod Spelled
 pub mod All
 pub mod Legal

@@ -23,10 +23,10 @@ use Rattle.model.specs.Program.{
   commandHere,
   parseCommands,
   parseProgram,
-  readWidth,
 }
 use Rattle.model.specs.Schedule.{Put, scheduleCommand, parsePuts, parseSchedule}
 use Rattle.model.specs.Stops.{DeclaresOne}
+use Rattle.model.specs.Width.{readWidth}
 use Rattle.model.specs.Word.{byteAt}
 use Rattle.model.specs.declared.Command.{Command}
 use Rattle.model.specs.declared.Command.the-variants as Command

@@ -23,12 +23,24 @@ use Rattle.model.specs.Command.{
   commandAt,
 }
 use Rattle.model.specs.Image.{binaryByte}
-use Rattle.model.specs.Program.{readWidth}
+use Rattle.model.specs.Width.{inProgram, inExpression, inSchedule, inCode, readWidth}
+use Rattle.model.specs.Machine.{operatorCode, wholeCode, codeAt}
 use Rattle.model.specs.Schedule.{scheduleCommandAt}
 use Rattle.model.specs.Word.{byteAt, twoAt}
-use Rattle.model.specs.Written.{InPeriods, readByte, Written, PutWritten, Whole, PutWhole}
+use Rattle.model.specs.Written.{
+  InPeriods,
+  readByte,
+  Written,
+  PutWritten,
+  CodeWritten,
+  Whole,
+  PutWhole,
+  CodeWhole,
+}
 use Rattle.model.specs.declared.Binary.{Binary}
 use Rattle.model.specs.declared.Binary.the-variants.{Add, Sub, Mul, Less, Same, Min, Max}
+use Rattle.model.specs.declared.Code.{Code}
+use Rattle.model.specs.declared.Code.the-variants as Code
 use Rattle.model.specs.declared.Command.{Command}
 use Rattle.model.specs.declared.Command.the-variants as Command
 use Rattle.model.specs.declared.Keyword.{Keyword}
@@ -129,16 +141,16 @@ module _ (text : List ℕ) (at : ℕ) where
   ranged-reads true c h = h refl
   ranged-reads false c h = λ w. absurd w
 
-  plain-reads : (kind : Kind) → readWidth kind ≡ 2 → byteAt text at ≡ readByte kind → Reads (plainRead kind text at)
+  plain-reads : (kind : Kind) → readWidth kind ≡ inExpression 0x21 → byteAt text at ≡ readByte kind → Reads (plainRead kind text at)
   unfolding plainRead
-  plain-reads kind e b = whole-reads 2 _ (λ h w. Written.plain kind e h b)
+  plain-reads kind e b = whole-reads (inExpression 0x21) _ (λ h w. Written.plain kind e h b)
 
-  sampled-reads : (kind : Kind) → readWidth kind ≡ 4 → byteAt text at ≡ readByte kind → Reads (sampledRead kind text at)
+  sampled-reads : (kind : Kind) → readWidth kind ≡ inExpression 0x23 → byteAt text at ≡ readByte kind → Reads (sampledRead kind text at)
   unfolding sampledRead
   sampled-reads kind e b =
       let i = byteAt text (at + 2) in
       let n = byteAt text (at + 3) in
-      whole-reads 4 _ (λ h.
+      whole-reads (inExpression 0x23) _ (λ h.
       ranged-reads (isFactor n && isIndex i n) _ (λ t w.
       let f = and-eq-true-iff (isFactor n) (isIndex i n) .0 t in
       Written.sampled kind e h b (in-periods n .0 (f .0)) (index-true i n (f .1))))
@@ -149,19 +161,20 @@ module _ (text : List ℕ) (at : ℕ) where
   keyword-reads Keyword.Unknown b lt = λ w. absurd w
   keyword-reads Keyword.End b lt = λ w. Written.end (omega arith) b
   keyword-reads Keyword.Input b lt =
-      whole-reads 2 _ (λ h. ranged-reads _ _ (λ t. whole-reads 6 _ (λ g w.
+      whole-reads 2 _ (λ h. ranged-reads _ _ (λ t. whole-reads (inProgram 0x10) _ (λ g w.
       Written.input g b (in-periods (byteAt text (at + 1)) .0 t))))
   keyword-reads Keyword.Equation b lt =
-      whole-reads 2 _ (λ h. ranged-reads _ _ (λ t. whole-reads 8 _ (λ g w.
+      whole-reads 2 _ (λ h. ranged-reads _ _ (λ t. whole-reads (inProgram 0x11) _ (λ g w.
       Written.equation g b (in-periods (byteAt text (at + 1)) .0 t))))
   keyword-reads Keyword.Latency b lt =
       let mode = byteAt text (at + 1) in
       let command = Command.Latency (modeOf mode) (twoAt text (at + 2)) in
-      whole-reads 2 _ (λ h. ranged-reads (leb mode 1) (whole text at 4 command) (λ t. whole-reads 4 command (λ g w.
-      Written.latency g b (leb-true mode 1 t))))
-  keyword-reads Keyword.Link b lt = whole-reads 2 _ (λ h w. Written.link h b)
-  keyword-reads Keyword.Cap b lt = whole-reads 5 _ (λ h w. Written.cap h b)
-  keyword-reads Keyword.Constant b lt = whole-reads 5 _ (λ h w. Written.constant h b)
+      whole-reads 2 _ (λ h.
+      ranged-reads (leb mode 1) (whole text at (inProgram 0x12) command) (λ t.
+      whole-reads (inProgram 0x12) command (λ g w. Written.latency g b (leb-true mode 1 t))))
+  keyword-reads Keyword.Link b lt = whole-reads (inProgram 0x13) _ (λ h w. Written.link h b)
+  keyword-reads Keyword.Cap b lt = whole-reads (inProgram 0x14) _ (λ h w. Written.cap h b)
+  keyword-reads Keyword.Constant b lt = whole-reads (inExpression 0x20) _ (λ h w. Written.constant h b)
   keyword-reads (Keyword.Read Now) b lt = plain-reads Now refl b
   keyword-reads (Keyword.Read Last) b lt = plain-reads Last refl b
   keyword-reads (Keyword.Read When) b lt = sampled-reads When refl b
@@ -211,7 +224,7 @@ module _ (text : List ℕ) (at : ℕ) where
   fits : (t : Bool) (c : Command) → t ≡ true → ranged t c ≡ c
   fits t c e = rw e
 
-  plain-written : (kind : Kind) → readWidth kind ≡ 2 → at + 2 ≤ length text →
+  plain-written : (kind : Kind) → readWidth kind ≡ inExpression 0x21 → at + inExpression 0x21 ≤ length text →
       commandOf (Keyword.Read kind) text at ≡ plainRead kind text at
   unfolding commandOf
   plain-written Now e h = refl
@@ -220,7 +233,7 @@ module _ (text : List ℕ) (at : ℕ) where
   plain-written LastWhen e h = absurd (omega arith)
   plain-written Current e h = absurd (omega arith)
 
-  sampled-written : (kind : Kind) → readWidth kind ≡ 4 → at + 4 ≤ length text →
+  sampled-written : (kind : Kind) → readWidth kind ≡ inExpression 0x23 → at + inExpression 0x23 ≤ length text →
       commandOf (Keyword.Read kind) text at ≡ sampledRead kind text at
   unfolding commandOf
   sampled-written Now e h = absurd (omega arith)
@@ -234,28 +247,31 @@ module _ (text : List ℕ) (at : ℕ) where
   written-command c (Written.end h b) = (written-keyword Keyword.End (omega arith) (rw b), tt)
   written-command c (Written.input h b r) = (
     written-keyword Keyword.Input (omega arith) (rw b) ∙
-        there 2 _ (omega arith) ∙ fits _ _ (in-periods _ .1 r) ∙ there 6 _ h,
+        there 2 _ (omega arith) ∙ fits _ _ (in-periods _ .1 r) ∙ there (inProgram 0x10) _ h,
     tt,
   )
   written-command c (Written.equation h b r) = (
     written-keyword Keyword.Equation (omega arith) (rw b) ∙
-        there 2 _ (omega arith) ∙ fits _ _ (in-periods _ .1 r) ∙ there 8 _ h,
+        there 2 _ (omega arith) ∙ fits _ _ (in-periods _ .1 r) ∙ there (inProgram 0x11) _ h,
     tt,
   )
   written-command c (Written.latency h b r) = (
     written-keyword Keyword.Latency (omega arith) (rw b) ∙
-        there 2 _ (omega arith) ∙ fits _ _ (le-leb _ _ r) ∙ there 4 _ h,
+        there 2 _ (omega arith) ∙ fits _ _ (le-leb _ _ r) ∙ there (inProgram 0x12) _ h,
     tt,
   )
-  written-command c (Written.link h b) = (written-keyword Keyword.Link (omega arith) (rw b) ∙ there 2 _ h, tt)
-  written-command c (Written.cap h b) = (written-keyword Keyword.Cap (omega arith) (rw b) ∙ there 5 _ h, tt)
-  written-command c (Written.constant h b) = (written-keyword Keyword.Constant (omega arith) (rw b) ∙ there 5 _ h, tt)
+  written-command c (Written.link h b) = (written-keyword Keyword.Link (omega arith) (rw b) ∙ there (inProgram 0x13) _ h, tt)
+  written-command c (Written.cap h b) = (written-keyword Keyword.Cap (omega arith) (rw b) ∙ there (inProgram 0x14) _ h, tt)
+  written-command c (Written.constant h b) =
+      (written-keyword Keyword.Constant (omega arith) (rw b) ∙ there (inExpression 0x20) _ h, tt)
   written-command c (Written.plain kind e h b) = (
-    written-keyword (Keyword.Read kind) (omega arith) (read-keyword kind b) ∙ plain-written kind e h ∙ there 2 _ h,
+    written-keyword (Keyword.Read kind) (omega arith) (read-keyword kind b) ∙ plain-written kind e h ∙
+        there (inExpression 0x21) _ h,
     tt,
   )
   written-command c (Written.sampled kind e h b r i) = (
-    written-keyword (Keyword.Read kind) (omega arith) (read-keyword kind b) ∙ sampled-written kind e h ∙ there 4 _ h ∙
+    written-keyword (Keyword.Read kind) (omega arith) (read-keyword kind b) ∙ sampled-written kind e h ∙
+        there (inExpression 0x23) _ h ∙
         fits _ _ (and-eq-true-iff _ _ .1 (in-periods _ .1 r, true-index _ _ i)),
     tt,
   )
@@ -274,11 +290,11 @@ module _ (text : List ℕ) (at : ℕ) where
   put-reads : PutReads (scheduleCommandAt text at)
   unfolding scheduleCommandAt
   put-reads =
-      go (ltb at (length text)) (eqb (byteAt text at) 0x00) (eqb (byteAt text at) 0x40) (leb (at + 3) (length text)) refl refl
-      refl refl
+      go (ltb at (length text)) (eqb (byteAt text at) 0x00) (eqb (byteAt text at) 0x40)
+      (leb (at + inSchedule 0x40) (length text)) refl refl refl refl
     where
       go : (here end put all : Bool) → ltb at (length text) ≡ here → eqb (byteAt text at) 0x00 ≡ end →
-          eqb (byteAt text at) 0x40 ≡ put → leb (at + 3) (length text) ≡ all →
+          eqb (byteAt text at) 0x40 ≡ put → leb (at + inSchedule 0x40) (length text) ≡ all →
           PutReads (cond here
           (cond end ScheduleCommand.End
           (cond put
@@ -295,8 +311,89 @@ module _ (text : List ℕ) (at : ℕ) where
   unfolding scheduleCommandAt
   written-put c (PutWritten.end h b) = (rw (lt-ltb at (length text) (omega arith), b), tt)
   written-put c (PutWritten.put h b) =
-      (rw (lt-ltb at (length text) (omega arith), b, le-leb (at + 3) (length text) h), tt)
+      (rw (lt-ltb at (length text) (omega arith), b, le-leb (at + inSchedule 0x40) (length text) h), tt)
 
   -- The same of a schedule's commands.
   pub put-written : (c : ScheduleCommand) → ((scheduleCommandAt text at ≡ c) × PutWhole c) ↔ PutWritten text at c
   put-written c = (λ h. subst PutReads (h .0) put-reads (h .1), written-put c)
+
+-- The same of a code's commands.
+module _ (code : List ℕ) (at : ℕ) where
+  abbrev CodeReads : Code → Type 0
+  CodeReads c = CodeWhole c → CodeWritten code at c
+
+  code-here : (c : Code) → (at < length code → CodeReads c) → CodeReads (cond (ltb at (length code)) c Code.EndsEarly)
+  code-here c h = go (ltb at (length code)) refl
+    where
+      go : (b : Bool) → ltb at (length code) ≡ b → CodeReads (cond b c Code.EndsEarly)
+      go true e = h (ltb-true at (length code) e)
+      go false e = λ w. absurd w
+
+  code-pick : (b : ℕ) (x y : Code) → (byteAt code at ≡ b → CodeReads x) → CodeReads y →
+      CodeReads (cond (eqb (byteAt code at) b) x y)
+  code-pick b x y h g = go (eqb (byteAt code at) b) refl
+    where
+      go : (t : Bool) → eqb (byteAt code at) b ≡ t → CodeReads (cond t x y)
+      go true e = h (eqb-true (byteAt code at) b e)
+      go false e = g
+
+  code-whole : (n : ℕ) (c : Code) → (at + n ≤ length code → CodeReads c) → CodeReads (wholeCode code at n c)
+  code-whole n c h = go (leb (at + n) (length code)) refl
+    where
+      go : (b : Bool) → leb (at + n) (length code) ≡ b → CodeReads (cond b c Code.EndsEarly)
+      go true e = h (leb-true (at + n) (length code) e)
+      go false e = λ w. absurd w
+
+  code-operator : at < length code → CodeReads (operatorCode (byteAt code at))
+  unfolding operatorCode
+  code-operator lt =
+      code-pick 0x30 _ _ (λ e w. CodeWritten.binary Add (omega arith) e)
+      (code-pick 0x31 _ _ (λ e w. CodeWritten.binary Sub (omega arith) e)
+      (code-pick 0x32 _ _ (λ e w. CodeWritten.binary Mul (omega arith) e)
+      (code-pick 0x33 _ _ (λ e w. CodeWritten.binary Less (omega arith) e)
+      (code-pick 0x34 _ _ (λ e w. CodeWritten.binary Same (omega arith) e)
+      (code-pick 0x35 _ _ (λ e w. CodeWritten.binary Min (omega arith) e)
+      (code-pick 0x36 _ _ (λ e w. CodeWritten.binary Max (omega arith) e)
+      (code-pick 0x38 _ _ (λ e w. CodeWritten.negate (omega arith) e)
+      (code-pick 0x3A _ _ (λ e w. CodeWritten.choose (omega arith) e) (λ w. absurd w)))))))))
+
+  code-reads : CodeReads (codeAt code at)
+  unfolding codeAt
+  code-reads =
+      code-here _ (λ lt.
+      code-pick 0x50 _ _ (λ e. code-whole (inCode 0x50) _ (λ h w. CodeWritten.push h e))
+      (code-pick 0x51 _ _ (λ e. code-whole (inCode 0x51) _ (λ h w. CodeWritten.load h e))
+      (code-pick 0x52 _ _ (λ e. code-whole (inCode 0x52) _ (λ h w. CodeWritten.fetch h e))
+      (code-pick 0x5F _ _ (λ e. code-whole (inCode 0x5F) _ (λ h w. CodeWritten.store h e)) (code-operator lt)))))
+
+  written-operator : (operator : Binary) → at < length code → byteAt code at ≡ binaryByte operator →
+      codeAt code at ≡ Code.Binary operator
+  unfolding codeAt operatorCode
+  written-operator Add lt e = rw (lt-ltb at (length code) lt, e)
+  written-operator Sub lt e = rw (lt-ltb at (length code) lt, e)
+  written-operator Mul lt e = rw (lt-ltb at (length code) lt, e)
+  written-operator Less lt e = rw (lt-ltb at (length code) lt, e)
+  written-operator Same lt e = rw (lt-ltb at (length code) lt, e)
+  written-operator Min lt e = rw (lt-ltb at (length code) lt, e)
+  written-operator Max lt e = rw (lt-ltb at (length code) lt, e)
+
+  -- An operand that is there.
+  operand-there : (n : ℕ) (c : Code) → at + n ≤ length code → wholeCode code at n c ≡ c
+  operand-there n c h = rw (le-leb (at + n) (length code) h)
+
+  written-code : (c : Code) → CodeWritten code at c → (codeAt code at ≡ c) × CodeWhole c
+  unfolding codeAt operatorCode
+  written-code c (CodeWritten.push h b) =
+      (rw (lt-ltb at (length code) (omega arith), b) (operand-there (inCode 0x50) _ h), tt)
+  written-code c (CodeWritten.load h b) =
+      (rw (lt-ltb at (length code) (omega arith), b) (operand-there (inCode 0x51) _ h), tt)
+  written-code c (CodeWritten.fetch h b) =
+      (rw (lt-ltb at (length code) (omega arith), b) (operand-there (inCode 0x52) _ h), tt)
+  written-code c (CodeWritten.store h b) =
+      (rw (lt-ltb at (length code) (omega arith), b) (operand-there (inCode 0x5F) _ h), tt)
+  written-code c (CodeWritten.binary operator h b) = (written-operator operator (omega arith) b, tt)
+  written-code c (CodeWritten.negate h b) = (rw (lt-ltb at (length code) (omega arith), b), tt)
+  written-code c (CodeWritten.choose h b) = (rw (lt-ltb at (length code) (omega arith), b), tt)
+
+  pub code-written : (c : Code) → ((codeAt code at ≡ c) × CodeWhole c) ↔ CodeWritten code at c
+  code-written c = (λ h. subst CodeReads (h .0) code-reads (h .1), written-code c)

@@ -4,6 +4,7 @@ use mathlib.Core.Bool.{Bool, true, false, cond, _&&_, _||_}
 use mathlib.Core.List.{List}
 use lib.Dec.{leb, ltb, eqb}
 use lib.ListN.{length}
+use Rattle.model.specs.Width.{inProgram, inExpression}
 use Rattle.model.specs.Word.{byteAt, twoAt, fourAt, wordAt}
 use Rattle.model.specs.declared.Binary.the-variants as Binary
 use Rattle.model.specs.declared.Command.{Command}
@@ -50,7 +51,7 @@ keywordOf b =
 unfoldable pub keywordAt : List ℕ → ℕ → Keyword
 keywordAt text at = cond (ltb at (length text)) (keywordOf (byteAt text at)) Keyword.Missing
 
--- A command of n bytes: it ends early where fewer are left.
+-- A command that needs n bytes: it ends early where fewer are left.
 abbrev pub whole : List ℕ → ℕ → ℕ → Command → Command
 whole text at n command = cond (leb (at + n) (length text)) command Command.EndsEarly
 
@@ -78,12 +79,12 @@ modeOf b = cond (eqb b 0) Exists Backward
 -- NOW and LAST: a signal.
 unfoldable pub plainRead : Kind → List ℕ → ℕ → Command
 plainRead kind text at =
-    whole text at 2 (Command.Read kind (record { signal = byteAt text (at + 1); factor = 1; index = Fixed 0 }))
+    whole text at (inExpression 0x21) (Command.Read kind (record { signal = byteAt text (at + 1); factor = 1; index = Fixed 0 }))
 
 -- WHEN, LASTWHEN and CURRENT: a signal, i and n. i is judged with n.
 unfoldable pub sampledRead : Kind → List ℕ → ℕ → Command
 sampledRead kind text at =
-    whole text at 4
+    whole text at (inExpression 0x23)
     (ranged (isFactor (byteAt text (at + 3)) && isIndex (byteAt text (at + 2)) (byteAt text (at + 3)))
     (Command.Read kind
     (record { signal = byteAt text (at + 1); factor = byteAt text (at + 3); index = indexOf (byteAt text (at + 2)) })))
@@ -95,7 +96,8 @@ readOf When text at = sampledRead When text at
 readOf LastWhen text at = sampledRead LastWhen text at
 readOf Current text at = sampledRead Current text at
 
--- The command of a keyword, with the operands that stand after it.
+-- The command of a keyword, with the operands that stand after it. The 2 of IN, EQ and LAT are no width: the byte after the
+-- command is judged before the rest is looked for.
 unfoldable pub commandOf : Keyword → List ℕ → ℕ → Command
 commandOf Keyword.Missing text at = Command.EndsEarly
 commandOf Keyword.Unknown text at = Command.Unknown
@@ -103,18 +105,19 @@ commandOf Keyword.End text at = Command.End
 commandOf Keyword.Input text at =
     whole text at 2
     (ranged (isPeriod (byteAt text (at + 1)))
-    (whole text at 6 (Command.Input (byteAt text (at + 1)) (wordAt text (at + 2)))))
+    (whole text at (inProgram 0x10) (Command.Input (byteAt text (at + 1)) (wordAt text (at + 2)))))
 commandOf Keyword.Equation text at =
     whole text at 2
     (ranged (isPeriod (byteAt text (at + 1)))
-    (whole text at 8 (Command.Equation (byteAt text (at + 1)) (wordAt text (at + 2)) (twoAt text (at + 6)))))
+    (whole text at (inProgram 0x11)
+    (Command.Equation (byteAt text (at + 1)) (wordAt text (at + 2)) (twoAt text (at + 6)))))
 commandOf Keyword.Latency text at =
     whole text at 2
     (ranged (leb (byteAt text (at + 1)) 1)
-    (whole text at 4 (Command.Latency (modeOf (byteAt text (at + 1))) (twoAt text (at + 2)))))
-commandOf Keyword.Link text at = whole text at 2 (Command.Link (byteAt text (at + 1)))
-commandOf Keyword.Cap text at = whole text at 5 (Command.Cap (fourAt text (at + 1)))
-commandOf Keyword.Constant text at = whole text at 5 (Command.Constant (wordAt text (at + 1)))
+    (whole text at (inProgram 0x12) (Command.Latency (modeOf (byteAt text (at + 1))) (twoAt text (at + 2)))))
+commandOf Keyword.Link text at = whole text at (inProgram 0x13) (Command.Link (byteAt text (at + 1)))
+commandOf Keyword.Cap text at = whole text at (inProgram 0x14) (Command.Cap (fourAt text (at + 1)))
+commandOf Keyword.Constant text at = whole text at (inExpression 0x20) (Command.Constant (wordAt text (at + 1)))
 commandOf (Keyword.Read kind) text at = readOf kind text at
 commandOf (Keyword.Binary operator) text at = Command.Binary operator
 commandOf Keyword.Negate text at = Command.Negate

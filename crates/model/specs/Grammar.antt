@@ -26,9 +26,9 @@ use Rattle.model.specs.Program.{
   withCap,
   unlimited,
   count,
-  readWidth,
 }
 use Rattle.model.specs.Schedule.{scheduleCommandAt, Put}
+use Rattle.model.specs.Width.{inProgram, inExpression, inSchedule, readWidth}
 use Rattle.model.specs.Word.{byteAt}
 use Rattle.model.specs.declared.Binary.{Binary}
 use Rattle.model.specs.declared.Command.the-variants as Command
@@ -47,42 +47,47 @@ depth (choose x y z) = suc (max (depth x) (max (depth y) (depth z)))
 
 -- The bytes from `at` up to `next` spell the expression, operator first.
 pub data Spells (text : List ℕ) : ℕ → Expr → ℕ → Type 0 where
-  constants : {at : ℕ} {w : ℤ} → commandAt text at ≡ Command.Constant w → Spells text at (constant w) (at + 5)
+  constants : {at : ℕ} {w : ℤ} → commandAt text at ≡ Command.Constant w →
+      Spells text at (constant w) (at + inExpression 0x20)
   reads : {at : ℕ} {kind : Kind} {x : Sampled} → commandAt text at ≡ Command.Read kind x →
       Spells text at (read (record { place = at; kind = kind; operands = x })) (at + readWidth kind)
   two : {at m n : ℕ} {operator : Binary} {x y : Expr} → commandAt text at ≡ Command.Binary operator →
-      Spells text (at + 1) x m → Spells text m y n → Spells text at (binary operator x y) n
-  one : {at n : ℕ} {x : Expr} → commandAt text at ≡ Command.Negate → Spells text (at + 1) x n →
+      Spells text (at + inExpression 0x30) x m → Spells text m y n → Spells text at (binary operator x y) n
+  one : {at n : ℕ} {x : Expr} → commandAt text at ≡ Command.Negate → Spells text (at + inExpression 0x38) x n →
       Spells text at (negate x) n
-  three : {at m n o : ℕ} {x y z : Expr} → commandAt text at ≡ Command.If → Spells text (at + 1) x m →
-      Spells text m y n → Spells text n z o → Spells text at (choose x y z) o
+  three : {at m n o : ℕ} {x y z : Expr} → commandAt text at ≡ Command.If →
+      Spells text (at + inExpression 0x3A) x m → Spells text m y n → Spells text n z o → Spells text at (choose x y z) o
 
 -- The LINKs from `at` up to `next`; after them stands no other. Past its end a text reads 0.
 pub data SpellsLinks (text : List ℕ) : ℕ → List Link → ℕ → Type 0 where
   ends : {at : ℕ} → eqb (byteAt text at) 0x13 ≡ false → SpellsLinks text at [] at
-  link : {at n : ℕ} {ls : List Link} → byteAt text at ≡ 0x13 → at + 2 ≤ length text → SpellsLinks text (at + 2) ls n →
+  link : {at n : ℕ} {ls : List Link} → byteAt text at ≡ 0x13 → at + inProgram 0x13 ≤ length text →
+      SpellsLinks text (at + inProgram 0x13) ls n →
       SpellsLinks text at (record { place = at; signal = byteAt text (at + 1) } ∷ ls) n
 
 -- The commands from `at` up to END at `end`, the last byte, make q of p: at most 64 signals, 16 chains of 2 to 16 links,
 -- expressions at most 16 deep, one CAP.
 pub data Declares (text : List ℕ) : ℕ → Program → ℕ → Program → Type 0 where
-  ends : {at : ℕ} {p : Program} → commandAt text at ≡ Command.End → length text ≤ at + 1 → Declares text at p at p
+  ends : {at : ℕ} {p : Program} → commandAt text at ≡ Command.End → length text ≤ at + inProgram 0x00 →
+      Declares text at p at p
   inputs : {at end period : ℕ} {initial : ℤ} {p q : Program} → count p < 64 →
       commandAt text at ≡ Command.Input period initial →
-      Declares text (at + 6) (withSignal p (record { place = at; period = period; initial = initial; body = input })) end q →
+      Declares text (at + inProgram 0x10)
+      (withSignal p (record { place = at; period = period; initial = initial; body = input })) end q →
       Declares text at p end q
   equations : {at next end period weight : ℕ} {initial : ℤ} {e : Expr} {p q : Program} → count p < 64 →
-      commandAt text at ≡ Command.Equation period initial weight → Spells text (at + 8) e next → depth e ≤ 16 →
+      commandAt text at ≡ Command.Equation period initial weight → Spells text (at + inProgram 0x11) e next →
+      depth e ≤ 16 →
       Declares text next
       (withSignal p (record { place = at; period = period; initial = initial; body = equation weight e })) end q →
       Declares text at p end q
   chains : {at next end bound : ℕ} {mode : Mode} {ls : List Link} {p q : Program} → length (p .chains) < 16 →
-      commandAt text at ≡ Command.Latency mode bound → SpellsLinks text (at + 4) ls next → 2 ≤ length ls →
-      length ls ≤ 16 →
+      commandAt text at ≡ Command.Latency mode bound → SpellsLinks text (at + inProgram 0x12) ls next →
+      2 ≤ length ls → length ls ≤ 16 →
       Declares text next (withChain p (record { place = at; mode = mode; bound = bound; links = ls })) end q →
       Declares text at p end q
   caps : {at end n : ℕ} {p q : Program} → p .cap ≡ unlimited → commandAt text at ≡ Command.Cap n →
-      Declares text (at + 5) (withCap p n) end q → Declares text at p end q
+      Declares text (at + inProgram 0x14) (withCap p n) end q → Declares text at p end q
 
 -- A legal program text, and the program that it declares.
 abbrev pub LegalProgram : List ℕ → Program → Type 0
@@ -90,9 +95,10 @@ LegalProgram text p = (end : ℕ) × Declares text 0 empty end p
 
 -- The PUTs from `at` up to END, the last byte.
 pub data SpellsPuts (text : List ℕ) : ℕ → List Put → ℕ → Type 0 where
-  ends : {at : ℕ} → scheduleCommandAt text at ≡ ScheduleCommand.End → length text ≤ at + 1 → SpellsPuts text at [] at
+  ends : {at : ℕ} → scheduleCommandAt text at ≡ ScheduleCommand.End → length text ≤ at + inSchedule 0x00 →
+      SpellsPuts text at [] at
   put : {at end signal phase : ℕ} {qs : List Put} → scheduleCommandAt text at ≡ ScheduleCommand.Put signal phase →
-      SpellsPuts text (at + 3) qs end →
+      SpellsPuts text (at + inSchedule 0x40) qs end →
       SpellsPuts text at (record { place = at; signal = signal; phase = phase } ∷ qs) end
 
 -- A legal schedule text: its PUTs, and the offset of its END.

@@ -2,6 +2,7 @@
 pub mod Outcome
 pub mod Search
 pub mod Word
+pub mod Width
 pub mod Command
 pub mod Program
 pub mod Rates
@@ -17,6 +18,7 @@ pub mod Latency
 pub mod Image
 pub mod Machine
 pub mod Height
+pub mod Reach
 pub mod Compile
 pub mod Report
 pub mod Conditions

@@ -8,6 +8,7 @@ use lib.ListN.{length, getD, take, drop, set}
 use Rattle.model.specs.Image.{recordAt, offsetsAt, listsAt}
 use Rattle.model.specs.Outcome.{Outcome, accepted, refused, _▷_, provided}
 use Rattle.model.specs.Search.{allBelow, table}
+use Rattle.model.specs.Width.{inCode}
 use Rattle.model.specs.Word.{byteAt, twoAt, wordAt, binaryWord, negWord, ifWord}
 use Rattle.model.specs.declared.Binary.the-variants as Binary
 use Rattle.model.specs.declared.Code.{Code}
@@ -37,10 +38,10 @@ wholeCode code at n command = cond (leb (at + n) (length code)) command Code.End
 unfoldable pub codeAt : List ℕ → ℕ → Code
 codeAt code at =
     cond (ltb at (length code))
-    (cond (eqb (byteAt code at) 0x50) (wholeCode code at 5 (Code.Push (wordAt code (at + 1))))
-    (cond (eqb (byteAt code at) 0x51) (wholeCode code at 2 (Code.Load (byteAt code (at + 1))))
-    (cond (eqb (byteAt code at) 0x52) (wholeCode code at 2 (Code.Fetch (byteAt code (at + 1))))
-    (cond (eqb (byteAt code at) 0x5F) (wholeCode code at 2 (Code.Store (byteAt code (at + 1))))
+    (cond (eqb (byteAt code at) 0x50) (wholeCode code at (inCode 0x50) (Code.Push (wordAt code (at + 1))))
+    (cond (eqb (byteAt code at) 0x51) (wholeCode code at (inCode 0x51) (Code.Load (byteAt code (at + 1))))
+    (cond (eqb (byteAt code at) 0x52) (wholeCode code at (inCode 0x52) (Code.Fetch (byteAt code (at + 1))))
+    (cond (eqb (byteAt code at) 0x5F) (wholeCode code at (inCode 0x5F) (Code.Store (byteAt code (at + 1))))
     (operatorCode (byteAt code at))))))
     Code.EndsEarly
 
@@ -75,13 +76,13 @@ codeOf image x = stretch image (codeOffset image x) (codeOffset image (x + 1))
 unfoldable pub commandOk : (ℕ → ℕ → Bool) → ℕ → ℕ → ℕ → ℕ → ℕ → Code → Bool
 commandOk next size n own at height Code.EndsEarly = false
 commandOk next size n own at height Code.Unknown = false
-commandOk next size n own at height (Code.Push w) = ltb height 32 && next (at + 5) (height + 1)
-commandOk next size n own at height (Code.Load x) = ltb x n && ltb height 32 && next (at + 2) (height + 1)
-commandOk next size n own at height (Code.Fetch x) = eqb x own && ltb height 32 && next (at + 2) (height + 1)
-commandOk next size n own at height (Code.Store x) = eqb x own && eqb height 1 && eqb (at + 2) size
-commandOk next size n own at height (Code.Binary operator) = leb 2 height && next (at + 1) (height - 1)
-commandOk next size n own at height Code.Negate = leb 1 height && next (at + 1) height
-commandOk next size n own at height Code.If = leb 3 height && next (at + 1) (height - 2)
+commandOk next size n own at height (Code.Push w) = ltb height 32 && next (at + inCode 0x50) (height + 1)
+commandOk next size n own at height (Code.Load x) = ltb x n && ltb height 32 && next (at + inCode 0x51) (height + 1)
+commandOk next size n own at height (Code.Fetch x) = eqb x own && ltb height 32 && next (at + inCode 0x52) (height + 1)
+commandOk next size n own at height (Code.Store x) = eqb x own && eqb height 1 && eqb (at + inCode 0x5F) size
+commandOk next size n own at height (Code.Binary operator) = leb 2 height && next (at + inCode 0x30) (height - 1)
+commandOk next size n own at height Code.Negate = leb 1 height && next (at + inCode 0x38) height
+commandOk next size n own at height Code.If = leb 3 height && next (at + inCode 0x3A) (height - 2)
 
 -- The code from `at` on: `left` bytes hold no more than `left` commands.
 unfoldable pub codeOkFrom : ℕ → List ℕ → ℕ → ℕ → ℕ → ℕ → Bool
@@ -146,13 +147,13 @@ onThree f (b ∷ (a ∷ (c ∷ stack))) = f c a b ∷ stack
 unfoldable pub runCommand : (ℕ → List ℤ → ℤ) → List ℤ → List ℤ → ℕ → List ℤ → Code → ℤ
 runCommand next state samples at stack Code.EndsEarly = pos 0
 runCommand next state samples at stack Code.Unknown = pos 0
-runCommand next state samples at stack (Code.Push w) = next (at + 5) (w ∷ stack)
-runCommand next state samples at stack (Code.Load x) = next (at + 2) (getD state (x + 1) (pos 0) ∷ stack)
-runCommand next state samples at stack (Code.Fetch x) = next (at + 2) (getD samples x (pos 0) ∷ stack)
+runCommand next state samples at stack (Code.Push w) = next (at + inCode 0x50) (w ∷ stack)
+runCommand next state samples at stack (Code.Load x) = next (at + inCode 0x51) (getD state (x + 1) (pos 0) ∷ stack)
+runCommand next state samples at stack (Code.Fetch x) = next (at + inCode 0x52) (getD samples x (pos 0) ∷ stack)
 runCommand next state samples at stack (Code.Store x) = getD stack 0 (pos 0)
-runCommand next state samples at stack (Code.Binary operator) = next (at + 1) (onTwo (binaryWord operator) stack)
-runCommand next state samples at stack Code.Negate = next (at + 1) (onOne negWord stack)
-runCommand next state samples at stack Code.If = next (at + 1) (onThree ifWord stack)
+runCommand next state samples at stack (Code.Binary operator) = next (at + inCode 0x30) (onTwo (binaryWord operator) stack)
+runCommand next state samples at stack Code.Negate = next (at + inCode 0x38) (onOne negWord stack)
+runCommand next state samples at stack Code.If = next (at + inCode 0x3A) (onThree ifWord stack)
 
 unfoldable pub runFrom : ℕ → List ℕ → List ℤ → List ℤ → ℕ → List ℤ → ℤ
 runFrom zero code state samples at stack = pos 0
@@ -167,13 +168,13 @@ runCode code state samples = runFrom (length code) code state samples 0 []
 unfoldable pub countCommand : (ℕ → ℕ) → ℕ → Code → ℕ
 countCommand next at Code.EndsEarly = 0
 countCommand next at Code.Unknown = 0
-countCommand next at (Code.Push w) = suc (next (at + 5))
-countCommand next at (Code.Load x) = suc (next (at + 2))
-countCommand next at (Code.Fetch x) = suc (next (at + 2))
+countCommand next at (Code.Push w) = suc (next (at + inCode 0x50))
+countCommand next at (Code.Load x) = suc (next (at + inCode 0x51))
+countCommand next at (Code.Fetch x) = suc (next (at + inCode 0x52))
 countCommand next at (Code.Store x) = 1
-countCommand next at (Code.Binary operator) = suc (next (at + 1))
-countCommand next at Code.Negate = suc (next (at + 1))
-countCommand next at Code.If = suc (next (at + 1))
+countCommand next at (Code.Binary operator) = suc (next (at + inCode 0x30))
+countCommand next at Code.Negate = suc (next (at + inCode 0x38))
+countCommand next at Code.If = suc (next (at + inCode 0x3A))
 
 unfoldable pub countFrom : ℕ → List ℕ → ℕ → ℕ
 countFrom zero code at = 0

@@ -7,6 +7,7 @@ use lib.IntN.{ℤ, pos}
 use lib.ListN.{length, getD}
 use Rattle.model.specs.Outcome.{Outcome, accepted, refuse, _▷_, provided, Parsed, parsed}
 use Rattle.model.specs.Command.{keywordAt, commandAt}
+use Rattle.model.specs.Width.{inProgram, inExpression, readWidth}
 use Rattle.model.specs.Word.{byteAt}
 use Rattle.model.specs.declared.Binary.{Binary}
 use Rattle.model.specs.declared.Command.{Command}
@@ -14,7 +15,6 @@ use Rattle.model.specs.declared.Command.the-variants as Command
 use Rattle.model.specs.declared.Keyword.{Keyword}
 use Rattle.model.specs.declared.Keyword.the-variants as Keyword
 use Rattle.model.specs.declared.Kind.{Kind}
-use Rattle.model.specs.declared.Kind.the-variants.{Now, Last, When, LastWhen, Current}
 use Rattle.model.specs.declared.Mode.{Mode}
 use Rattle.model.specs.declared.Sampled.{Sampled}
 
@@ -101,14 +101,6 @@ operatorHere text at (Keyword.Binary operator) = accepted tt
 operatorHere text at Keyword.Negate = accepted tt
 operatorHere text at Keyword.If = accepted tt
 
--- The bytes of a read: NOW s is two, WHEN s i n is four.
-abbrev pub readWidth : Kind → ℕ
-readWidth Now = 2
-readWidth Last = 2
-readWidth When = 4
-readWidth LastWhen = 4
-readWidth Current = 4
-
 -- The expression at `at`, operator first, where `sub` reads an operand.
 unfoldable pub node : (ℕ → Outcome (Parsed Expr)) → List ℕ → ℕ → Command → Outcome (Parsed Expr)
 node sub text at Command.EndsEarly = refuse 2 (length text)
@@ -120,14 +112,15 @@ node sub text at (Command.Equation period initial weight) = refuse 3 at
 node sub text at (Command.Latency mode bound) = refuse 3 at
 node sub text at (Command.Link signal) = refuse 3 at
 node sub text at (Command.Cap n) = refuse 3 at
-node sub text at (Command.Constant w) = parsed (constant w) (at + 5)
+node sub text at (Command.Constant w) = parsed (constant w) (at + inExpression 0x20)
 node sub text at (Command.Read kind operands) =
     parsed (read (record { place = at; kind = kind; operands = operands })) (at + readWidth kind)
 node sub text at (Command.Binary operator) =
-    sub (at + 1) ▷ λ x. sub (x .next) ▷ λ y. parsed (binary operator (x .value) (y .value)) (y .next)
-node sub text at Command.Negate = sub (at + 1) ▷ λ x. parsed (negate (x .value)) (x .next)
+    sub (at + inExpression 0x30) ▷ λ x. sub (x .next) ▷ λ y.
+    parsed (binary operator (x .value) (y .value)) (y .next)
+node sub text at Command.Negate = sub (at + inExpression 0x38) ▷ λ x. parsed (negate (x .value)) (x .next)
 node sub text at Command.If =
-    sub (at + 1) ▷ λ x. sub (x .next) ▷ λ y. sub (y .next) ▷ λ z.
+    sub (at + inExpression 0x3A) ▷ λ x. sub (x .next) ▷ λ y. sub (y .next) ▷ λ z.
     parsed (choose (x .value) (y .value) (z .value)) (z .next)
 
 -- An expression nests at most `depth` deep; a leaf is 1.
@@ -143,8 +136,8 @@ parseLinks zero text at links = elim (eqb (byteAt text at) 0x13) [ true ↦ refu
 parseLinks (suc room) text at links =
     elim (eqb (byteAt text at) 0x13) [
       | true ↦
-          provided (leb (at + 2) (length text)) 2 (length text) ▷ λ _.
-          parseLinks room text (at + 2) (links ++ (record { place = at; signal = byteAt text (at + 1) } ∷ []))
+          provided (leb (at + inProgram 0x13) (length text)) 2 (length text) ▷ λ _.
+          parseLinks room text (at + inProgram 0x13) (links ++ (record { place = at; signal = byteAt text (at + 1) } ∷ []))
       | false ↦ parsed links at
     ]
 
@@ -153,19 +146,20 @@ unfoldable pub declare : (ℕ → Program → Outcome Program) → List ℕ → 
 declare next text at p Command.EndsEarly = refuse 2 (length text)
 declare next text at p Command.Unknown = refuse 3 at
 declare next text at p Command.OutOfRange = refuse 5 at
-declare next text at p Command.End = provided (leb (length text) (at + 1)) 6 (at + 1) ▷ λ _. accepted p
+declare next text at p Command.End =
+    provided (leb (length text) (at + inProgram 0x00)) 6 (at + inProgram 0x00) ▷ λ _. accepted p
 declare next text at p (Command.Input period initial) =
-    next (at + 6) (withSignal p (record { place = at; period = period; initial = initial; body = input }))
+    next (at + inProgram 0x10) (withSignal p (record { place = at; period = period; initial = initial; body = input }))
 declare next text at p (Command.Equation period initial weight) =
-    parseExpr 16 text (at + 8) ▷ λ e.
+    parseExpr 16 text (at + inProgram 0x11) ▷ λ e.
     next (e .next)
     (withSignal p (record { place = at; period = period; initial = initial; body = equation weight (e .value) }))
 declare next text at p (Command.Latency mode bound) =
-    parseLinks 16 text (at + 4) [] ▷ λ ls.
+    parseLinks 16 text (at + inProgram 0x12) [] ▷ λ ls.
     provided (leb 2 (length (ls .value))) 5 at ▷ λ _.
     next (ls .next) (withChain p (record { place = at; mode = mode; bound = bound; links = ls .value }))
 declare next text at p (Command.Link signal) = refuse 3 at
-declare next text at p (Command.Cap n) = next (at + 5) (withCap p n)
+declare next text at p (Command.Cap n) = next (at + inProgram 0x14) (withCap p n)
 declare next text at p (Command.Constant w) = refuse 3 at
 declare next text at p (Command.Read kind operands) = refuse 3 at
 declare next text at p (Command.Binary operator) = refuse 3 at

@@ -7,6 +7,7 @@ use lib.ListN.{length, getD}
 use Rattle.model.specs.Outcome.{Outcome, accepted, refuse, fault, _▷_, provided, lowest, Parsed, parsed}
 use Rattle.model.specs.Program.{Program, Signal, count, signalAt}
 use Rattle.model.specs.Search.{allBelow, table}
+use Rattle.model.specs.Width.{inSchedule}
 use Rattle.model.specs.Word.{byteAt}
 use Rattle.model.specs.declared.Fault.{Fault}
 use Rattle.model.specs.declared.ScheduleCommand.{ScheduleCommand}
@@ -18,7 +19,8 @@ scheduleCommandAt text at =
     cond (ltb at (length text))
     (cond (eqb (byteAt text at) 0x00) ScheduleCommand.End
     (cond (eqb (byteAt text at) 0x40)
-    (cond (leb (at + 3) (length text)) (ScheduleCommand.Put (byteAt text (at + 1)) (byteAt text (at + 2))) ScheduleCommand.EndsEarly)
+    (cond (leb (at + inSchedule 0x40) (length text)) (ScheduleCommand.Put (byteAt text (at + 1)) (byteAt text (at + 2)))
+    ScheduleCommand.EndsEarly)
     ScheduleCommand.Unknown))
     ScheduleCommand.EndsEarly
 
@@ -32,9 +34,10 @@ pub record Put : Type 0 where
 unfoldable pub scheduleCommand : (ℕ → List Put → Outcome (Parsed (List Put))) → List ℕ → ℕ → List Put → ScheduleCommand → Outcome (Parsed (List Put))
 scheduleCommand next text at puts ScheduleCommand.EndsEarly = refuse 11 (length text)
 scheduleCommand next text at puts ScheduleCommand.Unknown = refuse 11 at
-scheduleCommand next text at puts ScheduleCommand.End = provided (leb (length text) (at + 1)) 11 (at + 1) ▷ λ _. parsed puts at
+scheduleCommand next text at puts ScheduleCommand.End =
+    provided (leb (length text) (at + inSchedule 0x00)) 11 (at + inSchedule 0x00) ▷ λ _. parsed puts at
 scheduleCommand next text at puts (ScheduleCommand.Put signal phase) =
-    next (at + 3) (puts ++ (record { place = at; signal = signal; phase = phase } ∷ []))
+    next (at + inSchedule 0x40) (puts ++ (record { place = at; signal = signal; phase = phase } ∷ []))
 
 -- The commands from `at` on: `left` bytes hold no more than `left` of them.
 unfoldable pub parsePuts : ℕ → List ℕ → ℕ → List Put → Outcome (Parsed (List Put))

@@ -20,6 +20,7 @@ use Rattle.model.specs.Program.{
   count,
 }
 use Rattle.model.specs.Schedule.{scheduleCommandAt}
+use Rattle.model.specs.Width.{inProgram, inExpression, inSchedule}
 use Rattle.model.specs.Word.{byteAt}
 use Rattle.model.specs.declared.Binary.{Binary}
 use Rattle.model.specs.declared.Command.{Command}
@@ -66,16 +67,17 @@ pub data StopsExpr (text : List ℕ) : ℕ → ℕ → ℕ → ℕ → Type 0 wh
       StopsExpr text (suc d) at 2 (length text)
   outside : {d at : ℕ} → IsOperator (keywordAt text at) → commandAt text at ≡ Command.OutOfRange →
       StopsExpr text (suc d) at 5 at
-  -- The first k operands are legal, and the one after them stops.
+  -- The first k operands are legal, and the one after them stops. All operators are as wide as ADD.
   operand : {d at arity k next n x : ℕ} → HasOperands (commandAt text at) arity → k < arity →
-      SpellsOperands text d (at + 1) k next → StopsExpr text d next n x → StopsExpr text (suc d) at n x
+      SpellsOperands text d (at + inExpression 0x30) k next → StopsExpr text d next n x → StopsExpr text (suc d) at n x
 
 -- The LINKs from `at` on stop, where `room` are allowed.
 pub data StopsLinks (text : List ℕ) : ℕ → ℕ → ℕ → ℕ → Type 0 where
   many : {at : ℕ} → byteAt text at ≡ 0x13 → StopsLinks text 0 at 4 at
-  cut : {room at : ℕ} → byteAt text at ≡ 0x13 → length text < at + 2 → StopsLinks text (suc room) at 2 (length text)
-  link : {room at n x : ℕ} → byteAt text at ≡ 0x13 → at + 2 ≤ length text → StopsLinks text room (at + 2) n x →
-      StopsLinks text (suc room) at n x
+  cut : {room at : ℕ} → byteAt text at ≡ 0x13 → length text < at + inProgram 0x13 →
+      StopsLinks text (suc room) at 2 (length text)
+  link : {room at n x : ℕ} → byteAt text at ≡ 0x13 → at + inProgram 0x13 ≤ length text →
+      StopsLinks text room (at + inProgram 0x13) n x → StopsLinks text (suc room) at n x
 
 -- The counts and a second CAP leave room for the command, after those of p.
 pub data HasRoom (p : Program) : Keyword → Type 0 where
@@ -88,18 +90,19 @@ pub data HasRoom (p : Program) : Keyword → Type 0 where
 -- A legal command from `at` up to `next`, other than END, makes q of p.
 pub data DeclaresOne (text : List ℕ) : ℕ → Program → ℕ → Program → Type 0 where
   inputs : {at period : ℕ} {initial : ℤ} {p : Program} → count p < 64 → commandAt text at ≡ Command.Input period initial →
-      DeclaresOne text at p (at + 6)
+      DeclaresOne text at p (at + inProgram 0x10)
       (withSignal p (record { place = at; period = period; initial = initial; body = Body.input }))
   equations : {at next period weight : ℕ} {initial : ℤ} {e : Expr} {p : Program} → count p < 64 →
-      commandAt text at ≡ Command.Equation period initial weight → Spells text (at + 8) e next → depth e ≤ 16 →
+      commandAt text at ≡ Command.Equation period initial weight → Spells text (at + inProgram 0x11) e next →
+      depth e ≤ 16 →
       DeclaresOne text at p next
       (withSignal p (record { place = at; period = period; initial = initial; body = Body.equation weight e }))
   chains : {at next bound : ℕ} {mode : Mode} {ls : List Link} {p : Program} → length (p .chains) < 16 →
-      commandAt text at ≡ Command.Latency mode bound → SpellsLinks text (at + 4) ls next → 2 ≤ length ls →
-      length ls ≤ 16 →
+      commandAt text at ≡ Command.Latency mode bound → SpellsLinks text (at + inProgram 0x12) ls next →
+      2 ≤ length ls → length ls ≤ 16 →
       DeclaresOne text at p next (withChain p (record { place = at; mode = mode; bound = bound; links = ls }))
   caps : {at n : ℕ} {p : Program} → p .cap ≡ unlimited → commandAt text at ≡ Command.Cap n →
-      DeclaresOne text at p (at + 5) (withCap p n)
+      DeclaresOne text at p (at + inProgram 0x14) (withCap p n)
 
 -- The commands from `at` on, after those of p, stop.
 pub data Stops (text : List ℕ) : ℕ → Program → ℕ → ℕ → Type 0 where
@@ -118,19 +121,21 @@ pub data Stops (text : List ℕ) : ℕ → Program → ℕ → ℕ → Type 0 wh
       Stops text at p 5 at
   -- Then the expression of an EQ, the LINKs of a LAT, and what stands after END.
   expression : {at period weight n x : ℕ} {initial : ℤ} {p : Program} → count p < 64 →
-      commandAt text at ≡ Command.Equation period initial weight → StopsExpr text 16 (at + 8) n x → Stops text at p n x
+      commandAt text at ≡ Command.Equation period initial weight → StopsExpr text 16 (at + inProgram 0x11) n x →
+      Stops text at p n x
   links : {at bound n x : ℕ} {mode : Mode} {p : Program} → length (p .chains) < 16 →
-      commandAt text at ≡ Command.Latency mode bound → StopsLinks text 16 (at + 4) n x → Stops text at p n x
+      commandAt text at ≡ Command.Latency mode bound → StopsLinks text 16 (at + inProgram 0x12) n x → Stops text at p n x
   short : {at next bound : ℕ} {mode : Mode} {ls : List Link} {p : Program} → length (p .chains) < 16 →
-      commandAt text at ≡ Command.Latency mode bound → SpellsLinks text (at + 4) ls next → length ls < 2 →
-      Stops text at p 5 at
-  trailing : {at : ℕ} {p : Program} → commandAt text at ≡ Command.End → at + 1 < length text → Stops text at p 6 (at + 1)
+      commandAt text at ≡ Command.Latency mode bound → SpellsLinks text (at + inProgram 0x12) ls next →
+      length ls < 2 → Stops text at p 5 at
+  trailing : {at : ℕ} {p : Program} → commandAt text at ≡ Command.End → at + inProgram 0x00 < length text →
+      Stops text at p 6 (at + inProgram 0x00)
 
 -- The PUTs from `at` on stop at a place.
 pub data StopsPuts (text : List ℕ) : ℕ → ℕ → Type 0 where
   onward : {at signal phase x : ℕ} → scheduleCommandAt text at ≡ ScheduleCommand.Put signal phase →
-      StopsPuts text (at + 3) x → StopsPuts text at x
+      StopsPuts text (at + inSchedule 0x40) x → StopsPuts text at x
   early : {at : ℕ} → scheduleCommandAt text at ≡ ScheduleCommand.EndsEarly → StopsPuts text at (length text)
   unknown : {at : ℕ} → scheduleCommandAt text at ≡ ScheduleCommand.Unknown → StopsPuts text at at
-  trailing : {at : ℕ} → scheduleCommandAt text at ≡ ScheduleCommand.End → at + 1 < length text →
-      StopsPuts text at (at + 1)
+  trailing : {at : ℕ} → scheduleCommandAt text at ≡ ScheduleCommand.End → at + inSchedule 0x00 < length text →
+      StopsPuts text at (at + inSchedule 0x00)

@@ -1,5 +1,5 @@
--- One command of a text, byte for byte: it lies within the text, its first byte is its own, and its operands are in their
--- ranges. The grammar takes a command from `commandAt` and `scheduleCommandAt`; these relations say the same of the bytes.
+-- One command of a text or a code, byte for byte: it lies within the text, its first byte is its own, and its operands are in
+-- their ranges. The grammar takes a command from `commandAt` and `scheduleCommandAt`; these relations say the same of the bytes.
 use Prim.Native.Nat.{ℕ, _+_, _≤_, _<_}
 use mathlib.Core.List.{List}
 use mathlib.Core.Logic.{_⊎_}
@@ -7,9 +7,11 @@ use mathlib.Core.Path.{_≡_}
 use lib.ListN.{length}
 use Rattle.model.specs.Command.{indexOf, modeOf}
 use Rattle.model.specs.Image.{binaryByte}
-use Rattle.model.specs.Program.{readWidth}
+use Rattle.model.specs.Width.{inProgram, inExpression, inSchedule, inCode, readWidth}
 use Rattle.model.specs.Word.{byteAt, twoAt, fourAt, wordAt}
 use Rattle.model.specs.declared.Binary.{Binary}
+use Rattle.model.specs.declared.Code.{Code}
+use Rattle.model.specs.declared.Code.the-variants as Code
 use Rattle.model.specs.declared.Command.{Command}
 use Rattle.model.specs.declared.Command.the-variants as Command
 use Rattle.model.specs.declared.Index.the-variants.{Fixed}
@@ -32,35 +34,51 @@ readByte Current = 0x25
 
 -- The command at an offset of the program text.
 pub data Written (text : List ℕ) (at : ℕ) : Command → Type 0 where
-  end : at + 1 ≤ length text → byteAt text at ≡ 0x00 → Written text at Command.End
-  input : at + 6 ≤ length text → byteAt text at ≡ 0x10 → InPeriods (byteAt text (at + 1)) →
+  end : at + inProgram 0x00 ≤ length text → byteAt text at ≡ 0x00 → Written text at Command.End
+  input : at + inProgram 0x10 ≤ length text → byteAt text at ≡ 0x10 → InPeriods (byteAt text (at + 1)) →
       Written text at (Command.Input (byteAt text (at + 1)) (wordAt text (at + 2)))
-  equation : at + 8 ≤ length text → byteAt text at ≡ 0x11 → InPeriods (byteAt text (at + 1)) →
+  equation : at + inProgram 0x11 ≤ length text → byteAt text at ≡ 0x11 → InPeriods (byteAt text (at + 1)) →
       Written text at (Command.Equation (byteAt text (at + 1)) (wordAt text (at + 2)) (twoAt text (at + 6)))
-  latency : at + 4 ≤ length text → byteAt text at ≡ 0x12 → byteAt text (at + 1) ≤ 1 →
+  latency : at + inProgram 0x12 ≤ length text → byteAt text at ≡ 0x12 → byteAt text (at + 1) ≤ 1 →
       Written text at (Command.Latency (modeOf (byteAt text (at + 1))) (twoAt text (at + 2)))
-  link : at + 2 ≤ length text → byteAt text at ≡ 0x13 → Written text at (Command.Link (byteAt text (at + 1)))
-  cap : at + 5 ≤ length text → byteAt text at ≡ 0x14 → Written text at (Command.Cap (fourAt text (at + 1)))
-  constant : at + 5 ≤ length text → byteAt text at ≡ 0x20 → Written text at (Command.Constant (wordAt text (at + 1)))
+  link : at + inProgram 0x13 ≤ length text → byteAt text at ≡ 0x13 →
+      Written text at (Command.Link (byteAt text (at + 1)))
+  cap : at + inProgram 0x14 ≤ length text → byteAt text at ≡ 0x14 →
+      Written text at (Command.Cap (fourAt text (at + 1)))
+  constant : at + inExpression 0x20 ≤ length text → byteAt text at ≡ 0x20 →
+      Written text at (Command.Constant (wordAt text (at + 1)))
   -- NOW and LAST: a signal.
-  plain : (kind : Kind) → readWidth kind ≡ 2 → at + 2 ≤ length text → byteAt text at ≡ readByte kind →
+  plain : (kind : Kind) → readWidth kind ≡ inExpression 0x21 → at + inExpression 0x21 ≤ length text →
+      byteAt text at ≡ readByte kind →
       Written text at (Command.Read kind (record { signal = byteAt text (at + 1); factor = 1; index = Fixed 0 }))
   -- WHEN, LASTWHEN and CURRENT: a signal, i and n; i is below n, or 255.
-  sampled : (kind : Kind) → readWidth kind ≡ 4 → at + 4 ≤ length text → byteAt text at ≡ readByte kind →
-      InPeriods (byteAt text (at + 3)) → (byteAt text (at + 2) < byteAt text (at + 3)) ⊎ (byteAt text (at + 2) ≡ 255) →
+  sampled : (kind : Kind) → readWidth kind ≡ inExpression 0x23 → at + inExpression 0x23 ≤ length text →
+      byteAt text at ≡ readByte kind → InPeriods (byteAt text (at + 3)) →
+      (byteAt text (at + 2) < byteAt text (at + 3)) ⊎ (byteAt text (at + 2) ≡ 255) →
       Written text at (Command.Read kind
       (record { signal = byteAt text (at + 1); factor = byteAt text (at + 3); index = indexOf (byteAt text (at + 2)) }))
   -- 30 ADD to 36 MAX, 38 NEG, 3A IF.
-  binary : (operator : Binary) → at + 1 ≤ length text → byteAt text at ≡ binaryByte operator →
+  binary : (operator : Binary) → at + inExpression 0x30 ≤ length text → byteAt text at ≡ binaryByte operator →
       Written text at (Command.Binary operator)
-  negate : at + 1 ≤ length text → byteAt text at ≡ 0x38 → Written text at Command.Negate
-  choose : at + 1 ≤ length text → byteAt text at ≡ 0x3A → Written text at Command.If
+  negate : at + inExpression 0x38 ≤ length text → byteAt text at ≡ 0x38 → Written text at Command.Negate
+  choose : at + inExpression 0x3A ≤ length text → byteAt text at ≡ 0x3A → Written text at Command.If
 
 -- The command at an offset of the schedule text.
 pub data PutWritten (text : List ℕ) (at : ℕ) : ScheduleCommand → Type 0 where
-  end : at + 1 ≤ length text → byteAt text at ≡ 0x00 → PutWritten text at ScheduleCommand.End
-  put : at + 3 ≤ length text → byteAt text at ≡ 0x40 →
+  end : at + inSchedule 0x00 ≤ length text → byteAt text at ≡ 0x00 → PutWritten text at ScheduleCommand.End
+  put : at + inSchedule 0x40 ≤ length text → byteAt text at ≡ 0x40 →
       PutWritten text at (ScheduleCommand.Put (byteAt text (at + 1)) (byteAt text (at + 2)))
+
+-- The command at an offset of an image's code.
+pub data CodeWritten (code : List ℕ) (at : ℕ) : Code → Type 0 where
+  push : at + inCode 0x50 ≤ length code → byteAt code at ≡ 0x50 → CodeWritten code at (Code.Push (wordAt code (at + 1)))
+  load : at + inCode 0x51 ≤ length code → byteAt code at ≡ 0x51 → CodeWritten code at (Code.Load (byteAt code (at + 1)))
+  fetch : at + inCode 0x52 ≤ length code → byteAt code at ≡ 0x52 → CodeWritten code at (Code.Fetch (byteAt code (at + 1)))
+  store : at + inCode 0x5F ≤ length code → byteAt code at ≡ 0x5F → CodeWritten code at (Code.Store (byteAt code (at + 1)))
+  binary : (operator : Binary) → at + inCode 0x30 ≤ length code → byteAt code at ≡ binaryByte operator →
+      CodeWritten code at (Code.Binary operator)
+  negate : at + inCode 0x38 ≤ length code → byteAt code at ≡ 0x38 → CodeWritten code at Code.Negate
+  choose : at + inCode 0x3A ≤ length code → byteAt code at ≡ 0x3A → CodeWritten code at Code.If
 
 -- A command that is read whole: neither cut, nor unknown, nor with an operand outside its range.
 abbrev pub Whole : Command → Type 0
@@ -84,3 +102,14 @@ PutWhole ScheduleCommand.EndsEarly = ⊥
 PutWhole ScheduleCommand.Unknown = ⊥
 PutWhole ScheduleCommand.End = Unit {0}
 PutWhole (ScheduleCommand.Put signal phase) = Unit {0}
+
+abbrev pub CodeWhole : Code → Type 0
+CodeWhole Code.EndsEarly = ⊥
+CodeWhole Code.Unknown = ⊥
+CodeWhole (Code.Push w) = Unit {0}
+CodeWhole (Code.Load x) = Unit {0}
+CodeWhole (Code.Fetch x) = Unit {0}
+CodeWhole (Code.Store x) = Unit {0}
+CodeWhole (Code.Binary operator) = Unit {0}
+CodeWhole Code.Negate = Unit {0}
+CodeWhole Code.If = Unit {0}

@@ -110,6 +110,12 @@ pub enum Code {
     If,
 }
 
+// How many bytes a command takes, its own and its operands; a byte that the list of its kind of text has not has none.
+pub enum Width {
+    Bytes(usize),
+    Unlisted,
+}
+
 // What a search for an index finds.
 pub enum Found {
     At(usize),

@@ -10,6 +10,7 @@ ghost use lib.ListN.{length};
 ghost use Rattle.model.specs.Latency.{noRead, readOf};
 ghost use Rattle.model.specs.Outcome.{accepted};
 ghost use Rattle.model.specs.Program.{Program, Expr, equation, signalAt, parseProgram, readsOf, bodyReads};
+ghost use Rattle.model.specs.Width.{inProgram};
 ghost use Rattle.path.specs.Path.{takenOf, isReadOf, takenAt};
 
 // A read without its place: its kind and operands.
@@ -65,7 +66,7 @@ fn taken_at(part: Part) -> Taken
 
 // The first read of `signal` in the expression at `from`, which ends at the first command that belongs to none.
 fn find_from(text: &[u8], from: usize, signal: u8) -> Taken
-    ensures { λ r. ⌜ ((p : Program) (x weight : ℕ) (e : Expr) → parseProgram (now (text .entry)) ≡ accepted p → x < length (p .signals) → signalAt p x .body ≡ equation weight e → from ≡ signalAt p x .place + 8 → r ≡ takenOf (readOf signal (readsOf e))) ⌝ }
+    ensures { λ r. ⌜ ((p : Program) (x weight : ℕ) (e : Expr) → parseProgram (now (text .entry)) ≡ accepted p → x < length (p .signals) → signalAt p x .body ≡ equation weight e → from ≡ signalAt p x .place + inProgram 0x11 → r ≡ takenOf (readOf signal (readsOf e))) ⌝ }
 {
     let mut at = from;
     while at < text.len() {
@@ -90,5 +91,5 @@ pub fn find_read(text: &[u8], place: usize, signal: u8) -> Taken
     let Command::Equation(_, _, _) = command else {
         return no_read();
     };
-    find_from(text, place + 8, signal)
+    find_from(text, place + width::in_program(0x11), signal)
 }

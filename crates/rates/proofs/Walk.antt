@@ -9,7 +9,8 @@ use lib.ListN.{length, length-append}
 use Rattle.model.specs.Accepted.{All}
 use Rattle.model.specs.Command.{commandAt}
 use Rattle.model.specs.Outcome.{accepted}
-use Rattle.model.specs.Program.{Read, Expr, Link, Program, Signal, Chain, withSignal, withChain, count, parseProgram, readsOf, bodyReads, readWidth}
+use Rattle.model.specs.Program.{Read, Expr, Link, Program, Signal, Chain, withSignal, withChain, count, parseProgram, readsOf, bodyReads}
+use Rattle.model.specs.Width.{readWidth}
 use Rattle.model.specs.Search.{joinFrom}
 use Rattle.model.specs.declared.Command.{Command}
 use Rattle.model.specs.declared.Command.the-variants as Command

@@ -6,8 +6,9 @@ use mathlib.Core.Path.{_≡_}
 use lib.Dec.{leb, eqb}
 use lib.ListN.{length}
 use Rattle.model.specs.Command.{commandAt}
-use Rattle.model.specs.Program.{Read, Link, Program, readWidth, bodyReads}
+use Rattle.model.specs.Program.{Read, Link, Program, bodyReads}
 use Rattle.model.specs.Search.{joinFrom}
+use Rattle.model.specs.Width.{inProgram, inExpression, readWidth}
 use Rattle.model.specs.Word.{byteAt}
 use Rattle.model.specs.declared.Command.{Command}
 use Rattle.model.specs.declared.Command.the-variants as Command
@@ -19,17 +20,17 @@ abbrev pub widthOf : Command → ℕ
 widthOf Command.EndsEarly = 0
 widthOf Command.Unknown = 0
 widthOf Command.OutOfRange = 0
-widthOf Command.End = 1
-widthOf (Command.Input period initial) = 6
-widthOf (Command.Equation period initial weight) = 8
-widthOf (Command.Latency mode bound) = 4
-widthOf (Command.Link signal) = 2
-widthOf (Command.Cap n) = 5
-widthOf (Command.Constant w) = 5
+widthOf Command.End = inProgram 0x00
+widthOf (Command.Input period initial) = inProgram 0x10
+widthOf (Command.Equation period initial weight) = inProgram 0x11
+widthOf (Command.Latency mode bound) = inProgram 0x12
+widthOf (Command.Link signal) = inProgram 0x13
+widthOf (Command.Cap n) = inProgram 0x14
+widthOf (Command.Constant w) = inExpression 0x20
 widthOf (Command.Read kind x) = readWidth kind
-widthOf (Command.Binary operator) = 1
-widthOf Command.Negate = 1
-widthOf Command.If = 1
+widthOf (Command.Binary operator) = inExpression 0x30
+widthOf Command.Negate = inExpression 0x38
+widthOf Command.If = inExpression 0x3A
 
 -- What a command is to the walk.
 abbrev pub partOf : Command → Part

@@ -13,6 +13,7 @@ ghost use lib.ListN.{length};
 ghost use Rattle.model.specs.Outcome.{accepted};
 ghost use Rattle.model.specs.Program.{Program, Expr, equation, signalAt, parseProgram, readsOf, bodyReads};
 ghost use Rattle.model.specs.Rates.{periodRule, declaredAndRated, isMultiple, hypercycle, countReads, isLinked, linked};
+ghost use Rattle.model.specs.Width.{inProgram};
 ghost use Rattle.reader.specs.Tables.{TablesOf, PeriodsOf, chainAt};
 ghost use Rattle.rates.specs.Answers.{cyclesOf, periodAt, rateJudged, readJudged, partJudged, countedOf, ReadAs};
 ghost use Rattle.reader.specs.Results.{judgementOf};
@@ -26,17 +27,17 @@ pub fn width_of(command: Command) -> usize
         Command::EndsEarly => 0,
         Command::Unknown => 0,
         Command::OutOfRange => 0,
-        Command::End => 1,
-        Command::Input(_, _) => 6,
-        Command::Equation(_, _, _) => 8,
-        Command::Latency(_, _) => 4,
-        Command::Link(_) => 2,
-        Command::Cap(_) => 5,
-        Command::Constant(_) => 5,
-        Command::Read(kind, _) => reader::read_width(kind),
-        Command::Binary(_) => 1,
-        Command::Negate => 1,
-        Command::If => 1,
+        Command::End => width::in_program(0x00),
+        Command::Input(_, _) => width::in_program(0x10),
+        Command::Equation(_, _, _) => width::in_program(0x11),
+        Command::Latency(_, _) => width::in_program(0x12),
+        Command::Link(_) => width::in_program(0x13),
+        Command::Cap(_) => width::in_program(0x14),
+        Command::Constant(_) => width::in_expression(0x20),
+        Command::Read(kind, _) => width::of_read(kind),
+        Command::Binary(_) => width::in_expression(0x30),
+        Command::Negate => width::in_expression(0x38),
+        Command::If => width::in_expression(0x3A),
     }
 }
 
@@ -86,7 +87,7 @@ fn is_operator(byte: u8) -> bool
 }
 
 // The first offset from `from` on that holds no operator, or the end of the text. A walk passes over operators by their byte, since
-// there is nothing to judge and most of its time goes into decoding.
+// there is nothing to judge and most of its time goes into decoding. All operators are as wide as ADD.
 pub fn skip_operators(text: &[u8], from: usize) -> usize
     requires { ⌜ from ≤ length (now text) ⌝ }
     ensures { λ r. ⌜ PastOperators (now (text .entry)) from r ⌝ }
@@ -96,7 +97,7 @@ pub fn skip_operators(text: &[u8], from: usize) -> usize
         if !is_operator(text[at]) {
             return at;
         }
-        at = at + 1;
+        at = at + width::in_expression(0x30);
     }
     at
 }
@@ -324,7 +325,7 @@ fn counted(part: Part, signal: u8) -> usize
 
 // How many reads of `signal` the expression at `from` has, which ends at the first command that belongs to none.
 fn count_from(text: &[u8], from: usize, signal: u8) -> usize
-    ensures { λ r. ⌜ ((p : Program) (x weight : ℕ) (e : Expr) → parseProgram (now (text .entry)) ≡ accepted p → x < length (p .signals) → signalAt p x .body ≡ equation weight e → from ≡ signalAt p x .place + 8 → r ≡ countReads signal (readsOf e)) ⌝ }
+    ensures { λ r. ⌜ ((p : Program) (x weight : ℕ) (e : Expr) → parseProgram (now (text .entry)) ≡ accepted p → x < length (p .signals) → signalAt p x .body ≡ equation weight e → from ≡ signalAt p x .place + inProgram 0x11 → r ≡ countReads signal (readsOf e)) ⌝ }
 {
     let mut at = from;
     let mut count: usize = 0;
@@ -348,7 +349,7 @@ pub fn count_reads(text: &[u8], place: usize, signal: u8) -> usize
     let Command::Equation(_, _, _) = command else {
         return 0;
     };
-    count_from(text, place + 8, signal)
+    count_from(text, place + width::in_program(0x11), signal)
 }
 
 // How many reads of `before` stand in the equation of `signal`.
@@ -371,10 +372,10 @@ fn is_linked(text: &[u8], tables: Tables, chain: usize) -> bool
 {
     let starts = tables.starts;
     let lengths = tables.lengths;
-    let mut at = starts[chain] + 4;
+    let mut at = starts[chain] + width::in_program(0x12);
     let mut left = lengths[chain];
     while 1 < left {
-        let second = at + 2;
+        let second = at + width::in_program(0x13);
         let before = text[at + 1];
         let signal = text[second + 1];
         if reads_between(text, tables, before, signal) != 1 {

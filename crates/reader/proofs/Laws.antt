@@ -10,7 +10,8 @@ use lib.ListN.{length, List·getD-eq-default}
 use borrow.Author.Tests.{ltb-true, le-leb, lt-leb, eq-eqb, ne-eqb}
 use Rattle.model.specs.Command.{keywordAt, keywordOf, commandOf, commandAt}
 use Rattle.model.specs.Outcome.{Outcome, accepted, refused, fault, refuse, _▷_, provided, Parsed, parsed}
-use Rattle.model.specs.Program.{Expr, Link, operatorHere, node, parseExpr, readWidth, parseLinks}
+use Rattle.model.specs.Program.{Expr, Link, operatorHere, node, parseExpr, parseLinks}
+use Rattle.model.specs.Width.{readWidth}
 use Rattle.model.specs.Word.{byteAt}
 use Rattle.model.specs.declared.Command.{Command}
 use Rattle.model.specs.declared.Command.the-variants as Command

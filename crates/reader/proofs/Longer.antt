@@ -9,7 +9,8 @@ use lib.ListN.{length}
 use borrow.Author.Tests.{eqb-true, eqb-false, leb-true, leb-false}
 use Rattle.model.specs.Command.{keywordAt, commandAt}
 use Rattle.model.specs.Outcome.{Outcome, accepted, refused, _▷_, provided, Parsed}
-use Rattle.model.specs.Program.{Expr, Link, operatorHere, node, parseExpr, parseLinks, readWidth}
+use Rattle.model.specs.Program.{Expr, Link, operatorHere, node, parseExpr, parseLinks}
+use Rattle.model.specs.Width.{readWidth}
 use Rattle.model.specs.Word.{byteAt}
 use Rattle.reader.proofs.Laws.{links-end, links-many, links-cut, links-more}
 use Rattle.model.specs.declared.Command.{Command}

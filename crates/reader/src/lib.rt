@@ -2,7 +2,6 @@
 use model::Command;
 use model::Fault;
 use model::Keyword;
-use model::Kind;
 ghost use mathlib.Core.Path.{_≡_};
 ghost use mathlib.Core.List.{[]};
 ghost use Prim.Native.Nat.{_+_, _≤_, _<_};
@@ -10,7 +9,8 @@ ghost use lib.Dec.{leb};
 ghost use lib.ListN.{length};
 ghost use Rattle.model.specs.Command.{keywordAt};
 ghost use Rattle.model.specs.Outcome.{provided};
-ghost use Rattle.model.specs.Program.{Program, operatorHere, parseExpr, parseLinks, readWidth, commandHere, empty, parseProgram};
+ghost use Rattle.model.specs.Program.{Program, operatorHere, parseExpr, parseLinks, commandHere, empty, parseProgram};
+ghost use Rattle.model.specs.Width.{inProgram};
 ghost use Rattle.reader.specs.Results.{hereOf, expressionOf, linksOf, chainOf, equationOf, endOf};
 ghost use Rattle.reader.specs.Steps.{Counts, Stepped};
 ghost use Rattle.reader.specs.Tables.{TablesOf, signalAdded, chainAdded, capAdded, entryAdded, Fits, judgedOf, ProgramReads};
@@ -52,19 +52,6 @@ fn operator_here(text: &[u8], at: usize) -> Reached
     }
 }
 
-// The bytes of a read.
-pub fn read_width(kind: Kind) -> usize
-    ensures { λ r. ⌜ r ≡ readWidth kind ⌝ }
-{
-    match kind {
-        Kind::Now => 2,
-        Kind::Last => 2,
-        Kind::When => 4,
-        Kind::LastWhen => 4,
-        Kind::Current => 4,
-    }
-}
-
 // Reads the expression at `at`, which may nest `depth` deep.
 pub fn read_expression(text: &[u8], at: usize, depth: usize) -> Reached
     ensures { λ r. ⌜ r ≡ expressionOf (parseExpr depth (now (text .entry)) at) ⌝ }
@@ -87,18 +74,18 @@ pub fn read_expression(text: &[u8], at: usize, depth: usize) -> Reached
         Command::Latency(_, _) => refuse(3, at),
         Command::Link(_) => refuse(3, at),
         Command::Cap(_) => refuse(3, at),
-        Command::Constant(_) => Reached::Next(at + 5),
-        Command::Read(kind, _) => Reached::Next(at + read_width(kind)),
+        Command::Constant(_) => Reached::Next(at + width::in_expression(0x20)),
+        Command::Read(kind, _) => Reached::Next(at + width::of_read(kind)),
         Command::Binary(_) => {
-            let first = read_expression(text, at + 1, depth - 1);
+            let first = read_expression(text, at + width::in_expression(0x30), depth - 1);
             let Reached::Next(second_at) = first else {
                 return first;
             };
             read_expression(text, second_at, depth - 1)
         }
-        Command::Negate => read_expression(text, at + 1, depth - 1),
+        Command::Negate => read_expression(text, at + width::in_expression(0x38), depth - 1),
         Command::If => {
-            let condition = read_expression(text, at + 1, depth - 1);
+            let condition = read_expression(text, at + width::in_expression(0x3A), depth - 1);
             let Reached::Next(then_at) = condition else {
                 return condition;
             };
@@ -140,10 +127,10 @@ pub fn read_links(text: &[u8], at: usize) -> LinksRead
             return refuse_links(4, next);
         }
         let left = text.len() - next;
-        if left < 2 {
+        if left < width::in_program(0x13) {
             return refuse_links(2, text.len());
         }
-        next = next + 2;
+        next = next + width::in_program(0x13);
         count = count + 1;
     }
     LinksRead::Links(count, next)
@@ -208,9 +195,9 @@ fn command_here(text: &[u8], at: usize, signals: usize, chains: usize, capped: b
 // An EQ ends where its expression does.
 fn equation_step(text: &[u8], at: usize) -> Step
     requires { ⌜ at < length (now text) ⌝ }
-    ensures { λ r. ⌜ r ≡ equationOf (parseExpr 16 (now (text .entry)) (at + 8)) ⌝ }
+    ensures { λ r. ⌜ r ≡ equationOf (parseExpr 16 (now (text .entry)) (at + inProgram 0x11)) ⌝ }
 {
-    let reached = read_expression(text, at + 8, 16);
+    let reached = read_expression(text, at + width::in_program(0x11), 16);
     match reached {
         Reached::Next(next) => Step::Adds(Entry::Signal, next),
         Reached::Refused(fault) => Step::Refused(fault),
@@ -220,9 +207,9 @@ fn equation_step(text: &[u8], at: usize) -> Step
 // A LAT ends where its LINKs do; a chain has two of them at least.
 fn chain_step(text: &[u8], at: usize) -> Step
     requires { ⌜ at < length (now text) ⌝ }
-    ensures { λ r. ⌜ r ≡ chainOf at (parseLinks 16 (now (text .entry)) (at + 4) []) ⌝ }
+    ensures { λ r. ⌜ r ≡ chainOf at (parseLinks 16 (now (text .entry)) (at + inProgram 0x12) []) ⌝ }
 {
-    let read = read_links(text, at + 4);
+    let read = read_links(text, at + width::in_program(0x12));
     match read {
         LinksRead::Links(count, next) => {
             if count < 2 {
@@ -237,9 +224,9 @@ fn chain_step(text: &[u8], at: usize) -> Step
 // END is the last byte.
 fn end_step(text: &[u8], at: usize) -> Step
     requires { ⌜ at < length (now text) ⌝ }
-    ensures { λ r. ⌜ r ≡ endOf (provided (leb (length (now (text .entry))) (at + 1)) 6 (at + 1)) ⌝ }
+    ensures { λ r. ⌜ r ≡ endOf (provided (leb (length (now (text .entry))) (at + inProgram 0x00)) 6 (at + inProgram 0x00)) ⌝ }
 {
-    let next = at + 1;
+    let next = at + width::in_program(0x00);
     if next < text.len() {
         return refuse_step(6, next);
     }
@@ -260,11 +247,11 @@ fn read_command(text: &[u8], at: usize, signals: usize, chains: usize, capped: b
         Command::Unknown => refuse_step(3, at),
         Command::OutOfRange => refuse_step(5, at),
         Command::End => end_step(text, at),
-        Command::Input(_, _) => Step::Adds(Entry::Signal, at + 6),
+        Command::Input(_, _) => Step::Adds(Entry::Signal, at + width::in_program(0x10)),
         Command::Equation(_, _, _) => equation_step(text, at),
         Command::Latency(_, _) => chain_step(text, at),
         Command::Link(_) => refuse_step(3, at),
-        Command::Cap(limit) => Step::Adds(Entry::Cap(limit), at + 5),
+        Command::Cap(limit) => Step::Adds(Entry::Cap(limit), at + width::in_program(0x14)),
         Command::Constant(_) => refuse_step(3, at),
         Command::Read(_, _) => refuse_step(3, at),
         Command::Binary(_) => refuse_step(3, at),

@@ -6,6 +6,7 @@ use model::Compiled;
 use model::Cycled;
 use model::Ran;
 use model::Reported;
+use model::Width;
 ghost use Prim.Native.Nat.{_*_, _≤_};
 ghost use lib.ListN.{length};
 
@@ -326,6 +327,45 @@ fn report_next(lent: Lent, p: usize, s: usize) -> Lent
     lent
 }
 
+// The bytes of a width; 0 stands for none.
+fn bytes_of(width: Width) -> usize {
+    match width {
+        Width::Bytes(n) => n,
+        Width::Unlisted => 0,
+    }
+}
+
+// The width of a byte in a program text, an expression, a schedule text or an image's code.
+fn width_in(kind: u8, byte: u8) -> Width {
+    match kind {
+        0 => width::program(byte),
+        1 => width::expression(byte),
+        2 => width::schedule(byte),
+        _ => width::code(byte),
+    }
+}
+
+fn print_widths(kind: u8) {
+    io::print_decimal(STDOUT_FILENO, bytes_of(width_in(kind, 0)) as u64);
+    let mut byte: usize = 1;
+    while byte < 256 {
+        io::write_all(STDOUT_FILENO, b" ");
+        io::print_decimal(STDOUT_FILENO, bytes_of(width_in(kind, byte as u8)) as u64);
+        byte = byte + 1;
+    }
+    io::write_all(STDOUT_FILENO, b"\n");
+}
+
+// 07: the widths of a kind of text.
+fn call_widths(lent: Lent) -> Lent {
+    let mut kind = [0u8; 1];
+    if !fill(&mut kind, 1) {
+        return stop();
+    }
+    print_widths(kind[0]);
+    lent
+}
+
 // The next call of the stream, or its end.
 fn step(lent: Lent, image: &mut [u8], state: &mut [i32]) -> Lent {
     let mut byte = [0u8; 1];
@@ -340,6 +380,7 @@ fn step(lent: Lent, image: &mut [u8], state: &mut [i32]) -> Lent {
         4 => call_cycle(lent, image, &mut state[..]),
         5 => call_compile(lent),
         6 => call_report(lent),
+        7 => call_widths(lent),
         _ => stop(),
     }
 }

@@ -5,6 +5,7 @@ use mathlib.Core.List.{List}
 use lib.Dec.{ltb, eqb}
 use lib.IntN.{ℤ, pos}
 use lib.ListN.{length, getD}
+use Rattle.model.specs.Width.{inCode}
 use Rattle.model.specs.declared.Code.{Code}
 use Rattle.model.specs.declared.Code.the-variants as Code
 
@@ -34,4 +35,4 @@ leafOk state samples Code.Unknown = false
 
 -- The bytes of a leaf, by its first.
 abbrev pub leafLength : ℕ → ℕ
-leafLength b = cond (eqb b 0x50) 5 2
+leafLength b = cond (eqb b 0x50) (inCode 0x50) (inCode 0x51)

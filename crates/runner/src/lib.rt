@@ -48,10 +48,15 @@ fn leaf_word(code: &[u8], at: usize, state: &[i32], samples: &[i32]) -> i32
     samples[x]
 }
 
+// LOAD and FETCH are one line of the list.
 fn leaf_length(byte: u8) -> usize
     ensures { λ r. ⌜ r ≡ leafLength byte ⌝ }
 {
-    if byte == 0x50 { 5 } else { 2 }
+    if byte == 0x50 {
+        width::in_code(0x50)
+    } else {
+        width::in_code(0x51)
+    }
 }
 
 // What a run of a code yields: the word that it stores, and how many commands it ran.
@@ -61,18 +66,19 @@ pub struct Run {
 }
 
 // Runs the code of signal `own`, in an image of n signals. A leaf and the operator or STORE that follows it are run in one
-// turn, which counts 2: its word is not pushed.
+// turn, which counts 2: its word is not pushed. All operators are as wide as ADD.
 pub fn run_code(code: &[u8], n: u8, own: u8, state: &[i32], samples: &[i32]) -> Run
     requires { ⌜ (codeOk (now code) n own ≡ true) × (n < length (now state)) × (n ≤ length (now samples)) × (own < n) × (length (now code) ≤ 65535) ⌝ }
     ensures { λ r. ⌜ (r .word ≡ runCode (now (code .entry)) (now (state .entry)) (now (samples .entry))) × (r .count ≡ countCode (now (code .entry))) ⌝ }
 {
+    let operator_width = width::in_code(0x30);
     let mut at: usize = 0;
     let mut count: u32 = 0;
     let mut stack = Stack::new();
     while at < code.len() {
         let here = at;
         let byte = code[here];
-        at = here + 1;
+        at = here + operator_width;
         count = count + 1;
         match byte {
             0x50..=0x52 => {
@@ -88,7 +94,7 @@ pub fn run_code(code: &[u8], n: u8, own: u8, state: &[i32], samples: &[i32]) -> 
                 }
                 if next < 0x37 {
                     stack = stack.binary_with(operator(next), w);
-                    at = at + 1;
+                    at = at + operator_width;
                     count = count + 1;
                 } else {
                     stack = stack.push(w);

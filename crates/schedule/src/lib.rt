@@ -36,7 +36,7 @@ fn end_at(text: &[u8], at: usize, command: ScheduleCommand) -> Ended
         ScheduleCommand::EndsEarly => refuse_end(text.len()),
         ScheduleCommand::Unknown => refuse_end(at),
         ScheduleCommand::End => {
-            let next = at + 1;
+            let next = at + width::in_schedule(0x00);
             if next < text.len() {
                 return refuse_end(next);
             }
@@ -56,7 +56,7 @@ pub fn read_schedule(text: &[u8]) -> Ended
         let ScheduleCommand::Put(_, _) = command else {
             return end_at(text, at, command);
         };
-        at = at + 3;
+        at = at + width::in_schedule(0x40);
     }
     refuse_end(text.len())
 }
@@ -182,7 +182,7 @@ pub fn place_signals(text: &[u8], end: usize, signals: usize, periods: &[u8; 64]
             };
         };
         slots = slots.with_put(signal, phase);
-        at = at + 3;
+        at = at + width::in_schedule(0x40);
     }
     let ranks = slots.ranks;
     if all_put(ranks, signals) {

@@ -115,14 +115,14 @@ fn follow(text: &[u8], tables: Tables, periods: &[u8; 64], phases: &[u8; 64], ch
 {
     let starts = tables.starts;
     let lengths = tables.lengths;
-    let mut at = starts[chain] + 4;
+    let mut at = starts[chain] + width::in_program(0x12);
     let mut left = lengths[chain];
     let source = text[at + 1];
     let mut last = source;
     let mut count: usize = 0;
     let mut hops = [no_hop(); 15];
     while 1 < left {
-        let second = at + 2;
+        let second = at + width::in_program(0x13);
         let signal = text[second + 1];
         let hop = hop_at(text, tables, periods, phases, last, signal);
         hops[count] = hop;

@@ -74,13 +74,17 @@ shape-requires c κs = search needs
 is-last-requires : tie.Need-is-last-requires Inv-loop μ-loop
 is-last-requires c κs = search needs
 
+in-code-requires : tie.Need-in-code-requires Inv-loop μ-loop
+in-code-requires c κs = search needs
+
 add-result : tie.Need-add-result Inv-loop μ-loop
 add-result c = search needs
 
 returns : tie.Need-returns Inv-loop μ-loop
 returns c =
-    let d = c .before .before .before in
-    sym (ended d (sym (d .shape .ensures) ∙ c .before .before .if1 .taken) ∙ rw (sym (c .before .is-last .ensures) ∙ c .if2 .taken) refl)
+    let d = c .before .before .before .before in
+    sym (ended d (sym (d .shape .ensures) ∙ c .before .before .before .if1 .taken) ∙
+    rw (c .in-code .ensures, sym (c .before .before .is-last .ensures) ∙ c .before .if2 .taken) refl)
 
 returns-2 : tie.Need-returns-2 Inv-loop μ-loop
 returns-2 c =
@@ -134,6 +138,7 @@ code-ok-spec =
     shared-slice-read-x
     shape-requires
     is-last-requires
+    in-code-requires
     add-result
     returns
     returns-2

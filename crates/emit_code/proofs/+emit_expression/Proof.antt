@@ -37,7 +37,8 @@ use Rattle.emit_code.proofs.binary_byte.Reads as binary-byte-reads
 use Rattle.emit_code.proofs.put_access.Reads as put-access-reads
 use Rattle.emit_code.proofs.put_operator.Reads as put-operator-reads
 use Rattle.emit_code.proofs.put_push.Reads as put-push-reads
-use Rattle.reader.proofs.read_width.Reads as read-width-reads
+use Rattle.width.proofs.in_expression.Reads as in-expression-reads
+use Rattle.width.proofs.of_read.Reads as of-read-reads
 use Rattle.emit_code.proofs.+emit_expression.{statement}
 use Rattle.emit_code.proofs.+emit_expression.Tie.{close}
 
@@ -54,10 +55,12 @@ abbrev known : ℕ → lts.Claims
 known t = (
   command-at-reads.Asked,
   command-at-reads.Learnt,
+  in-expression-reads.Asked,
+  in-expression-reads.Learnt,
   put-push-reads.Asked,
   put-push-reads.Learnt,
-  read-width-reads.Asked,
-  read-width-reads.Learnt,
+  of-read-reads.Asked,
+  of-read-reads.Learnt,
   put-access-reads.Asked,
   put-access-reads.Learnt,
   below t,
@@ -107,20 +110,23 @@ command-at-requires t c κs = search needs
 enum-known-command : (t : ℕ) → lts.Need-enum-known-command (known t) (given t) own.Post
 enum-known-command t c = search needs
 
+in-expression-requires : (t : ℕ) → lts.Need-in-expression-requires (known t) (given t) own.Post
+in-expression-requires t c κs = search needs
+
 add-put-push : (t : ℕ) → lts.Need-add-put-push (known t) (given t) own.Post
-add-put-push t c = omega (arith, inside t (c .before .before .before .before) _ (c .before .before .command .given .1), c .before .before .before .before .before .before .before .good .0 .1)
+add-put-push t c = omega (arith, inside t (c .before .before .before .before .before) _ (c .before .before .before .command .given .1), c .before .before .before .before .before .before .before .before .good .0 .1)
 
 put-push-requires : (t : ℕ) → lts.Need-put-push-requires (known t) (given t) own.Post
-put-push-requires t c κs = omega (arith, word-length (c .before .before .command .given .0 .0), no-rooms (rooms-at t (c .before .before .before .before) _ (c .before .before .command .given .1)))
+put-push-requires t c κs = omega (arith, word-length (c .before .before .before .command .given .0 .0), no-rooms (rooms-at t (c .before .before .before .before .before) _ (c .before .before .before .command .given .1)))
 
 enum-known-command-2 : (t : ℕ) → lts.Need-enum-known-command-2 (known t) (given t) own.Post
 enum-known-command-2 t c = search needs
 
-read-width-requires : (t : ℕ) → lts.Need-read-width-requires (known t) (given t) own.Post
-read-width-requires t c κs = search needs
+of-read-requires : (t : ℕ) → lts.Need-of-read-requires (known t) (given t) own.Post
+of-read-requires t c κs = search needs
 
 add-put-access : (t : ℕ) → lts.Need-add-put-access (known t) (given t) own.Post
-add-put-access t c = omega (arith, inside t (c .before .before .before .before .before) _ (c .before .before .before .command2 .given .1), c .read-width .ensures, c .before .before .before .before .before .before .before .before .good .0 .1)
+add-put-access t c = omega (arith, inside t (c .before .before .before .before .before) _ (c .before .before .before .command2 .given .1), c .of-read .ensures, c .before .before .before .before .before .before .before .before .good .0 .1)
 
 put-access-requires : (t : ℕ) → lts.Need-put-access-requires (known t) (given t) own.Post
 put-access-requires t c κs = omega (arith, no-rooms (rooms-at t (c .before .before .before .before .before) _ (c .before .before .before .command2 .given .1)))
@@ -128,98 +134,107 @@ put-access-requires t c κs = omega (arith, no-rooms (rooms-at t (c .before .bef
 enum-known-command-3 : (t : ℕ) → lts.Need-enum-known-command-3 (known t) (given t) own.Post
 enum-known-command-3 t c = search needs
 
+in-expression-requires-2 : (t : ℕ) → lts.Need-in-expression-requires-2 (known t) (given t) own.Post
+in-expression-requires-2 t c κs = search needs
+
 add-emit-expression : (t : ℕ) → lts.Need-add-emit-expression (known t) (given t) own.Post
-add-emit-expression t c = omega (arith, inside t (c .before .before .before) _ (c .before .command3 .given .1), c .before .before .before .before .before .before .good .0 .1)
+add-emit-expression t c = omega (arith, inside t (c .before .before .before .before) _ (c .before .before .command3 .given .1), c .before .before .before .before .before .before .before .good .0 .1)
 
 sub-emit-expression : (t : ℕ) → lts.Need-sub-emit-expression (known t) (given t) own.Post
-sub-emit-expression t c = omega (arith, some t (c .before .before .before) _ (c .before .command3 .given .1))
+sub-emit-expression t c = omega (arith, some t (c .before .before .before .before) _ (c .before .before .command3 .given .1))
 
 emit-expression-requires : (t : ℕ) → lts.Need-emit-expression-requires (known t) (given t) own.Post
-emit-expression-requires t c κs = (omega (arith, some t (c .before .before .before .before) _ (c .before .before .command3 .given .1)), first-room (rooms-at t (c .before .before .before .before) _ (c .before .before .command3 .given .1)))
+emit-expression-requires t c κs = (omega (arith, some t (c .before .before .before .before .before) _ (c .before .before .before .command3 .given .1)), rw (c .before .in-expression2 .ensures) (first-room (rooms-at t (c .before .before .before .before .before) _ (c .before .before .before .command3 .given .1))))
 
 sub-emit-expression-2 : (t : ℕ) → lts.Need-sub-emit-expression-2 (known t) (given t) own.Post
-sub-emit-expression-2 t c = omega (arith, some t (c .before .before .before .before .before .before .before) _ (c .before .before .before .before .before .command3 .given .1))
+sub-emit-expression-2 t c = omega (arith, some t (c .before .before .before .before .before .before .before .before) _ (c .before .before .before .before .before .before .command3 .given .1))
 
 emit-expression-requires-2 : (t : ℕ) → lts.Need-emit-expression-requires-2 (known t) (given t) own.Post
-emit-expression-requires-2 t c κs = (omega (arith, some t (c .before .before .before .before .before .before .before .before) _ (c .before .before .before .before .before .before .command3 .given .1)), first-room (rest-rooms (rooms-at t (c .before .before .before .before .before .before .before .before) _ (c .before .before .before .before .before .before .command3 .given .1)) (c .before .before .before .emit-expression .ensures)))
+emit-expression-requires-2 t c κs = (omega (arith, some t (c .before .before .before .before .before .before .before .before .before) _ (c .before .before .before .before .before .before .before .command3 .given .1)), first-room (rest-rooms (rooms-at t (c .before .before .before .before .before .before .before .before .before) _ (c .before .before .before .before .before .before .before .command3 .given .1)) (rw (c .before .before .before .before .before .in-expression2 .ensures) at (c .before .before .before .emit-expression .ensures))))
 
 binary-byte-requires : (t : ℕ) → lts.Need-binary-byte-requires (known t) (given t) own.Post
 binary-byte-requires t c κs = search needs
 
 put-operator-requires : (t : ℕ) → lts.Need-put-operator-requires (known t) (given t) own.Post
-put-operator-requires t c κs = omega (arith, no-rooms (rest-rooms (rest-rooms (rooms-at t (c .before .before .before .before .before .before .before .before .before .before .before .before .before) _ (c .before .before .before .before .before .before .before .before .before .before .before .command3 .given .1)) (c .before .before .before .before .before .before .before .before .emit-expression .ensures)) (c .before .before .before .before .emit-expression2 .ensures)))
+put-operator-requires t c κs = omega (arith, no-rooms (rest-rooms (rest-rooms (rooms-at t (c .before .before .before .before .before .before .before .before .before .before .before .before .before .before) _ (c .before .before .before .before .before .before .before .before .before .before .before .before .command3 .given .1)) (rw (c .before .before .before .before .before .before .before .before .before .before .in-expression2 .ensures) at (c .before .before .before .before .before .before .before .before .emit-expression .ensures))) (c .before .before .before .before .emit-expression2 .ensures)))
 
 enum-told : (t : ℕ) → lts.Need-enum-told (known t) (given t) own.Post
 enum-told t c = search needs
 
+in-expression-requires-3 : (t : ℕ) → lts.Need-in-expression-requires-3 (known t) (given t) own.Post
+in-expression-requires-3 t c κs = search needs
+
 add-emit-expression-2 : (t : ℕ) → lts.Need-add-emit-expression-2 (known t) (given t) own.Post
-add-emit-expression-2 t c = omega (arith, inside t (c .before .before) _ (c .enum-told .given .1), c .before .before .before .before .before .good .0 .1)
+add-emit-expression-2 t c = omega (arith, inside t (c .before .before .before) _ (c .before .enum-told .given .1), c .before .before .before .before .before .before .good .0 .1)
 
 sub-emit-expression-3 : (t : ℕ) → lts.Need-sub-emit-expression-3 (known t) (given t) own.Post
-sub-emit-expression-3 t c = omega (arith, some t (c .before .before) _ (c .enum-told .given .1))
+sub-emit-expression-3 t c = omega (arith, some t (c .before .before .before) _ (c .before .enum-told .given .1))
 
 emit-expression-requires-3 : (t : ℕ) → lts.Need-emit-expression-requires-3 (known t) (given t) own.Post
-emit-expression-requires-3 t c κs = (omega (arith, some t (c .before .before .before) _ (c .before .enum-told .given .1)), first-room (rooms-at t (c .before .before .before) _ (c .before .enum-told .given .1)))
+emit-expression-requires-3 t c κs = (omega (arith, some t (c .before .before .before .before) _ (c .before .before .enum-told .given .1)), rw (c .before .in-expression3 .ensures) (first-room (rooms-at t (c .before .before .before .before) _ (c .before .before .enum-told .given .1))))
 
 put-operator-requires-2 : (t : ℕ) → lts.Need-put-operator-requires-2 (known t) (given t) own.Post
-put-operator-requires-2 t c κs = omega (arith, no-rooms (rest-rooms (rooms-at t (c .before .before .before .before .before .before .before) _ (c .before .before .before .before .before .enum-told .given .1)) (c .before .before .before .emit-expression3 .ensures)))
+put-operator-requires-2 t c κs = omega (arith, no-rooms (rest-rooms (rooms-at t (c .before .before .before .before .before .before .before .before) _ (c .before .before .before .before .before .before .enum-told .given .1)) (rw (c .before .before .before .before .before .in-expression3 .ensures) at (c .before .before .before .emit-expression3 .ensures))))
 
 enum-told-2 : (t : ℕ) → lts.Need-enum-told-2 (known t) (given t) own.Post
 enum-told-2 t c = search needs
 
+in-expression-requires-4 : (t : ℕ) → lts.Need-in-expression-requires-4 (known t) (given t) own.Post
+in-expression-requires-4 t c κs = search needs
+
 add-emit-expression-3 : (t : ℕ) → lts.Need-add-emit-expression-3 (known t) (given t) own.Post
-add-emit-expression-3 t c = omega (arith, inside t (c .before .before) _ (c .enum-told2 .given .1), c .before .before .before .before .before .good .0 .1)
+add-emit-expression-3 t c = omega (arith, inside t (c .before .before .before) _ (c .before .enum-told2 .given .1), c .before .before .before .before .before .before .good .0 .1)
 
 sub-emit-expression-4 : (t : ℕ) → lts.Need-sub-emit-expression-4 (known t) (given t) own.Post
-sub-emit-expression-4 t c = omega (arith, some t (c .before .before) _ (c .enum-told2 .given .1))
+sub-emit-expression-4 t c = omega (arith, some t (c .before .before .before) _ (c .before .enum-told2 .given .1))
 
 emit-expression-requires-4 : (t : ℕ) → lts.Need-emit-expression-requires-4 (known t) (given t) own.Post
-emit-expression-requires-4 t c κs = (omega (arith, some t (c .before .before .before) _ (c .before .enum-told2 .given .1)), first-room (rooms-at t (c .before .before .before) _ (c .before .enum-told2 .given .1)))
+emit-expression-requires-4 t c κs = (omega (arith, some t (c .before .before .before .before) _ (c .before .before .enum-told2 .given .1)), rw (c .before .in-expression4 .ensures) (first-room (rooms-at t (c .before .before .before .before) _ (c .before .before .enum-told2 .given .1))))
 
 sub-emit-expression-5 : (t : ℕ) → lts.Need-sub-emit-expression-5 (known t) (given t) own.Post
-sub-emit-expression-5 t c = omega (arith, some t (c .before .before .before .before .before .before) _ (c .before .before .before .before .enum-told2 .given .1))
+sub-emit-expression-5 t c = omega (arith, some t (c .before .before .before .before .before .before .before) _ (c .before .before .before .before .before .enum-told2 .given .1))
 
 emit-expression-requires-5 : (t : ℕ) → lts.Need-emit-expression-requires-5 (known t) (given t) own.Post
-emit-expression-requires-5 t c κs = (omega (arith, some t (c .before .before .before .before .before .before .before) _ (c .before .before .before .before .before .enum-told2 .given .1)), first-room (rest-rooms (rooms-at t (c .before .before .before .before .before .before .before) _ (c .before .before .before .before .before .enum-told2 .given .1)) (c .before .before .before .emit-expression4 .ensures)))
+emit-expression-requires-5 t c κs = (omega (arith, some t (c .before .before .before .before .before .before .before .before) _ (c .before .before .before .before .before .before .enum-told2 .given .1)), first-room (rest-rooms (rooms-at t (c .before .before .before .before .before .before .before .before) _ (c .before .before .before .before .before .before .enum-told2 .given .1)) (rw (c .before .before .before .before .before .in-expression4 .ensures) at (c .before .before .before .emit-expression4 .ensures))))
 
 sub-emit-expression-6 : (t : ℕ) → lts.Need-sub-emit-expression-6 (known t) (given t) own.Post
-sub-emit-expression-6 t c = omega (arith, some t (c .before .before .before .before .before .before .before .before .before .before) _ (c .before .before .before .before .before .before .before .before .enum-told2 .given .1))
+sub-emit-expression-6 t c = omega (arith, some t (c .before .before .before .before .before .before .before .before .before .before .before) _ (c .before .before .before .before .before .before .before .before .before .enum-told2 .given .1))
 
 emit-expression-requires-6 : (t : ℕ) → lts.Need-emit-expression-requires-6 (known t) (given t) own.Post
-emit-expression-requires-6 t c κs = (omega (arith, some t (c .before .before .before .before .before .before .before .before .before .before .before) _ (c .before .before .before .before .before .before .before .before .before .enum-told2 .given .1)), first-room (rest-rooms (rest-rooms (rooms-at t (c .before .before .before .before .before .before .before .before .before .before .before) _ (c .before .before .before .before .before .before .before .before .before .enum-told2 .given .1)) (c .before .before .before .before .before .before .before .emit-expression4 .ensures)) (c .before .before .before .emit-expression5 .ensures)))
+emit-expression-requires-6 t c κs = (omega (arith, some t (c .before .before .before .before .before .before .before .before .before .before .before .before) _ (c .before .before .before .before .before .before .before .before .before .before .enum-told2 .given .1)), first-room (rest-rooms (rest-rooms (rooms-at t (c .before .before .before .before .before .before .before .before .before .before .before .before) _ (c .before .before .before .before .before .before .before .before .before .before .enum-told2 .given .1)) (rw (c .before .before .before .before .before .before .before .before .before .in-expression4 .ensures) at (c .before .before .before .before .before .before .before .emit-expression4 .ensures))) (c .before .before .before .emit-expression5 .ensures)))
 
 put-operator-requires-3 : (t : ℕ) → lts.Need-put-operator-requires-3 (known t) (given t) own.Post
-put-operator-requires-3 t c κs = omega (arith, no-rooms (rest-rooms (rest-rooms (rest-rooms (rooms-at t (c .before .before .before .before .before .before .before .before .before .before .before .before .before .before .before) _ (c .before .before .before .before .before .before .before .before .before .before .before .before .before .enum-told2 .given .1)) (c .before .before .before .before .before .before .before .before .before .before .before .emit-expression4 .ensures)) (c .before .before .before .before .before .before .before .emit-expression5 .ensures)) (c .before .before .before .emit-expression6 .ensures)))
+put-operator-requires-3 t c κs = omega (arith, no-rooms (rest-rooms (rest-rooms (rest-rooms (rooms-at t (c .before .before .before .before .before .before .before .before .before .before .before .before .before .before .before .before) _ (c .before .before .before .before .before .before .before .before .before .before .before .before .before .before .enum-told2 .given .1)) (rw (c .before .before .before .before .before .before .before .before .before .before .before .before .before .in-expression4 .ensures) at (c .before .before .before .before .before .before .before .before .before .before .before .emit-expression4 .ensures))) (c .before .before .before .before .before .before .before .emit-expression5 .ensures)) (c .before .before .before .emit-expression6 .ensures)))
 
 same-length : (t : ℕ) → lts.Need-same-length (known t) (given t) own.Post
 same-length t c = c .before .before .put-push .kept .0
 
 returns : (t : ℕ) → lts.Need-returns (known t) (given t) own.Post
-returns t c = emits-last _ (is t (c .before .before .before .before .before .before .before) _ (c .before .before .before .before .before .command .given .1)) emits-none (same-word (toZ-ofZ (search needs)) (c .before .before .put-push .ensures))
+returns t c = emits-last _ (is t (c .before .before .before .before .before .before .before .before) _ (c .before .before .before .before .before .before .command .given .1)) emits-none (same-word (toZ-ofZ (search needs)) (rw (c .before .before .before .in-expression .ensures) at (c .before .before .put-push .ensures)))
 
 same-length-2 : (t : ℕ) → lts.Need-same-length-2 (known t) (given t) own.Post
 same-length-2 t c = c .before .before .put-access .kept .0
 
 returns-2 : (t : ℕ) → lts.Need-returns-2 (known t) (given t) own.Post
-returns-2 t c = emits-last _ (is t (c .before .before .before .before .before .before .before .before) _ (c .before .before .before .before .before .before .command2 .given .1)) emits-none (rw (c .before .before .before .read-width .ensures) at (c .before .before .put-access .ensures))
+returns-2 t c = emits-last _ (is t (c .before .before .before .before .before .before .before .before) _ (c .before .before .before .before .before .before .command2 .given .1)) emits-none (rw (c .before .before .before .of-read .ensures) at (c .before .before .put-access .ensures))
 
 same-length-3 : (t : ℕ) → lts.Need-same-length-3 (known t) (given t) own.Post
 same-length-3 t c = search needs
 
 returns-3 : (t : ℕ) → lts.Need-returns-3 (known t) (given t) own.Post
-returns-3 t c = emits-last _ (is t (c .before .before .before .before .before .before .before .before .before .before .before .before .before .before .before .before) _ (c .before .before .before .before .before .before .before .before .before .before .before .before .before .before .command3 .given .1)) (emits-more (c .before .before .before .before .before .before .before .before .before .before .before .emit-expression .ensures) (emits-more (c .before .before .before .before .before .before .before .emit-expression2 .ensures) emits-none)) (rw (c .before .before .before .binary-byte .ensures) at (c .before .before .put-operator .ensures))
+returns-3 t c = emits-last _ (is t (c .before .before .before .before .before .before .before .before .before .before .before .before .before .before .before .before .before) _ (c .before .before .before .before .before .before .before .before .before .before .before .before .before .before .before .command3 .given .1)) (emits-more (rw (c .before .before .before .before .before .before .before .before .before .before .before .before .before .in-expression2 .ensures) at (c .before .before .before .before .before .before .before .before .before .before .before .emit-expression .ensures)) (emits-more (c .before .before .before .before .before .before .before .emit-expression2 .ensures) emits-none)) (rw (c .before .before .before .binary-byte .ensures) at (c .before .before .put-operator .ensures))
 
 same-length-4 : (t : ℕ) → lts.Need-same-length-4 (known t) (given t) own.Post
 same-length-4 t c = search needs
 
 returns-4 : (t : ℕ) → lts.Need-returns-4 (known t) (given t) own.Post
-returns-4 t c = emits-last _ (is t (c .before .before .before .before .before .before .before .before .before .before) _ (c .before .before .before .before .before .before .before .before .enum-told .given .1)) (emits-more (c .before .before .before .before .before .before .emit-expression3 .ensures) emits-none) (c .before .before .put-operator2 .ensures)
+returns-4 t c = emits-last _ (is t (c .before .before .before .before .before .before .before .before .before .before .before) _ (c .before .before .before .before .before .before .before .before .before .enum-told .given .1)) (emits-more (rw (c .before .before .before .before .before .before .before .before .in-expression3 .ensures) at (c .before .before .before .before .before .before .emit-expression3 .ensures)) emits-none) (c .before .before .put-operator2 .ensures)
 
 same-length-5 : (t : ℕ) → lts.Need-same-length-5 (known t) (given t) own.Post
 same-length-5 t c = search needs
 
 returns-5 : (t : ℕ) → lts.Need-returns-5 (known t) (given t) own.Post
-returns-5 t c = emits-last _ (is t (c .before .before .before .before .before .before .before .before .before .before .before .before .before .before .before .before .before .before) _ (c .before .before .before .before .before .before .before .before .before .before .before .before .before .before .before .before .enum-told2 .given .1)) (emits-more (c .before .before .before .before .before .before .before .before .before .before .before .before .before .before .emit-expression4 .ensures) (emits-more (c .before .before .before .before .before .before .before .before .before .before .emit-expression5 .ensures) (emits-more (c .before .before .before .before .before .before .emit-expression6 .ensures) emits-none))) (c .before .before .put-operator3 .ensures)
+returns-5 t c = emits-last _ (is t (c .before .before .before .before .before .before .before .before .before .before .before .before .before .before .before .before .before .before .before) _ (c .before .before .before .before .before .before .before .before .before .before .before .before .before .before .before .before .before .enum-told2 .given .1)) (emits-more (rw (c .before .before .before .before .before .before .before .before .before .before .before .before .before .before .before .before .in-expression4 .ensures) at (c .before .before .before .before .before .before .before .before .before .before .before .before .before .before .emit-expression4 .ensures)) (emits-more (c .before .before .before .before .before .before .before .before .before .before .emit-expression5 .ensures) (emits-more (c .before .before .before .before .before .before .emit-expression6 .ensures) emits-none))) (c .before .before .put-operator3 .ensures)
 
 returns-6 : (t : ℕ) → lts.Need-returns-6 (known t) (given t) own.Post
 returns-6 t c = absurd (no-operator (c .before .command-at .result) (c .match .keys6) (operator-stands _ (is t (c .before) _ refl) (room-at t (c .before))))
@@ -229,13 +244,15 @@ pub +emit-expression-spec : {M : Type 1} → statement M
     close μ (λ t. lts.spec (known t) (given t) own.Post
     (command-at-requires t)
     (enum-known-command t)
+    (in-expression-requires t)
     (add-put-push t)
     (put-push-requires t)
     (enum-known-command-2 t)
-    (read-width-requires t)
+    (of-read-requires t)
     (add-put-access t)
     (put-access-requires t)
     (enum-known-command-3 t)
+    (in-expression-requires-2 t)
     (add-emit-expression t)
     (sub-emit-expression t)
     (emit-expression-requires t)
@@ -244,11 +261,13 @@ pub +emit-expression-spec : {M : Type 1} → statement M
     (binary-byte-requires t)
     (put-operator-requires t)
     (enum-told t)
+    (in-expression-requires-3 t)
     (add-emit-expression-2 t)
     (sub-emit-expression-3 t)
     (emit-expression-requires-3 t)
     (put-operator-requires-2 t)
     (enum-told-2 t)
+    (in-expression-requires-4 t)
     (add-emit-expression-3 t)
     (sub-emit-expression-4 t)
     (emit-expression-requires-4 t)

@@ -16,15 +16,18 @@ add-out c = search needs
 slice-write-out-2 : tie.Need-slice-write-out-2
 slice-write-out-2 c = simp length-set (omega arith)
 
-add-t7 : tie.Need-add-t7
-add-t7 c = search needs
+in-code-requires : tie.Need-in-code-requires
+in-code-requires c κs = search needs
+
+add-t9 : tie.Need-add-t9
+add-t9 c = search needs
 
 same-length : tie.Need-same-length
 same-length c = search needs
 
 returns : tie.Need-returns
-returns c = record { goes = refl; ends = refl; holds = simp towards-suc }
+returns c = record { goes = refl; ends = omega arith; holds = simp towards-suc }
 
 pub put-access-spec : {M : Type 1} → statement M
 put-access-spec =
-    tie.close (tie.spec slice-write-out add-out slice-write-out-2 add-t7 same-length returns)
+    tie.close (tie.spec slice-write-out add-out slice-write-out-2 in-code-requires add-t9 same-length returns)

@@ -22,24 +22,34 @@ add-operand c = search needs
 put-word-requires : tie.Need-put-word-requires
 put-word-requires c κs = simp length-set (omega arith)
 
-add-t10 : tie.Need-add-t10
-add-t10 c = search needs
+in-code-requires : tie.Need-in-code-requires
+in-code-requires c κs = search needs
+
+add-t11 : tie.Need-add-t11
+add-t11 c = search needs
 
 same-length : tie.Need-same-length
-same-length c = ap length (c .before .before .put-word .ensures) ∙ simp (length-sets, length-set)
+same-length c = ap length (c .before .before .before .put-word .ensures) ∙ simp (length-sets, length-set)
 
 returns : tie.Need-returns
 returns c =
-    let a = c .before .before .before .before .before .args in
+    let a = c .before .before .before .before .before .before .args in
     record {
       goes = refl;
       ends = omega (arith, word-length (a .w));
       holds =
-          c .before .before .put-word .ensures ∙
-          ap (λ (z : ℤ). sets (set (a .out .now) (a .to) 0x50) (a .to + 1) (wordBytes z)) (toZ-ofZ (c .before .before .before .before .before .fits .w)) ∙
+          c .before .before .before .put-word .ensures ∙
+          ap (λ (z : ℤ). sets (set (a .out .now) (a .to) 0x50) (a .to + 1) (wordBytes z)) (toZ-ofZ (c .before .before .before .before .before .before .fits .w)) ∙
           ap (λ (j : ℕ). sets (set (a .out .now) (a .to) 0x50) j (wordBytes (a .w))) (add-one (a .to));
     }
 
 pub put-push-spec : {M : Type 1} → statement M
 put-push-spec =
-    tie.close (tie.spec slice-write-out add-operand put-word-requires add-t10 same-length returns)
+    tie.close (tie.spec
+    slice-write-out
+    add-operand
+    put-word-requires
+    in-code-requires
+    add-t11
+    same-length
+    returns)

@@ -10,26 +10,53 @@ use Rattle.emit_code.proofs.shape_of.Tie as tie
 enum-told : tie.Need-enum-told
 enum-told c = search needs
 
+in-expression-requires : tie.Need-in-expression-requires
+in-expression-requires c κs = search needs
+
+in-code-requires : tie.Need-in-code-requires
+in-code-requires c κs = search needs
+
 enum-known-command : tie.Need-enum-known-command
 enum-known-command c = search needs
 
-read-width-requires : tie.Need-read-width-requires
-read-width-requires c κs = search needs
+of-read-requires : tie.Need-of-read-requires
+of-read-requires c κs = search needs
+
+in-code-requires-2 : tie.Need-in-code-requires-2
+in-code-requires-2 c κs = search needs
 
 enum-told-2 : tie.Need-enum-told-2
 enum-told-2 c = search needs
 
+in-expression-requires-2 : tie.Need-in-expression-requires-2
+in-expression-requires-2 c κs = search needs
+
+in-code-requires-3 : tie.Need-in-code-requires-3
+in-code-requires-3 c κs = search needs
+
 enum-told-3 : tie.Need-enum-told-3
 enum-told-3 c = search needs
+
+in-expression-requires-3 : tie.Need-in-expression-requires-3
+in-expression-requires-3 c κs = search needs
+
+in-code-requires-4 : tie.Need-in-code-requires-4
+in-code-requires-4 c κs = search needs
 
 enum-told-4 : tie.Need-enum-told-4
 enum-told-4 c = search needs
 
+in-expression-requires-4 : tie.Need-in-expression-requires-4
+in-expression-requires-4 c κs = search needs
+
+in-code-requires-5 : tie.Need-in-code-requires-5
+in-code-requires-5 c κs = search needs
+
 returns : tie.Need-returns
-returns c = rw (c .enum-told .given .1) (record { width = refl; operands = refl; code = omega (arith, word-length (c .enum-told .given .0 .0)) })
+returns c = rw (c .before .before .enum-told .given .1) (record { width = c .before .in-expression .ensures; operands = refl; code = omega (arith, word-length (c .before .before .enum-told .given .0 .0)) })
 
 returns-2 : tie.Need-returns-2
-returns-2 c = rw (c .before .before .command .given .1) (record { width = c .read-width .ensures; operands = refl; code = refl })
+returns-2 c = rw (c .before .before .before .command .given .1) (record { width = c .before .of-read .ensures; operands = refl; code = c .in-code2 .ensures })
 
 returns-3 : tie.Need-returns-3
 returns-3 c = search needs
@@ -48,11 +75,20 @@ shape-of-spec =
     tie.close
     (tie.spec
     enum-told
+    in-expression-requires
+    in-code-requires
     enum-known-command
-    read-width-requires
+    of-read-requires
+    in-code-requires-2
     enum-told-2
+    in-expression-requires-2
+    in-code-requires-3
     enum-told-3
+    in-expression-requires-3
+    in-code-requires-4
     enum-told-4
+    in-expression-requires-4
+    in-code-requires-5
     returns
     returns-2
     returns-3

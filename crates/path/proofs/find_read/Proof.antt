@@ -1,5 +1,4 @@
 -- `path::find_read` meets its contract. Assumes nothing.
-use Prim.Native.Nat.{_+_}
 use mathlib.Core.Path.{sym, ap, _∙_}
 use denote.Ref.{now}
 use native.Mathlib.Omega.{arith}
@@ -27,9 +26,12 @@ returns c =
     c .no-read .ensures ∙
     find-none text _ p x q lt (b .command-at .result) (b .command-at .ensures ∙ ap (commandAt text) e) (c .before .match .keys2)
 
+in-program-requires : tie.Need-in-program-requires
+in-program-requires c κs = search needs
+
 add-find-from : tie.Need-add-find-from
 add-find-from c =
-    let s = command-sound _ _ _ (sym (c .before .before .command-at .ensures) ∙ c .enum-told .given .1) in
+    let s = command-sound _ _ _ (sym (c .before .before .before .command-at .ensures) ∙ c .before .enum-told .given .1) in
     omega (arith, s .3)
 
 find-from-requires : tie.Need-find-from-requires
@@ -37,11 +39,11 @@ find-from-requires c κs = search needs
 
 returns-2 : tie.Need-returns-2
 returns-2 c =
-    let b = c .before .before .before in
+    let b = c .before .before .before .before in
     let text = now (b .before .before .args .text) in
     λ p x q lt e.
-    find-body text _ p x q lt (c .find-from .result) _ _ _ (ap (commandAt text) (sym e) ∙ sym (b .command-at .ensures) ∙ c .before .enum-told .given .1)
-    (λ n d s. c .find-from .ensures p x n d q lt s (ap (λ n. n + 8) e))
+    find-body text _ p x q lt (c .find-from .result) _ _ _ (ap (commandAt text) (sym e) ∙ sym (b .command-at .ensures) ∙ c .before .before .enum-told .given .1)
+    (λ n d s. c .find-from .ensures p x n d q lt s (omega (arith, e, c .before .in-program .ensures)))
 
 pub find-read-spec : {M : Type 1} → statement M
 find-read-spec =
@@ -51,6 +53,7 @@ find-read-spec =
     enum-told
     no-read-requires
     returns
+    in-program-requires
     add-find-from
     find-from-requires
     returns-2)

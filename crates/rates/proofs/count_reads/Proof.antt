@@ -1,5 +1,4 @@
 -- `rates::count_reads` meets its contract. Assumes nothing.
-use Prim.Native.Nat.{_+_}
 use mathlib.Core.Path.{sym, ap, _∙_}
 use denote.Ref.{now}
 use native.Mathlib.Omega.{arith}
@@ -21,9 +20,12 @@ returns c =
     let text = now (c .before .before .before .args .text) in
     λ p x q lt e. count-none text _ p x q lt (c .before .command-at .result) (c .before .command-at .ensures ∙ ap (commandAt text) e) (c .match .keys2)
 
+in-program-requires : tie.Need-in-program-requires
+in-program-requires c κs = search needs
+
 add-count-from : tie.Need-add-count-from
 add-count-from c =
-    let s = command-sound _ _ _ (sym (c .before .before .command-at .ensures) ∙ c .enum-told .given .1) in
+    let s = command-sound _ _ _ (sym (c .before .before .before .command-at .ensures) ∙ c .before .enum-told .given .1) in
     omega (arith, s .3)
 
 count-from-requires : tie.Need-count-from-requires
@@ -31,13 +33,20 @@ count-from-requires c κs = search needs
 
 returns-2 : tie.Need-returns-2
 returns-2 c =
-    let b = c .before .before .before in
+    let b = c .before .before .before .before in
     let text = now (b .before .before .args .text) in
     λ p x q lt e.
-    count-body text _ p x q lt (c .count-from .result) _ _ _ (ap (commandAt text) (sym e) ∙ sym (b .command-at .ensures) ∙ c .before .enum-told .given .1)
-    (λ n d s. c .count-from .ensures p x n d q lt s (ap (λ n. n + 8) e))
+    count-body text _ p x q lt (c .count-from .result) _ _ _ (ap (commandAt text) (sym e) ∙ sym (b .command-at .ensures) ∙ c .before .before .enum-told .given .1)
+    (λ n d s. c .count-from .ensures p x n d q lt s (omega (arith, e, c .before .in-program .ensures)))
 
 pub count-reads-spec : {M : Type 1} → statement M
 count-reads-spec =
     tie.close
-    (tie.spec command-at-requires enum-told returns add-count-from count-from-requires returns-2)
+    (tie.spec
+    command-at-requires
+    enum-told
+    returns
+    in-program-requires
+    add-count-from
+    count-from-requires
+    returns-2)

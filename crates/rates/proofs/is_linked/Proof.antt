@@ -8,6 +8,7 @@ use borrow.Author.Tests.{eq-eqb, ne-eqb}
 use Rattle.model.specs.Outcome.{accepted}
 use Rattle.model.specs.Program.{Program, parseProgram}
 use Rattle.reader.specs.Tables.{TablesOf, chainAt}
+use borrow.Author.Needs.{needs}
 use Rattle.rates.proofs.Linking.{LinksLeft, link-inside, link-broken, link-on, link-over, few-signals, few-chains, chain-begins, chain-inside}
 use Rattle.rates.proofs.is_linked.Statement.{statement}
 use Rattle.rates.proofs.is_linked.Tie as tie
@@ -21,9 +22,9 @@ abbrev μ-loop : tie.MeasureT-loop
 
 -- the two links at hand lie within the text
 inside : (c : tie.In-loop Inv-loop μ-loop) →
-    c .before .loop .at + 4 ≤ length (now (c .before .before .before .before .before .args .text))
+    c .before .loop .at + 4 ≤ length (now (c .before .before .before .before .before .before .args .text))
 inside c =
-    let r = c .before .before .before .before .before .pre .0 in
+    let r = c .before .before .before .before .before .before .pre .0 in
     link-inside _ _ _ _ _ (c .before .loop .inv (r .0) (r .1) (r .2)) (c .loop-test .taken)
 
 few : (c : tie.After-lengths Inv-loop μ-loop) → c .before .before .before .args .chain < 16
@@ -35,61 +36,70 @@ mul-at c = omega (arith, few c)
 array-read-at : tie.Need-array-read-at Inv-loop μ-loop
 array-read-at c = few c
 
+in-program-requires : tie.Need-in-program-requires Inv-loop μ-loop
+in-program-requires c κs = search needs
+
 add-at : tie.Need-add-at Inv-loop μ-loop
 add-at c =
-    let s = c .before .before .before in
+    let s = c .before .before .before .before in
     omega (arith, chain-inside _ _ _ (s .pre .1) (s .pre .0))
 
 mul-left : tie.Need-mul-left Inv-loop μ-loop
-mul-left c = omega (arith, few c)
+mul-left c = omega (arith, few (c .before))
 
 array-read-left : tie.Need-array-read-left Inv-loop μ-loop
-array-read-left c = few c
+array-read-left c = few (c .before)
 
 loop-holds : tie.Need-loop-holds Inv-loop μ-loop
 loop-holds c =
-    let s = c .before .before .before in
-    λ p q t. chain-begins _ _ _ (s .pre .1) p q t
+    let s = c .before .before .before .before in
+    λ p q t. rw (c .in-program .ensures) (chain-begins _ _ _ (s .pre .1) p q t)
+
+in-program-requires-2 : tie.Need-in-program-requires-2 Inv-loop μ-loop
+in-program-requires-2 c κs = search needs
 
 add-second : tie.Need-add-second Inv-loop μ-loop
-add-second c = omega (arith, inside c)
+add-second c = omega (arith, inside (c .before))
 
 add-before : tie.Need-add-before Inv-loop μ-loop
-add-before c = omega (arith, inside c)
+add-before c = omega (arith, inside (c .before))
 
 shared-slice-read-before : tie.Need-shared-slice-read-before Inv-loop μ-loop
-shared-slice-read-before c = omega (arith, inside (c .before))
+shared-slice-read-before c = omega (arith, inside (c .before .before))
 
 add-signal : tie.Need-add-signal Inv-loop μ-loop
-add-signal c = omega (arith, inside (c .before))
+add-signal c = omega (arith, inside (c .before .before))
 
 shared-slice-read-signal : tie.Need-shared-slice-read-signal Inv-loop μ-loop
-shared-slice-read-signal c = omega (arith, inside (c .before .before))
+shared-slice-read-signal c = omega (arith, inside (c .before .before .before))
 
 reads-between-requires : tie.Need-reads-between-requires Inv-loop μ-loop
-reads-between-requires c κs = few-signals _ _ (c .before .before .before .before .before .before .before .pre .0)
+reads-between-requires c κs = few-signals _ _ (c .before .before .before .before .before .before .before .before .before .pre .0)
 
 returns : tie.Need-returns Inv-loop μ-loop
 returns c =
-    let b = c .before .before .before .before in
+    let b = c .before .before .before .before .before in
     let r = c .before .reads-between in
+    let two = c .before .before .before .before .in-program2 .ensures in
     λ p q t.
-    sym (link-broken _ _ _ _ _ (b .before .loop .inv p q t) (b .loop-test .taken) (r .result) (r .ensures p q t)
+    sym (link-broken _ _ _ _ _ (b .before .loop .inv p q t) (b .loop-test .taken) (r .result) (rw two at (r .ensures p q t))
     (ne-eqb (r .result) 1 (λ z. omega (arith, c .if1 .taken))))
 
 sub-left : tie.Need-sub-left Inv-loop μ-loop
 sub-left c = omega arith
 
 loop-less : tie.Need-loop-less Inv-loop μ-loop
-loop-less c = omega (arith, c .before .before .before .before .loop-test .taken)
+loop-less c = omega (arith, c .before .before .before .before .before .loop-test .taken)
 
 loop-again : tie.Need-loop-again Inv-loop μ-loop
 loop-again c =
-    let b = c .before .before .before .before in
+    let b = c .before .before .before .before .before in
     let r = c .before .reads-between in
+    let two = c .before .before .before .before .in-program2 .ensures in
     λ p q t.
-    link-on _ _ _ _ _ (b .before .loop .inv p q t) (b .loop-test .taken) (r .result) (r .ensures p q t)
-    (eq-eqb (r .result) 1 (omega (arith, c .if1 .left)))
+    rw two
+    (link-on _ _ _ _ _ (b .before .loop .inv p q t) (b .loop-test .taken) (r .result) (rw two at (r .ensures p q t))
+    (eq-eqb (r .result) 1 (omega (arith, c .if1 .left))))
 
 returns-2 : tie.Need-returns-2 Inv-loop μ-loop
 returns-2 c = λ p q t. sym (link-over _ _ _ _ _ (c .before .loop .inv p q t) (omega (arith, c .loop-test .left)))
@@ -102,10 +112,12 @@ is-linked-spec =
     μ-loop
     mul-at
     array-read-at
+    in-program-requires
     add-at
     mul-left
     array-read-left
     loop-holds
+    in-program-requires-2
     add-second
     add-before
     shared-slice-read-before

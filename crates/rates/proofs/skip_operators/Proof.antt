@@ -31,19 +31,23 @@ returns c =
     let v = c .before .before .before .before .loop .inv in
     (v .0, v .1, v .2, λ lt. sym (c .before .is-operator .ensures) ∙ not-true (c .before .is-operator .result) (c .if1 .taken))
 
+in-expression-requires : tie.Need-in-expression-requires Inv-loop μ-loop
+in-expression-requires c κs = search needs
+
 add-at : tie.Need-add-at Inv-loop μ-loop
 add-at c = search needs
 
 loop-less : tie.Need-loop-less Inv-loop μ-loop
-loop-less c = omega (arith, c .before .before .before .loop-test .taken)
+loop-less c = omega (arith, c .before .before .before .before .loop-test .taken)
 
 loop-again : tie.Need-loop-again Inv-loop μ-loop
 loop-again c =
-    let v = c .before .before .before .before .loop .inv in (
+    let v = c .before .before .before .before .before .loop .inv in (
       omega (arith, v .0),
-      omega (arith, c .before .before .before .loop-test .taken),
-      one-more (now (c .before .before .before .before .before .before .args .text)) _ _ (v .2)
-          (sym (c .before .is-operator .ensures) ∙ not-false (c .before .is-operator .result) (c .if1 .left)),
+      omega (arith, c .before .before .before .before .loop-test .taken),
+      rw (c .in-expression .ensures)
+          (one-more (now (c .before .before .before .before .before .before .before .args .text)) _ _ (v .2)
+          (sym (c .before .before .is-operator .ensures) ∙ not-false (c .before .before .is-operator .result) (c .before .if1 .left))),
     )
 
 returns-2 : tie.Need-returns-2 Inv-loop μ-loop
@@ -60,6 +64,7 @@ skip-operators-spec =
     shared-slice-read-is-operator
     is-operator-requires
     returns
+    in-expression-requires
     add-at
     loop-less
     loop-again

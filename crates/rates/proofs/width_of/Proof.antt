@@ -15,38 +15,68 @@ enum-told-3 c = search needs
 enum-told-4 : tie.Need-enum-told-4
 enum-told-4 c = search needs
 
+in-program-requires : tie.Need-in-program-requires
+in-program-requires c κs = search needs
+
 enum-told-5 : tie.Need-enum-told-5
 enum-told-5 c = search needs
+
+in-program-requires-2 : tie.Need-in-program-requires-2
+in-program-requires-2 c κs = search needs
 
 enum-told-6 : tie.Need-enum-told-6
 enum-told-6 c = search needs
 
+in-program-requires-3 : tie.Need-in-program-requires-3
+in-program-requires-3 c κs = search needs
+
 enum-told-7 : tie.Need-enum-told-7
 enum-told-7 c = search needs
+
+in-program-requires-4 : tie.Need-in-program-requires-4
+in-program-requires-4 c κs = search needs
 
 enum-told-8 : tie.Need-enum-told-8
 enum-told-8 c = search needs
 
+in-program-requires-5 : tie.Need-in-program-requires-5
+in-program-requires-5 c κs = search needs
+
 enum-told-9 : tie.Need-enum-told-9
 enum-told-9 c = search needs
+
+in-program-requires-6 : tie.Need-in-program-requires-6
+in-program-requires-6 c κs = search needs
 
 enum-told-10 : tie.Need-enum-told-10
 enum-told-10 c = search needs
 
+in-expression-requires : tie.Need-in-expression-requires
+in-expression-requires c κs = search needs
+
 enum-known-command : tie.Need-enum-known-command
 enum-known-command c = search needs
 
-read-width-requires : tie.Need-read-width-requires
-read-width-requires c κs = search needs
+of-read-requires : tie.Need-of-read-requires
+of-read-requires c κs = search needs
 
 enum-told-11 : tie.Need-enum-told-11
 enum-told-11 c = search needs
 
+in-expression-requires-2 : tie.Need-in-expression-requires-2
+in-expression-requires-2 c κs = search needs
+
 enum-told-12 : tie.Need-enum-told-12
 enum-told-12 c = search needs
 
+in-expression-requires-3 : tie.Need-in-expression-requires-3
+in-expression-requires-3 c κs = search needs
+
 enum-told-13 : tie.Need-enum-told-13
 enum-told-13 c = search needs
+
+in-expression-requires-4 : tie.Need-in-expression-requires-4
+in-expression-requires-4 c κs = search needs
 
 returns : tie.Need-returns
 returns c = search needs
@@ -79,7 +109,7 @@ returns-10 : tie.Need-returns-10
 returns-10 c = search needs
 
 returns-11 : tie.Need-returns-11
-returns-11 c = rw (c .before .before .command .given .1) (c .read-width .ensures)
+returns-11 c = rw (c .before .before .command .given .1) (c .of-read .ensures)
 
 returns-12 : tie.Need-returns-12
 returns-12 c = search needs
@@ -98,17 +128,27 @@ width-of-spec =
     enum-told-2
     enum-told-3
     enum-told-4
+    in-program-requires
     enum-told-5
+    in-program-requires-2
     enum-told-6
+    in-program-requires-3
     enum-told-7
+    in-program-requires-4
     enum-told-8
+    in-program-requires-5
     enum-told-9
+    in-program-requires-6
     enum-told-10
+    in-expression-requires
     enum-known-command
-    read-width-requires
+    of-read-requires
     enum-told-11
+    in-expression-requires-2
     enum-told-12
+    in-expression-requires-3
     enum-told-13
+    in-expression-requires-4
     returns
     returns-2
     returns-3

@@ -32,7 +32,8 @@ use Rattle.reader.proofs.read_expression.Kinds as kinds
 use Rattle.reader.proofs.+read_expression.Lts-read_expression as lts
 use Rattle.commands.proofs.command_at.Reads as command-at-reads
 use Rattle.reader.proofs.operator_here.Reads as operator-here-reads
-use Rattle.reader.proofs.read_width.Reads as read-width-reads
+use Rattle.width.proofs.in_expression.Reads as in-expression-reads
+use Rattle.width.proofs.of_read.Reads as of-read-reads
 use Rattle.reader.proofs.refuse.Reads as refuse-reads
 use Rattle.reader.proofs.+read_expression.{statement}
 use Rattle.reader.proofs.+read_expression.Tie.{close}
@@ -54,8 +55,10 @@ known t = (
   refuse-reads.Learnt,
   command-at-reads.Asked,
   command-at-reads.Learnt,
-  read-width-reads.Asked,
-  read-width-reads.Learnt,
+  in-expression-reads.Asked,
+  in-expression-reads.Learnt,
+  of-read-reads.Asked,
+  of-read-reads.Learnt,
   below t,
   own.Post,
 )
@@ -168,23 +171,29 @@ refuse-requires-10 t c κs = search needs
 enum-told-12 : (t : ℕ) → lts.Need-enum-told-12 (known t) (given t) own.Post
 enum-told-12 t c = search needs
 
-add-t16 : (t : ℕ) → lts.Need-add-t16 (known t) (given t) own.Post
-add-t16 t c = omega (arith, inside t (c .before .before .before .before), c .before .before .before .before .before .before .before .before .good .0 .1)
+in-expression-requires : (t : ℕ) → lts.Need-in-expression-requires (known t) (given t) own.Post
+in-expression-requires t c κs = search needs
+
+add-t17 : (t : ℕ) → lts.Need-add-t17 (known t) (given t) own.Post
+add-t17 t c = omega (arith, inside t (c .before .before .before .before .before), c .before .before .before .before .before .before .before .before .before .good .0 .1)
 
 enum-known-command : (t : ℕ) → lts.Need-enum-known-command (known t) (given t) own.Post
 enum-known-command t c = search needs
 
-read-width-requires : (t : ℕ) → lts.Need-read-width-requires (known t) (given t) own.Post
-read-width-requires t c κs = search needs
+of-read-requires : (t : ℕ) → lts.Need-of-read-requires (known t) (given t) own.Post
+of-read-requires t c κs = search needs
 
-add-t18 : (t : ℕ) → lts.Need-add-t18 (known t) (given t) own.Post
-add-t18 t c = omega (arith, inside t (c .before .before .before .before .before .before), c .before .before .before .before .before .before .before .before .before .before .good .0 .1, c .read-width .ensures, width-most (c .before .before .command .given .0 .0))
+add-t19 : (t : ℕ) → lts.Need-add-t19 (known t) (given t) own.Post
+add-t19 t c = omega (arith, inside t (c .before .before .before .before .before .before), c .before .before .before .before .before .before .before .before .before .before .good .0 .1, c .of-read .ensures, width-most (c .before .before .command .given .0 .0))
 
 enum-told-13 : (t : ℕ) → lts.Need-enum-told-13 (known t) (given t) own.Post
 enum-told-13 t c = search needs
 
+in-expression-requires-2 : (t : ℕ) → lts.Need-in-expression-requires-2 (known t) (given t) own.Post
+in-expression-requires-2 t c κs = search needs
+
 add-read-expression : (t : ℕ) → lts.Need-add-read-expression (known t) (given t) own.Post
-add-read-expression t c = omega (arith, inside t (c .before .before .before .before), c .before .before .before .before .before .before .before .before .good .0 .1)
+add-read-expression t c = omega (arith, inside t (c .before .before .before .before .before), c .before .before .before .before .before .before .before .before .before .good .0 .1)
 
 sub-read-expression : (t : ℕ) → lts.Need-sub-read-expression (known t) (given t) own.Post
 sub-read-expression t c = search needs
@@ -200,7 +209,7 @@ enum-told-14 t c = search needs
 
 returns-3 : (t : ℕ) → lts.Need-returns-3 (known t) (given t) own.Post
 unfolding node
-returns-3 t c = rw (step t (c .before .before .before .before .before) _ (c .before .before .before .enum-told13 .given .1)) (stop _ _ (c .before .before .read-expression .ensures) (c .enum-told14 .given .1))
+returns-3 t c = rw (step t (c .before .before .before .before .before .before) _ (c .before .before .before .before .enum-told13 .given .1)) (stop _ _ (rw (c .before .before .before .in-expression2 .ensures) at (c .before .before .read-expression .ensures)) (c .enum-told14 .given .1))
 
 sub-read-expression-2 : (t : ℕ) → lts.Need-sub-read-expression-2 (known t) (given t) own.Post
 sub-read-expression-2 t c = search needs
@@ -211,8 +220,11 @@ read-expression-requires-2 t c κs = search needs
 enum-told-15 : (t : ℕ) → lts.Need-enum-told-15 (known t) (given t) own.Post
 enum-told-15 t c = search needs
 
+in-expression-requires-3 : (t : ℕ) → lts.Need-in-expression-requires-3 (known t) (given t) own.Post
+in-expression-requires-3 t c κs = search needs
+
 add-read-expression-2 : (t : ℕ) → lts.Need-add-read-expression-2 (known t) (given t) own.Post
-add-read-expression-2 t c = omega (arith, inside t (c .before .before .before .before), c .before .before .before .before .before .before .before .before .good .0 .1)
+add-read-expression-2 t c = omega (arith, inside t (c .before .before .before .before .before), c .before .before .before .before .before .before .before .before .before .good .0 .1)
 
 sub-read-expression-3 : (t : ℕ) → lts.Need-sub-read-expression-3 (known t) (given t) own.Post
 sub-read-expression-3 t c = search needs
@@ -223,8 +235,11 @@ read-expression-requires-3 t c κs = search needs
 enum-told-16 : (t : ℕ) → lts.Need-enum-told-16 (known t) (given t) own.Post
 enum-told-16 t c = search needs
 
+in-expression-requires-4 : (t : ℕ) → lts.Need-in-expression-requires-4 (known t) (given t) own.Post
+in-expression-requires-4 t c κs = search needs
+
 add-read-expression-3 : (t : ℕ) → lts.Need-add-read-expression-3 (known t) (given t) own.Post
-add-read-expression-3 t c = omega (arith, inside t (c .before .before .before .before), c .before .before .before .before .before .before .before .before .good .0 .1)
+add-read-expression-3 t c = omega (arith, inside t (c .before .before .before .before .before), c .before .before .before .before .before .before .before .before .before .good .0 .1)
 
 sub-read-expression-4 : (t : ℕ) → lts.Need-sub-read-expression-4 (known t) (given t) own.Post
 sub-read-expression-4 t c = search needs
@@ -240,7 +255,7 @@ enum-told-17 t c = search needs
 
 returns-4 : (t : ℕ) → lts.Need-returns-4 (known t) (given t) own.Post
 unfolding node
-returns-4 t c = rw (step t (c .before .before .before .before .before) _ (c .before .before .before .enum-told16 .given .1)) (stop _ _ (c .before .before .read-expression4 .ensures) (c .enum-told17 .given .1))
+returns-4 t c = rw (step t (c .before .before .before .before .before .before) _ (c .before .before .before .before .enum-told16 .given .1)) (stop _ _ (rw (c .before .before .before .in-expression4 .ensures) at (c .before .before .read-expression4 .ensures)) (c .enum-told17 .given .1))
 
 sub-read-expression-5 : (t : ℕ) → lts.Need-sub-read-expression-5 (known t) (given t) own.Post
 sub-read-expression-5 t c = search needs
@@ -256,7 +271,7 @@ enum-told-18 t c = search needs
 
 returns-5 : (t : ℕ) → lts.Need-returns-5 (known t) (given t) own.Post
 unfolding node
-returns-5 t c = rw (step t (c .before .before .before .before .before .before .before .before .before) _ (c .before .before .before .before .before .before .before .enum-told16 .given .1)) (go-on _ _ (c .before .before .before .before .before .before .read-expression4 .ensures) (c .before .before .before .before .condition .given .1) (λ x. stop _ _ (c .before .before .read-expression5 .ensures) (c .enum-told18 .given .1)))
+returns-5 t c = rw (step t (c .before .before .before .before .before .before .before .before .before .before) _ (c .before .before .before .before .before .before .before .before .enum-told16 .given .1)) (go-on _ _ (rw (c .before .before .before .before .before .before .before .in-expression4 .ensures) at (c .before .before .before .before .before .before .read-expression4 .ensures)) (c .before .before .before .before .condition .given .1) (λ x. stop _ _ (c .before .before .read-expression5 .ensures) (c .enum-told18 .given .1)))
 
 sub-read-expression-6 : (t : ℕ) → lts.Need-sub-read-expression-6 (known t) (given t) own.Post
 sub-read-expression-6 t c = search needs
@@ -302,23 +317,23 @@ returns-14 t c = rw (step t (c .before .before .before) _ (c .before .enum-told1
 
 returns-15 : (t : ℕ) → lts.Need-returns-15 (known t) (given t) own.Post
 unfolding node
-returns-15 t c = rw (step t (c .before .before) _ (c .enum-told12 .given .1)) (next-is _ _)
+returns-15 t c = rw (c .in-expression .ensures, step t (c .before .before .before) _ (c .before .enum-told12 .given .1)) (next-is _ _)
 
 returns-16 : (t : ℕ) → lts.Need-returns-16 (known t) (given t) own.Post
 unfolding node
-returns-16 t c = rw (c .read-width .ensures, step t (c .before .before .before .before) _ (c .before .before .command .given .1)) (next-is _ _)
+returns-16 t c = rw (c .of-read .ensures, step t (c .before .before .before .before) _ (c .before .before .command .given .1)) (next-is _ _)
 
 returns-17 : (t : ℕ) → lts.Need-returns-17 (known t) (given t) own.Post
 unfolding node
-returns-17 t c = rw (step t (c .before .before .before .before .before .before .before) _ (c .before .before .before .before .before .enum-told13 .given .1)) (go-on _ _ (c .before .before .before .before .read-expression .ensures) (c .before .before .first .given .1) (λ x. last _ _ (c .read-expression2 .ensures)))
+returns-17 t c = rw (step t (c .before .before .before .before .before .before .before .before) _ (c .before .before .before .before .before .before .enum-told13 .given .1)) (go-on _ _ (rw (c .before .before .before .before .before .in-expression2 .ensures) at (c .before .before .before .before .read-expression .ensures)) (c .before .before .first .given .1) (λ x. last _ _ (c .read-expression2 .ensures)))
 
 returns-18 : (t : ℕ) → lts.Need-returns-18 (known t) (given t) own.Post
 unfolding node
-returns-18 t c = rw (step t (c .before .before .before) _ (c .before .enum-told15 .given .1)) (last _ _ (c .read-expression3 .ensures))
+returns-18 t c = rw (step t (c .before .before .before .before) _ (c .before .before .enum-told15 .given .1)) (last _ _ (rw (c .before .in-expression3 .ensures) at (c .read-expression3 .ensures)))
 
 returns-19 : (t : ℕ) → lts.Need-returns-19 (known t) (given t) own.Post
 unfolding node
-returns-19 t c = rw (step t (c .before .before .before .before .before .before .before .before .before .before .before) _ (c .before .before .before .before .before .before .before .before .before .enum-told16 .given .1)) (go-on _ _ (c .before .before .before .before .before .before .before .before .read-expression4 .ensures) (c .before .before .before .before .before .before .condition .given .1) (λ x. go-on _ _ (c .before .before .before .before .read-expression5 .ensures) (c .before .before .first2 .given .1) (λ y. last _ _ (c .read-expression6 .ensures))))
+returns-19 t c = rw (step t (c .before .before .before .before .before .before .before .before .before .before .before .before) _ (c .before .before .before .before .before .before .before .before .before .before .enum-told16 .given .1)) (go-on _ _ (rw (c .before .before .before .before .before .before .before .before .before .in-expression4 .ensures) at (c .before .before .before .before .before .before .before .before .read-expression4 .ensures)) (c .before .before .before .before .before .before .condition .given .1) (λ x. go-on _ _ (c .before .before .before .before .read-expression5 .ensures) (c .before .before .first2 .given .1) (λ y. last _ _ (c .read-expression6 .ensures))))
 
 pub +read-expression-spec : {M : Type 1} → statement M
 +read-expression-spec =
@@ -349,11 +364,13 @@ pub +read-expression-spec : {M : Type 1} → statement M
     (enum-told-11 t)
     (refuse-requires-10 t)
     (enum-told-12 t)
-    (add-t16 t)
+    (in-expression-requires t)
+    (add-t17 t)
     (enum-known-command t)
-    (read-width-requires t)
-    (add-t18 t)
+    (of-read-requires t)
+    (add-t19 t)
     (enum-told-13 t)
+    (in-expression-requires-2 t)
     (add-read-expression t)
     (sub-read-expression t)
     (read-expression-requires t)
@@ -363,10 +380,12 @@ pub +read-expression-spec : {M : Type 1} → statement M
     (sub-read-expression-2 t)
     (read-expression-requires-2 t)
     (enum-told-15 t)
+    (in-expression-requires-3 t)
     (add-read-expression-2 t)
     (sub-read-expression-3 t)
     (read-expression-requires-3 t)
     (enum-told-16 t)
+    (in-expression-requires-4 t)
     (add-read-expression-3 t)
     (sub-read-expression-4 t)
     (read-expression-requires-4 t)

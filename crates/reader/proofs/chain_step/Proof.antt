@@ -5,6 +5,9 @@ use borrow.Author.Needs.{needs}
 use Rattle.reader.proofs.chain_step.Statement.{statement}
 use Rattle.reader.proofs.chain_step.Tie as tie
 
+in-program-requires : tie.Need-in-program-requires
+in-program-requires c κs = search needs
+
 add-read-links : tie.Need-add-read-links
 add-read-links c = search needs
 
@@ -18,21 +21,22 @@ refuse-step-requires : tie.Need-refuse-step-requires
 refuse-step-requires c κs = search needs
 
 returns : tie.Need-returns
-returns c = c .refuse-step .ensures ∙ chain-short _ _ (c .before .before .before .before .before .read-links .ensures) (c .before .before .before .read .given .1) (c .before .if1 .taken)
+returns c = c .refuse-step .ensures ∙ chain-short _ _ (rw (c .before .before .before .before .before .before .in-program .ensures) at (c .before .before .before .before .before .read-links .ensures)) (c .before .before .before .read .given .1) (c .before .if1 .taken)
 
 enum-known-read-2 : tie.Need-enum-known-read-2
 enum-known-read-2 c = search needs
 
 returns-2 : tie.Need-returns-2
-returns-2 c = chain-next _ _ (c .before .before .before .before .read-links .ensures) (c .before .before .read .given .1) (c .if1 .left)
+returns-2 c = chain-next _ _ (rw (c .before .before .before .before .before .in-program .ensures) at (c .before .before .before .before .read-links .ensures)) (c .before .before .read .given .1) (c .if1 .left)
 
 returns-3 : tie.Need-returns-3
-returns-3 c = chain-refused _ _ (c .before .before .before .read-links .ensures) (c .before .read2 .given .1)
+returns-3 c = chain-refused _ _ (rw (c .before .before .before .before .in-program .ensures) at (c .before .before .before .read-links .ensures)) (c .before .read2 .given .1)
 
 pub chain-step-spec : {M : Type 1} → statement M
 chain-step-spec =
     tie.close
     (tie.spec
+    in-program-requires
     add-read-links
     read-links-requires
     enum-known-read

@@ -4,6 +4,9 @@ use borrow.Author.Needs.{needs}
 use Rattle.reader.proofs.equation_step.Statement.{statement}
 use Rattle.reader.proofs.equation_step.Tie as tie
 
+in-program-requires : tie.Need-in-program-requires
+in-program-requires c κs = search needs
+
 add-read-expression : tie.Need-add-read-expression
 add-read-expression c = search needs
 
@@ -17,15 +20,16 @@ enum-known-reached-2 : tie.Need-enum-known-reached-2
 enum-known-reached-2 c = search needs
 
 returns : tie.Need-returns
-returns c = equation-next _ (c .before .before .before .read-expression .ensures) (c .before .reached .given .1)
+returns c = equation-next _ (rw (c .before .before .before .before .in-program .ensures) at (c .before .before .before .read-expression .ensures)) (c .before .reached .given .1)
 
 returns-2 : tie.Need-returns-2
-returns-2 c = equation-refused _ (c .before .before .before .read-expression .ensures) (c .before .reached2 .given .1)
+returns-2 c = equation-refused _ (rw (c .before .before .before .before .in-program .ensures) at (c .before .before .before .read-expression .ensures)) (c .before .reached2 .given .1)
 
 pub equation-step-spec : {M : Type 1} → statement M
 equation-step-spec =
     tie.close
     (tie.spec
+    in-program-requires
     add-read-expression
     read-expression-requires
     enum-known-reached

@@ -82,8 +82,11 @@ end-step-requires c κs = inside (c .before .before) _ (c .enum-told5 .given .1)
 enum-told-6 : tie.Need-enum-told-6
 enum-told-6 c = search needs
 
-add-t13 : tie.Need-add-t13
-add-t13 c = omega (arith, inside (c .before .before) _ (c .enum-told6 .given .1) (λ e. let z : _≡_ {A = ℕ} 0 1 = cc in omega arith), c .before .before .before .before .before .before .before .good .0 .1)
+in-program-requires : tie.Need-in-program-requires
+in-program-requires c κs = search needs
+
+add-t14 : tie.Need-add-t14
+add-t14 c = omega (arith, inside (c .before .before .before) _ (c .before .enum-told6 .given .1) (λ e. let z : _≡_ {A = ℕ} 0 1 = cc in omega arith), c .before .before .before .before .before .before .before .before .good .0 .1)
 
 enum-told-7 : tie.Need-enum-told-7
 enum-told-7 c = search needs
@@ -106,8 +109,11 @@ refuse-step-requires-4 c κs = search needs
 enum-known-command : tie.Need-enum-known-command
 enum-known-command c = search needs
 
-add-t15 : tie.Need-add-t15
-add-t15 c = omega (arith, inside (c .before .before .before) _ (c .before .command .given .1) (λ e. let z : _≡_ {A = ℕ} 0 1 = cc in omega arith), c .before .before .before .before .before .before .before .before .good .0 .1)
+in-program-requires-2 : tie.Need-in-program-requires-2
+in-program-requires-2 c κs = search needs
+
+add-t17 : tie.Need-add-t17
+add-t17 c = omega (arith, inside (c .before .before .before .before) _ (c .before .before .command .given .1) (λ e. let z : _≡_ {A = ℕ} 0 1 = cc in omega arith), c .before .before .before .before .before .before .before .before .before .good .0 .1)
 
 enum-told-10 : tie.Need-enum-told-10
 enum-told-10 c = search needs
@@ -155,7 +161,7 @@ returns-5 : tie.Need-returns-5
 returns-5 c = λ p k. subst (Stepped _ _ p) (sym (c .end-step .ensures)) (step-end _ _ p (stands (c .before .before .before .before) p k) (is (c .before .before .before) _ (c .before .enum-told5 .given .1)))
 
 returns-6 : tie.Need-returns-6
-returns-6 c = λ p k. step-input _ _ p (stands (c .before .before .before) p k) _ _ (is (c .before .before) _ (c .enum-told6 .given .1))
+returns-6 c = λ p k. rw (c .in-program .ensures) (step-input _ _ p (stands (c .before .before .before .before) p k) _ _ (is (c .before .before .before) _ (c .before .enum-told6 .given .1)))
 
 returns-7 : tie.Need-returns-7
 returns-7 c = λ p k. subst (Stepped _ _ p) (sym (c .equation-step .ensures)) (step-equation _ _ p (stands (c .before .before .before .before) p k) _ _ _ (is (c .before .before .before) _ (c .before .enum-told7 .given .1)))
@@ -168,7 +174,7 @@ unfolding declare
 returns-9 c = λ p k. subst (Stepped _ _ p) (sym (c .refuse-step4 .ensures)) (step-refused _ _ p (stands (c .before .before .before .before) p k) _ _ (is (c .before .before .before) _ (c .before .enum-told9 .given .1)) (λ next. refl))
 
 returns-10 : tie.Need-returns-10
-returns-10 c = λ p k. step-cap _ _ p (stands (c .before .before .before .before) p k) _ (is (c .before .before .before) _ (c .before .command .given .1))
+returns-10 c = λ p k. rw (c .in-program2 .ensures) (step-cap _ _ p (stands (c .before .before .before .before .before) p k) _ (is (c .before .before .before .before) _ (c .before .before .command .given .1)))
 
 returns-11 : tie.Need-returns-11
 unfolding declare
@@ -208,7 +214,8 @@ read-command-spec =
     enum-told-5
     end-step-requires
     enum-told-6
-    add-t13
+    in-program-requires
+    add-t14
     enum-told-7
     equation-step-requires
     enum-told-8
@@ -216,7 +223,8 @@ read-command-spec =
     enum-told-9
     refuse-step-requires-4
     enum-known-command
-    add-t15
+    in-program-requires-2
+    add-t17
     enum-told-10
     refuse-step-requires-5
     enum-told-11

@@ -19,15 +19,19 @@ use Rattle.runner.proofs.run_code.Statement.{statement}
 use Rattle.runner.proofs.run_code.Tie as tie
 
 abbrev Inv-loop : tie.InvT-loop
-Inv-loop code n own state samples at₀ count₀ stack₀ at count stack =
+Inv-loop code n own state samples width at₀ count₀ stack₀ at count stack =
     Goes code n own state samples (runCode code state samples) (countCode code) count at (view stack) (stack .height)
 
 abbrev μ-loop : tie.MeasureT-loop
-μ-loop code n own state samples at₀ count₀ stack₀ at count stack = length code - at
+μ-loop code n own state samples width at₀ count₀ stack₀ at count stack = length code - at
 
 -- the command of a turn, by the arm that its byte came to
 abbrev start : tie.At-loop Inv-loop μ-loop → tie.Start Inv-loop μ-loop
-start l = l .before .before .before
+start l = l .before .before .before .before
+
+-- an operator is one byte
+one : (l : tie.At-loop Inv-loop μ-loop) → l .before .before .in-code .result ≡ 1
+one l = l .before .before .in-code .ensures
 
 abbrev code : tie.At-loop Inv-loop μ-loop → List ℕ
 code l = start l .args .code .now
@@ -114,13 +118,16 @@ then-operator o = rw (o .operator .ensures) at (then-binary (o .before) .2)
 few : (l : tie.At-loop Inv-loop μ-loop) → l .loop .count ≤ 65535
 few l = omega (arith, l .loop .inv .counts, code-most (code l), start l .pre .4)
 
+in-code-requires : tie.Need-in-code-requires Inv-loop μ-loop
+in-code-requires c κs = search needs
+
 new-requires : tie.Need-new-requires Inv-loop μ-loop
 new-requires c κs = search needs
 
 loop-holds : tie.Need-loop-holds Inv-loop μ-loop
 unfolding codeOk runCode countCode
 loop-holds c =
-    let s = c .before .before in
+    let s = c .before .before .before in
     let code = s .args .code .now in
     record {
       left = length code;
@@ -155,7 +162,9 @@ loop-less : tie.Need-loop-less Inv-loop μ-loop
 loop-less c = omega arith
 
 loop-again : tie.Need-loop-again Inv-loop μ-loop
-loop-again c = moved _ _ _ _ _ (c .negate .ensures .0) (c .negate .ensures .1) (negated _ _ _ _ _ (at-negate (c .before)) .1)
+loop-again c =
+    rw (one (c .before .before .before .before))
+    (moved _ _ _ _ _ (c .negate .ensures .0) (c .negate .ensures .1) (negated _ _ _ _ _ (at-negate (c .before)) .1))
 
 choose-requires : tie.Need-choose-requires Inv-loop μ-loop
 choose-requires c κs = (chosen _ _ _ _ _ (at-if c) .0, c .before .before .before .loop .inv .most)
@@ -164,7 +173,9 @@ loop-less-2 : tie.Need-loop-less-2 Inv-loop μ-loop
 loop-less-2 c = omega arith
 
 loop-again-2 : tie.Need-loop-again-2 Inv-loop μ-loop
-loop-again-2 c = moved _ _ _ _ _ (c .choose .ensures .0) (omega (arith, c .choose .ensures .1)) (chosen _ _ _ _ _ (at-if (c .before)) .1)
+loop-again-2 c =
+    rw (one (c .before .before .before .before))
+    (moved _ _ _ _ _ (c .choose .ensures .0) (omega (arith, c .choose .ensures .1)) (chosen _ _ _ _ _ (at-if (c .before)) .1))
 
 leaf-word-requires : tie.Need-leaf-word-requires Inv-loop μ-loop
 leaf-word-requires c κs = (c .before .if1 .left, omega (arith, c .if2 .taken), at-leaf c .reads)
@@ -210,8 +221,9 @@ loop-again-3 c =
     let p = c .before in
     let o = p .before .before .before .before in
     let w = o .before in
-    moved _ _ _ _ _ (c .binary-with .ensures .0 ∙ ap (λ (z : ℤ). onTwo (binaryWord (p .operator .result)) (z ∷ view (turn (leaf-of o) .loop .stack))) (kept _ (w .leaf-word .ok)))
-    (omega (arith, c .binary-with .ensures .1)) (combined _ _ _ _ _ (then-operator p) .1)
+    rw (one (turn (leaf-of o)))
+    (moved _ _ _ _ _ (c .binary-with .ensures .0 ∙ ap (λ (z : ℤ). onTwo (binaryWord (p .operator .result)) (z ∷ view (turn (leaf-of o) .loop .stack))) (kept _ (w .leaf-word .ok)))
+    (omega (arith, c .binary-with .ensures .1)) (combined _ _ _ _ _ (then-operator p) .1))
 
 loop-less-4 : tie.Need-loop-less-4 Inv-loop μ-loop
 loop-less-4 c =
@@ -234,7 +246,9 @@ loop-less-5 : tie.Need-loop-less-5 Inv-loop μ-loop
 loop-less-5 c = omega arith
 
 loop-again-5 : tie.Need-loop-again-5 Inv-loop μ-loop
-loop-again-5 c = moved _ _ _ _ _ (c .binary .ensures .0) (omega (arith, c .binary .ensures .1)) (combined _ _ _ _ _ (at-operator (c .before)) .1)
+loop-again-5 c =
+    rw (one (c .before .before .before .before .before .before))
+    (moved _ _ _ _ _ (c .binary .ensures .0) (omega (arith, c .binary .ensures .1)) (combined _ _ _ _ _ (at-operator (c .before)) .1))
 
 returns-3 : tie.Need-returns-3 Inv-loop μ-loop
 returns-3 c = ended _ _ _ _ _ (c .loop-test .left) (c .before .loop .inv)
@@ -245,6 +259,7 @@ run-code-spec =
     (tie.spec
     Inv-loop
     μ-loop
+    in-code-requires
     new-requires
     loop-holds
     shared-slice-read-byte

@@ -24,6 +24,9 @@ refuse-end-requires-2 c κs = search needs
 enum-told-3 : tie.Need-enum-told-3
 enum-told-3 c = search needs
 
+in-schedule-requires : tie.Need-in-schedule-requires
+in-schedule-requires c κs = search needs
+
 add-next : tie.Need-add-next
 add-next c = search needs
 
@@ -33,8 +36,9 @@ refuse-end-requires-3 c κs = search needs
 returns : tie.Need-returns
 unfolding endedOf
 returns c =
-    let a = c .before .before .before .before .before .args in
-    rw (c .before .before .enum-told3 .given .1, lt-leb (length (now (a .text))) (a .at + 1) (omega arith)) (c .refuse-end3 .ensures)
+    let a = c .before .before .before .before .before .before .args in
+    rw (c .before .before .before .enum-told3 .given .1, lt-leb (length (now (a .text))) (a .at + 1) (omega arith))
+    (rw (c .before .before .in-schedule .ensures) at (c .refuse-end3 .ensures))
 
 enum-told-4 : tie.Need-enum-told-4
 enum-told-4 c = search needs
@@ -50,8 +54,8 @@ returns-3 c = rw (c .before .enum-told2 .given .1) (c .refuse-end2 .ensures)
 returns-4 : tie.Need-returns-4
 unfolding endedOf
 returns-4 c =
-    let a = c .before .before .before .before .args in
-    rw (c .before .enum-told3 .given .1, le-leb (length (now (a .text))) (a .at + 1) (omega arith))
+    let a = c .before .before .before .before .before .args in
+    rw (c .before .before .enum-told3 .given .1, le-leb (length (now (a .text))) (a .at + 1) (omega arith))
 
 returns-5 : tie.Need-returns-5
 unfolding endedOf
@@ -66,6 +70,7 @@ end-at-spec =
     enum-told-2
     refuse-end-requires-2
     enum-told-3
+    in-schedule-requires
     add-next
     refuse-end-requires-3
     returns

@@ -77,6 +77,9 @@ with-put-requires c κs =
     let l = c .before .before .before .before .before .before .before .before .loop in
     (omega arith, omega (arith, c .before .before .judge-put .ensures .declared (c .enum-told .given .1)))
 
+in-schedule-requires : tie.Need-in-schedule-requires Inv-loop μ-loop
+in-schedule-requires c κs = search needs
+
 add-at : tie.Need-add-at Inv-loop μ-loop
 add-at c = omega arith
 
@@ -85,18 +88,19 @@ loop-less c = omega arith
 
 loop-again : tie.Need-loop-again Inv-loop μ-loop
 loop-again c =
-    let l = c .before .before .before .before .before .before .before .before .before .loop in (
-      rw (c .with-put .ensures) (omega arith),
+    let l = c .before .before .before .before .before .before .before .before .before .before .loop in (
+      rw (c .before .with-put .ensures) (omega arith),
       omega arith,
       l .inv .2,
       l .inv .3,
       λ p o n per e z.
           let g = l .inv .4 p o n per e z in
-          subst (Progress _ p o _) (sym (c .with-put .ensures))
-          (put-fine _ p o (l .at) _ _ (l .slots) g (omega arith) (is-put (c .before .before .before .before .before))
-          (omega (arith, c .before .before .before .judge-put .ensures .declared (c .before .enum-told .given .1)))
+          rw (c .in-schedule .ensures)
+          (subst (Progress _ p o _) (sym (c .before .with-put .ensures))
+          (put-fine _ p o (l .at) _ _ (l .slots) g (omega arith) (is-put (c .before .before .before .before .before .before))
+          (omega (arith, c .before .before .before .before .judge-put .ensures .declared (c .before .before .enum-told .given .1)))
           (omega (arith, g .after .puts-are))
-          (sym (c .before .enum-told .given .1) ∙ c .before .before .before .judge-put .ensures .judged p (g .done) n per (g .after) (omega (arith, g .after .puts-are)))),
+          (sym (c .before .before .enum-told .given .1) ∙ c .before .before .before .before .judge-put .ensures .judged p (g .done) n per (g .after) (omega (arith, g .after .puts-are))))),
     )
 
 all-put-requires : tie.Need-all-put-requires Inv-loop μ-loop
@@ -145,6 +149,7 @@ place-signals-spec =
     enum-told-2
     returns-2
     with-put-requires
+    in-schedule-requires
     add-at
     loop-less
     loop-again

@@ -50,22 +50,27 @@ returns c =
     (subst (λ x. EndedAt x (endedOf text (l .at) (c .before .before .schedule-command-at .result))) (sym (i .3 ∙ ap (λ m. parsePuts m text (l .at) (i .0)) (one-less (i .1) (omega arith))))
     (puts-stop text (l .at) (i .1 - 1) (i .0) _ (c .before .match .keys2) (sym (c .before .before .schedule-command-at .ensures))))
 
+in-schedule-requires : tie.Need-in-schedule-requires Inv-loop μ-loop
+in-schedule-requires c κs = search needs
+
 add-at : tie.Need-add-at Inv-loop μ-loop
-add-at c = omega (arith, inside c)
+add-at c = omega (arith, inside (c .before))
 
 loop-less : tie.Need-loop-less Inv-loop μ-loop
 loop-less c = omega arith
 
 loop-again : tie.Need-loop-again Inv-loop μ-loop
 loop-again c =
-    let l = c .before .before .before .before .loop in
+    let l = c .before .before .before .before .before .loop in
     let i = l .inv in
-    let text = now (c .before .before .before .before .before .before .args .text) in (
+    let text = now (c .before .before .before .before .before .before .before .args .text) in
+    rw (c .in-schedule .ensures) (
       _,
       i .1 - 1,
       omega arith,
       i .3 ∙ ap (λ m. parsePuts m text (l .at) (i .0)) (one-less (i .1) (omega arith)) ∙
-          puts-more (i .1 - 1) text (l .at) (i .0) _ _ (sym (c .before .before .schedule-command-at .ensures) ∙ c .enum-told .given .1),
+          puts-more (i .1 - 1) text (l .at) (i .0) _ _
+          (sym (c .before .before .before .schedule-command-at .ensures) ∙ c .before .enum-told .given .1),
     )
 
 refuse-end-requires : tie.Need-refuse-end-requires Inv-loop μ-loop
@@ -89,6 +94,7 @@ read-schedule-spec =
     enum-told
     end-at-requires
     returns
+    in-schedule-requires
     add-at
     loop-less
     loop-again

@@ -1,0 +1,2 @@
+-- What the widths' proofs share.
+pub mod Cases

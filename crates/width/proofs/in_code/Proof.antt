@@ -1,0 +1,16 @@
+-- `width::in_code` meets its contract. Assumes nothing.
+use borrow.Author.Needs.{needs}
+use Rattle.width.proofs.in_code.Statement.{statement}
+use Rattle.width.proofs.in_code.Tie as tie
+
+code-requires : tie.Need-code-requires
+code-requires c κs = search needs
+
+reach-requires : tie.Need-reach-requires
+reach-requires c κs = search needs
+
+returns : tie.Need-returns
+returns c = cc
+
+pub in-code-spec : {M : Type 1} → statement M
+in-code-spec = tie.close (tie.spec code-requires reach-requires returns)

@@ -1,0 +1,109 @@
+// The command lists of the paper, read as widths: how many bytes each command takes, its own byte and its operands, without the
+// expression or the LINKs that follow. A byte that the list of its kind of text has not has none.
+use model::Kind;
+use model::Width;
+ghost use mathlib.Core.Path.{_≡_};
+ghost use Rattle.model.specs.Width.{programWidth, expressionWidth, scheduleWidth, codeWidth, reach, inProgram, inExpression, inSchedule, inCode, readWidth};
+
+// END; IN period, word; EQ period, word, weight; LAT mode, bound; LINK signal; CAP limit.
+pub fn program(byte: u8) -> Width
+    ensures { λ r. ⌜ r ≡ programWidth byte ⌝ }
+{
+    match byte {
+        0x00 => Width::Bytes(1),
+        0x10 => Width::Bytes(6),
+        0x11 => Width::Bytes(8),
+        0x12 => Width::Bytes(4),
+        0x13 => Width::Bytes(2),
+        0x14 => Width::Bytes(5),
+        _ => Width::Unlisted,
+    }
+}
+
+// CONST word; NOW and LAST signal; WHEN, LASTWHEN and CURRENT signal, i, n; ADD to MAX; NEG; IF.
+pub fn expression(byte: u8) -> Width
+    ensures { λ r. ⌜ r ≡ expressionWidth byte ⌝ }
+{
+    match byte {
+        0x20 => Width::Bytes(5),
+        0x21..=0x22 => Width::Bytes(2),
+        0x23..=0x25 => Width::Bytes(4),
+        0x30..=0x36 => Width::Bytes(1),
+        0x38 => Width::Bytes(1),
+        0x3A => Width::Bytes(1),
+        _ => Width::Unlisted,
+    }
+}
+
+// END; PUT signal, phase.
+pub fn schedule(byte: u8) -> Width
+    ensures { λ r. ⌜ r ≡ scheduleWidth byte ⌝ }
+{
+    match byte {
+        0x00 => Width::Bytes(1),
+        0x40 => Width::Bytes(3),
+        _ => Width::Unlisted,
+    }
+}
+
+// ADD to MAX; NEG; IF; PUSH word; LOAD and FETCH signal; STORE signal.
+pub fn code(byte: u8) -> Width
+    ensures { λ r. ⌜ r ≡ codeWidth byte ⌝ }
+{
+    match byte {
+        0x30..=0x36 => Width::Bytes(1),
+        0x38 => Width::Bytes(1),
+        0x3A => Width::Bytes(1),
+        0x50 => Width::Bytes(5),
+        0x51..=0x52 => Width::Bytes(2),
+        0x5F => Width::Bytes(2),
+        _ => Width::Unlisted,
+    }
+}
+
+// How far the command of a listed byte reaches.
+fn reach(width: Width) -> usize
+    ensures { λ r. ⌜ r ≡ reach width ⌝ }
+{
+    match width {
+        Width::Bytes(n) => n,
+        Width::Unlisted => 0,
+    }
+}
+
+pub fn in_program(byte: u8) -> usize
+    ensures { λ r. ⌜ r ≡ inProgram byte ⌝ }
+{
+    reach(program(byte))
+}
+
+pub fn in_expression(byte: u8) -> usize
+    ensures { λ r. ⌜ r ≡ inExpression byte ⌝ }
+{
+    reach(expression(byte))
+}
+
+pub fn in_schedule(byte: u8) -> usize
+    ensures { λ r. ⌜ r ≡ inSchedule byte ⌝ }
+{
+    reach(schedule(byte))
+}
+
+pub fn in_code(byte: u8) -> usize
+    ensures { λ r. ⌜ r ≡ inCode byte ⌝ }
+{
+    reach(code(byte))
+}
+
+// The reads, by their kinds.
+pub fn of_read(kind: Kind) -> usize
+    ensures { λ r. ⌜ r ≡ readWidth kind ⌝ }
+{
+    match kind {
+        Kind::Now => in_expression(0x21),
+        Kind::Last => in_expression(0x22),
+        Kind::When => in_expression(0x23),
+        Kind::LastWhen => in_expression(0x24),
+        Kind::Current => in_expression(0x25),
+    }
+}
