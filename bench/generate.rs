@@ -271,7 +271,7 @@ fn constraints(random: &mut Random, shape: &Shape, signals: &[Signal], twist: Tw
         let backward = random.one_in(2);
         let (least, most) = latencies(signals, &links, shape.hypercycle as i64);
         let bound = if backward { most } else { least };
-        let over = matches!(twist, Twist::Latency) && expected == 0 && bound > 0;
+        let over = matches!(twist, Twist::Latency) && expected == 0;
         let bound = if over { bound - 1 } else { bound + random.pick(&[0, 0, 1, 60000]) };
         commands.push(chain_text(backward, bound as u16, &links));
         expected = if over { 16 } else { expected };
@@ -319,14 +319,14 @@ fn chain(random: &mut Random, signals: &[Signal]) -> Option<Vec<usize>> {
     (links.len() >= 2).then_some(links)
 }
 
-/// The least and the greatest latency of counted runs, over more hypercycles than there are links.
+/// The least and the greatest latency of counted runs, over more hypercycles than there are links. Neither is 0.
 fn latencies(signals: &[Signal], links: &[usize], hypercycle: i64) -> (i64, i64) {
     let last = &signals[links[links.len() - 1]];
     let first = &signals[links[0]];
     let (mut least, mut most) = (i64::MAX, 0);
     for k in 0..(links.len() as i64 + 2) * hypercycle / last.period {
         if let Some(m) = way_back(signals, links, k) {
-            let latency = k * last.period + last.phase - (m * first.period + first.phase);
+            let latency = k * last.period + last.phase - (m * first.period + first.phase) + 1;
             (least, most) = (least.min(latency), most.max(latency));
         }
     }

@@ -1,4 +1,5 @@
-//! The latency of the chains (refusal 16), over all runs by a window of one hypercycle.
+//! The latency of the chains (refusal 16), over all runs by a window of one hypercycle. Outputs latch at the end of the cycle: a
+//! latency is 1 more than the difference of cycles (request c).
 //!
 //! Why a window of one hypercycle decides. Let H be the hypercycle and P the period of the last link, and shift a run of it by H
 //! cycles, that is by H/P elements. Then each read on the way uses an element that is later by H over its own signal's period:
@@ -56,7 +57,7 @@ fn kept(program: &Program, schedule: &Schedule, hypercycle: u32, chain: &Chain) 
     let mut window = start..start + runs;
     let within = |element: u32| {
         let used = hops.iter().fold(element, |element, hop| hop.back(element));
-        cycle(last, element) - cycle(first, used) <= chain.bound
+        cycle(last, element) - cycle(first, used) + 1 <= chain.bound
     };
     if chain.backward {
         window.all(within)

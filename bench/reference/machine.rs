@@ -210,16 +210,16 @@ impl Stack {
                     self.push(samples[usize::from(code[at])]);
                     at += 1;
                 }
-                0x30 => self.binary(i32::wrapping_add),
-                0x31 => self.binary(i32::wrapping_sub),
-                0x32 => self.binary(i32::wrapping_mul),
+                0x30 => self.binary(i32::saturating_add),
+                0x31 => self.binary(i32::saturating_sub),
+                0x32 => self.binary(i32::saturating_mul),
                 0x33 => self.binary(|a, b| (a < b).into()),
                 0x34 => self.binary(|a, b| (a == b).into()),
                 0x35 => self.binary(i32::min),
                 0x36 => self.binary(i32::max),
                 0x38 => {
                     let word = self.pop();
-                    self.push(word.wrapping_neg());
+                    self.push(word.saturating_neg());
                 }
                 0x3A => self.choose(),
                 _ => return self.pop(),

@@ -15,21 +15,24 @@ use lib.ListN.{length, getD, drop}
 use Rattle.model.specs.Accepted.{All, Accepted, Multiple}
 use Rattle.model.specs.Calls.{Call, callOf, after, Supplied, Holds}
 use Rattle.model.specs.Compile.{Pair, pairOf, verdictOf, compileOf}
-use Rattle.model.specs.Conditions.{LegalPair}
+use Rattle.model.specs.Conditions.{_among_, LegalPair}
 use Rattle.model.specs.Height.{Within}
 use Rattle.model.specs.Image.{lengthOf, imageOf}
+use Rattle.model.specs.Latency.{readsBack, backwards, back, source, latencyOf}
 use Rattle.model.specs.Machine.{Job, effect, isPosition, hyperOf, countOf, listOf, codeOf, wellFormed, countSignals}
 use Rattle.model.specs.Machine.{resetWords, cycleWords, cycleCount, resetOf, cycleOf}
 use Rattle.model.specs.Outcome.{Outcome, accepted, refused, refuse, fault, _▷_, provided}
-use Rattle.model.specs.Program.{Program, count, signalAt, bodyReads}
+use Rattle.model.specs.Program.{Program, Chain, count, signalAt, bodyReads}
 use Rattle.model.specs.Rates.{hypercycle}
-use Rattle.model.specs.Reads.{settled}
+use Rattle.model.specs.Reads.{rateOf, runCycle, settled}
 use Rattle.model.specs.Report.{highest, countsOf, toldOf, reportOf}
 use Rattle.model.specs.Reach.{WidthsListed}
 use Rattle.model.specs.Refusals.{RefusedAt}
 use Rattle.model.specs.Schedule.{Schedule}
 use Rattle.model.specs.Streams.{Satisfies}
+use Rattle.model.specs.Word.{NearestResults}
 use Rattle.model.specs.declared.Fault.{Fault}
+use Rattle.model.specs.declared.Found.the-variants.{At}
 use Rattle.model.specs.declared.Index.the-variants.{Open}
 use Rattle.model.specs.declared.Sizes.{Sizes}
 use Rattle.model.proofs.Alike.{open-alike, alike-satisfy}
@@ -43,6 +46,8 @@ use Rattle.model.proofs.Exact as Exact
 use Rattle.model.proofs.Examples as Examples
 use Rattle.model.proofs.Formed.{image-well-formed}
 use Rattle.model.proofs.Heights.{stack-least, stack-31}
+use Rattle.model.proofs.Latency as Latency
+use Rattle.model.proofs.Nearest as Nearest
 use Rattle.model.proofs.Offsets.{OffsetsFit, offsets-fit}
 use Rattle.model.proofs.Places.{places-small, places-zero}
 use Rattle.model.proofs.Stretches.{image-length, image-count}
@@ -92,6 +97,23 @@ accepted-exactly = Exact.accepted-exactly
 pub refused-exactly : (program schedule : List ℕ) (n x : ℕ) →
     (pairOf program schedule ≡ refused (fault n x)) ↔ RefusedAt program schedule n x
 refused-exactly = Exact.refused-exactly
+
+-- Request c. In an accepted pair let r be the last link of a chain and ws the links before it, the nearest first. If one goes
+-- back from element k of r to element m of the first link a, the latency is 1 more than the cycles from m to k, and no
+-- difference is cut ..
+pub latency-whole : (program schedule : List ℕ) (q : Pair) → pairOf program schedule ≡ accepted q → (c : Chain) →
+    c among q .program .chains → (r : ℕ) (ws : List ℕ) → backwards c ≡ r ∷ ws → (k m : ℕ) →
+    let p = q .program in
+    let s = q .schedule in
+    let a = source p s r (readsBack p r ws) in
+    back p s r k (readsBack p r ws) ≡ At m →
+    latencyOf (rateOf p s r) k (rateOf p s a) m + runCycle (rateOf p s a) m ≡ runCycle (rateOf p s r) k + 1
+latency-whole = Latency.latency-whole
+
+-- .. so that no chain keeps a bound of 0, in either mode: some run of every chain counts.
+pub no-zero-bound : (program schedule : List ℕ) (q : Pair) → pairOf program schedule ≡ accepted q → (c : Chain) →
+    c among q .program .chains → 0 < c .bound
+no-zero-bound = Latency.no-zero-bound
 
 small-code : (f : Fault) → f .place ≤ 65535 → codeNumber (refused f) ≡ f .number * 4294967296 + f .place
 small-code f le = ap (λ n. f .number * 4294967296 + n) (mod-eq-of-lt (omega arith))
@@ -353,6 +375,11 @@ same-program program schedule schedule′ q q′ e e′ =
     let t′ = pair-passed program schedule′ q′ e′ in
     let one : q .program ≡ q′ .program = cc (sym (t .parses) ∙ t′ .parses) in
     (one, cc (sym (t .hyper) ∙ ap hypercycle one ∙ t′ .hyper))
+
+-- Request d. ADD, SUB, MUL and NEG, in the streams as in a cycle, give the nearest word to the true result: a word; the result
+-- itself, where it is one; and no word is nearer to it.
+pub nearest-word : (a b : ℤ) → NearestResults a b
+nearest-word = Nearest.nearest-word
 
 -- The paper's examples marked m: one table, which the definitions answer by computation.
 pub examples : map (λ c. Examples.answerTo (c .question)) Examples.cases ≡ map (λ c. c .answer) Examples.cases

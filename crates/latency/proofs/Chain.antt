@@ -7,7 +7,7 @@ use native.Mathlib.Nat.{le-trans, mul-le-mul-left}
 use native.Mathlib.Omega.{arith}
 use lib.ListN.{length, getD}
 use Rattle.model.specs.Accepted.{Met, Accepted}
-use Rattle.model.specs.Latency.{onward, used, back, source, latencyOf, latencyFrom, runLatency, isLate, isInTime, isTimely}
+use Rattle.model.specs.Latency.{onward, used, back, source, latencyFrom, runLatency, isLate, isInTime, isTimely}
 use Rattle.model.specs.Program.{Program, Read, count, signalAt}
 use Rattle.model.specs.Reads.{rateOf, runCycle, stored, before, settled}
 use Rattle.model.specs.Schedule.{Schedule, phaseOf}
@@ -47,7 +47,6 @@ module _ (p : Program) (s : Schedule) where
       go (suc m) f = f m
 
   latency-is : (r a k : ℕ) (f : Found) → latencyFrom p s r k a f ≡ latencyBy (rateOf p s r) (rateOf p s a) k f
-  unfolding latencyOf
   latency-is r a k (At m) = refl
   latency-is r a k Nowhere = refl
 

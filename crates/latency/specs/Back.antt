@@ -1,12 +1,12 @@
 -- Going back over the reads of a chain, by a table of hops.
-use Prim.Native.Nat.{ℕ, zero, suc, _+_, _-_, _≤_, _<_}
+use Prim.Native.Nat.{ℕ, zero, suc, _+_, _≤_, _<_}
 use mathlib.Core.Bool.{Bool, true, false, not}
 use mathlib.Core.List.{List}
 use mathlib.Core.Path.{_≡_}
 use lib.Dec.{leb, ltb}
 use lib.ListN.{getD}
-use Rattle.model.specs.Latency.{onward}
-use Rattle.model.specs.Reads.{Rate, runCycle, uses}
+use Rattle.model.specs.Latency.{onward, latencyOf}
+use Rattle.model.specs.Reads.{Rate, uses}
 use Rattle.model.specs.Search.{first, isFound, allBelow}
 use Rattle.model.specs.declared.Found.{Found}
 use Rattle.model.specs.declared.Found.the-variants.{At, Nowhere}
@@ -46,7 +46,7 @@ SmallFound Nowhere = Unit {0}
 
 -- The latency of run k of the last link, if the run counts.
 abbrev pub latencyBy : Rate → Rate → ℕ → Found → Found
-latencyBy last source k (At m) = At (runCycle last k - runCycle source m)
+latencyBy last source k (At m) = At (latencyOf last k source m)
 latencyBy last source k Nowhere = Nowhere
 
 unfoldable pub runLatencyBy : List Hop → ℕ → Rate → Rate → ℕ → Found

@@ -58,7 +58,7 @@ fn go_back(hops: [Hop; 15], count: usize, k: usize) -> Found
 // The cycle of a run.
 fn cycle_of(timing: Timing, k: usize) -> usize
     requires { ⌜ k ≤ 1000000 ⌝ }
-    ensures { λ r. ⌜ r ≡ runCycle (rateIn timing) k ⌝ }
+    ensures { λ r. ⌜ (r ≡ runCycle (rateIn timing) k) × (r ≤ 255000255) ⌝ }
 {
     k * (timing.period as usize) + (timing.phase as usize)
 }
@@ -77,7 +77,11 @@ fn run_latency(hops: [Hop; 15], count: usize, last: Timing, source: Timing, k: u
 {
     let found = go_back(hops, count, k);
     match found {
-        Found::At(m) => Found::At(cycles_between(cycle_of(source, m), cycle_of(last, k))),
+        Found::At(m) => {
+            let cycles = cycles_between(cycle_of(source, m), cycle_of(last, k));
+            let latency = cycles + 1;
+            Found::At(latency)
+        }
         Found::Nowhere => Found::Nowhere,
     }
 }

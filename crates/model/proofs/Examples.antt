@@ -6,7 +6,7 @@ use lib.IntN.{ℤ, pos, negsuc}
 use lib.ListN.{length, getD, replicate}
 use Rattle.model.specs.Outcome.{_▷_, provided, lowest}
 use Rattle.model.specs.Search.{firstFrom, first, allBelow, tableFrom, table, chosen, joinFrom, sum}
-use Rattle.model.specs.Word.{bitsOf, wordOf, wrap, addWord, subWord, mulWord, negWord, lessWord, sameWord, minWord, maxWord, ifWord, twoAt, fourAt, wordAt, twoBytes, fourBytes, wordBytes}
+use Rattle.model.specs.Word.{bitsOf, wordOf, nearest, addWord, subWord, mulWord, negWord, lessWord, sameWord, minWord, maxWord, ifWord, twoAt, fourAt, wordAt, twoBytes, fourBytes, wordBytes}
 use Rattle.model.specs.Command.{operatorOf, keywordOf, keywordAt, plainRead, sampledRead, commandOf, commandAt}
 use Rattle.model.specs.Program.{node, parseExpr, parseLinks, declare, parseCommands, parseProgram, readsOf}
 use Rattle.model.specs.Rates.{readFaults, linkFaults, declaredAndRated, isMultiple, hypercycle, countReads, isLinked, linked}
@@ -28,7 +28,7 @@ use Rattle.model.specs.Program.{bodyReads}
 use Rattle.model.specs.Word.{binaryWord}
 use Rattle.model.specs.declared.Binary.{Binary}
 use Rattle.model.specs.declared.Sizes.{Sizes}
-use Rattle.model.specs.declared.Binary.the-variants.{Add, Mul}
+use Rattle.model.specs.declared.Binary.the-variants.{Add, Sub, Mul}
 
 -- A question about a program and its schedule, or about an operator.
 pub data Question : Type 0 where
@@ -158,10 +158,11 @@ cases =
     -- CAP 4 accepted; CAP 3 refused 15, place 1
     (verdict (A-with (cap 4)) in-order gives accepts) ∷
     (verdict (A-with (cap 3)) in-order gives refuses 15 1) ∷
-    -- chain 0, 1, 2: backward 1 accepted, 0 refused 16 at the LAT; exists 0 accepted
-    (verdict (A-with (chain 1 1)) in-order gives accepts) ∷
-    (verdict (A-with (chain 1 0)) in-order gives refuses 16 33) ∷
-    (verdict (A-with (chain 0 0)) in-order gives accepts) ∷
+    -- chain 0, 1, 2: backward 2 accepted, 1 refused 16 at the LAT; exists 1 accepted, 0 refused 16 (request c)
+    (verdict (A-with (chain 1 2)) in-order gives accepts) ∷
+    (verdict (A-with (chain 1 1)) in-order gives refuses 16 33) ∷
+    (verdict (A-with (chain 0 1)) in-order gives accepts) ∷
+    (verdict (A-with (chain 0 0)) in-order gives refuses 16 33) ∷
     -- periods 15 and 16 give H 240; 16 and 17 refused 9
     (hypercycles (two-inputs 15 16) (at-phases 0 0) gives numbers (240 ∷ [])) ∷
     (verdict (two-inputs 16 17) (at-phases 0 0) gives refuses 9 0) ∷
@@ -173,13 +174,16 @@ cases =
     -- open CURRENT, P_w 4, p_w 3, P_r 2, w put first: p_r 1 settles i = 1; p_r 0 refused 14
     (indices (one-read 0x25 4 2 255) (at-phases 3 1) gives numbers (1 ∷ [])) ∷
     (verdict (one-read 0x25 4 2 255) (at-phases 3 0) gives refuses 14 14) ∷
-    -- 2147483647 ADD 1 is −2147483648; NEG of −2147483648 is itself; 65536 MUL 65536 is 0
-    (binary Add (pos 2147483647) (pos 1) gives signals (negsuc 2147483647 ∷ [])) ∷
-    (negation (negsuc 2147483647) gives signals (negsuc 2147483647 ∷ [])) ∷
-    (binary Mul (pos 65536) (pos 65536) gives signals (pos 0 ∷ [])) ∷
+    -- 2147483647 ADD 1, NEG of −2147483648 and 65536 MUL 65536 are 2147483647 (request d)
+    (binary Add (pos 2147483647) (pos 1) gives signals (pos 2147483647 ∷ [])) ∷
+    (negation (negsuc 2147483647) gives signals (pos 2147483647 ∷ [])) ∷
+    (binary Mul (pos 65536) (pos 65536) gives signals (pos 2147483647 ∷ [])) ∷
+    -- 0 SUB −2147483648 and −1 SUB it are 2147483647: SUB is not ADD of NEG, which gives 2147483646 for the second
+    (binary Sub (pos 0) (negsuc 2147483647) gives signals (pos 2147483647 ∷ [])) ∷
+    (binary Sub (negsuc 0) (negsuc 2147483647) gives signals (pos 2147483647 ∷ [])) ∷
     []
 
 -- The definitions answer every question of the table as the paper does.
 pub examples : map (λ c. answerTo (c .question)) cases ≡ map (λ c. c .answer) cases
-unfolding _▷_ provided lowest firstFrom first allBelow tableFrom table chosen joinFrom sum bitsOf wordOf wrap addWord subWord mulWord negWord lessWord sameWord minWord maxWord ifWord twoAt fourAt wordAt twoBytes fourBytes wordBytes operatorOf keywordOf keywordAt plainRead sampledRead commandOf commandAt node parseExpr parseLinks declare parseCommands parseProgram readsOf readFaults linkFaults declaredAndRated isMultiple hypercycle countReads isLinked linked scheduleCommandAt scheduleCommand parsePuts parseSchedule isPut putFaults putsFaults putPhase scheduleOf placed due stored between share ordered place settle settled isMet met value load loaded readOf readsBack used back source latencyOf runLatency fromOf windowOf keeps timely exprCode codes runList runLists offsets records codesAt lengthOf head imageOf operatorCode codeAt listOffset codeOffset listOf codeOf commandOk codeOkFrom codeOk headOk listsOk entriesOk codesOk wellFormed runCommand runFrom runCode runSignals nextPosition resetWords cycleWords resetOf cycleOf shortEnough pairOf verdictOf compileOf listCommands cycleCommands highest countsOf reportOf callOf after logAfter lentAt
+unfolding _▷_ provided lowest firstFrom first allBelow tableFrom table chosen joinFrom sum bitsOf wordOf nearest addWord subWord mulWord negWord lessWord sameWord minWord maxWord ifWord twoAt fourAt wordAt twoBytes fourBytes wordBytes operatorOf keywordOf keywordAt plainRead sampledRead commandOf commandAt node parseExpr parseLinks declare parseCommands parseProgram readsOf readFaults linkFaults declaredAndRated isMultiple hypercycle countReads isLinked linked scheduleCommandAt scheduleCommand parsePuts parseSchedule isPut putFaults putsFaults putPhase scheduleOf placed due stored between share ordered place settle settled isMet met value load loaded readOf readsBack used back source latencyOf runLatency fromOf windowOf keeps timely exprCode codes runList runLists offsets records codesAt lengthOf head imageOf operatorCode codeAt listOffset codeOffset listOf codeOf commandOk codeOkFrom codeOk headOk listsOk entriesOk codesOk wellFormed runCommand runFrom runCode runSignals nextPosition resetWords cycleWords resetOf cycleOf shortEnough pairOf verdictOf compileOf listCommands cycleCommands highest countsOf reportOf callOf after logAfter lentAt
 examples = refl

@@ -1,4 +1,5 @@
 -- What is proved of the definitions alone: their laws, and the paper's examples.
+pub mod Nearest
 pub mod Rate
 pub mod Lines
 pub mod Decide
@@ -32,6 +33,7 @@ pub mod Parses
 pub mod Stopped
 pub mod Links
 pub mod Verdict
+pub mod Latency
 pub mod Judged
 pub mod JudgedPuts
 pub mod JudgedRuns

@@ -135,7 +135,7 @@ module _ (p : Program) (s : Schedule) where
         go zero g ih = absurd (omega (arith, some-run w (ch .0 .declared)))
         go (suc j) g ih = ih j (omega (arith, some-run w (ch .0 .declared)))
 
-    -- The way back ends no later than it starts, so that a latency is a difference of cycles.
+    -- The way back ends no later than it starts.
     pub back-before : (ρs : List Read) (r k m : ℕ) → r < count p → ChainMet r ρs → back p s r k ρs ≡ At m →
         runCycle (rateOf p s (source p s r ρs)) m ≤ runCycle (rateOf p s r) k
     unfolding back source
@@ -205,7 +205,8 @@ module _ (p : Program) (s : Schedule) where
               (i : ℕ) × (i < windowOf p s h r) × (latencyFrom p s r (from + i) a (back p s r (from + i) ρs) ≡ At l)
           go (At m) q t =
               let f = window k m q in
-              let d : latencyOf p s r (from + f .0) a (f .1) ≡ latencyOf p s r k a m = omega (arith, f .4) in
+              let d : latencyOf (rateOf p s r) (from + f .0) (rateOf p s a) (f .1) ≡ latencyOf (rateOf p s r) k (rateOf p s a) m =
+              omega (arith, f .4) in
               (f .0, f .2, rw (f .3) (ap At d ∙ t))
           go Nowhere q t = let z : _≡_ {A = ℕ} 0 1 = cc in absurd (omega arith)
 
@@ -227,3 +228,22 @@ module _ (p : Program) (s : Schedule) where
             let f = window-latency (g .0) (g .1) (g .2) in
             true-isFound _ _ (f .0) (f .1) (rw (f .2) (le-leb _ _ (g .3))),
       )
+
+      -- A latency is 1 more than the cycles from the element of the first link to the run: no difference is cut.
+      pub latency-adds : (k m : ℕ) → back p s r k ρs ≡ At m →
+          latencyOf (rateOf p s r) k (rateOf p s (source p s r ρs)) m + runCycle (rateOf p s (source p s r ρs)) m ≡
+          runCycle (rateOf p s r) k + 1
+      unfolding latencyOf
+      latency-adds k m e = omega (arith, back-before ρs r k m lt ch e)
+
+      -- Some run counts, and no latency is 0: so neither mode keeps a bound of 0.
+      pub bound-positive : (mode : Mode) (bound : ℕ) → Timely p s mode r ρs bound → 0 < bound
+      unfolding runLatency latencyOf
+      bound-positive Backward bound g =
+          let b = back-enough ρs r (length ρs * runs p h r) lt ch (omega arith) in
+          omega (arith, g (length ρs * runs p h r) _ (ap (latencyFrom p s r _ (source p s r ρs)) (b .1)))
+      bound-positive Exists bound (k, l, e, le) = go (back p s r k ρs) e
+        where
+          go : (f : Found) → latencyFrom p s r k (source p s r ρs) f ≡ At l → 0 < bound
+          go (At m) q = let same : latencyOf (rateOf p s r) k (rateOf p s (source p s r ρs)) m ≡ l = cc in omega arith
+          go Nowhere q = let z : _≡_ {A = ℕ} 0 1 = cc in absurd (omega arith)

@@ -7,7 +7,7 @@ use lib.Dec.{leb, ltb, eqb}
 use lib.ListN.{length}
 use Rattle.model.specs.Outcome.{Outcome, fault, lowest}
 use Rattle.model.specs.Program.{Program, Chain, Link, Read, signalAt, bodyReads}
-use Rattle.model.specs.Reads.{rateOf, runCycle, uses, settled}
+use Rattle.model.specs.Reads.{Rate, rateOf, runCycle, uses, settled}
 use Rattle.model.specs.Schedule.{Schedule}
 use Rattle.model.specs.Search.{first, isFound, allBelow, joinFrom}
 use Rattle.model.specs.declared.Found.{Found}
@@ -39,6 +39,12 @@ abbrev pub onward : (ℕ → Found) → ℕ → Found
 onward go zero = Nowhere
 onward go (suc m) = go m
 
+-- Latency: the cycle of run k of the last link minus the cycle of element m of the first, by their rates r and a, and 1 more,
+-- since outputs latch at the end of the cycle (request c). The difference never cuts: no run goes back to an element that is
+-- younger than itself (`latency-whole`).
+unfoldable pub latencyOf : Rate → ℕ → Rate → ℕ → ℕ
+latencyOf r k a m = runCycle r k - runCycle a m + 1
+
 module _ (p : Program) (s : Schedule) where
   -- The history entry that element k of r uses at a read.
   unfoldable pub used : ℕ → ℕ → Read → ℕ
@@ -55,12 +61,8 @@ module _ (p : Program) (s : Schedule) where
   source r [] = r
   source r (ρ ∷ ρs) = source (ρ .operands .signal) ρs
 
-  -- Latency: the cycle of run k of r minus the cycle of element m of a.
-  unfoldable pub latencyOf : ℕ → ℕ → ℕ → ℕ → ℕ
-  latencyOf r k a m = runCycle (rateOf p s r) k - runCycle (rateOf p s a) m
-
   abbrev pub latencyFrom : ℕ → ℕ → ℕ → Found → Found
-  latencyFrom r k a (At m) = At (latencyOf r k a m)
+  latencyFrom r k a (At m) = At (latencyOf (rateOf p s r) k (rateOf p s a) m)
   latencyFrom r k a Nowhere = Nowhere
 
   -- The latency of run k of r over these reads, if the run counts.

@@ -1,20 +1,18 @@
 -- What a signed local's bits give back, and the steps from a test on words to the definitions. Assumes nothing.
 use mathlib.Core.Path.{_≡_, refl, sym, ap, ap₂, _∙_}
 use mathlib.Core.Bool.{Bool, true, false}
-use Prim.Native.Nat.{ℕ, zero, suc, _+_, _-_, _*_, _%_, _^_, _≤_, _<_}
-use native.Mathlib.Nat.{zero-add, lt-of-le-of-lt, le-of-lt, mul-le-mul-left, mul-lt-mul-of-pos-right}
+use Prim.Native.Nat.{ℕ, zero, suc, _-_, _^_, _≤_, _<_}
+use native.Mathlib.Nat.{zero-add}
 use native.Mathlib.Omega.{arith}
 use borrow.Author.Tests.{ltb-true, le-ltb, eq-eqb, ne-eqb}
 use lib.IntN.{ℤ, pos, negsuc, _-ℤ_}
 use lib.Signed.{ltZ, mag}
-use lib.Dec.{lit<}
 use mir.Syntax.{w32}
 use mir.Val.{toZ, ofZ, SFits}
 use mir.Facts.{toZ-ofZ}
 use mir.ValLaws.{toZ-pos, toZ-neg}
 use borrow.Author.Needs.{sfits-of}
-use Rattle.model.specs.Word.{bitsOf, wordOf, wrap, addWord, subWord, mulWord, negWord, eqZ}
-use Rattle.word.proofs.Modulo.{bits-add, bits-sub, bits-mul, bits-neg}
+use Rattle.model.specs.Word.{bitsOf, eqZ}
 
 -- a test on two words, of their bits
 pub test : {a b : ℤ} {t : Bool} → SFits w32 a → SFits w32 b → ltZ (toZ w32 (ofZ w32 a)) (toZ w32 (ofZ w32 b)) ≡ t → ltZ a b ≡ t
@@ -103,29 +101,9 @@ high u h l = rw (toZ-pos w32 (4294967295 - u) (omega arith), flip-pos (429496729
     same : u ≡ 2 ^ 32 - suc (4294967295 - u)
     same = omega arith
 
--- an operation on bits is the operation on words
-pub add-is : (a b : ℤ) {x y : ℕ} → x ≡ bitsOf a → y ≡ bitsOf b → wordOf ((x + y) % 2 ^ 32) ≡ addWord a b
-unfolding addWord wrap
-add-is a b p q = ap wordOf (ap₂ (λ (x y : ℕ). (x + y) % 2 ^ 32) p q ∙ sym (bits-add a b))
-
-pub sub-is : (a b : ℤ) {x y : ℕ} → x ≡ bitsOf a → y ≡ bitsOf b → wordOf ((x + (2 ^ 32 - y)) % 2 ^ 32) ≡ subWord a b
-unfolding subWord wrap
-sub-is a b p q = ap wordOf (ap₂ (λ (x y : ℕ). (x + (2 ^ 32 - y)) % 2 ^ 32) p q ∙ sym (bits-sub a b))
-
-pub mul-is : (a b : ℤ) {x y : ℕ} → x ≡ bitsOf a → y ≡ bitsOf b → wordOf (x * y % 2 ^ 32) ≡ mulWord a b
-unfolding mulWord wrap
-mul-is a b p q = ap wordOf (ap₂ (λ (x y : ℕ). x * y % 2 ^ 32) p q ∙ sym (bits-mul a b))
-
-pub neg-is : (a : ℤ) {x : ℕ} → x ≡ bitsOf a → wordOf ((2 ^ 32 - x) % 2 ^ 32) ≡ negWord a
-unfolding negWord wrap
-neg-is a p = ap wordOf (ap (λ (x : ℕ). (2 ^ 32 - x) % 2 ^ 32) p ∙ sym (bits-neg a))
-
 -- a word that a call gave, read back from its bits
 pub kept : (z : ℤ) → mag z < 2 ^ 31 → toZ w32 (ofZ w32 z) ≡ z
 kept z h = toZ-ofZ {w = w32} (sfits-of h)
-
-pub product-below : {x y : ℕ} → x < 2 ^ 32 → y < 2 ^ 32 → x * y < 2 ^ 64
-product-below {x} {y} hx hy = lt-of-le-of-lt (mul-le-mul-left x (le-of-lt hy)) (mul-lt-mul-of-pos-right hx (lit< tt))
 
 -- what a call of `bits` on a local says
 pub of-local : {a : ℤ} {x : ℕ} → SFits w32 a → x ≡ bitsOf (toZ w32 (ofZ w32 a)) → x ≡ bitsOf a

@@ -4,7 +4,7 @@ ghost use mathlib.Core.Path.{_≡_};
 ghost use Prim.Native.Nat.{_+_, _%_, _^_, _<_, _≤_};
 ghost use lib.ListN.{length};
 ghost use lib.Seq.{sets};
-ghost use Rattle.model.specs.Word.{bitsOf, wordOf};
+ghost use Rattle.model.specs.Word.{bitsOf, wordOf, nearest};
 ghost use Rattle.model.specs.Word.{addWord, subWord, mulWord, negWord, lessWord, sameWord, minWord, maxWord, ifWord, binaryWord};
 ghost use Rattle.model.specs.Word.{twoAt, fourAt, wordAt, twoBytes, wordBytes};
 
@@ -30,35 +30,41 @@ pub fn from_bits(u: u32) -> i32
     }
 }
 
-// The word that a number wraps to.
-fn wrapped(n: u64) -> i32
-    ensures { λ r. ⌜ r ≡ wordOf (n % 2 ^ 32) ⌝ }
+// The word nearest to a number.
+fn nearest(x: i64) -> i32
+    ensures { λ r. ⌜ r ≡ nearest x ⌝ }
 {
-    from_bits((n % 4294967296) as u32)
+    if x < -2147483648 {
+        return -2147483648;
+    }
+    if 2147483647 < x {
+        return 2147483647;
+    }
+    x as i32
 }
 
 pub fn add(a: i32, b: i32) -> i32
     ensures { λ r. ⌜ r ≡ addWord a b ⌝ }
 {
-    wrapped((bits(a) as u64) + (bits(b) as u64))
+    nearest((a as i64) + (b as i64))
 }
 
 pub fn sub(a: i32, b: i32) -> i32
     ensures { λ r. ⌜ r ≡ subWord a b ⌝ }
 {
-    wrapped((bits(a) as u64) + (4294967296 - (bits(b) as u64)))
+    nearest((a as i64) - (b as i64))
 }
 
 pub fn mul(a: i32, b: i32) -> i32
     ensures { λ r. ⌜ r ≡ mulWord a b ⌝ }
 {
-    wrapped((bits(a) as u64) * (bits(b) as u64))
+    nearest((a as i64) * (b as i64))
 }
 
 pub fn neg(a: i32) -> i32
     ensures { λ r. ⌜ r ≡ negWord a ⌝ }
 {
-    wrapped(4294967296 - (bits(a) as u64))
+    nearest(0 - (a as i64))
 }
 
 // 1 where a is below b, else 0.

@@ -1,5 +1,6 @@
 -- `latency::run_latency` meets its contract. Assumes nothing.
 use mathlib.Core.Path.{sym, subst, _∙_}
+use Rattle.model.specs.Latency.{latencyOf}
 use Rattle.latency.specs.Back.{SmallFound, runLatencyBy}
 use borrow.Author.Needs.{needs}
 use Rattle.latency.proofs.run_latency.Statement.{statement}
@@ -20,12 +21,22 @@ cycle-of-requires-2 c κs = search needs
 cycles-between-requires : tie.Need-cycles-between-requires
 cycles-between-requires c κs = search needs
 
+add-latency : tie.Need-add-latency
+add-latency c = search needs
+
 enum-told : tie.Need-enum-told
 enum-told c = search needs
 
 returns : tie.Need-returns
-unfolding runLatencyBy
-returns c = rw (sym (c .before .before .before .before .before .before .go-back .ensures .0) ∙ c .before .before .before .before .found .given .1, ← (c .before .cycle-of2 .ensures), ← (c .before .before .cycle-of .ensures), ← (c .cycles-between .ensures))
+unfolding runLatencyBy latencyOf
+returns c =
+    let m = c .before .before .before .before in
+    rw (
+      sym (m .before .before .go-back .ensures .0) ∙ m .found .given .1,
+      ← (c .before .cycle-of2 .ensures .0),
+      ← (c .before .before .cycle-of .ensures .0),
+      ← (c .cycles-between .ensures),
+    )
 
 returns-2 : tie.Need-returns-2
 unfolding runLatencyBy
@@ -40,6 +51,7 @@ run-latency-spec =
     cycle-of-requires
     cycle-of-requires-2
     cycles-between-requires
+    add-latency
     enum-told
     returns
     returns-2)

@@ -1,42 +1,29 @@
+-- `word::add` meets its contract. Assumes nothing.
+use lib.IntN.{_+ℤ_}
 use borrow.Author.Needs.{needs}
+use Rattle.model.specs.Word.{addWord}
+use Rattle.word.proofs.Results.{wide-fits, sum-fits, of-result}
 use Rattle.word.proofs.add.Statement.{statement}
 use Rattle.word.proofs.add.Tie as tie
-use mathlib.Core.Path.{_∙_}
-use Rattle.word.proofs.Laws.{add-is, kept, of-local}
 
-bits-requires : tie.Need-bits-requires
-bits-requires c κs = search needs
+cast-nearest : tie.Need-cast-nearest
+cast-nearest c = wide-fits (c .fits .a)
 
-cast-wrapped : tie.Need-cast-wrapped
-cast-wrapped c = search needs
+cast-nearest-2 : tie.Need-cast-nearest-2
+cast-nearest-2 c = wide-fits (c .fits .b)
 
-bits-requires-2 : tie.Need-bits-requires-2
-bits-requires-2 c κs = search needs
+add-nearest : tie.Need-add-nearest
+add-nearest c = sum-fits (c .fits .a) (c .fits .b)
 
-cast-wrapped-2 : tie.Need-cast-wrapped-2
-cast-wrapped-2 c = search needs
-
-add-wrapped : tie.Need-add-wrapped
-add-wrapped c = search needs
-
-wrapped-requires : tie.Need-wrapped-requires
-wrapped-requires c κs = search needs
+nearest-requires : tie.Need-nearest-requires
+nearest-requires c κs = search needs
 
 returns : tie.Need-returns
+unfolding addWord
 returns c =
-    let s = c .before .before .before in
-    let a = of-local (s .fits .a) (c .before .before .bits .ensures) in
-    let b = of-local (s .fits .b) (c .before .bits2 .ensures) in
-    kept _ (c .wrapped .ok) ∙ c .wrapped .ensures ∙ add-is (s .args .a) (s .args .b) a b
+    let a = c .before .fits .a in
+    let b = c .before .fits .b in
+    of-result _+ℤ_ a b (sum-fits a b) (c .nearest .ok) (c .nearest .ensures)
 
 pub add-spec : {M : Type 1} → statement M
-add-spec =
-    tie.close
-    (tie.spec
-    bits-requires
-    cast-wrapped
-    bits-requires-2
-    cast-wrapped-2
-    add-wrapped
-    wrapped-requires
-    returns)
+add-spec = tie.close (tie.spec cast-nearest cast-nearest-2 add-nearest nearest-requires returns)

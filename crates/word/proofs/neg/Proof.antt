@@ -1,26 +1,28 @@
+-- `word::neg` meets its contract. Assumes nothing.
+use mathlib.Core.Path.{ap, _∙_}
+use lib.IntN.{+ℤ-idl}
+use mir.Facts.{toZ-ofZ}
 use borrow.Author.Needs.{needs}
+use Rattle.model.specs.Word.{nearest, negWord}
+use Rattle.word.proofs.Laws.{kept}
+use Rattle.word.proofs.Results.{wide-fits, wide-back, minus-fits}
 use Rattle.word.proofs.neg.Statement.{statement}
 use Rattle.word.proofs.neg.Tie as tie
-use mathlib.Core.Path.{_∙_}
-use Rattle.word.proofs.Laws.{neg-is, kept, of-local}
 
-bits-requires : tie.Need-bits-requires
-bits-requires c κs = search needs
+cast-nearest : tie.Need-cast-nearest
+cast-nearest c = wide-fits (c .fits .a)
 
-cast-wrapped : tie.Need-cast-wrapped
-cast-wrapped c = search needs
+sub-nearest : tie.Need-sub-nearest
+sub-nearest c = minus-fits (c .fits .a)
 
-sub-wrapped : tie.Need-sub-wrapped
-sub-wrapped c = search needs
-
-wrapped-requires : tie.Need-wrapped-requires
-wrapped-requires c κs = search needs
+nearest-requires : tie.Need-nearest-requires
+nearest-requires c κs = search needs
 
 returns : tie.Need-returns
+unfolding negWord
 returns c =
-    let s = c .before .before in
-    let a = of-local (s .fits .a) (c .before .bits .ensures) in
-    kept _ (c .wrapped .ok) ∙ c .wrapped .ensures ∙ neg-is (s .args .a) a
+    let a = c .before .fits .a in
+    kept _ (c .nearest .ok) ∙ c .nearest .ensures ∙ rw (toZ-ofZ (minus-fits a), wide-back a) (ap nearest (+ℤ-idl _))
 
 pub neg-spec : {M : Type 1} → statement M
-neg-spec = tie.close (tie.spec bits-requires cast-wrapped sub-wrapped wrapped-requires returns)
+neg-spec = tie.close (tie.spec cast-nearest sub-nearest nearest-requires returns)

@@ -1,46 +1,29 @@
+-- `word::sub` meets its contract. Assumes nothing.
+use lib.IntN.{_-ℤ_}
 use borrow.Author.Needs.{needs}
+use Rattle.model.specs.Word.{subWord}
+use Rattle.word.proofs.Results.{wide-fits, difference-fits, of-result}
 use Rattle.word.proofs.sub.Statement.{statement}
 use Rattle.word.proofs.sub.Tie as tie
-use mathlib.Core.Path.{_∙_}
-use Rattle.word.proofs.Laws.{sub-is, kept, of-local}
 
-bits-requires : tie.Need-bits-requires
-bits-requires c κs = search needs
+cast-nearest : tie.Need-cast-nearest
+cast-nearest c = wide-fits (c .fits .a)
 
-cast-wrapped : tie.Need-cast-wrapped
-cast-wrapped c = search needs
+cast-nearest-2 : tie.Need-cast-nearest-2
+cast-nearest-2 c = wide-fits (c .fits .b)
 
-bits-requires-2 : tie.Need-bits-requires-2
-bits-requires-2 c κs = search needs
+sub-nearest : tie.Need-sub-nearest
+sub-nearest c = difference-fits (c .fits .a) (c .fits .b)
 
-cast-wrapped-2 : tie.Need-cast-wrapped-2
-cast-wrapped-2 c = search needs
-
-sub-wrapped : tie.Need-sub-wrapped
-sub-wrapped c = search needs
-
-add-wrapped : tie.Need-add-wrapped
-add-wrapped c = search needs
-
-wrapped-requires : tie.Need-wrapped-requires
-wrapped-requires c κs = search needs
+nearest-requires : tie.Need-nearest-requires
+nearest-requires c κs = search needs
 
 returns : tie.Need-returns
+unfolding subWord
 returns c =
-    let s = c .before .before .before in
-    let a = of-local (s .fits .a) (c .before .before .bits .ensures) in
-    let b = of-local (s .fits .b) (c .before .bits2 .ensures) in
-    kept _ (c .wrapped .ok) ∙ c .wrapped .ensures ∙ sub-is (s .args .a) (s .args .b) a b
+    let a = c .before .fits .a in
+    let b = c .before .fits .b in
+    of-result _-ℤ_ a b (difference-fits a b) (c .nearest .ok) (c .nearest .ensures)
 
 pub sub-spec : {M : Type 1} → statement M
-sub-spec =
-    tie.close
-    (tie.spec
-    bits-requires
-    cast-wrapped
-    bits-requires-2
-    cast-wrapped-2
-    sub-wrapped
-    add-wrapped
-    wrapped-requires
-    returns)
+sub-spec = tie.close (tie.spec cast-nearest cast-nearest-2 sub-nearest nearest-requires returns)

@@ -1,0 +1,65 @@
+-- The nearest word is what its name says, and ADD, SUB, MUL and NEG give it. Assumes nothing.
+use Prim.Native.Nat.{ℕ, zero, suc, _+_, _-_, _≤_, _<_}
+use mathlib.Core.Bool.{Bool, true, false, not, cond}
+use mathlib.Core.Path.{_≡_, refl, ap}
+use native.Mathlib.Omega.{arith}
+use lib.Dec.{T, ltb, ltb→lt, nltb→le}
+use lib.IntN.{ℤ, pos, negsuc, natAbs, negℤ, _+ℤ_, _-ℤ_, _*ℤ_, subℕ}
+use Rattle.model.specs.Word.{
+  IsWord,
+  distance,
+  NearestWord,
+  nearest,
+  addWord,
+  subWord,
+  mulWord,
+  negWord,
+  NearestResults,
+}
+
+-- a − b of two natural numbers, by which is the larger.
+pub sub-by : (a b : ℕ) (P : ℤ → Type 0) → (a < b → P (negsuc (b - suc a))) → (b ≤ a → P (pos (a - b))) → P (subℕ a b)
+sub-by a b P f g = go (ltb a b) (λ t. f (ltb→lt a b t)) (λ t. g (nltb→le a b t))
+  where
+    go : (t : Bool) → (T t → P (negsuc (b - suc a))) → (T (not t) → P (pos (a - b))) →
+        P (cond t (negsuc (b - suc a)) (pos (a - b)))
+    go true f g = f tt
+    go false f g = g tt
+
+-- How far two numbers are apart: with one sign, and with two.
+apart-pos : (m n : ℕ) → distance (pos m) (pos n) ≡ m - n + (n - m)
+apart-pos m zero = omega arith
+apart-pos m (suc n) = sub-by m (suc n) (λ z. natAbs z ≡ m - suc n + (suc n - m)) (λ h. omega arith) (λ h. omega arith)
+
+apart-neg : (m n : ℕ) → distance (negsuc m) (negsuc n) ≡ m - n + (n - m)
+apart-neg m n = sub-by (suc n) (suc m) (λ z. natAbs z ≡ m - n + (n - m)) (λ h. omega arith) (λ h. omega arith)
+
+apart-below : (m n : ℕ) → distance (negsuc m) (pos n) ≡ suc m + n
+apart-below m zero = sub-by 0 (suc m) (λ z. natAbs z ≡ suc m + 0) (λ h. omega arith) (λ h. omega arith)
+apart-below m (suc n) = omega arith
+
+apart-above : (m n : ℕ) → distance (pos m) (negsuc n) ≡ suc m + n
+apart-above m n = omega arith
+
+none-nearer : (z v : ℤ) → IsWord v → distance (nearest z) z ≤ distance v z
+unfolding nearest
+none-nearer (pos n) (pos k) h = simp apart-pos (omega arith)
+none-nearer (pos n) (negsuc k) h = simp (apart-pos, apart-below) (omega arith)
+none-nearer (negsuc n) (pos k) h = simp (apart-neg, apart-above) (omega arith)
+none-nearer (negsuc n) (negsuc k) h = simp apart-neg (omega arith)
+
+nearest-is : (z : ℤ) → NearestWord z (nearest z)
+unfolding nearest
+nearest-is (pos n) = record { word = omega arith; itself = λ h. ap pos (omega arith); none-nearer = none-nearer (pos n) }
+nearest-is (negsuc n) =
+    record { word = omega arith; itself = λ h. ap negsuc (omega arith); none-nearer = none-nearer (negsuc n) }
+
+pub nearest-word : (a b : ℤ) → NearestResults a b
+unfolding addWord subWord mulWord negWord
+nearest-word a b =
+    record {
+      add = nearest-is (a +ℤ b);
+      sub = nearest-is (a -ℤ b);
+      mul = nearest-is (a *ℤ b);
+      neg = nearest-is (negℤ a);
+    }
