@@ -29,7 +29,7 @@ pub fn compile(program: &[u8], schedule: &[u8], image: &mut [u8]) -> Compiled
         return refused(judged);
     };
     let tables = checked.tables;
-    let periods = checked.periods;
+    let periods = tables.periods;
     let slots = checked.slots;
     let order = slots.order;
     let phases = slots.phases;

@@ -22,7 +22,7 @@ pair : (e : tie.After-enum-told) → let k = e .before .before in
 pair e = answers-fine _ _ _ (e .before .before .check-pair .ensures) (e .enum-told .given .1)
 
 abbrev ready : (e : tie.After-enum-told) → let k = e .before .before in let r = k .check-pair .result in
-    Ready (now (start k .args .program)) (r .tables) (r .periods) (r .slots .order) (r .slots .phases) (r .hypercycle)
+    Ready (now (start k .args .program)) (r .tables) (r .tables .periods) (r .slots .order) (r .slots .phases) (r .hypercycle)
 ready e =
     let k = pair e in
     record { program = k .0 .program; schedule = k .0 .schedule; prepared = k .2 .prepared; hyper = k .2 .bound }
