@@ -1,5 +1,6 @@
 //! Runs cases with expected answers (docs/VECTORS.md) on the reference: every line must be equal.
 mod reference;
+mod widths;
 
 use std::process::exit;
 
@@ -52,6 +53,12 @@ fn report(cases: &mut Cases) -> String {
     format!("{} {} {stack} {hash}", answer >> 32, answer as u32)
 }
 
+fn listed(cases: &mut Cases) -> String {
+    let kind = cases.number(1);
+    let widths: Vec<String> = (0..=255).map(|byte| widths::width(kind, byte).unwrap_or(0).to_string()).collect();
+    widths.join(" ")
+}
+
 /// The lines that the cases print.
 fn replay(cases: &[u8]) -> Vec<String> {
     let mut cases = Cases(cases);
@@ -75,6 +82,10 @@ fn replay(cases: &[u8]) -> Vec<String> {
             }
             6 => {
                 lines.push(report(&mut cases));
+                continue;
+            }
+            7 => {
+                lines.push(listed(&mut cases));
                 continue;
             }
             command => panic!("no such case: {command}"),

@@ -25,7 +25,7 @@ use Rattle.model.specs.Command.{
   commandOf,
   commandAt,
 }
-use Rattle.model.specs.Width.{readWidth}
+use Rattle.model.specs.Width.{inProgram, inExpression, readWidth}
 use Rattle.model.specs.Word.{byteAt, twoAt, fourAt, wordOf, wordAt}
 use Rattle.model.specs.declared.Command.{Command}
 use Rattle.model.specs.declared.Command.the-variants as Command
@@ -84,19 +84,19 @@ module _ (text : List ℕ) (at : ℕ) where
   Sound Command.EndsEarly = Unit {0}
   Sound Command.Unknown = Unit {0}
   Sound Command.OutOfRange = Unit {0}
-  Sound Command.End = at + 1 ≤ length text
+  Sound Command.End = at + inProgram 0x00 ≤ length text
   Sound (Command.Input period initial) =
-      (1 ≤ period) × (period ≤ 240) × (initial ≡ wordAt text (at + 2)) × (at + 6 ≤ length text)
+      (1 ≤ period) × (period ≤ 240) × (initial ≡ wordAt text (at + 2)) × (at + inProgram 0x10 ≤ length text)
   Sound (Command.Equation period initial weight) =
-      (1 ≤ period) × (period ≤ 240) × (initial ≡ wordAt text (at + 2)) × (at + 8 ≤ length text)
-  Sound (Command.Latency mode bound) = at + 4 ≤ length text
-  Sound (Command.Link signal) = at + 2 ≤ length text
-  Sound (Command.Cap n) = at + 5 ≤ length text
-  Sound (Command.Constant w) = (w ≡ wordAt text (at + 1)) × (at + 5 ≤ length text)
+      (1 ≤ period) × (period ≤ 240) × (initial ≡ wordAt text (at + 2)) × (at + inProgram 0x11 ≤ length text)
+  Sound (Command.Latency mode bound) = at + inProgram 0x12 ≤ length text
+  Sound (Command.Link signal) = at + inProgram 0x13 ≤ length text
+  Sound (Command.Cap n) = at + inProgram 0x14 ≤ length text
+  Sound (Command.Constant w) = (w ≡ wordAt text (at + 1)) × (at + inExpression 0x20 ≤ length text)
   Sound (Command.Read kind x) = ReadSound x × (at + readWidth kind ≤ length text)
-  Sound (Command.Binary operator) = at + 1 ≤ length text
-  Sound Command.Negate = at + 1 ≤ length text
-  Sound Command.If = at + 1 ≤ length text
+  Sound (Command.Binary operator) = at + inExpression 0x30 ≤ length text
+  Sound Command.Negate = at + inExpression 0x38 ≤ length text
+  Sound Command.If = at + inExpression 0x3A ≤ length text
 
   whole-sound : (n : ℕ) (c : Command) → (at + n ≤ length text → Sound c) → Sound (whole text at n c)
   whole-sound n c h = go (leb (at + n) (length text)) refl
@@ -109,17 +109,18 @@ module _ (text : List ℕ) (at : ℕ) where
   ranged-sound true c h = h refl
   ranged-sound false c h = tt
 
-  plain-sound : (kind : Kind) → readWidth kind ≡ 2 → Sound (plainRead kind text at)
+  plain-sound : (kind : Kind) → readWidth kind ≡ inExpression 0x21 → Sound (plainRead kind text at)
   unfolding plainRead
   plain-sound kind e =
-      whole-sound 2 _ (λ h. (record { positive = omega arith; bound = omega arith; range = omega arith }, omega arith))
+      whole-sound (inExpression 0x21) _ (λ h.
+      (record { positive = omega arith; bound = omega arith; range = omega arith }, omega arith))
 
-  sampled-sound : (kind : Kind) → readWidth kind ≡ 4 → Sound (sampledRead kind text at)
+  sampled-sound : (kind : Kind) → readWidth kind ≡ inExpression 0x23 → Sound (sampledRead kind text at)
   unfolding sampledRead
   sampled-sound kind e =
       let i = byteAt text (at + 2) in
       let n = byteAt text (at + 3) in
-      whole-sound 4 _ (λ h.
+      whole-sound (inExpression 0x23) _ (λ h.
       ranged-sound (isFactor n && isIndex i n) _ (λ t. (operands-sound (byteAt text (at + 1)) i n t, omega arith)))
 
   keyword-sound : (k : Keyword) → at < length text → Sound (commandOf k text at)
@@ -128,18 +129,20 @@ module _ (text : List ℕ) (at : ℕ) where
   keyword-sound Keyword.Unknown lt = tt
   keyword-sound Keyword.End lt = omega arith
   keyword-sound Keyword.Input lt =
-      whole-sound 2 _ (λ h. ranged-sound _ _ (λ t. whole-sound 6 _ (λ g.
+      whole-sound 2 _ (λ h. ranged-sound _ _ (λ t. whole-sound (inProgram 0x10) _ (λ g.
       let f = period-bounds (byteAt text (at + 1)) t in (f .0, f .1, refl, g))))
   keyword-sound Keyword.Equation lt =
-      whole-sound 2 _ (λ h. ranged-sound _ _ (λ t. whole-sound 8 _ (λ g.
+      whole-sound 2 _ (λ h. ranged-sound _ _ (λ t. whole-sound (inProgram 0x11) _ (λ g.
       let f = period-bounds (byteAt text (at + 1)) t in (f .0, f .1, refl, g))))
   keyword-sound Keyword.Latency lt =
       let mode = byteAt text (at + 1) in
       let command = Command.Latency (modeOf mode) (twoAt text (at + 2)) in
-      whole-sound 2 _ (λ h. ranged-sound (leb mode 1) (whole text at 4 command) (λ t. whole-sound 4 command (λ g. g)))
-  keyword-sound Keyword.Link lt = whole-sound 2 _ (λ h. h)
-  keyword-sound Keyword.Cap lt = whole-sound 5 _ (λ h. h)
-  keyword-sound Keyword.Constant lt = whole-sound 5 _ (λ h. (refl, h))
+      whole-sound 2 _ (λ h.
+      ranged-sound (leb mode 1) (whole text at (inProgram 0x12) command) (λ t.
+      whole-sound (inProgram 0x12) command (λ g. g)))
+  keyword-sound Keyword.Link lt = whole-sound (inProgram 0x13) _ (λ h. h)
+  keyword-sound Keyword.Cap lt = whole-sound (inProgram 0x14) _ (λ h. h)
+  keyword-sound Keyword.Constant lt = whole-sound (inExpression 0x20) _ (λ h. (refl, h))
   keyword-sound (Keyword.Read Now) lt = plain-sound Now refl
   keyword-sound (Keyword.Read Last) lt = plain-sound Last refl
   keyword-sound (Keyword.Read When) lt = sampled-sound When refl
@@ -159,9 +162,10 @@ module _ (text : List ℕ) (at : ℕ) where
       go false t = tt
 
   -- A LINK.
-  pub link-command : byteAt text at ≡ 0x13 → at + 2 ≤ length text → commandAt text at ≡ Command.Link (byteAt text (at + 1))
+  pub link-command : byteAt text at ≡ 0x13 → at + inProgram 0x13 ≤ length text →
+      commandAt text at ≡ Command.Link (byteAt text (at + 1))
   unfolding commandAt keywordAt keywordOf commandOf
-  link-command e le = rw (lt-ltb at (length text) (omega arith), e, le-leb (at + 2) (length text) le)
+  link-command e le = rw (lt-ltb at (length text) (omega arith), e, le-leb (at + inProgram 0x13) (length text) le)
 
 -- The keyword of a command that is read whole.
 abbrev pub KeywordOf : Command → Keyword → Type 0
@@ -188,7 +192,7 @@ module _ (text : List ℕ) (at : ℕ) where
   plain-keyword : (kind : Kind) → KeywordOf (plainRead kind text at) (Keyword.Read kind)
   unfolding plainRead
   plain-keyword kind =
-      operands-keyword (Keyword.Read kind) (leb (at + 2) (length text)) true true
+      operands-keyword (Keyword.Read kind) (leb (at + inExpression 0x21) (length text)) true true
       (Command.Read kind (record { signal = byteAt text (at + 1); factor = 1; index = Index.Fixed 0 })) refl
 
   sampled-keyword : (kind : Kind) → KeywordOf (sampledRead kind text at) (Keyword.Read kind)
@@ -196,7 +200,8 @@ module _ (text : List ℕ) (at : ℕ) where
   sampled-keyword kind =
       let i = byteAt text (at + 2) in
       let n = byteAt text (at + 3) in
-      operands-keyword (Keyword.Read kind) (leb (at + 4) (length text)) (isFactor n && isIndex i n) true
+      operands-keyword (Keyword.Read kind) (leb (at + inExpression 0x23) (length text))
+      (isFactor n && isIndex i n) true
       (Command.Read kind (record { signal = byteAt text (at + 1); factor = n; index = indexOf i })) refl
 
   command-keyword : (k : Keyword) → KeywordOf (commandOf k text at) k
@@ -206,22 +211,28 @@ module _ (text : List ℕ) (at : ℕ) where
   command-keyword Keyword.End = refl
   command-keyword Keyword.Input =
       let period = byteAt text (at + 1) in
-      operands-keyword Keyword.Input (leb (at + 2) (length text)) (isPeriod period) (leb (at + 6) (length text))
+      operands-keyword Keyword.Input (leb (at + 2) (length text)) (isPeriod period)
+      (leb (at + inProgram 0x10) (length text))
       (Command.Input period (wordAt text (at + 2))) refl
   command-keyword Keyword.Equation =
       let period = byteAt text (at + 1) in
-      operands-keyword Keyword.Equation (leb (at + 2) (length text)) (isPeriod period) (leb (at + 8) (length text))
+      operands-keyword Keyword.Equation (leb (at + 2) (length text)) (isPeriod period)
+      (leb (at + inProgram 0x11) (length text))
       (Command.Equation period (wordAt text (at + 2)) (twoAt text (at + 6))) refl
   command-keyword Keyword.Latency =
       let mode = byteAt text (at + 1) in
-      operands-keyword Keyword.Latency (leb (at + 2) (length text)) (leb mode 1) (leb (at + 4) (length text))
+      operands-keyword Keyword.Latency (leb (at + 2) (length text)) (leb mode 1)
+      (leb (at + inProgram 0x12) (length text))
       (Command.Latency (modeOf mode) (twoAt text (at + 2))) refl
   command-keyword Keyword.Link =
-      operands-keyword Keyword.Link (leb (at + 2) (length text)) true true (Command.Link (byteAt text (at + 1))) refl
+      operands-keyword Keyword.Link (leb (at + inProgram 0x13) (length text)) true true
+      (Command.Link (byteAt text (at + 1))) refl
   command-keyword Keyword.Cap =
-      operands-keyword Keyword.Cap (leb (at + 5) (length text)) true true (Command.Cap (fourAt text (at + 1))) refl
+      operands-keyword Keyword.Cap (leb (at + inProgram 0x14) (length text)) true true
+      (Command.Cap (fourAt text (at + 1))) refl
   command-keyword Keyword.Constant =
-      operands-keyword Keyword.Constant (leb (at + 5) (length text)) true true (Command.Constant (wordAt text (at + 1))) refl
+      operands-keyword Keyword.Constant (leb (at + inExpression 0x20) (length text)) true true
+      (Command.Constant (wordAt text (at + 1))) refl
   command-keyword (Keyword.Read Now) = plain-keyword Now
   command-keyword (Keyword.Read Last) = plain-keyword Last
   command-keyword (Keyword.Read When) = sampled-keyword When

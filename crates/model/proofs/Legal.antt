@@ -32,7 +32,7 @@ use Rattle.model.specs.Program.{
   bodyReads,
 }
 use Rattle.model.specs.Search.{joinFrom}
-use Rattle.model.specs.Width.{readWidth}
+use Rattle.model.specs.Width.{inProgram, readWidth}
 use Rattle.model.specs.Word.{wordBytes, fourBytes}
 use Rattle.model.specs.declared.Command.the-variants as Command
 use Rattle.model.specs.declared.Kind.{Kind}
@@ -48,7 +48,7 @@ abbrev pub SpellsBody : List ℕ → Signal → Body → Type 0
 SpellsBody text x input = commandAt text (x .place) ≡ Command.Input (x .period) (x .initial)
 SpellsBody text x (equation weight e) =
     (commandAt text (x .place) ≡ Command.Equation (x .period) (x .initial) weight) × (next : ℕ) ×
-    Spells text (x .place + 8) e next × (depth e ≤ 16)
+    Spells text (x .place + inProgram 0x11) e next × (depth e ≤ 16)
 
 abbrev pub SpellsSignal : List ℕ → Signal → Type 0
 SpellsSignal text x = SpellsBody text x (x .body)

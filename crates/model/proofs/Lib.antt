@@ -1,4 +1,5 @@
 -- What is proved of the definitions alone: their laws, and the paper's examples.
+pub mod Widths
 pub mod Nearest
 pub mod Rate
 pub mod Lines
@@ -24,7 +25,6 @@ pub mod Faults
 pub mod Hypercycle
 pub mod Commands
 pub mod Written
-pub mod Widths
 pub mod Spelled
 pub mod All
 pub mod Legal

@@ -37,6 +37,7 @@ use Rattle.model.specs.Program.{
   parseProgram,
 }
 use Rattle.model.specs.Stops.{HasRoom}
+use Rattle.model.specs.Width.{inProgram}
 use Rattle.model.specs.Word.{byteAt}
 use Rattle.model.specs.declared.Binary.{Binary}
 use Rattle.model.specs.declared.Command.{Command}
@@ -220,7 +221,8 @@ module _ (text : List ℕ) where
           onward (at + 6) (withSignal p (record { place = at; period = period; initial = initial; body = input }))
           (λ end q r. Declares.inputs (room-of p _ (keyword-of text at _ e) room) e r)
       declares (Command.Equation period initial weight) e room =
-          holds-then (Reads 16 (at + 8)) (Ended at p) (parseExpr 16 text (at + 8)) _ (reads-expr 16 (at + 8)) (λ x u.
+          holds-then (Reads 16 (at + inProgram 0x11)) (Ended at p) (parseExpr 16 text (at + inProgram 0x11)) _
+          (reads-expr 16 (at + inProgram 0x11)) (λ x u.
           onward (x .next)
           (withSignal p (record { place = at; period = period; initial = initial; body = equation weight (x .value) }))
           (λ end q r. Declares.equations (room-of p _ (keyword-of text at _ e) room) e (u .0) (u .1) r))

@@ -43,6 +43,7 @@ use Rattle.model.specs.Stops.{
   Stops,
   StopsPuts,
 }
+use Rattle.model.specs.Width.{inProgram}
 use Rattle.model.specs.Word.{byteAt}
 use Rattle.model.specs.declared.Command.{Command}
 use Rattle.model.specs.declared.Command.the-variants as Command
@@ -523,11 +524,11 @@ module _ (text : List ℕ) where
             onward (at + 6) _ (omega arith) (DeclaresOne.inputs (room-of p _ (keyword-of text at _ e) r) e)
         declare-stops (Command.Equation period initial weight) e r =
             let room = room-of p _ (keyword-of text at _ e) r in
-            refuses-then (Stops text at p) (parseExpr 16 text (at + 8)) _
-            (refuses-map (StopsExpr text 16 (at + 8)) (Stops text at p) (parseExpr 16 text (at + 8)) (λ n x s.
-            Stops.expression room e s) (expr-stops text 16 (at + 8)))
+            refuses-then (Stops text at p) (parseExpr 16 text (at + inProgram 0x11)) _
+            (refuses-map (StopsExpr text 16 (at + inProgram 0x11)) (Stops text at p) (parseExpr 16 text (at + inProgram 0x11)) (λ n x s.
+            Stops.expression room e s) (expr-stops text 16 (at + inProgram 0x11)))
             (λ o q.
-            let s = spelled text 16 (at + 8) (o .value) (o .next) q in
+            let s = spelled text 16 (at + inProgram 0x11) (o .value) (o .next) q in
             onward (o .next) _ (omega (arith, spells-after (s .0))) (DeclaresOne.equations room e (s .0) (s .1)))
         declare-stops (Command.Latency mode bound) e r =
             let room = room-of p _ (keyword-of text at _ e) r in

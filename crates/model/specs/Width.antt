@@ -1,6 +1,6 @@
 -- The command lists of the paper, read as widths: how many bytes each command takes, its own byte and its operands. The
--- expression or the LINKs that follow a command are commands of their own and don't count. A byte that the list of its kind of
--- text has not has no width.
+-- expression or the LINKs that follow a command are commands of their own and don't count. A byte that is not listed for its kind
+-- of text has no width.
 use Prim.Native.Nat.{ℕ}
 use mathlib.Core.Bool.{Bool, true, false, cond, _&&_}
 use lib.Dec.{leb, eqb}
@@ -13,38 +13,60 @@ use Rattle.model.specs.declared.Width.the-variants.{Bytes, Unlisted}
 abbrev pub within : ℕ → ℕ → ℕ → Bool
 within low high b = leb low b && leb b high
 
--- Program: END; IN period, word; EQ period, word, weight; LAT mode, bound; LINK signal; CAP limit.
+-- Program.
 abbrev pub programWidth : ℕ → Width
 programWidth b =
+    -- END
     cond (eqb b 0x00) (Bytes 1)
+    -- IN period, word
     (cond (eqb b 0x10) (Bytes 6)
+    -- EQ period, word, weight
     (cond (eqb b 0x11) (Bytes 8)
+    -- LAT mode, bound
     (cond (eqb b 0x12) (Bytes 4)
+    -- LINK signal
     (cond (eqb b 0x13) (Bytes 2)
+    -- CAP limit
     (cond (eqb b 0x14) (Bytes 5) Unlisted)))))
 
--- Expression: CONST word; NOW and LAST signal; WHEN, LASTWHEN and CURRENT signal, i, n; ADD to MAX; NEG; IF.
+-- Expression.
 abbrev pub expressionWidth : ℕ → Width
 expressionWidth b =
+    -- CONST word
     cond (eqb b 0x20) (Bytes 5)
+    -- NOW, LAST signal
     (cond (within 0x21 0x22 b) (Bytes 2)
+    -- WHEN, LASTWHEN, CURRENT signal, i, n
     (cond (within 0x23 0x25 b) (Bytes 4)
+    -- ADD to MAX
     (cond (within 0x30 0x36 b) (Bytes 1)
+    -- NEG
     (cond (eqb b 0x38) (Bytes 1)
+    -- IF
     (cond (eqb b 0x3A) (Bytes 1) Unlisted)))))
 
--- Schedule: END; PUT signal, phase.
+-- Schedule.
 abbrev pub scheduleWidth : ℕ → Width
-scheduleWidth b = cond (eqb b 0x00) (Bytes 1) (cond (eqb b 0x40) (Bytes 3) Unlisted)
+scheduleWidth b =
+    -- END
+    cond (eqb b 0x00) (Bytes 1)
+    -- PUT signal, phase
+    (cond (eqb b 0x40) (Bytes 3) Unlisted)
 
--- Image code: ADD to MAX; NEG; IF; PUSH word; LOAD and FETCH signal; STORE signal.
+-- Image code.
 abbrev pub codeWidth : ℕ → Width
 codeWidth b =
+    -- ADD to MAX
     cond (within 0x30 0x36 b) (Bytes 1)
+    -- NEG
     (cond (eqb b 0x38) (Bytes 1)
+    -- IF
     (cond (eqb b 0x3A) (Bytes 1)
+    -- PUSH word
     (cond (eqb b 0x50) (Bytes 5)
+    -- LOAD, FETCH signal
     (cond (within 0x51 0x52 b) (Bytes 2)
+    -- STORE signal
     (cond (eqb b 0x5F) (Bytes 2) Unlisted)))))
 
 -- How far the command of a listed byte reaches; of another there is no command to go past.

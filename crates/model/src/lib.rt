@@ -110,7 +110,7 @@ pub enum Code {
     If,
 }
 
-// How many bytes a command takes, its own and its operands; a byte that the list of its kind of text has not has none.
+// How many bytes a command takes, its own and its operands; a byte that is not listed for its kind of text has none.
 pub enum Width {
     Bytes(usize),
     Unlisted,

@@ -1,61 +1,81 @@
 // The command lists of the paper, read as widths: how many bytes each command takes, its own byte and its operands, without the
-// expression or the LINKs that follow. A byte that the list of its kind of text has not has none.
+// expression or the LINKs that follow. A byte that is not listed for its kind of text has none.
 use model::Kind;
 use model::Width;
 ghost use mathlib.Core.Path.{_≡_};
 ghost use Rattle.model.specs.Width.{programWidth, expressionWidth, scheduleWidth, codeWidth, reach, inProgram, inExpression, inSchedule, inCode, readWidth};
 
-// END; IN period, word; EQ period, word, weight; LAT mode, bound; LINK signal; CAP limit.
+// A program text.
 pub fn program(byte: u8) -> Width
     ensures { λ r. ⌜ r ≡ programWidth byte ⌝ }
 {
     match byte {
+        // END
         0x00 => Width::Bytes(1),
+        // IN period, word
         0x10 => Width::Bytes(6),
+        // EQ period, word, weight
         0x11 => Width::Bytes(8),
+        // LAT mode, bound
         0x12 => Width::Bytes(4),
+        // LINK signal
         0x13 => Width::Bytes(2),
+        // CAP limit
         0x14 => Width::Bytes(5),
         _ => Width::Unlisted,
     }
 }
 
-// CONST word; NOW and LAST signal; WHEN, LASTWHEN and CURRENT signal, i, n; ADD to MAX; NEG; IF.
+// An expression.
 pub fn expression(byte: u8) -> Width
     ensures { λ r. ⌜ r ≡ expressionWidth byte ⌝ }
 {
     match byte {
+        // CONST word
         0x20 => Width::Bytes(5),
+        // NOW, LAST signal
         0x21..=0x22 => Width::Bytes(2),
+        // WHEN, LASTWHEN, CURRENT signal, i, n
         0x23..=0x25 => Width::Bytes(4),
+        // ADD to MAX
         0x30..=0x36 => Width::Bytes(1),
+        // NEG
         0x38 => Width::Bytes(1),
+        // IF
         0x3A => Width::Bytes(1),
         _ => Width::Unlisted,
     }
 }
 
-// END; PUT signal, phase.
+// A schedule text.
 pub fn schedule(byte: u8) -> Width
     ensures { λ r. ⌜ r ≡ scheduleWidth byte ⌝ }
 {
     match byte {
+        // END
         0x00 => Width::Bytes(1),
+        // PUT signal, phase
         0x40 => Width::Bytes(3),
         _ => Width::Unlisted,
     }
 }
 
-// ADD to MAX; NEG; IF; PUSH word; LOAD and FETCH signal; STORE signal.
+// An image's code.
 pub fn code(byte: u8) -> Width
     ensures { λ r. ⌜ r ≡ codeWidth byte ⌝ }
 {
     match byte {
+        // ADD to MAX
         0x30..=0x36 => Width::Bytes(1),
+        // NEG
         0x38 => Width::Bytes(1),
+        // IF
         0x3A => Width::Bytes(1),
+        // PUSH word
         0x50 => Width::Bytes(5),
+        // LOAD, FETCH signal
         0x51..=0x52 => Width::Bytes(2),
+        // STORE signal
         0x5F => Width::Bytes(2),
         _ => Width::Unlisted,
     }

@@ -1,5 +1,5 @@
--- `width::code` meets its contract: the single bytes by their arms, then the ranges and the gaps between them, from the lowest on.
--- Assumes nothing.
+-- `width::code` meets its contract: the single bytes by their arms, then the ranges and the gaps between them, from the lowest
+-- on. Assumes nothing.
 use native.Mathlib.Omega.{arith}
 use borrow.Author.Tests.{ne-eqb}
 use Rattle.width.proofs.Cases.{inside, under, over, less, more}
