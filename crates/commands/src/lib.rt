@@ -12,6 +12,7 @@ ghost use Prim.Native.Nat.{_<_};
 ghost use lib.ListN.{length};
 ghost use Rattle.model.specs.Command.{operatorOf, keywordOf, keywordAt, isPeriod, isIndex, indexOf, modeOf, plainRead, sampledRead, commandOf, commandAt};
 ghost use Rattle.model.specs.Schedule.{scheduleCommandAt};
+ghost use Rattle.commands.specs.Operator.{operatorAt, kindOf, ReadStands, ReadTaken};
 
 // What a byte commands in an expression.
 fn operator_of(byte: u8) -> Keyword
@@ -268,6 +269,16 @@ fn operand_at(byte: u8, text: &[u8], at: usize) -> Command
     }
 }
 
+// The operator at an offset of an expression, with its operands.
+pub fn operator_at(text: &[u8], at: usize) -> Command
+    ensures { λ r. ⌜ r ≡ operatorAt (now (text .entry)) at ⌝ }
+{
+    if text.len() <= at {
+        return Command::EndsEarly;
+    }
+    operand_at(text[at], text, at)
+}
+
 // The command at an offset of the program text, with its operands. It goes by the byte and not by its keyword: most of the time of
 // a compile goes into decoding.
 pub fn command_at(text: &[u8], at: usize) -> Command
@@ -307,4 +318,52 @@ pub fn schedule_command_at(text: &[u8], at: usize) -> ScheduleCommand
         return ScheduleCommand::EndsEarly;
     }
     ScheduleCommand::Put(text[at + 1], text[at + 2])
+}
+
+// A read without its place: its kind and its operands.
+pub struct Taken {
+    pub kind: Kind,
+    pub operands: Sampled,
+}
+
+// The read of a byte from 21 to 25.
+fn kind_of(byte: u8) -> Kind
+    ensures { λ r. ⌜ r ≡ kindOf byte ⌝ }
+{
+    match byte {
+        0x21 => Kind::Now,
+        0x22 => Kind::Last,
+        0x23 => Kind::When,
+        0x24 => Kind::LastWhen,
+        _ => Kind::Current,
+    }
+}
+
+// The read that stands at an offset of an accepted text.
+pub fn taken_at(text: &[u8], at: usize) -> Taken
+    requires { ⌜ ReadStands (now text) at ⌝ }
+    ensures { λ r. ⌜ ReadTaken (now (text .entry)) at r ⌝ }
+{
+    let byte = text[at];
+    let signal = text[at + 1];
+    let kind = kind_of(byte);
+    if byte < 0x23 {
+        return Taken {
+            kind: kind,
+            operands: Sampled {
+                signal: signal,
+                factor: 1,
+                index: Index::Fixed(0),
+            },
+        };
+    }
+    let index = index_of(text[at + 2]);
+    Taken {
+        kind: kind,
+        operands: Sampled {
+            signal: signal,
+            factor: text[at + 3],
+            index: index,
+        },
+    }
 }
