@@ -31,6 +31,7 @@ use Rattle.model.specs.declared.Kind.{Kind}
 use Rattle.model.specs.declared.Kind.the-variants.{Now, Last, When, LastWhen, Current}
 use Rattle.model.proofs.Commands.{command-sound}
 use Rattle.model.proofs.Spelled.{spelled}
+use Rattle.model.proofs.Stretches.{sets-append}
 use Rattle.reader.specs.Walks.{placesOf, Room, Moves, WalksBy, Walks, EquationBy, WalksEquation, deepOf}
 use Rattle.reader.specs.declared.Entry.{Entry}
 use Rattle.reader.specs.declared.Step.{Step}
@@ -38,13 +39,6 @@ use Rattle.reader.specs.declared.Step.the-variants as Step
 use Rattle.reader.specs.declared.Walk.{Walk}
 use Rattle.reader.specs.declared.Walked.{Walked}
 use Rattle.reader.specs.declared.Walked.the-variants as Walked
-
--- Two stretches one after the other.
-pub sets-append : (l : List ℕ) (i : ℕ) (xs ys : List ℕ) → sets l i (xs ++ ys) ≡ sets (sets l i xs) (i + length xs) ys
-sets-append l i [] ys = rw add-zero
-sets-append l i (x ∷ xs) ys =
-    let e : suc i + length xs ≡ i + suc (length xs) = omega arith in
-    sets-append (set l i x) (suc i) xs ys ∙ ap (λ (j : ℕ). sets (sets (set l i x) (suc i) xs) j ys) e
 
 pub moves-length : {l l′ places : List ℕ} {next code count to : ℕ} {w : Walk} → Moves next places code l count to l′ w →
     length l′ ≡ length l
