@@ -8,9 +8,6 @@ use native.Mathlib.Omega.{arith}
 use borrow.Author.Needs.{needs}
 use Rattle.script.proofs.end_at.Statement.{statement}
 use Rattle.script.proofs.end_at.Tie as tie
-use Rattle.script.proofs.end_at.Reads as reads
-use Rattle.script.proofs.end_at.Lts as lts
-use Rattle.script.proofs.refused.Reads as refused-reads
 
 enum-told : tie.Need-enum-told
 enum-told c = search needs

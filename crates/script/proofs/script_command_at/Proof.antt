@@ -12,9 +12,6 @@ use native.Mathlib.Omega.{arith}
 use borrow.Author.Needs.{needs}
 use Rattle.script.proofs.script_command_at.Statement.{statement}
 use Rattle.script.proofs.script_command_at.Tie as tie
-use Rattle.script.proofs.script_command_at.Reads as reads
-use Rattle.script.proofs.script_command_at.Lts as lts
-use Rattle.word.proofs.word_at.Reads as word-at-reads
 
 returns : tie.Need-returns
 unfolding scriptCommandAt
@@ -36,7 +33,13 @@ returns-3 : tie.Need-returns-3
 unfolding scriptCommandAt
 returns-3 c = let a = c .before .before .before .before .before .before .args in
     let s = now (a .text) in
-    rw (lt-ltb (a .at) (length s) (omega arith), ne-eqb (getD s (a .at) 0) 0 (c .before .before .if2 .left), eq-eqb (getD s (a .at) 0) 112 (c .before .if3 .taken), lt-leb (a .at + 6) (length s) (omega arith))
+    rw (
+      lt-ltb (a .at) (length s) (omega arith),
+      ne-eqb (getD s (a .at) 0) 0 (c .before .before .if2 .left),
+      eq-eqb
+          (getD s (a .at) 0) 112 (c .before .if3 .taken),
+      lt-leb (a .at + 6) (length s) (omega arith),
+    )
 
 add-t10 : tie.Need-add-t10
 add-t10 c = search needs
@@ -54,14 +57,29 @@ returns-4 : tie.Need-returns-4
 unfolding scriptCommandAt
 returns-4 c = let a = c .before .before .before .before .before .before .before .before .args in
     let s = now (a .text) in
-    rw (lt-ltb (a .at) (length s) (omega arith), ne-eqb (getD s (a .at) 0) 0 (c .before .before .before .before .if2 .left), eq-eqb (getD s (a .at) 0) 112 (c .before .before .before .if3 .taken), le-leb (a .at + 6) (length s) (omega arith))
+    rw (
+      lt-ltb (a .at) (length s) (omega arith),
+      ne-eqb (getD s (a .at) 0) 0
+          (c .before .before .before .before .if2 .left),
+      eq-eqb (getD s (a .at) 0) 112
+          (c .before .before .before .if3 .taken),
+      le-leb (a .at + 6) (length s) (omega arith),
+    )
     (ap (ScriptCommand.Set (getD s (a .at + 1) 0)) (kept _ (c .word-at .ok) ∙ c .word-at .ensures))
 
 returns-5 : tie.Need-returns-5
 unfolding scriptCommandAt
 returns-5 c = let a = c .before .before .before .before .before .before .before .args in
     let s = now (a .text) in
-    rw (lt-ltb (a .at) (length s) (omega arith), ne-eqb (getD s (a .at) 0) 0 (c .before .before .before .if2 .left), ne-eqb (getD s (a .at) 0) 112 (c .before .before .if3 .left), eq-eqb (getD s (a .at) 0) 113 (c .before .if5 .taken), lt-leb (a .at + 2) (length s) (omega arith))
+    rw (
+      lt-ltb (a .at) (length s) (omega arith),
+      ne-eqb (getD s (a .at) 0) 0 (c .before .before .before .if2 .left),
+      ne-eqb
+          (getD s (a .at) 0) 112 (c .before .before .if3 .left),
+      eq-eqb (getD s (a .at) 0) 113 (c .before .if5 .taken),
+      lt-leb
+          (a .at + 2) (length s) (omega arith),
+    )
 
 add-t16 : tie.Need-add-t16
 add-t16 c = search needs
@@ -73,13 +91,28 @@ returns-6 : tie.Need-returns-6
 unfolding scriptCommandAt
 returns-6 c = let a = c .before .before .before .before .before .before .before .before .args in
     let s = now (a .text) in
-    rw (lt-ltb (a .at) (length s) (omega arith), ne-eqb (getD s (a .at) 0) 0 (c .before .before .before .before .if2 .left), ne-eqb (getD s (a .at) 0) 112 (c .before .before .before .if3 .left), eq-eqb (getD s (a .at) 0) 113 (c .before .before .if5 .taken), le-leb (a .at + 2) (length s) (omega arith))
+    rw (
+      lt-ltb (a .at) (length s) (omega arith),
+      ne-eqb (getD s (a .at) 0) 0
+          (c .before .before .before .before .if2 .left),
+      ne-eqb (getD s (a .at) 0) 112
+          (c .before .before .before .if3 .left),
+      eq-eqb (getD s (a .at) 0) 113 (c .before .before .if5 .taken),
+      le-leb
+          (a .at + 2) (length s) (omega arith),
+    )
 
 returns-7 : tie.Need-returns-7
 unfolding scriptCommandAt
 returns-7 c = let a = c .before .before .before .before .before .before .args in
     let s = now (a .text) in
-    rw (lt-ltb (a .at) (length s) (omega arith), ne-eqb (getD s (a .at) 0) 0 (c .before .before .if2 .left), ne-eqb (getD s (a .at) 0) 112 (c .before .if3 .left), ne-eqb (getD s (a .at) 0) 113 (c .if5 .left))
+    rw (
+      lt-ltb (a .at) (length s) (omega arith),
+      ne-eqb (getD s (a .at) 0) 0 (c .before .before .if2 .left),
+      ne-eqb
+          (getD s (a .at) 0) 112 (c .before .if3 .left),
+      ne-eqb (getD s (a .at) 0) 113 (c .if5 .left),
+    )
 
 pub script-command-at-spec : {M : Type 1} → statement M
 script-command-at-spec =

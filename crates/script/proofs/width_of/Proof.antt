@@ -3,8 +3,6 @@ use Rattle.script.specs.Steps.{widthOf}
 use borrow.Author.Needs.{needs}
 use Rattle.script.proofs.width_of.Statement.{statement}
 use Rattle.script.proofs.width_of.Tie as tie
-use Rattle.script.proofs.width_of.Reads as reads
-use Rattle.script.proofs.width_of.Lts as lts
 
 enum-told : tie.Need-enum-told
 enum-told c = search needs
