@@ -1,4 +1,4 @@
-//! Paper 01 in plain Rust: compile, report, reset and cycle.
+//! Paper 01 in plain Rust: compile, report, reset, cycle and trial.
 //!
 //! Written from the paper alone and sharing nothing with the crates, so that a misreading on one side shows as a difference.
 //! It is also the baseline of the benchmark: what one would write without a prover, with the same checks.
@@ -9,9 +9,15 @@ mod machine;
 mod program;
 mod report;
 mod schedule;
+mod trial;
 
-pub use machine::{cycle, reset};
-pub use report::report;
+// No program here uses all calls.
+#[allow(unused_imports)]
+pub use {
+    machine::{cycle, reset},
+    report::report,
+    trial::trial,
+};
 use program::Program;
 use schedule::Schedule;
 

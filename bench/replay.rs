@@ -59,6 +59,17 @@ fn listed(cases: &mut Cases) -> String {
     widths.join(" ")
 }
 
+fn trial(cases: &mut Cases) -> String {
+    let [program, schedule, script] = [0; 3].map(|_| cases.number(2));
+    let [program, schedule, script] = [program, schedule, script].map(|length| cases.take(length));
+    let mut printed = vec![];
+    let result = reference::trial(program, schedule, script, |bytes| printed.extend_from_slice(bytes));
+    if let Err((number, _)) = result {
+        printed = format!("{number}\n").into_bytes();
+    }
+    line(reference::answer(result), hash(printed.into_iter()))
+}
+
 /// The lines that the cases print.
 fn replay(cases: &[u8]) -> Vec<String> {
     let mut cases = Cases(cases);
@@ -86,6 +97,10 @@ fn replay(cases: &[u8]) -> Vec<String> {
             }
             7 => {
                 lines.push(listed(&mut cases));
+                continue;
+            }
+            8 => {
+                lines.push(trial(&mut cases));
                 continue;
             }
             command => panic!("no such case: {command}"),

@@ -4,10 +4,10 @@ use super::Refusal;
 const STACK: usize = 32;
 
 /// The parts of a well-formed image.
-struct Image<'a> {
+pub(super) struct Image<'a> {
     bytes: &'a [u8],
     hypercycle: usize,
-    signals: usize,
+    pub(super) signals: usize,
 }
 
 impl<'a> Image<'a> {
@@ -43,7 +43,7 @@ impl<'a> Image<'a> {
     }
 
     /// The image if it is well formed, else 20.
-    fn check(bytes: &'a [u8]) -> Result<Self, Refusal> {
+    pub(super) fn check(bytes: &'a [u8]) -> Result<Self, Refusal> {
         let &[hypercycle, signals, low, high, ..] = bytes else {
             return Err((20, 0));
         };
@@ -54,6 +54,17 @@ impl<'a> Image<'a> {
             && image.lists_formed()
             && image.codes_formed();
         formed.then_some(image).ok_or((20, 0))
+    }
+
+    /// Runs the cycle at a position, on a state and samples that are long enough. Yields how many commands ran.
+    pub(super) fn run(&self, position: usize, state: &mut [i32], samples: &[i32]) -> u32 {
+        let mut stack = Stack { words: [0; STACK], height: 0, commands: 0 };
+        for &signal in self.list(position) {
+            let signal = usize::from(signal);
+            state[signal + 1] = stack.run(self.code(signal), state, samples);
+        }
+        state[0] = if position + 1 == self.hypercycle { 0 } else { position as i32 + 1 };
+        stack.commands
     }
 
     /// The run lists follow their offsets and each other up to the first code, and name signals only.
@@ -149,13 +160,7 @@ pub fn cycle(image: &[u8], state: &mut [i32], samples: &[i32]) -> Result<u32, Re
     if samples.len() < image.signals {
         return Err((23, 0));
     }
-    let mut stack = Stack { words: [0; STACK], height: 0, commands: 0 };
-    for &signal in image.list(position) {
-        let signal = usize::from(signal);
-        state[signal + 1] = stack.run(image.code(signal), state, samples);
-    }
-    state[0] = if position + 1 == image.hypercycle { 0 } else { position as i32 + 1 };
-    Ok(stack.commands)
+    Ok(image.run(position, state, samples))
 }
 
 /// The working stack, never short or full in a checked code.

@@ -26,6 +26,7 @@ use Rattle.model.proofs.Bounds.{depth-some}
 use Rattle.model.proofs.Command.{enum}
 use Rattle.model.proofs.Commands.{command-sound}
 use Rattle.model.proofs.Heights.{height-some}
+use Rattle.model.proofs.Stretches.{sets-append}
 use Rattle.model.specs.Grammar.{Spells}
 use Rattle.emit_code.specs.Code.{Puts, Room, Emits}
 use Rattle.emit_code.specs.Shape.{Lead, noLead, leadOf}
@@ -120,13 +121,6 @@ module _ {text : List ℕ} where
 
   pub opened : {at n : ℕ} {e : Expr} (c : Command) → commandAt text at ≡ c → Spells text at e n → Opened text at e n c
   opened {at} {n} {e} c q u = let o = opens u in subst (Opened text at e n) (sym (o .1) ∙ q) (o .2)
-
--- Two stretches one after the other.
-pub sets-append : (l : List ℕ) (i : ℕ) (xs ys : List ℕ) → sets l i (xs ++ ys) ≡ sets (sets l i xs) (i + length xs) ys
-sets-append l i [] ys = rw add-zero
-sets-append l i (x ∷ xs) ys =
-    let e : suc i + length xs ≡ i + suc (length xs) = omega arith in
-    sets-append (set l i x) (suc i) xs ys ∙ ap (λ (j : ℕ). sets (sets (set l i x) (suc i) xs) j ys) e
 
 pub puts-length : {l l′ xs : List ℕ} {to m next end : ℕ} → Puts l to xs m l′ next end → length l′ ≡ length l
 puts-length p = ap length (p .holds) ∙ simp length-sets

@@ -5,7 +5,7 @@ use Prim.Native.Nat.{ℕ, suc, _+_, _*_, _%_, _^_, _≤_, _<_}
 use mathlib.Core.Bool.{Bool, true, false}
 use mathlib.Core.List.{List, [], _∷_, _++_, map}
 use mathlib.Core.Logic.{_↔_}
-use mathlib.Core.Path.{_≡_, refl, sym, ap, _∙_}
+use mathlib.Core.Path.{_≡_, refl, sym, ap, subst, _∙_}
 use native.Mathlib.Nat.{mod-eq-of-lt}
 use native.Mathlib.Omega.{arith}
 use borrow.Author.Tests.{ltb-true, le-leb, lt-leb}
@@ -16,6 +16,7 @@ use Rattle.model.specs.Accepted.{All, Accepted, Multiple}
 use Rattle.model.specs.Calls.{Call, callOf, after, Supplied, Holds}
 use Rattle.model.specs.Compile.{Pair, pairOf, verdictOf, compileOf}
 use Rattle.model.specs.Conditions.{_among_, LegalPair}
+use Rattle.model.specs.Decimal.{natural, decimal, lineOf, SaysNumber, SaysWord}
 use Rattle.model.specs.Height.{Within}
 use Rattle.model.specs.Image.{lengthOf, imageOf}
 use Rattle.model.specs.Latency.{readsBack, backwards, back, source, latencyOf}
@@ -29,7 +30,10 @@ use Rattle.model.specs.Report.{highest, countsOf, toldOf, reportOf}
 use Rattle.model.specs.Reach.{WidthsListed}
 use Rattle.model.specs.Refusals.{RefusedAt}
 use Rattle.model.specs.Schedule.{Schedule}
+use Rattle.model.specs.Script.{Action, scriptOf, noSamples, callsFrom, cyclesOf}
 use Rattle.model.specs.Streams.{Satisfies}
+use Rattle.model.specs.Trial.{trialOf, wordsAfter, inputsOf}
+use Rattle.model.specs.TrialRefusals.{LegalScript, TrialRefusedAt}
 use Rattle.model.specs.Word.{NearestResults}
 use Rattle.model.specs.declared.Fault.{Fault}
 use Rattle.model.specs.declared.Found.the-variants.{At}
@@ -42,6 +46,7 @@ use Rattle.model.proofs.Bytes as Bytes
 use Rattle.model.proofs.Bytes.{answerTo, stateBy, logBy}
 use Rattle.model.proofs.Commands as Texts
 use Rattle.model.proofs.Counts.{cycle-count, counts-length, counts-at, counts-past, count-fits}
+use Rattle.model.proofs.Decimals as Decimals
 use Rattle.model.proofs.Exact as Exact
 use Rattle.model.proofs.Examples as Examples
 use Rattle.model.proofs.Formed.{image-well-formed}
@@ -50,7 +55,10 @@ use Rattle.model.proofs.Latency as Latency
 use Rattle.model.proofs.Nearest as Nearest
 use Rattle.model.proofs.Offsets.{OffsetsFit, offsets-fit}
 use Rattle.model.proofs.Places.{places-small, places-zero}
+use Rattle.model.proofs.Scripts.{script-actions}
 use Rattle.model.proofs.Stretches.{image-length, image-count}
+use Rattle.model.proofs.TrialLines.{tried-count, tried-line}
+use Rattle.model.proofs.Trials.{linesOf, Tried, trial-refused, trial-accepts}
 use Rattle.model.proofs.Unique as Unique
 use Rattle.model.proofs.Widths as Widths
 use Rattle.larderlate.specs.Code.{codeNumber}
@@ -380,6 +388,47 @@ same-program program schedule schedule′ q q′ e e′ =
 -- itself, where it is one; and no word is nearer to it.
 pub nearest-word : (a b : ℤ) → NearestResults a b
 nearest-word = Nearest.nearest-word
+
+-- Request e. A bench trial is refused with each number at its place exactly under its condition, in the stated order: the pair's
+-- 1 to 16, then 24 and 25 of the script.
+pub trial-refused-exactly : (program schedule text : List ℕ) (n x : ℕ) →
+    (trialOf program schedule text ≡ refused (fault n x)) ↔ TrialRefusedAt program schedule text n x
+trial-refused-exactly = trial-refused
+
+-- Of a legal pair and a legal script with these commands: as many lines as the sum of the RUNs, and line j is the decimal form of
+-- j and of the words that the streams give after j + 1 cycles, the inputs being those that the SETs supply.
+pub record TrialLines (program schedule text : List ℕ) (q : Pair) (actions : List Action) : Type 0 where
+  pub lines : List (List ℕ)
+  pub prints : trialOf program schedule text ≡ accepted lines
+  pub number : length lines ≡ cyclesOf actions
+  pub line : (X : ℕ → ℕ → ℤ) →
+      Satisfies (q .program) (settled (q .program) (q .schedule))
+      (inputsOf (q .program) (q .schedule) (callsFrom noSamples actions)) X →
+      (j : ℕ) → j < length lines → getD lines j [] ≡ lineOf j (wordsAfter (q .program) (q .schedule) X (suc j))
+
+pub trial-lines : (program schedule text : List ℕ) → Texts.Bytes program → (q : Pair) (actions : List Action) →
+    LegalPair program schedule q → LegalScript (q .program) text actions → TrialLines program schedule text q actions
+trial-lines program schedule text bytes q actions legal script =
+    let p = q .program in
+    let s = q .schedule in
+    let same = script-actions text (script .spells) in
+    let lines = linesOf q text in
+    let tried : Tried program schedule text lines = record { pair = q; legal = legal; script = rw same script; lines-are = refl } in
+    record {
+      lines = lines;
+      prints = trial-accepts program schedule text legal script;
+      number = tried-count program schedule text bytes lines tried ∙ ap cyclesOf same;
+      line = λ X sat j lt. tried-line program schedule text bytes lines tried X
+          (subst (λ (acts : List Action). Satisfies p (settled p s) (inputsOf p s (callsFrom noSamples acts)) X) (sym same) sat) j lt;
+    }
+
+-- A decimal by its value: digits, the fewest, that read back give the number; a word's have one minus sign before them exactly if
+-- it is negative.
+pub natural-says : (n : ℕ) → SaysNumber n (natural n)
+natural-says = Decimals.natural-says
+
+pub decimal-says : (z : ℤ) → SaysWord z (decimal z)
+decimal-says = Decimals.decimal-says
 
 -- The paper's examples marked m: one table, which the definitions answer by computation.
 pub examples : map (λ c. Examples.answerTo (c .question)) Examples.cases ≡ map (λ c. c .answer) Examples.cases

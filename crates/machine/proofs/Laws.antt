@@ -111,3 +111,8 @@ no-position (pos k) h m t = let l = ltb-true k 0 (rw (kept (pos k) m) at t) in a
     never : k < 0 → ⊥
     never p = omega arith
 no-position (negsuc k) h m t = refl
+
+-- a word that stands in the range is a position
+pub stands-at : (z : ℤ) (h : ℕ) → mag z < 2 ^ 31 → isPosition h z ≡ true → Position z
+stands-at (pos k) h m t = record { back = kept (pos k) m; test = λ h. refl; small = m }
+stands-at (negsuc k) h m t = let z : _≡_ {A = ℕ} 0 1 = cc in absurd (omega arith)

@@ -8,7 +8,8 @@ ghost use Prim.Native.Nat.{ℕ, _<_, _≤_};
 ghost use lib.IntN.{pos};
 ghost use lib.ListN.{length};
 ghost use Rattle.model.specs.Machine.{hyperOf, countOf, wellFormed, listOf, runSignals, countSignals, nextPosition, resetWords};
-ghost use Rattle.model.specs.Machine.{ranOf, cycledOf, resetOf, cycleOf};
+ghost use Rattle.model.specs.Machine.{cycleWords, cycleCount, ranOf, cycledOf, resetOf, cycleOf};
+ghost use Rattle.machine.specs.Runnable.{Runnable};
 ghost use Rattle.model.specs.Outcome.{refuse};
 ghost use Rattle.model.specs.Word.{byteAt};
 
@@ -113,6 +114,23 @@ pub fn reset(image: &[u8], state: &mut [i32]) -> Ran
     Ran::Done
 }
 
+// Runs one cycle on an image that is known to be well formed and a state that is ready: nothing is left to refuse. Yields how
+// many commands it ran.
+pub fn run_cycle(image: &[u8], state: &mut [i32], samples: &[i32]) -> u32
+    requires { ⌜ Runnable (now image) (now state) (now samples) ⌝ }
+    ensures count { λ r. ⌜ r ≡ cycleCount (now (image .entry)) (now (state .entry)) ⌝ }
+    ensures left { λ _. ⌜ now (state .exit) ≡ cycleWords (now (image .entry)) (now (state .entry)) (now (samples .entry)) ⌝ }
+{
+    let h = wide(image[0]);
+    let n = image[1];
+    let position = state[0];
+    let c = position as usize;
+    let total = run_signals(run_list(image, c), image, n, &mut state[..], samples);
+    let next = next_position(h, c);
+    state[0] = next;
+    total
+}
+
 // Runs one cycle: the list of the state's position, and then the position moves on. Yields how many commands it
 // ran.
 pub fn cycle(image: &[u8], state: &mut [i32], samples: &[i32]) -> Cycled
@@ -123,8 +141,7 @@ pub fn cycle(image: &[u8], state: &mut [i32], samples: &[i32]) -> Cycled
         return stopped(BAD_IMAGE);
     }
     let h = wide(image[0]);
-    let n = image[1];
-    let count = wide(n);
+    let count = wide(image[1]);
     if state.len() <= count {
         return stopped(SHORT_STATE);
     }
@@ -139,8 +156,6 @@ pub fn cycle(image: &[u8], state: &mut [i32], samples: &[i32]) -> Cycled
     if samples.len() < count {
         return stopped(FEW_SAMPLES);
     }
-    let total = run_signals(run_list(image, c), image, n, &mut state[..], samples);
-    let next = next_position(h, c);
-    state[0] = next;
+    let total = run_cycle(image, &mut state[..], samples);
     Cycled::Commands(total)
 }

@@ -58,11 +58,11 @@ pub record Ready (p : Program) (h : ℕ) (state : List ℤ) : Type 0 where
   pub long : count p < length state
   pub position : isPosition h (getD state 0 (pos 0)) ≡ true
 
-position-is : (h : ℕ) (w : ℤ) → isPosition h w ≡ true → (w ≡ pos (positionOf w)) × (positionOf w < h)
+pub position-is : (h : ℕ) (w : ℤ) → isPosition h w ≡ true → (w ≡ pos (positionOf w)) × (positionOf w < h)
 position-is h (pos c) e = (refl, ltb-true c h e)
 position-is h (negsuc c) e = let z : _≡_ {A = ℕ} 0 1 = cc in absurd (omega arith)
 
-next-below : (h c : ℕ) → c < h → cond (eqb (suc c) h) 0 (suc c) < h
+pub next-below : (h c : ℕ) → c < h → cond (eqb (suc c) h) 0 (suc c) < h
 next-below h c lt = go (eqb (suc c) h) refl
   where
     go : (b : Bool) → eqb (suc c) h ≡ b → cond b 0 (suc c) < h
@@ -80,12 +80,12 @@ set-store state x w lt = fun-ext (λ v. go v (eqb v x) refl)
 set-position : (state : List ℤ) (w : ℤ) → wordsOf (set state 0 w) ≡ wordsOf state
 set-position state w = fun-ext (λ v. getD-set-other state 0 (suc v) w (pos 0) (λ e. omega arith))
 
-run-length : (image xs : List ℕ) (samples state : List ℤ) → length (runSignals image xs samples state) ≡ length state
+pub run-length : (image xs : List ℕ) (samples state : List ℤ) → length (runSignals image xs samples state) ≡ length state
 unfolding runSignals
 run-length image [] samples state = refl
 run-length image (x ∷ xs) samples state = run-length image xs samples _ ∙ length-set state (x + 1) _
 
-cycle-length : (image : List ℕ) (state samples : List ℤ) → length (cycleWords image state samples) ≡ length state
+pub cycle-length : (image : List ℕ) (state samples : List ℤ) → length (cycleWords image state samples) ≡ length state
 unfolding cycleWords
 cycle-length image state samples = simp (length-set, run-length)
 

@@ -20,6 +20,9 @@ use Rattle.model.specs.Machine.{operatorCode, codeAt, listOffset, codeOf
 use Rattle.model.specs.Compile.{shortEnough, pairOf, verdictOf, compileOf}
 use Rattle.model.specs.Report.{listCommands, cycleCommands, highest, countsOf, Told, reportOf}
 use Rattle.model.specs.Calls.{callOf, after, logAfter, lentAt}
+use Rattle.model.specs.Decimal.{digitsUpTo, natural, decimal, spaced, lineOf}
+use Rattle.model.specs.Script.{scriptCommandAt, scriptCommand, scriptFrom, scriptAt, isInputOf, inputsOnly, checkOf, callsFrom}
+use Rattle.model.specs.Trial.{linesFrom, trialOf}
 use Rattle.model.specs.Calls.{Call, reset, cycle}
 use Rattle.model.specs.Compile.{Pair}
 use Rattle.model.specs.Outcome.{Outcome, accepted, refused}
@@ -35,6 +38,8 @@ pub data Question : Type 0 where
   verdict hypercycles indices runs codeOffsets size needs : List ℕ → List ℕ → Question
   -- the words of a signal after each cycle, given the words of input 0
   words : List ℕ → List ℕ → ℕ → List ℤ → Question
+  -- what a trial prints, given the script
+  printed : List ℕ → List ℕ → List ℕ → Question
   binary : Binary → ℤ → ℤ → Question
   negation : ℤ → Question
 
@@ -53,6 +58,10 @@ ofPair f (refused e) = refuses (e .number) (e .place)
 abbrev ofImage : (List ℕ → Answer) → Outcome (List ℕ) → Answer
 ofImage f (accepted image) = f image
 ofImage f (refused e) = refuses (e .number) (e .place)
+
+abbrev ofTrial : Outcome (List (List ℕ)) → Answer
+ofTrial (accepted ls) = lists ls
+ofTrial (refused e) = refuses (e .number) (e .place)
 
 -- The numbers of a report: L, the stack use, and the counts.
 abbrev ofAnswer : List ℕ → Outcome Sizes → Answer
@@ -89,6 +98,7 @@ answerTo (needs program schedule) = ofReport (reportOf program schedule [])
 answerTo (words program schedule x inputs) =
     ofImage (λ image. signals (wordsFrom image (callOf image (replicate 65 (pos 9)) reset .left) x inputs))
     (verdictOf program schedule)
+answerTo (printed program schedule text) = ofTrial (trialOf program schedule text)
 answerTo (binary operator a b) = signals (binaryWord operator a b ∷ [])
 answerTo (negation a) = signals (negWord a ∷ [])
 
@@ -132,6 +142,16 @@ one-read command input-period equation-period i =
 abbrev at-phases : ℕ → ℕ → List ℕ
 at-phases a b = 0x40 ∷ 0 ∷ a ∷ 0x40 ∷ 1 ∷ b ∷ 0x00 ∷ []
 
+-- SET of signal x to a small word, and a RUN.
+abbrev set-to : ℕ → ℕ → List ℕ
+set-to x w = 0x70 ∷ x ∷ w ∷ 0 ∷ 0 ∷ 0 ∷ []
+
+abbrev run-for : ℕ → List ℕ
+run-for n = 0x71 ∷ n ∷ []
+
+abbrev end : List ℕ
+end = 0x00 ∷ []
+
 pub record Case : Type 0 where
   pub question : Question
   pub answer : Answer
@@ -153,6 +173,18 @@ cases =
     (needs A in-order gives numbers (48 ∷ 2 ∷ 6 ∷ 8 ∷ replicate 238 0)) ∷
     -- inputs 10, 11, 12, 13: signal 2 is 5, 16, 27, 40
     (words A in-order 2 (pos 10 ∷ pos 11 ∷ pos 12 ∷ pos 13 ∷ []) gives signals (pos 5 ∷ pos 16 ∷ pos 27 ∷ pos 40 ∷ [])) ∷
+    -- RUN 1 after each SET of 10, 11, 12: `0 10 5 5`, `1 11 11 16`, `2 12 11 27` (request e)
+    (printed A in-order (set-to 0 10 ++ run-for 1 ++ set-to 0 11 ++ run-for 1 ++ set-to 0 12 ++ run-for 1 ++ end) gives
+    lists ((48 ∷ 32 ∷ 49 ∷ 48 ∷ 32 ∷ 53 ∷ 32 ∷ 53 ∷ 10 ∷ []) ∷ (49 ∷ 32 ∷ 49 ∷ 49 ∷ 32 ∷ 49 ∷ 49 ∷ 32 ∷ 49 ∷ 54 ∷ 10 ∷ []) ∷
+    (50 ∷ 32 ∷ 49 ∷ 50 ∷ 32 ∷ 49 ∷ 49 ∷ 32 ∷ 50 ∷ 55 ∷ 10 ∷ []) ∷ [])) ∷
+    -- cut, unknown, after END; SET of no input and of no signal; 24 anywhere before 25
+    (printed A in-order [] gives refuses 24 0) ∷
+    (printed A in-order (set-to 0 1 ++ (0x71 ∷ [])) gives refuses 24 7) ∷
+    (printed A in-order (run-for 1 ++ (0x72 ∷ [])) gives refuses 24 2) ∷
+    (printed A in-order (run-for 1 ++ end ++ end) gives refuses 24 3) ∷
+    (printed A in-order (run-for 1 ++ set-to 1 0 ++ end) gives refuses 25 2) ∷
+    (printed A in-order (set-to 3 0 ++ end) gives refuses 25 0) ∷
+    (printed A in-order (set-to 1 0 ++ (5 ∷ [])) gives refuses 24 6) ∷
     -- signals 1 and 0 put in the other order: 14, place 14
     (verdict A other-order gives refuses 14 14) ∷
     -- CAP 4 accepted; CAP 3 refused 15, place 1
@@ -185,5 +217,5 @@ cases =
 
 -- The definitions answer every question of the table as the paper does.
 pub examples : map (λ c. answerTo (c .question)) cases ≡ map (λ c. c .answer) cases
-unfolding _▷_ provided lowest firstFrom first allBelow tableFrom table chosen joinFrom sum bitsOf wordOf nearest addWord subWord mulWord negWord lessWord sameWord minWord maxWord ifWord twoAt fourAt wordAt twoBytes fourBytes wordBytes operatorOf keywordOf keywordAt plainRead sampledRead commandOf commandAt node parseExpr parseLinks declare parseCommands parseProgram readsOf readFaults linkFaults declaredAndRated isMultiple hypercycle countReads isLinked linked scheduleCommandAt scheduleCommand parsePuts parseSchedule isPut putFaults putsFaults putPhase scheduleOf placed due stored between share ordered place settle settled isMet met value load loaded readOf readsBack used back source latencyOf runLatency fromOf windowOf keeps timely exprCode codes runList runLists offsets records codesAt lengthOf head imageOf operatorCode codeAt listOffset codeOffset listOf codeOf commandOk codeOkFrom codeOk headOk listsOk entriesOk codesOk wellFormed runCommand runFrom runCode runSignals nextPosition resetWords cycleWords resetOf cycleOf shortEnough pairOf verdictOf compileOf listCommands cycleCommands highest countsOf reportOf callOf after logAfter lentAt
+unfolding _▷_ provided lowest firstFrom first allBelow tableFrom table chosen joinFrom sum bitsOf wordOf nearest addWord subWord mulWord negWord lessWord sameWord minWord maxWord ifWord twoAt fourAt wordAt twoBytes fourBytes wordBytes operatorOf keywordOf keywordAt plainRead sampledRead commandOf commandAt node parseExpr parseLinks declare parseCommands parseProgram readsOf readFaults linkFaults declaredAndRated isMultiple hypercycle countReads isLinked linked scheduleCommandAt scheduleCommand parsePuts parseSchedule isPut putFaults putsFaults putPhase scheduleOf placed due stored between share ordered place settle settled isMet met value load loaded readOf readsBack used back source latencyOf runLatency fromOf windowOf keeps timely exprCode codes runList runLists offsets records codesAt lengthOf head imageOf operatorCode codeAt listOffset codeOffset listOf codeOf commandOk codeOkFrom codeOk headOk listsOk entriesOk codesOk wellFormed runCommand runFrom runCode runSignals nextPosition resetWords cycleWords resetOf cycleOf shortEnough pairOf verdictOf compileOf listCommands cycleCommands highest countsOf reportOf callOf after logAfter lentAt digitsUpTo natural decimal spaced lineOf scriptCommandAt scriptCommand scriptFrom scriptAt isInputOf inputsOnly checkOf callsFrom linesFrom trialOf
 examples = refl

@@ -39,4 +39,8 @@ pub mod JudgedPuts
 pub mod JudgedRuns
 pub mod Exact
 pub mod Places
+pub mod Decimals
+pub mod Scripts
+pub mod Trials
+pub mod TrialLines
 pub mod Examples

@@ -9,8 +9,8 @@ use native.Mathlib.Omega.{arith}
 use borrow.Author.Tests.{ltb-true, ltb-false}
 use lib.Dec.{ltb}
 use lib.IntN.{ℤ, pos, negsuc}
-use lib.ListN.{length, getD, take, drop, length-append, length-drop, List·getD-append}
-use lib.Seq.{getD-drop, drop-drop, drop-append-seam, drop-append-le, drop-append-add, take-at, take-all}
+use lib.ListN.{length, getD, take, drop, set, length-append, length-drop, List·getD-append}
+use lib.Seq.{sets, getD-drop, drop-drop, drop-append-seam, drop-append-le, drop-append-add, take-at, take-all}
 use mir.Syntax.{w32}
 use mir.Val.{toZ, SFits}
 use mir.ValLaws.{toZ-pos, toZ-neg}
@@ -143,6 +143,13 @@ table-length n f = tableFrom-length 0 n f
 pub table-at : {A : Type 0} (n : ℕ) (f : ℕ → A) (c : ℕ) (d : A) → c < n → getD (table n f) c d ≡ f c
 unfolding table
 table-at n f c d h = tableFrom-at 0 n f c d h ∙ ap f (omega arith)
+
+-- Bytes put one stretch after the other.
+pub sets-append : (l : List ℕ) (i : ℕ) (xs ys : List ℕ) → sets l i (xs ++ ys) ≡ sets (sets l i xs) (i + length xs) ys
+sets-append l i [] ys = rw add-zero
+sets-append l i (x ∷ xs) ys =
+    let e : suc i + length xs ≡ i + suc (length xs) = omega arith in
+    sets-append (set l i x) (suc i) xs ys ∙ ap (λ (j : ℕ). sets (sets (set l i x) (suc i) xs) j ys) e
 
 -- Where f does not look at the number, it does not matter where the count starts.
 join-shift : {A B : Type 0} (f : A → List B) (i : ℕ) (xs : List A) →

@@ -24,3 +24,7 @@ pub mod Report
 pub mod Conditions
 pub mod Refusals
 pub mod Calls
+pub mod Decimal
+pub mod Script
+pub mod Trial
+pub mod TrialRefusals

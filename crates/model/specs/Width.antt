@@ -69,6 +69,16 @@ codeWidth b =
     -- STORE signal
     (cond (eqb b 0x5F) (Bytes 2) Unlisted)))))
 
+-- Script of a bench trial (request e).
+abbrev pub scriptWidth : ℕ → Width
+scriptWidth b =
+    -- END
+    cond (eqb b 0x00) (Bytes 1)
+    -- SET signal, word
+    (cond (eqb b 0x70) (Bytes 6)
+    -- RUN count
+    (cond (eqb b 0x71) (Bytes 2) Unlisted))
+
 -- How far the command of a listed byte reaches; of another there is no command to go past.
 abbrev pub reach : Width → ℕ
 reach (Bytes n) = n
@@ -85,6 +95,9 @@ inSchedule b = reach (scheduleWidth b)
 
 abbrev pub inCode : ℕ → ℕ
 inCode b = reach (codeWidth b)
+
+abbrev pub inScript : ℕ → ℕ
+inScript b = reach (scriptWidth b)
 
 -- The reads, by their kinds.
 abbrev pub readWidth : Kind → ℕ

@@ -95,6 +95,19 @@ pub enum ScheduleCommand {
     Put(u8, u8),
 }
 
+// A command of a bench trial's script.
+pub enum ScriptCommand {
+    // no byte is left, or an operand is cut off by the end of the text
+    EndsEarly,
+    // no command has this byte
+    Unknown,
+    End,
+    // signal, word
+    Set(u8, i32),
+    // count
+    Run(u8),
+}
+
 // A command of an image's code.
 pub enum Code {
     // no byte is left, or an operand is cut off by the end of the code

@@ -7,8 +7,10 @@ use model::Cycled;
 use model::Ran;
 use model::Reported;
 use model::Width;
+use reader::Judged;
 ghost use Prim.Native.Nat.{_*_, _≤_};
 ghost use lib.ListN.{length};
+ghost use Rattle.stepper.specs.Steps.{atStart, Underway};
 
 // A number read, or none.
 enum Number {
@@ -82,14 +84,19 @@ fn mix(hash: u32, byte: u8) -> u32 {
     (mixed * 16777619 % 4294967296) as u32
 }
 
-fn hash_bytes(bytes: &[u8]) -> u32 {
-    let mut hash: u32 = 2166136261;
+// The hash of bytes after others that have the hash `before`.
+fn hash_more(before: u32, bytes: &[u8]) -> u32 {
+    let mut hash = before;
     let mut i: usize = 0;
     while i < bytes.len() {
         hash = mix(hash, bytes[i]);
         i = i + 1;
     }
     hash
+}
+
+fn hash_bytes(bytes: &[u8]) -> u32 {
+    hash_more(2166136261, bytes)
 }
 
 // The hash of words, four bytes each, low byte first.
@@ -366,6 +373,87 @@ fn call_widths(lent: Lent) -> Lent {
     lent
 }
 
+// The hash of what a refused trial prints: a number of one or two digits, and a newline.
+fn hash_refusal(number: u8) -> u32 {
+    let digits = [48 + number / 10 % 10, 48 + number % 10, 10];
+    if number < 10 {
+        return hash_bytes(&digits[1..]);
+    }
+    hash_bytes(&digits)
+}
+
+// The hash of all lines of a trial, block after block.
+fn hash_lines(image: &[u8], text: &[u8], samples: &mut [i32], state: &mut [i32]) -> u32
+    requires { ⌜ Underway (now image) (now text) atStart (now samples) (now state) ⌝ }
+{
+    let mut block = io::large_buffer();
+    let mut progress = stepper::at_start();
+    let mut ended = false;
+    let mut hash: u32 = 2166136261;
+    while !ended {
+        let filled = stepper::next_block(
+            image,
+            text,
+            progress,
+            &mut samples[..],
+            &mut state[..],
+            &mut block,
+        );
+        let size = filled.size;
+        hash = hash_more(hash, &block[..size]);
+        progress = filled.progress;
+        ended = filled.ended;
+    }
+    hash
+}
+
+fn trial(program: &[u8], schedule: &[u8], text: &[u8]) {
+    let start = bench_trial::prepare(program, schedule, text);
+    let ready = start.ready;
+    let judged = ready.judged;
+    if let Judged::Refused(fault) = judged {
+        print_line(fault.number, fault.place, hash_refusal(fault.number));
+        return;
+    }
+    let image = start.image;
+    let length = start.length;
+    let mut samples = ready.samples;
+    let mut state = ready.state;
+    let hash = hash_lines(&image[..length], text, &mut samples, &mut state);
+    print_line(0, ready.lines, hash);
+}
+
+// 08: a trial.
+fn call_trial(lent: Lent) -> Lent {
+    let Number::Is(p) = two() else {
+        return stop();
+    };
+    let Number::Is(s) = two() else {
+        return stop();
+    };
+    let Number::Is(t) = two() else {
+        return stop();
+    };
+    if 9000 < p || 400 < s || 2300 < t {
+        return stop();
+    }
+    trial_next(lent, p, s, t)
+}
+
+// A trial of p bytes of program, s of schedule and t of script.
+fn trial_next(lent: Lent, p: usize, s: usize, t: usize) -> Lent
+    requires { ⌜ (p ≤ 9000) × (s ≤ 400) × (t ≤ 2300) ⌝ }
+{
+    let mut program = [0u8; 9000];
+    let mut schedule = [0u8; 400];
+    let mut text = [0u8; 2300];
+    if !fill(&mut program, p) || !fill(&mut schedule, s) || !fill(&mut text, t) {
+        return stop();
+    }
+    trial(&program[..p], &schedule[..s], &text[..t]);
+    lent
+}
+
 // The next call of the stream, or its end.
 fn step(lent: Lent, image: &mut [u8], state: &mut [i32]) -> Lent {
     let mut byte = [0u8; 1];
@@ -381,6 +469,7 @@ fn step(lent: Lent, image: &mut [u8], state: &mut [i32]) -> Lent {
         5 => call_compile(lent),
         6 => call_report(lent),
         7 => call_widths(lent),
+        8 => call_trial(lent),
         _ => stop(),
     }
 }

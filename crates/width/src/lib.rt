@@ -3,7 +3,7 @@
 use model::Kind;
 use model::Width;
 ghost use mathlib.Core.Path.{_≡_};
-ghost use Rattle.model.specs.Width.{programWidth, expressionWidth, scheduleWidth, codeWidth, reach, inProgram, inExpression, inSchedule, inCode, readWidth};
+ghost use Rattle.model.specs.Width.{programWidth, expressionWidth, scheduleWidth, codeWidth, scriptWidth, reach, inProgram, inExpression, inSchedule, inCode, inScript, readWidth};
 
 // A program text.
 pub fn program(byte: u8) -> Width
@@ -81,6 +81,21 @@ pub fn code(byte: u8) -> Width
     }
 }
 
+// Script of a bench trial.
+pub fn script(byte: u8) -> Width
+    ensures { λ r. ⌜ r ≡ scriptWidth byte ⌝ }
+{
+    match byte {
+        // END
+        0x00 => Width::Bytes(1),
+        // SET signal, word
+        0x70 => Width::Bytes(6),
+        // RUN count
+        0x71 => Width::Bytes(2),
+        _ => Width::Unlisted,
+    }
+}
+
 // How far the command of a listed byte reaches.
 fn reach(width: Width) -> usize
     ensures { λ r. ⌜ r ≡ reach width ⌝ }
@@ -113,6 +128,12 @@ pub fn in_code(byte: u8) -> usize
     ensures { λ r. ⌜ r ≡ inCode byte ⌝ }
 {
     reach(code(byte))
+}
+
+pub fn in_script(byte: u8) -> usize
+    ensures { λ r. ⌜ r ≡ inScript byte ⌝ }
+{
+    reach(script(byte))
 }
 
 // The reads, by their kinds.

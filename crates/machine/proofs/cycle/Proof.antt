@@ -1,19 +1,15 @@
 -- `machine::cycle` meets its contract. Assumes nothing.
-use mathlib.Core.Path.{_≡_, refl, sym, ap, ap₂, _∙_}
+use mathlib.Core.Path.{_≡_, sym, _∙_}
 use mathlib.Core.Bool.{true}
 use mathlib.Core.List.{List}
-use Prim.Native.Nat.{ℕ, _≤_, _<_}
+use Prim.Native.Nat.{ℕ, _<_}
 use native.Mathlib.Omega.{arith}
 use borrow.Author.Tests.{not-true, not-false, lt-ltb, le-ltb, le-leb, lt-leb}
 use lib.Dec.{ltb}
-use lib.IntN.{ℤ, pos, natAbs}
-use lib.ListN.{length, getD, set}
-use mir.Syntax.{w32}
-use mir.Val.{toZ, ofZ}
-use Rattle.model.specs.Machine.{hyperOf, countOf, wellFormed, listOf, runSignals, isPosition, positionOf, countSignals, nextPosition, cycleWords, cycleCount, cycleOf}
-use Rattle.model.proofs.Counts.{image-short, lists-inside}
-use Rattle.word.proofs.Laws.{kept}
-use Rattle.image_check.proofs.Parts.{head, lists, entries, formed}
+use lib.IntN.{ℤ, pos}
+use lib.ListN.{length, getD}
+use Rattle.model.specs.Machine.{hyperOf, countOf, wellFormed, isPosition, positionOf, cycleWords, cycleCount, cycleOf}
+use Rattle.image_check.proofs.Parts.{head, formed}
 use Rattle.machine.proofs.Laws.{Position, position, no-position}
 use Rattle.machine.proofs.Answers.{done, gives-refusal, gives-done, cycle-image, cycle-state, cycle-position, cycle-samples, cycle-done}
 use borrow.Author.Needs.{needs}
@@ -55,14 +51,8 @@ at2 c = c .before .before .before .before
 abbrev image : tie.Else5 → List ℕ
 image c = start (at2 c) .args .image .now
 
-place : (c : tie.Else5) → natAbs (toZ w32 (ofZ w32 (word (c .before .before)))) ≡ positionOf (word (c .before .before))
-place c = ap natAbs (here (c .before .before) .back)
-
 count : (c : tie.Else5) → at2 c .before .wide2 .result ≡ countOf (image c)
 count c = at2 c .before .wide2 .ensures .0
-
-list-is : (r : tie.After-run-list) → r .run-list .result .now ≡ listOf (image (r .before)) (positionOf (word (r .before .before .before)))
-list-is r = r .run-list .ensures ∙ ap (listOf (image (r .before))) (place (r .before))
 
 -- the cycle has run
 ran : (e : tie.Else5) → let a = start (at2 e) .args in
@@ -70,27 +60,6 @@ ran : (e : tie.Else5) → let a = start (at2 e) .args in
 ran e =
     cycle-done _ _ _ (well (checked (at2 e))) (room (at2 e)) (stands (e .before))
     (le-leb (countOf (image e)) (length (start (at2 e) .args .samples .now)) (omega (arith, count e, e .if5 .left)))
-
-left : (g : tie.After-run-signals) → let e = g .before .before .before in let a = start (at2 e) .args in
-    g .run-signals .last .1 .1 .1 .0 ≡ runSignals (image e) (listOf (image e) (positionOf (word (e .before .before)))) (a .samples .now) (a .state .now)
-left g =
-    let r = g .before .before in
-    let e = r .before in
-    let a = start (at2 e) .args in
-    g .run-signals .ensures .1 ∙ ap (λ (l : List ℕ). runSignals (image e) l (a .samples .now) (a .state .now)) (list-is r)
-
--- its commands, by the definition
-counted : (g : tie.After-run-signals) → let e = g .before .before .before in let a = start (at2 e) .args in
-    g .run-signals .result ≡ cycleCount (image e) (a .state .now)
-unfolding cycleCount
-counted g = let r = g .before .before in g .run-signals .ensures .0 ∙ ap (countSignals (image (r .before))) (list-is r)
-
--- no image is longer than two bytes can say, and no list than the image
-short : (e : tie.Else5) → length (image e) ≤ 65535
-short e = image-short (image e) (λ i. checked (at2 e) .before .before .shared-slice-known .given i .fits) (well (checked (at2 e)))
-
-inside : (r : tie.After-run-list) → length (r .run-list .result .now) ≤ length (image (r .before))
-inside r = rw (list-is r) (lists-inside (image (r .before)) _)
 
 well-formed-requires : tie.Need-well-formed-requires
 well-formed-requires c κs = search needs
@@ -109,8 +78,8 @@ shared-slice-read-wide c = omega (arith, head _ (formed _ (well (c .before)) .go
 wide-requires : tie.Need-wide-requires
 wide-requires c κs = search needs
 
-shared-slice-read-n : tie.Need-shared-slice-read-n
-shared-slice-read-n c = omega (arith, head _ (formed _ (well (c .before .before .before)) .good) .four)
+shared-slice-read-wide-2 : tie.Need-shared-slice-read-wide-2
+shared-slice-read-wide-2 c = omega (arith, head _ (formed _ (well (c .before .before .before)) .good) .four)
 
 wide-requires-2 : tie.Need-wide-requires-2
 wide-requires-2 c κs = search needs
@@ -173,42 +142,23 @@ returns-5 c =
     (lt-leb (countOf (start e .args .image .now)) (length (start e .args .samples .now)) (omega (arith, e .before .wide2 .ensures .0, t .if5 .taken))))
     (c .stopped5 .ensures)
 
-run-list-requires : tie.Need-run-list-requires
-run-list-requires c κs = (well (checked (at2 c)), rw (place c) (below (c .before)))
-
-run-signals-requires : tie.Need-run-signals-requires
-run-signals-requires c κs =
-    let r = c .before in
-    let e = r .before in
-    let f = formed _ (well (checked (at2 e))) in (
-      (well (checked (at2 e)), refl),
-      (
-        λ k l. rw (list-is r) (entries _ (lists _ (f .listed)) (f .entered) _ (below (e .before)) k (rw (list-is r) at l)),
-        (omega (arith, count e, at2 e .if2 .left), omega (arith, count e, e .if5 .left), short e, inside r),
-      ),
-    )
-
-next-position-requires : tie.Need-next-position-requires
-next-position-requires c κs =
-    let e = c .before .before .before .before in (
-      omega (arith, place e, hyper (at2 e), below (e .before)),
-      omega (arith, hyper (at2 e), head _ (formed _ (well (checked (at2 e))) .good) .hyper),
-    )
-
-slice-set-from-next : tie.Need-slice-set-from-next
-slice-set-from-next c = search needs
+run-cycle-requires : tie.Need-run-cycle-requires
+run-cycle-requires c κs =
+    let e = c .before in
+    record {
+      formed = well (checked (at2 e));
+      long = omega (arith, count e, at2 e .if2 .left);
+      position = stands (e .before);
+      enough = omega (arith, count e, e .if5 .left);
+    }
 
 same-length : tie.Need-same-length
 same-length c = search needs
 
 returns-6 : tie.Need-returns-6
-unfolding cycleWords
 returns-6 c =
-    let g = c .before .before in
-    let e = g .before .before .before in
-    let next : toZ w32 (ofZ w32 (c .next-position .result)) ≡ pos (nextPosition (hyperOf (image e)) (positionOf (word (e .before .before)))) =
-    kept _ (c .next-position .ok) ∙ c .next-position .ensures ∙ ap₂ (λ (h p : ℕ). pos (nextPosition h p)) (hyper (at2 e)) (place e) in
-    gives-done (ran e) (counted g) (ap₂ (λ (l : List ℤ) (w : ℤ). set l 0 w) (left g) next)
+    let ran-cycle = c .before .run-cycle .ensures in
+    gives-done (ran (c .before .before .before)) (ran-cycle .0) (ran-cycle .1)
 
 pub cycle-spec : {M : Type 1} → statement M
 cycle-spec =
@@ -219,7 +169,7 @@ cycle-spec =
     returns
     shared-slice-read-wide
     wide-requires
-    shared-slice-read-n
+    shared-slice-read-wide-2
     wide-requires-2
     stopped-requires-2
     returns-2
@@ -231,9 +181,6 @@ cycle-spec =
     returns-4
     stopped-requires-5
     returns-5
-    run-list-requires
-    run-signals-requires
-    next-position-requires
-    slice-set-from-next
+    run-cycle-requires
     same-length
     returns-6)

@@ -1,17 +1,17 @@
--- `replay::hash_bytes` is safe and ends. Assumes nothing.
+-- `replay::hash_more` is safe and ends. Assumes nothing.
 use borrow.Author.Needs.{needs}
 use Prim.Native.Nat.{_-_}
 use mathlib.Core.Path.{_≡_, refl}
 use native.Mathlib.Omega.{arith}
 use lib.ListN.{length}
-use Rattle.replay.proofs.hash_bytes.Statement.{statement}
-use Rattle.replay.proofs.hash_bytes.Tie as tie
+use Rattle.replay.proofs.hash_more.Statement.{statement}
+use Rattle.replay.proofs.hash_more.Tie as tie
 
 abbrev Inv-loop : tie.InvT-loop
-Inv-loop bytes hash₀ i₀ hash i = Unit {0}
+Inv-loop before bytes hash₀ i₀ hash i = Unit {0}
 
 abbrev μ-loop : tie.MeasureT-loop
-μ-loop bytes hash₀ i₀ hash i = length bytes - i
+μ-loop before bytes hash₀ i₀ hash i = length bytes - i
 
 loop-holds : tie.Need-loop-holds Inv-loop μ-loop
 loop-holds c = tt
@@ -34,8 +34,8 @@ loop-again c = tt
 returns : tie.Need-returns Inv-loop μ-loop
 returns c = tt
 
-pub hash-bytes-spec : {M : Type 1} → statement M
-hash-bytes-spec =
+pub hash-more-spec : {M : Type 1} → statement M
+hash-more-spec =
     tie.close
     (tie.spec
     Inv-loop

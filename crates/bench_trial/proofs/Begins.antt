@@ -1,0 +1,190 @@
+-- From the image of an accepted pair to its trial. Assumes nothing.
+use Prim.Native.Nat.{ℕ, _+_, _≤_, _<_}
+use mathlib.Core.Bool.{Bool, true, false}
+use mathlib.Core.List.{List, _++_}
+use mathlib.Core.Path.{_≡_, refl, sym, ap, ap₂, subst, fun-ext, _∙_}
+use native.Mathlib.Omega.{arith}
+use borrow.Author.Tests.{leb-true, le-leb, lt-ltb}
+use lib.Dec.{leb}
+use lib.IntN.{ℤ, pos}
+use lib.ListN.{length, take, drop, replicate, length-append, length-replicate}
+use lib.Seq.{take-append-seam}
+use Rattle.model.specs.Compile.{Pair, pairOf, verdictOf, compileOf}
+use Rattle.model.specs.Image.{imageOf}
+use Rattle.model.specs.Machine.{Effect, effect, wellFormed, countOf, resetWords, resetOf}
+use Rattle.model.specs.Outcome.{Outcome, accepted, refused, _▷_, provided}
+use Rattle.model.specs.Script.{isInputOf, scriptOf, inputsOnly, noSamples, checkOf, callsOf, cyclesOf}
+use Rattle.model.specs.Trial.{linesFrom, startOf, trialOf}
+use Rattle.model.specs.declared.Fault.{Fault}
+use Rattle.model.proofs.Bounds.{Bounded}
+use Rattle.model.proofs.Commands.{Bytes}
+use Rattle.model.proofs.Formed.{image-well-formed}
+use Rattle.model.proofs.Outcomes.{accepted≢refused, accepted-same, accepted-then, refused-then, then-accepted, provided-true}
+use Rattle.model.proofs.Scripts.{calls-count}
+use Rattle.model.proofs.Stretches.{image-length, image-count}
+use Rattle.model.proofs.TrialLines.{lines-count}
+use Rattle.model.proofs.Verdict.{pair-accepted, pair-multiple, pair-bounded}
+use Rattle.reader.specs.declared.Judged.{Judged}
+use Rattle.reader.specs.declared.Judged.the-variants as Judged
+use Rattle.machine.specs.Runnable.{Runnable}
+use Rattle.machine.proofs.Answers.{reset-done}
+use Rattle.machine.proofs.Runnable.{reset-runnable}
+use Rattle.script.specs.Inputs.{fetches}
+use Rattle.script.proofs.Marks.{fetches-are}
+use Rattle.stepper.specs.Steps.{linesLeft, atStart, Underway}
+use Rattle.stepper.proofs.Left.{left-all, left-count}
+use Rattle.bench_trial.specs.Prepares.{Started, Prepares, Begun, PreparesOn}
+use Rattle.bench_trial.specs.declared.Prepared.{Prepared}
+use Rattle.bench_trial.specs.declared.Start.{Start}
+
+refused-inside : {A : Type 0} {f g : Fault} → _≡_ {A = Outcome A} (refused f) (refused g) → f ≡ g
+refused-inside e = cc
+
+-- The image of a pair.
+abbrev pub imageIn : Pair → List ℕ
+imageIn q = imageOf (q .program) (q .schedule) (q .hypercycle)
+
+-- A pair that compiles into a buffer with space for every image: its image stands at the buffer's start.
+pub record Compiles (program schedule image : List ℕ) (n : ℕ) : Type 0 where
+  pub pair : Pair
+  pub accepts : pairOf program schedule ≡ accepted pair
+  pub bounded : Bounded (pair .program) (pair .schedule) (pair .hypercycle)
+  pub formed : wellFormed (imageIn pair) ≡ true
+  pub inside : n ≤ length image
+  pub here : take n image ≡ imageIn pair
+
+module _ (program schedule buffer : List ℕ) (bytes : Bytes program) (room : 65535 ≤ length buffer) where
+  short : (q : Pair) → pairOf program schedule ≡ accepted q → length (imageIn q) ≤ length buffer
+  short q e =
+      let b = pair-bounded program schedule q e bytes in
+      omega (arith, image-length (q .program) (q .schedule) (q .hypercycle), b .size)
+
+  written : (q : Pair) → pairOf program schedule ≡ accepted q →
+      compileOf program schedule buffer ≡
+      record { answer = accepted (length (imageIn q)); left = imageIn q ++ drop (length (imageIn q)) buffer }
+  unfolding compileOf verdictOf _▷_ provided
+  written q e = rw (e, le-leb (length (imageIn q)) (length buffer) (short q e))
+
+  unwritten : (f : Fault) → pairOf program schedule ≡ refused f → compileOf program schedule buffer .answer ≡ refused f
+  unfolding compileOf verdictOf _▷_
+  unwritten f e = rw e
+
+  -- What the answer of compile says of the pair.
+  pub compiles : (n : ℕ) (image : List ℕ) → compileOf program schedule buffer .answer ≡ accepted n →
+      image ≡ compileOf program schedule buffer .left → Compiles program schedule image n
+  compiles n image a l = go (pairOf program schedule) refl
+    where
+      go : (o : Outcome Pair) → pairOf program schedule ≡ o → Compiles program schedule image n
+      go (accepted q) e =
+          let w = written q e in
+          let size : n ≡ length (imageIn q) = accepted-same n (length (imageIn q)) (sym a ∙ ap (λ (x : Effect ℕ). x .answer) w) in
+          let is : image ≡ imageIn q ++ drop (length (imageIn q)) buffer = l ∙ ap (λ (x : Effect ℕ). x .left) w in
+          let b = pair-bounded program schedule q e bytes in
+          record {
+            pair = q;
+            accepts = e;
+            bounded = b;
+            formed =
+                image-well-formed (q .program) (q .schedule) (q .hypercycle) (pair-accepted program schedule q e)
+                (pair-multiple program schedule q e) b;
+            inside = omega (arith, size, ap length is, length-append (imageIn q) (drop (length (imageIn q)) buffer));
+            here =
+                ap₂ (λ (k : ℕ) (z : List ℕ). take k z) size is ∙ take-append-seam (imageIn q) (drop (length (imageIn q)) buffer);
+          }
+      go (refused f) e = absurd (accepted≢refused _ n f a (unwritten f e))
+
+  pub compile-refuses : (f : Fault) → compileOf program schedule buffer .answer ≡ refused f → pairOf program schedule ≡ refused f
+  compile-refuses f a = go (pairOf program schedule) refl
+    where
+      go : (o : Outcome Pair) → pairOf program schedule ≡ o → o ≡ refused f
+      go (accepted q) e = absurd (accepted≢refused _ _ f (ap (λ (x : Effect ℕ). x .answer) (written q e)) a)
+      go (refused g) e = let same : g ≡ f = refused-inside (sym (unwritten g e) ∙ a) in ap refused same
+
+-- The state before the first line can be run, and the lines left are all.
+module _ (image text : List ℕ) (r : Prepared) (formed : wellFormed image ≡ true) (few : countOf image ≤ 64)
+    (b : Begun image text r) where
+  zeros : List ℤ
+  zeros = replicate 65 (pos 0)
+
+  long : countOf image < length zeros
+  unfolding zeros
+  long = omega (arith, few, length-replicate {A = ℤ} 65 (pos 0))
+
+  start-is : startOf image ≡ resetWords image zeros
+  unfolding zeros
+  start-is =
+      ap (λ (e : Effect ℤ). e .left) (reset-done image zeros formed (lt-ltb (countOf image) (length zeros) long))
+
+  runnable : Runnable image (startOf image) noSamples
+  runnable =
+      subst (λ (s : List ℤ). Runnable image s noSamples) (sym start-is)
+      (reset-runnable image zeros noSamples formed long (omega (arith, length-replicate {A = ℤ} 64 (pos 0))))
+
+  pub all-left : linesLeft image text atStart (r .samples) (r .state) ≡ linesFrom image 0 (startOf image) (callsOf text)
+  all-left =
+      ap₂ (linesLeft image text atStart) (b .samples-are) (b .state-is) ∙ left-all image text noSamples (startOf image)
+
+  pub begun-count : r .lines ≡ length (linesLeft image text atStart (r .samples) (r .state))
+  begun-count =
+      b .lines-is ∙
+      sym (ap length all-left ∙ lines-count image 0 (startOf image) (callsOf text) ∙ calls-count noSamples
+      (scriptOf text .actions))
+
+  pub begun-underway : Underway image text atStart (r .samples) (r .state)
+  begun-underway =
+      rw (b .samples-are, b .state-is)
+      (record { runnable = runnable; few = omega (arith, left-count text noSamples, b .lines-is, b .few) })
+
+module _ (program schedule text : List ℕ) (r : Start) (c : Compiles program schedule (r .image) (r .length)) where
+  abbrev image : List ℕ
+  image = imageIn (c .pair)
+
+  inputs-are : checkOf (fetches image) text ≡ checkOf (isInputOf (c .pair .program)) text
+  inputs-are = ap (λ (f : ℕ → Bool). checkOf f text) (fetches-are _ _ _ (c .bounded))
+
+  few : countOf image ≤ 64
+  few = rw (image-count (c .pair .program) (c .pair .schedule) (c .pair .hypercycle)) (c .bounded .signals)
+
+  started : Begun (take (r .length) (r .image)) text (r .ready) → Started program schedule text r
+  unfolding trialOf
+  started b =
+      let on : Begun image text (r .ready) = rw (c .here) at b in
+      record {
+        fits = c .inside;
+        lines-are =
+            rw (c .here)
+            (accepted-then _ _ _ (c .accepts) ∙ accepted-then _ _ _ (sym inputs-are ∙ on .checked) ∙
+            ap accepted (sym (all-left image text (r .ready) (c .formed) few on)));
+        count = rw (c .here) (begun-count image text (r .ready) (c .formed) few on);
+        underway = rw (c .here) (begun-underway image text (r .ready) (c .formed) few on);
+      }
+
+  unstarted : (f : Fault) → checkOf (fetches (take (r .length) (r .image))) text ≡ refused f → trialOf program schedule text ≡
+      refused f
+  unfolding trialOf
+  unstarted f e =
+      accepted-then _ _ _ (c .accepts) ∙ refused-then _ _ _ (sym inputs-are ∙ (rw (c .here) at e))
+
+  -- What is prepared on the image is prepared for the pair.
+  pub prepared : (j : Judged) → PreparesOn (take (r .length) (r .image)) text (r .ready) j → Prepares program schedule text r j
+  unfolding PreparesOn Prepares
+  prepared Judged.Fine b = started b
+  prepared (Judged.Refused f) e = unstarted f e
+
+pub uncompiled : (program schedule text : List ℕ) (f : Fault) → pairOf program schedule ≡ refused f →
+    trialOf program schedule text ≡ refused f
+unfolding trialOf
+uncompiled program schedule text f e = refused-then _ _ _ e
+
+-- A script that is not refused is short.
+pub checked-short : (isInput : ℕ → Bool) (text : List ℕ) → checkOf isInput text ≡ accepted tt → length text ≤ 2048
+unfolding checkOf
+checked-short isInput text e =
+    leb-true (length text) 2048 (provided-true _ 24 0 (then-accepted _ _ tt e .1))
+
+-- A start that is fine.
+pub is-started : (program schedule text : List ℕ) (r : Start) {j : Judged} → j ≡ Judged.Fine →
+    Prepares program schedule text r j →
+    Started program schedule text r
+unfolding Prepares
+is-started program schedule text r e s = subst (λ (j : Judged). Prepares program schedule text r j) e s

@@ -1,0 +1,78 @@
+-- `bench_trial::prepare` meets its contract. Assumes nothing.
+use Prim.Native.Nat.{ℕ, _≤_}
+use mathlib.Core.List.{List}
+use mathlib.Core.Path.{_≡_, sym, ap, subst, _∙_}
+use native.Mathlib.Omega.{arith}
+use borrow.Author.Needs.{needs}
+use lib.ListN.{length, length-take}
+use Rattle.model.specs.Compile.{compiledOf}
+use Rattle.bench_trial.specs.Prepares.{Prepares}
+use Rattle.bench_trial.proofs.Begins.{Compiles, compiles, compile-refuses, prepared, uncompiled}
+use Rattle.bench_trial.proofs.prepare.Statement.{statement}
+use Rattle.bench_trial.proofs.prepare.Tie as tie
+
+abbrev start : tie.After-image2 → tie.Start
+start k = k .before .before .before .before .before .before
+
+made : (k : tie.After-known-told) → let i = k .before .before .before in
+    Compiles (start i .args .program .now) (start i .args .schedule .now) (i .before .compile .last .1 .1 .0)
+    (k .before .compiled .given .0 .0)
+made k =
+    let i = k .before .before .before in
+    let e = i .before .compile .ensures in
+    compiles _ _ _ (λ j. i .before .before .before .before .before .shared-slice-known .given j .fits)
+    (omega (arith, i .image2 .given)) _ _
+    (sym (e .0) ∙ ap compiledOf (k .before .compiled .given .1)) (e .1)
+
+slice-aggregate-compile : tie.Need-slice-aggregate-compile
+slice-aggregate-compile c = search needs
+
+compile-requires : tie.Need-compile-requires
+compile-requires c κs = search needs
+
+enum-known-compiled : tie.Need-enum-known-compiled
+enum-known-compiled c = search needs
+
+array-share-prefix-image : tie.Need-array-share-prefix-image
+array-share-prefix-image c = made c .inside
+
+slice-aggregate-prepare-image : tie.Need-slice-aggregate-prepare-image
+slice-aggregate-prepare-image c = simp length-take (omega (arith, made (c .before) .inside))
+
+prepare-image-requires : tie.Need-prepare-image-requires
+prepare-image-requires c κs = let m = made (c .before) in rw (m .here) (m .formed)
+
+enum-known-compiled-2 : tie.Need-enum-known-compiled-2
+enum-known-compiled-2 c = search needs
+
+refused-requires : tie.Need-refused-requires
+refused-requires c κs = search needs
+
+returns : tie.Need-returns
+returns c = prepared _ _ _ _ (made (c .before .before)) _ (c .prepare-image .ensures)
+
+returns-2 : tie.Need-returns-2
+unfolding Prepares
+returns-2 c =
+    let k = c .before .before in
+    let i = k .before .before in
+    let e = i .before .compile .ensures in
+    rw (c .refused .ensures)
+    (uncompiled _ _ _ _
+    (compile-refuses _ _ _ (λ j. i .before .before .before .before .before .shared-slice-known .given j .fits)
+    (omega (arith, i .image2 .given)) _ (sym (e .0) ∙ ap compiledOf (k .compiled2 .given .1))))
+
+pub prepare-spec : {M : Type 1} → statement M
+prepare-spec =
+    tie.close
+    (tie.spec
+    slice-aggregate-compile
+    compile-requires
+    enum-known-compiled
+    array-share-prefix-image
+    slice-aggregate-prepare-image
+    prepare-image-requires
+    enum-known-compiled-2
+    refused-requires
+    returns
+    returns-2)

@@ -1,0 +1,2 @@
+-- The definitions that the contracts of `machine` cite.
+pub mod Runnable

@@ -1,0 +1,3 @@
+-- The definitions that the contracts of `script` cite.
+pub mod Inputs
+pub mod Steps

@@ -1,0 +1,2 @@
+-- The definitions that the contracts of `stepper` cite.
+pub mod Steps

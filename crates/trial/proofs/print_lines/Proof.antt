@@ -1,0 +1,101 @@
+-- `trial::print_lines` is safe and ends. Assumes nothing.
+use Prim.Native.Nat.{ℕ, suc, _+_, _≤_, _<_}
+use mathlib.Core.Bool.{Bool, true, false, cond}
+use mathlib.Core.List.{List}
+use mathlib.Core.Path.{_≡_, refl, sym, ap, subst, _∙_}
+use native.Mathlib.Omega.{arith}
+use borrow.Author.Needs.{needs}
+use borrow.Author.Tests.{not-true, not-false}
+use lib.IntN.{ℤ}
+use lib.ListN.{length, length-take}
+use Rattle.stepper.specs.Steps.{linesLeft, Underway, Filled}
+use Rattle.stepper.proofs.Filling.{falls}
+use Rattle.trial.proofs.print_lines.Statement.{statement}
+use Rattle.trial.proofs.print_lines.Tie as tie
+
+abbrev Inv-loop : tie.InvT-loop
+Inv-loop image text lines samples₀ state₀ block₀ progress₀ ended₀ samples state block progress ended =
+    (ended ≡ false → Underway image text progress samples state) × (length samples ≡ length samples₀) ×
+    (length state ≡ length state₀) ×
+    (length block ≡ 65536)
+
+abbrev μ-loop : tie.MeasureT-loop
+μ-loop image text lines samples₀ state₀ block₀ progress₀ ended₀ samples state block progress ended =
+    cond ended 0 (suc (length (linesLeft image text progress samples state)))
+
+abbrev turn : tie.After-next-block Inv-loop μ-loop → tie.At-loop Inv-loop μ-loop
+turn n = n .before .before .before .before .before
+
+large-buffer-requires : tie.Need-large-buffer-requires Inv-loop μ-loop
+large-buffer-requires c κs = search needs
+
+at-start-requires : tie.Need-at-start-requires Inv-loop μ-loop
+at-start-requires c κs = search needs
+
+loop-holds : tie.Need-loop-holds Inv-loop μ-loop
+loop-holds c =
+    let s = c .before .before .before .before in
+    (λ e. rw (c .at-start .ensures) (s .pre), refl, refl, sym (c .before .large-buffer .ensures))
+
+slice-aggregate-next-block : tie.Need-slice-aggregate-next-block Inv-loop μ-loop
+slice-aggregate-next-block c = search needs
+
+next-block-requires : tie.Need-next-block-requires Inv-loop μ-loop
+next-block-requires c κs =
+    let l = c .before .before .before .before in
+    (l .loop .inv .0 (not-true _ (c .before .before .before .loop-test .taken)), omega (arith, l .loop .inv .3))
+
+array-share-prefix-block : tie.Need-array-share-prefix-block Inv-loop μ-loop
+array-share-prefix-block c = c .before .before .before .next-block .ensures .fits
+
+slice-aggregate-write-all : tie.Need-slice-aggregate-write-all Inv-loop μ-loop
+slice-aggregate-write-all c = simp length-take (omega (arith, c .before .before .before .before .next-block .ensures .fits))
+
+write-all-requires : tie.Need-write-all-requires Inv-loop μ-loop
+write-all-requires c κs = search needs
+
+tell-requires : tie.Need-tell-requires Inv-loop μ-loop
+tell-requires c κs = search needs
+
+loop-less : tie.Need-loop-less Inv-loop μ-loop
+loop-less c =
+    let n = c .before .before .before .before .before .before .before in
+    let goes : turn n .loop .ended ≡ false = not-true _ (n .before .before .before .before .loop-test .taken) in
+    rw goes (falls (n .next-block .ensures))
+
+loop-again : tie.Need-loop-again Inv-loop μ-loop
+loop-again c =
+    let n = c .before .before .before .before .before .before .before in
+    let i = turn n .loop .inv in
+    let kept = n .next-block .kept .1 .1 .1 in
+    (n .next-block .ensures .underway, kept .0 ∙ i .1, kept .1 .0 ∙ i .2, kept .1 .1 .0 ∙ i .3)
+
+same-length : tie.Need-same-length Inv-loop μ-loop
+same-length c = c .before .loop .inv .1
+
+same-length-2 : tie.Need-same-length-2 Inv-loop μ-loop
+same-length-2 c = c .before .loop .inv .2
+
+returns : tie.Need-returns Inv-loop μ-loop
+returns c = tt
+
+pub print-lines-spec : {M : Type 1} → statement M
+print-lines-spec =
+    tie.close
+    (tie.spec
+    Inv-loop
+    μ-loop
+    large-buffer-requires
+    at-start-requires
+    loop-holds
+    slice-aggregate-next-block
+    next-block-requires
+    array-share-prefix-block
+    slice-aggregate-write-all
+    write-all-requires
+    tell-requires
+    loop-less
+    loop-again
+    same-length
+    same-length-2
+    returns)
