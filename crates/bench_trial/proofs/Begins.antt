@@ -101,7 +101,8 @@ module _ (program schedule buffer : List ℕ) (bytes : Bytes program) (room : 65
       go (refused g) e = let same : g ≡ f = refused-inside (sym (unwritten g e) ∙ a) in ap refused same
 
 -- The state before the first line can be run, and the lines left are all.
-module _ (image text : List ℕ) (r : Prepared) (formed : wellFormed image ≡ true) (few : countOf image ≤ 64) (b : Begun image text r) where
+module _ (image text : List ℕ) (r : Prepared) (formed : wellFormed image ≡ true) (few : countOf image ≤ 64)
+    (b : Begun image text r) where
   zeros : List ℤ
   zeros = replicate 65 (pos 0)
 
@@ -126,7 +127,8 @@ module _ (image text : List ℕ) (r : Prepared) (formed : wellFormed image ≡ t
   pub begun-count : r .lines ≡ length (linesLeft image text atStart (r .samples) (r .state))
   begun-count =
       b .lines-is ∙
-      sym (ap length all-left ∙ lines-count image 0 (startOf image) (callsOf text) ∙ calls-count noSamples (scriptOf text .actions))
+      sym (ap length all-left ∙ lines-count image 0 (startOf image) (callsOf text) ∙ calls-count noSamples
+      (scriptOf text .actions))
 
   pub begun-underway : Underway image text atStart (r .samples) (r .state)
   begun-underway =
@@ -157,7 +159,8 @@ module _ (program schedule text : List ℕ) (r : Start) (c : Compiles program sc
         underway = rw (c .here) (begun-underway image text (r .ready) (c .formed) few on);
       }
 
-  unstarted : (f : Fault) → checkOf (fetches (take (r .length) (r .image))) text ≡ refused f → trialOf program schedule text ≡ refused f
+  unstarted : (f : Fault) → checkOf (fetches (take (r .length) (r .image))) text ≡ refused f → trialOf program schedule text ≡
+      refused f
   unfolding trialOf
   unstarted f e =
       accepted-then _ _ _ (c .accepts) ∙ refused-then _ _ _ (sym inputs-are ∙ (rw (c .here) at e))
@@ -168,7 +171,8 @@ module _ (program schedule text : List ℕ) (r : Start) (c : Compiles program sc
   prepared Judged.Fine b = started b
   prepared (Judged.Refused f) e = unstarted f e
 
-pub uncompiled : (program schedule text : List ℕ) (f : Fault) → pairOf program schedule ≡ refused f → trialOf program schedule text ≡ refused f
+pub uncompiled : (program schedule text : List ℕ) (f : Fault) → pairOf program schedule ≡ refused f →
+    trialOf program schedule text ≡ refused f
 unfolding trialOf
 uncompiled program schedule text f e = refused-then _ _ _ e
 
@@ -179,7 +183,8 @@ checked-short isInput text e =
     leb-true (length text) 2048 (provided-true _ 24 0 (then-accepted _ _ tt e .1))
 
 -- A start that is fine.
-pub is-started : (program schedule text : List ℕ) (r : Start) {j : Judged} → j ≡ Judged.Fine → Prepares program schedule text r j →
+pub is-started : (program schedule text : List ℕ) (r : Start) {j : Judged} → j ≡ Judged.Fine →
+    Prepares program schedule text r j →
     Started program schedule text r
 unfolding Prepares
 is-started program schedule text r e s = subst (λ (j : Judged). Prepares program schedule text r j) e s

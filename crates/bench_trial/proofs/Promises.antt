@@ -13,7 +13,8 @@ use Rattle.stepper.proofs.Filling.{Blocks, blocks-hold}
 use Rattle.bench_trial.specs.Prepares.{Started}
 use Rattle.bench_trial.specs.declared.Start.{Start}
 
-pub trial-printed : (program schedule text : List ℕ) (r : Start) (lines : List (List ℕ)) (out : List ℕ) → Started program schedule text r →
+pub trial-printed : (program schedule text : List ℕ) (r : Start) (lines : List (List ℕ)) (out : List ℕ) →
+    Started program schedule text r →
     trialOf program schedule text ≡ accepted lines →
     Blocks (take (r .length) (r .image)) text atStart (r .ready .samples) (r .ready .state) out → out ≡ joined lines
 trial-printed program schedule text r lines out s e b =

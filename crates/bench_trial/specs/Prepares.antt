@@ -19,7 +19,8 @@ pub record Started (program schedule text : List ℕ) (r : Start) : Type 0 where
   pub fits : r .length ≤ length (r .image)
   pub lines-are : trialOf program schedule text ≡
       accepted (linesLeft (take (r .length) (r .image)) text atStart (r .ready .samples) (r .ready .state))
-  pub count : r .ready .lines ≡ length (linesLeft (take (r .length) (r .image)) text atStart (r .ready .samples) (r .ready .state))
+  pub count : r .ready .lines ≡
+      length (linesLeft (take (r .length) (r .image)) text atStart (r .ready .samples) (r .ready .state))
   pub underway : Underway (take (r .length) (r .image)) text atStart (r .ready .samples) (r .ready .state)
 
 -- The contract of `prepare`.

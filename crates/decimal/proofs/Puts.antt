@@ -20,7 +20,8 @@ use Rattle.word.proofs.Laws.{kept}
 use Rattle.decimal.specs.Put.{Put}
 
 -- A negative word, and one that is not.
-pub decimal-minus : (z : ℤ) → mag z < 2 ^ 31 → ltZ (toZ w32 (ofZ w32 z)) (pos 0) ≡ true → decimal z ≡ 45 ∷ natural (4294967295 - bitsOf z + 1)
+pub decimal-minus : (z : ℤ) → mag z < 2 ^ 31 → ltZ (toZ w32 (ofZ w32 z)) (pos 0) ≡ true → decimal z ≡
+    45 ∷ natural (4294967295 - bitsOf z + 1)
 unfolding decimal bitsOf
 decimal-minus (pos k) m t = absurd (never (ltb-true k 0 (rw (kept (pos k) m) at t)))
   where
@@ -38,23 +39,28 @@ decimal-plus (negsuc k) m t =
 spaced-append : (xs ys : List ℤ) → spaced (xs ++ ys) ≡ spaced xs ++ spaced ys
 unfolding spaced
 spaced-append [] ys = refl
-spaced-append (x ∷ xs) ys = ap (λ (l : List ℕ). 32 ∷ (decimal x ++ l)) (spaced-append xs ys) ∙ ap (λ (l : List ℕ). 32 ∷ l) (sym (append-assoc (decimal x) (spaced xs) (spaced ys)))
+spaced-append (x ∷ xs) ys =
+    ap (λ (l : List ℕ). 32 ∷ (decimal x ++ l)) (spaced-append xs ys) ∙
+    ap (λ (l : List ℕ). 32 ∷ l) (sym (append-assoc (decimal x) (spaced xs) (spaced ys)))
 
 spaced-one : (w : ℤ) → spaced (w ∷ []) ≡ 32 ∷ (decimal w ++ [])
 unfolding spaced
 spaced-one w = refl
 
-pub spaced-more : (ws : List ℤ) (i : ℕ) → i < length ws → spaced (take (i + 1) ws) ≡ spaced (take i ws) ++ (32 ∷ decimal (getD ws i (pos 0)))
+pub spaced-more : (ws : List ℤ) (i : ℕ) → i < length ws → spaced (take (i + 1) ws) ≡
+    spaced (take i ws) ++ (32 ∷ decimal (getD ws i (pos 0)))
 spaced-more ws i h =
     ap spaced (rw add-one (take-suc ws i (pos 0) h)) ∙ spaced-append (take i ws) (getD ws i (pos 0) ∷ []) ∙
-    ap (λ (l : List ℕ). spaced (take i ws) ++ l) (spaced-one (getD ws i (pos 0)) ∙ ap (λ (l : List ℕ). 32 ∷ l) (append-nil (decimal (getD ws i (pos 0)))))
+    ap (λ (l : List ℕ). spaced (take i ws) ++ l)
+    (spaced-one (getD ws i (pos 0)) ∙ ap (λ (l : List ℕ). 32 ∷ l) (append-nil (decimal (getD ws i (pos 0)))))
 
 pub spaced-none : spaced [] ≡ []
 unfolding spaced
 spaced-none = refl
 
 -- Bytes put one after another.
-pub put-then : {l : List ℕ} {at : ℕ} {xs l₁ : List ℕ} {e₁ : ℕ} {ys l₂ : List ℕ} {e₂ : ℕ} → Put l at xs l₁ e₁ → Put l₁ e₁ ys l₂ e₂ →
+pub put-then : {l : List ℕ} {at : ℕ} {xs l₁ : List ℕ} {e₁ : ℕ} {ys l₂ : List ℕ} {e₂ : ℕ} → Put l at xs l₁ e₁ →
+    Put l₁ e₁ ys l₂ e₂ →
     Put l at (xs ++ ys) l₂ e₂
 put-then {l} {at} {xs} {l₁} {e₁} {ys} {l₂} {e₂} p q =
     record {

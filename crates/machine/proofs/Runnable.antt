@@ -54,7 +54,8 @@ module _ {image : List ℕ} {state samples : List ℤ} (r : Runnable image state
       (le-leb (countOf image) (length samples) (r .enough)))
 
 -- A reset of a well-formed image that is not refused: with 64 samples the state that it leaves can be run.
-pub reset-runnable : (image : List ℕ) (old samples : List ℤ) → wellFormed image ≡ true → countOf image < length old → 64 ≤ length samples →
+pub reset-runnable : (image : List ℕ) (old samples : List ℤ) → wellFormed image ≡ true → countOf image < length old →
+    64 ≤ length samples →
     Runnable image (resetWords image old) samples
 unfolding resetWords
 reset-runnable image old samples f l h =

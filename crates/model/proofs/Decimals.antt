@@ -106,7 +106,8 @@ natural-digits : (n : ℕ) → All (λ d. (48 ≤ d) × (d ≤ 57)) (natural n)
 natural-digits =
     by-tens (λ n. All (λ d. (48 ≤ d) × (d ≤ 57)) (natural n))
     (λ n l. rw (natural-one n l) ((omega arith, omega arith), tt))
-    (λ n l h. rw (natural-more n l) (all-append (λ d. (48 ≤ d) × (d ≤ 57)) (natural (n / 10)) _ h ((omega arith, omega arith), tt)))
+    (λ n l h. rw (natural-more n l)
+    (all-append (λ d. (48 ≤ d) × (d ≤ 57)) (natural (n / 10)) _ h ((omega arith, omega arith), tt)))
 
 -- The digits of a number say it, and a decimal its word.
 pub natural-says : (n : ℕ) → SaysNumber n (natural n)

@@ -63,7 +63,8 @@ module _ (text : List ℕ) where
   enough zero (suc g) at hf hg = rw (past at (omega arith))
   enough (suc f) zero at hf hg = rw (past at (omega arith))
   enough (suc f) (suc g) at hf hg =
-      go (scriptCommandAt text at) (enough f g (at + 6) (omega arith) (omega arith)) (enough f g (at + 2) (omega arith) (omega arith))
+      go (scriptCommandAt text at) (enough f g (at + 6) (omega arith) (omega arith))
+      (enough f g (at + 2) (omega arith) (omega arith))
     where
       go : (c : ScriptCommand) → scriptFrom f text (at + 6) ≡ scriptFrom g text (at + 6) →
           scriptFrom f text (at + 2) ≡ scriptFrom g text (at + 2) →
@@ -135,21 +136,30 @@ module _ (text : List ℕ) where
   unfolding scriptCommandAt
   end-here at h = rw (lt-ltb at (length text) (omega arith), h .1)
 
-  cut-set : (at : ℕ) → at < length text → byteAt text at ≡ 0x70 → length text < at + 6 → scriptCommandAt text at ≡ ScriptCommand.EndsEarly
+  cut-set : (at : ℕ) → at < length text → byteAt text at ≡ 0x70 → length text < at + 6 → scriptCommandAt text at ≡
+      ScriptCommand.EndsEarly
   unfolding scriptCommandAt
   cut-set at l b c = rw (lt-ltb at (length text) l, b, lt-leb (at + 6) (length text) c)
 
-  cut-run : (at : ℕ) → at < length text → byteAt text at ≡ 0x71 → length text < at + 2 → scriptCommandAt text at ≡ ScriptCommand.EndsEarly
+  cut-run : (at : ℕ) → at < length text → byteAt text at ≡ 0x71 → length text < at + 2 → scriptCommandAt text at ≡
+      ScriptCommand.EndsEarly
   unfolding scriptCommandAt
   cut-run at l b c = rw (lt-ltb at (length text) l, b, lt-leb (at + 2) (length text) c)
 
   unknown-here : (at : ℕ) → at < length text → NoCommand (byteAt text at) → scriptCommandAt text at ≡ ScriptCommand.Unknown
   unfolding scriptCommandAt
   unknown-here at l u =
-      rw (lt-ltb at (length text) l, ne-eqb (byteAt text at) 0x00 (u .0), ne-eqb (byteAt text at) 0x70 (u .1), ne-eqb (byteAt text at) 0x71 (u .2))
+      rw (
+        lt-ltb at (length text) l,
+        ne-eqb (byteAt text at) 0x00 (u .0),
+        ne-eqb (byteAt text at) 0x70 (u .1),
+        ne-eqb
+            (byteAt text at) 0x71 (u .2),
+      )
 
   -- Where a script is spelled, it is read; where it stops, it is refused.
-  spelled : {at : ℕ} {actions : List Action} → SpellsScript text at actions → scriptAt text at ≡ record { actions = actions; ending = accepted tt }
+  spelled : {at : ℕ} {actions : List Action} → SpellsScript text at actions → scriptAt text at ≡
+      record { actions = actions; ending = accepted tt }
   unfolding scriptCommand provided
   spelled (SpellsScript.ends {at = at} h l) = rw (step at, end-here at h, le-leb (length text) (at + 1) l)
   spelled (SpellsScript.sets {at = at} h s) = step at ∙ rw (set-here at h) (ap (preceded _) (spelled s))
@@ -194,17 +204,22 @@ module _ (text : List ℕ) where
       end-on true e h = SpellsScript.ends h (leb-true _ _ e)
       end-on false e h = (refl, StopsScript.trailing h (leb-false _ _ e))
 
-      go : (c : ScriptCommand) → Stands at c → Ends (at + 6) (scriptFrom left text (at + 6)) (scriptFrom left text (at + 6) .ending) →
+      go : (c : ScriptCommand) → Stands at c →
+          Ends (at + 6) (scriptFrom left text (at + 6)) (scriptFrom left text (at + 6) .ending) →
           Ends (at + 2) (scriptFrom left text (at + 2)) (scriptFrom left text (at + 2) .ending) →
-          Ends at (scriptCommand (λ n. scriptFrom left text n) text at c) (scriptCommand (λ n. scriptFrom left text n) text at c .ending)
+          Ends at (scriptCommand (λ n. scriptFrom left text n) text at c)
+          (scriptCommand (λ n. scriptFrom left text n) text at c .ending)
       go ScriptCommand.EndsEarly s a b = (refl, s)
       go ScriptCommand.Unknown s a b = (refl, s)
       go ScriptCommand.End s a b = end-on (leb (length text) (at + 1)) refl s
-      go (ScriptCommand.Set x w) (h, p, q) a b = rw (← p, ← q) (set-on (scriptFrom left text (at + 6)) (scriptFrom left text (at + 6) .ending) h a)
-      go (ScriptCommand.Run n) (h, p) a b = rw (← p) (run-on (scriptFrom left text (at + 2)) (scriptFrom left text (at + 2) .ending) h b)
+      go (ScriptCommand.Set x w) (h, p, q) a b =
+          rw (← p, ← q) (set-on (scriptFrom left text (at + 6)) (scriptFrom left text (at + 6) .ending) h a)
+      go (ScriptCommand.Run n) (h, p) a b =
+          rw (← p) (run-on (scriptFrom left text (at + 2)) (scriptFrom left text (at + 2) .ending) h b)
 
   -- 24: a text is read to its end exactly if it spells its commands, and refused exactly where it stops.
-  pub script-judged : Judged (λ u. SpellsScript text 0 (scriptOf text .actions)) (λ n x. _≡_ {A = ℕ} n 24 × StopsScript text 0 x) (scriptOf text .ending)
+  pub script-judged : Judged (λ u. SpellsScript text 0 (scriptOf text .actions))
+      (λ n x. _≡_ {A = ℕ} n 24 × StopsScript text 0 x) (scriptOf text .ending)
   unfolding scriptAt
   script-judged =
       record {
@@ -229,7 +244,8 @@ module _ (p : Program) where
   input-of x = go (ltb x (count p)) refl
     where
       go : (b : Bool) → ltb x (count p) ≡ b → (cond b (isInputBody (signalAt p x .body)) false ≡ true) ↔ InputOf p x
-      go true e = (λ i. (ltb-true x (count p) e, is-input (signalAt p x .body) .0 i), λ h. is-input (signalAt p x .body) .1 (h .1))
+      go true e =
+          (λ i. (ltb-true x (count p) e, is-input (signalAt p x .body) .0 i), λ h. is-input (signalAt p x .body) .1 (h .1))
       go false e = (λ i. absurd (false≢true i), λ h. absurd (omega (arith, h .0, ltb-false x (count p) e)))
 
   no-input : (x : ℕ) → isInputOf p x ≡ false → ¬ InputOf p x
@@ -299,7 +315,8 @@ module _ (p : Program) where
       }
 
 -- 24, over length.
-pub long-judged : (text : List ℕ) → Judged (λ u. length text ≤ 2048) (Only 24 0 (2048 < length text)) (provided (leb (length text) 2048) 24 0)
+pub long-judged : (text : List ℕ) →
+    Judged (λ u. length text ≤ 2048) (Only 24 0 (2048 < length text)) (provided (leb (length text) 2048) 24 0)
 long-judged text =
     provided-judged _ 24 0 (length text ≤ 2048) (2048 < length text) (leb-true _ _, le-leb _ _) (leb-false _ _)
     (λ l h. omega arith)

@@ -59,7 +59,8 @@ Full n [] = Unit {0}
 Full n (reset ∷ cs) = ⊥
 Full n (cycle samples ∷ cs) = (n ≤ length samples) × Full n cs
 
-full-replicate : (n k : ℕ) (samples : List ℤ) (cs : List Call) → n ≤ length samples → Full n cs → Full n (replicate k (cycle samples) ++ cs)
+full-replicate : (n k : ℕ) (samples : List ℤ) (cs : List Call) → n ≤ length samples → Full n cs →
+    Full n (replicate k (cycle samples) ++ cs)
 full-replicate n zero samples cs h f = f
 full-replicate n (suc k) samples cs h f = (h, full-replicate n k samples cs h f)
 
@@ -73,7 +74,8 @@ pub full-calls : (n : ℕ) (samples : List ℤ) (actions : List Action) → n �
 unfolding callsFrom
 full-calls n samples [] h = tt
 full-calls n samples (alter at x w ∷ actions) h = full-calls n (set samples x w) actions (omega (arith, length-set samples x w))
-full-calls n samples (run k ∷ actions) h = full-replicate n k samples (callsFrom samples actions) h (full-calls n samples actions h)
+full-calls n samples (run k ∷ actions) h =
+    full-replicate n k samples (callsFrom samples actions) h (full-calls n samples actions h)
 
 -- The log of such a list: its length, and the samples of each call.
 module _ (p : Program) where
@@ -88,7 +90,8 @@ module _ (p : Program) where
   unfoldable lentIn : List (List ℤ) → List Call → ℕ → List ℤ
   lentIn log cs t = cond (ltb t (length log)) (lentAt log t) (samplesAt cs (t - length log))
 
-  lent-next : (log : List (List ℤ)) (samples : List ℤ) (cs : List Call) (t : ℕ) → lentIn (samples ∷ log) cs t ≡ lentIn log (cycle samples ∷ cs) t
+  lent-next : (log : List (List ℤ)) (samples : List ℤ) (cs : List Call) (t : ℕ) → lentIn (samples ∷ log) cs t ≡
+      lentIn log (cycle samples ∷ cs) t
   unfolding lentIn lentAt samplesAt
   lent-next log samples cs t = go (ltb t (length log)) refl (eqb t (length log)) refl
     where
@@ -107,7 +110,8 @@ module _ (p : Program) where
           let k : t - length log ≡ suc (t - suc (length log)) = omega arith in
           rw (le-ltb t (suc (length log)) (omega arith), k)
 
-  lent-in : (log : List (List ℤ)) (cs : List Call) (t : ℕ) → Full (count p) cs → t < length log + length cs → lentAt (logOf p log cs) t ≡ lentIn log cs t
+  lent-in : (log : List (List ℤ)) (cs : List Call) (t : ℕ) → Full (count p) cs → t < length log + length cs →
+      lentAt (logOf p log cs) t ≡ lentIn log cs t
   unfolding lentIn
   lent-in log [] t f h = sym (last log t (omega arith))
     where
@@ -122,7 +126,8 @@ module _ (p : Program) where
   unfolding lentIn
   lent-at cs t f h =
       let z : t - 0 ≡ t = omega arith in
-      lent-in [] cs t f (omega arith) ∙ ap (λ (b : Bool). cond b (lentAt [] t) (samplesAt cs (t - 0))) (le-ltb t 0 (omega arith)) ∙ ap (samplesAt cs) z
+      lent-in [] cs t f (omega arith) ∙
+      ap (λ (b : Bool). cond b (lentAt [] t) (samplesAt cs (t - 0))) (le-ltb t 0 (omega arith)) ∙ ap (samplesAt cs) z
 
 samples-take : (cs : List Call) (k t : ℕ) → t < k → samplesAt (take k cs) t ≡ samplesAt cs t
 unfolding samplesAt
@@ -159,7 +164,8 @@ module _ (p : Program) (s : Schedule) (h : ℕ) (acc : Accepted p s) (whole : Mu
       let t = runCycle (rateOf p s x) k in
       let early : t < suc j = omega (arith, log-size) in
       ap (λ (l : List ℤ). getD l x (pos 0))
-      (sym (ap (λ (log : List (List ℤ)). lentAt log t) log-is ∙ lent-at p first t first-full (omega (arith, first-length)) ∙ samples-take cs (suc j) t early))
+      (sym (ap (λ (log : List (List ℤ)). lentAt log t) log-is ∙ lent-at p first t first-full
+      (omega (arith, first-length)) ∙ samples-take cs (suc j) t early))
 
   module _ (X : ℕ → ℕ → ℤ) (sat : Satisfies p (settled p s) (inputsOf p s cs) X) where
     pub holds : Holds p s h X old (suc j) (stateBy (imageOf p s h) old (take (suc j) cs))
@@ -168,7 +174,8 @@ module _ (p : Program) (s : Schedule) (h : ℕ) (acc : Accepted p s) (whole : Mu
         subst (λ (n : ℕ). Holds p s h X old n (stateBy (imageOf p s h) old first)) log-size
         (calls-hold p s h acc whole bounded old long first (inputsOf p s cs) X supplied sat)
 
-    word-at : (x : ℕ) → x < count p → getD (stateBy (imageOf p s h) old (take (suc j) cs)) (suc x) (pos 0) ≡ heldAt p s X (suc j) x
+    word-at : (x : ℕ) → x < count p → getD (stateBy (imageOf p s h) old (take (suc j) cs)) (suc x) (pos 0) ≡
+        heldAt p s X (suc j) x
     word-at x lx = go (leb (suc j) (phaseOf s x)) refl
       where
         go : (b : Bool) → leb (suc j) (phaseOf s x) ≡ b → getD (stateBy (imageOf p s h) old (take (suc j) cs)) (suc x) (pos 0) ≡
@@ -180,19 +187,23 @@ module _ (p : Program) (s : Schedule) (h : ℕ) (acc : Accepted p s) (whole : Mu
     pub words-are : signalsOf (imageOf p s h) (stateBy (imageOf p s h) old (take (suc j) cs)) ≡ wordsAfter p s X (suc j)
     words-are =
         let state = stateBy (imageOf p s h) old (take (suc j) cs) in
-        let size : length (take (count p) (drop 1 state)) ≡ count p = simp (length-take, length-drop) (omega (arith, holds .size)) in
+        let size : length (take (count p) (drop 1 state)) ≡
+        count p = simp (length-take, length-drop) (omega (arith, holds .size)) in
         ap (λ (n : ℕ). take n (drop 1 state)) (image-count p s h) ∙
-        ext-getD (pos 0) (take (count p) (drop 1 state)) (wordsAfter p s X (suc j)) (size ∙ sym (table-length (count p) (heldAt p s X (suc j))))
+        ext-getD (pos 0) (take (count p) (drop 1 state)) (wordsAfter p s X (suc j))
+        (size ∙ sym (table-length (count p) (heldAt p s X (suc j))))
         (λ x lx. let below : x < count p = omega (arith, size) in
         getD-take (count p) (drop 1 state) x (pos 0) below ∙ getD-drop 1 state x (pos 0) ∙
-        ap (λ (k : ℕ). getD state k (pos 0)) (one x) ∙ word-at x below ∙ sym (table-at (count p) (heldAt p s X (suc j)) x (pos 0) below))
+        ap (λ (k : ℕ). getD state k (pos 0)) (one x) ∙ word-at x below ∙
+        sym (table-at (count p) (heldAt p s X (suc j)) x (pos 0) below))
       where
         one : (x : ℕ) → 1 + x ≡ suc x
         one x = omega arith
 
 -- A trial that is accepted prints as many lines as the RUNs say, and line j has the words that the streams give after j + 1
 -- cycles, the inputs being those that the SETs supply.
-module _ (program schedule text : List ℕ) (bytes : Bytes program) (lines : List (List ℕ)) (tried : Tried program schedule text lines)
+module _ (program schedule text : List ℕ) (bytes : Bytes program) (lines : List (List ℕ))
+    (tried : Tried program schedule text lines)
   where
     abbrev p : Program
     p = tried .pair .program

@@ -34,7 +34,8 @@ module _ (p : Program) (text : List ℕ) where
   unfolding checkOf
   check-answers =
       answers-then Q R _ _ (long-judged text) (λ n x f. over f) (λ u short.
-      answers-then Q R (scriptOf text .ending) _ (script-judged text) (λ n x s. rw (s .0) (ScriptRefusedAt.stops short (s .1))) (λ v spells.
+      answers-then Q R (scriptOf text .ending) _ (script-judged text)
+      (λ n x s. rw (s .0) (ScriptRefusedAt.stops short (s .1))) (λ v spells.
       last short spells (inputsOnly (isInputOf p) actions) (sets-judged p actions)))
     where
       Q : Unit {0} → Type 0
@@ -100,7 +101,8 @@ module _ (program schedule text : List ℕ) where
   unfolding trialOf
   trial-answers =
       answers-then Tried R (pairOf program schedule) _ pair-judged (λ n x f. TrialRefusedAt.pair f) (λ q legal.
-      answers-then Tried R (checkOf (isInputOf (q .program)) text) _ (check-judged (q .program) text) (λ n x f. script legal f) (λ u s.
+      answers-then Tried R (checkOf (isInputOf (q .program)) text) _ (check-judged (q .program) text)
+      (λ n x f. script legal f) (λ u s.
       record { pair = q; legal = legal; script = s; lines-are = refl }))
     where
       R : ℕ → ℕ → Type 0

@@ -40,7 +40,8 @@ unfolding fetches
 fetches-past image x e = rw e
 
 module _ (p : Program) (s : Schedule) (h : ℕ) (bounded : Bounded p s h) where
-  code-first : (x : ℕ) → x < count p → byteAt (imageOf p s h) (codeOffset (imageOf p s h) x) ≡ byteAt (signalCode x (signalAt p x .body)) 0
+  code-first : (x : ℕ) → x < count p → byteAt (imageOf p s h) (codeOffset (imageOf p s h) x) ≡
+      byteAt (signalCode x (signalAt p x .body)) 0
   unfolding codeOf
   code-first x lt =
       let image = imageOf p s h in
@@ -49,14 +50,16 @@ module _ (p : Program) (s : Schedule) (h : ℕ) (bounded : Bounded p s h) where
       let is : take n (drop a image) ≡ signalCode x (signalAt p x .body) = code-stretch p s h bounded x lt in
       let some : 0 < n = omega (arith, ap length is, length-take n (drop a image), code-some x (signalAt p x .body)) in
       let here : a ≡ a + 0 = omega arith in
-      ap (byteAt image) here ∙ sym (getD-take n (drop a image) 0 0 some ∙ getD-drop a image 0 0) ∙ ap (λ (l : List ℕ). byteAt l 0) is
+      ap (byteAt image) here ∙ sym (getD-take n (drop a image) 0 0 some ∙ getD-drop a image 0 0) ∙
+      ap (λ (l : List ℕ). byteAt l 0) is
 
   fetches-at : (x : ℕ) → fetches (imageOf p s h) x ≡ isInputOf p x
   unfolding fetches isInputOf
   fetches-at x = rw (image-count p s h) (go (ltb x (count p)) refl)
     where
       go : (b : Bool) → ltb x (count p) ≡ b →
-          cond b (eqb (byteAt (imageOf p s h) (codeOffset (imageOf p s h) x)) 0x52) false ≡ cond b (isInputBody (signalAt p x .body)) false
+          cond b (eqb (byteAt (imageOf p s h) (codeOffset (imageOf p s h) x)) 0x52) false ≡
+          cond b (isInputBody (signalAt p x .body)) false
       go true e = ap (λ (c : ℕ). eqb c 0x52) (code-first x (ltb-true x (count p) e)) ∙ first-byte x (signalAt p x .body)
       go false e = refl
 

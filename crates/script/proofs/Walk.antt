@@ -84,7 +84,8 @@ module _ (text : List ℕ) (at : ℕ) where
       unfolding widthOf scriptCommand
       ending-more = ap (λ (s : Script). s .ending) (step text at) ∙ rw e (go here (rw e at some))
         where
-          go : (c : ScriptCommand) → 0 < widthOf c → scriptCommand (scriptAt text) text at c .ending ≡ scriptAt text (at + widthOf c) .ending
+          go : (c : ScriptCommand) → 0 < widthOf c → scriptCommand (scriptAt text) text at c .ending ≡
+              scriptAt text (at + widthOf c) .ending
           go ScriptCommand.EndsEarly z = absurd (omega arith)
           go ScriptCommand.Unknown z = absurd (omega arith)
           go ScriptCommand.End z = absurd (omega arith)
@@ -97,7 +98,8 @@ module _ (text : List ℕ) (at : ℕ) where
       sets-more isInput m = ap (λ (s : Script). inputsOnly isInput (s .actions)) (step text at) ∙ rw e (go here (rw e at some) m)
         where
           go : (c : ScriptCommand) → 0 < widthOf c → mayStand isInput c ≡ true →
-              inputsOnly isInput (scriptCommand (scriptAt text) text at c .actions) ≡ inputsOnly isInput (scriptAt text (at + widthOf c) .actions)
+              inputsOnly isInput (scriptCommand (scriptAt text) text at c .actions) ≡
+              inputsOnly isInput (scriptAt text (at + widthOf c) .actions)
           go ScriptCommand.EndsEarly z m = absurd (omega arith)
           go ScriptCommand.Unknown z m = absurd (omega arith)
           go ScriptCommand.End z m = absurd (omega arith)
@@ -105,12 +107,14 @@ module _ (text : List ℕ) (at : ℕ) where
           go (ScriptCommand.Run n) z m = refl
 
       pub calls-more : (samples : List ℤ) → callsFrom samples (scriptAt text at .actions) ≡
-          replicate (runsOf here) (cycle (altered samples here)) ++ callsFrom (altered samples here) (scriptAt text (at + w) .actions)
+          replicate (runsOf here) (cycle (altered samples here)) ++ callsFrom (altered samples here)
+          (scriptAt text (at + w) .actions)
       unfolding widthOf scriptCommand runsOf altered callsFrom
       calls-more samples = ap (λ (s : Script). callsFrom samples (s .actions)) (step text at) ∙ rw e (go here (rw e at some))
         where
           go : (c : ScriptCommand) → 0 < widthOf c → callsFrom samples (scriptCommand (scriptAt text) text at c .actions) ≡
-              replicate (runsOf c) (cycle (altered samples c)) ++ callsFrom (altered samples c) (scriptAt text (at + widthOf c) .actions)
+              replicate (runsOf c) (cycle (altered samples c)) ++ callsFrom (altered samples c)
+              (scriptAt text (at + widthOf c) .actions)
           go ScriptCommand.EndsEarly z = absurd (omega arith)
           go ScriptCommand.Unknown z = absurd (omega arith)
           go ScriptCommand.End z = absurd (omega arith)
@@ -121,18 +125,21 @@ module _ (text : List ℕ) (at : ℕ) where
       unfolding widthOf scriptCommand runsOf cyclesOf
       cycles-more = ap (λ (s : Script). cyclesOf (s .actions)) (step text at) ∙ rw e (go here (rw e at some))
         where
-          go : (c : ScriptCommand) → 0 < widthOf c → cyclesOf (scriptCommand (scriptAt text) text at c .actions) ≡ runsOf c + cyclesOf (scriptAt text (at + widthOf c) .actions)
+          go : (c : ScriptCommand) → 0 < widthOf c → cyclesOf (scriptCommand (scriptAt text) text at c .actions) ≡
+              runsOf c + cyclesOf (scriptAt text (at + widthOf c) .actions)
           go ScriptCommand.EndsEarly z = absurd (omega arith)
           go ScriptCommand.Unknown z = absurd (omega arith)
           go ScriptCommand.End z = absurd (omega arith)
           go (ScriptCommand.Set x v) z = omega arith
           go (ScriptCommand.Run n) z = refl
 
-  pub sets-bad : (isInput : ℕ → Bool) → mayStand isInput here ≡ false → inputsOnly isInput (scriptAt text at .actions) ≡ refuse 25 at
+  pub sets-bad : (isInput : ℕ → Bool) → mayStand isInput here ≡ false → inputsOnly isInput (scriptAt text at .actions) ≡
+      refuse 25 at
   unfolding scriptCommand mayStand inputsOnly _▷_ provided
   sets-bad isInput m = ap (λ (s : Script). inputsOnly isInput (s .actions)) (step text at) ∙ go here m
     where
-      go : (c : ScriptCommand) → mayStand isInput c ≡ false → inputsOnly isInput (scriptCommand (scriptAt text) text at c .actions) ≡ refuse 25 at
+      go : (c : ScriptCommand) → mayStand isInput c ≡ false →
+          inputsOnly isInput (scriptCommand (scriptAt text) text at c .actions) ≡ refuse 25 at
       go ScriptCommand.EndsEarly m = let z : _≡_ {A = ℕ} 0 1 = cc in absurd (omega arith)
       go ScriptCommand.Unknown m = let z : _≡_ {A = ℕ} 0 1 = cc in absurd (omega arith)
       go ScriptCommand.End m = let z : _≡_ {A = ℕ} 0 1 = cc in absurd (omega arith)
@@ -162,7 +169,13 @@ pub code-starts : (image : List ℕ) (x : ℕ) → wellFormed image ≡ true →
 unfolding codeOf
 code-starts image x h lt =
     let p = codes image (formed image h .coded) x lt in
-    omega (arith, code-some _ _ _ (p .formed), stretch-length image (codeOffset image x) (codeOffset image (x + 1)) (p .within), p .within)
+    omega (
+      arith,
+      code-some _ _ _ (p .formed),
+      stretch-length image (codeOffset image x) (codeOffset image (x + 1))
+          (p .within),
+      p .within,
+    )
 
 -- The checks of a script, by their tests.
 module _ (isInput : ℕ → Bool) (text : List ℕ) where

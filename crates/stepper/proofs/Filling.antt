@@ -26,7 +26,8 @@ pub record Filling (image text : List ℕ) (p₀ : Progress) (samples₀ state�
   pub state-kept : length state ≡ length state₀
   pub block-kept : length block ≡ length block₀
 
-pub filling-none : {image text : List ℕ} {p : Progress} {samples state : List ℤ} (block : List ℕ) → Underway image text p samples state →
+pub filling-none : {image text : List ℕ} {p : Progress} {samples state : List ℤ} (block : List ℕ) →
+    Underway image text p samples state →
     Filling image text p samples state block samples state block p 0
 filling-none block u =
     record {
@@ -63,10 +64,12 @@ module _ {image text : List ℕ} {p₀ : Progress} {samples₀ state₀ : List �
     (l : Lined image text p samples state samples′ state′ line′ n next)
     (samples-same : length samples′ ≡ length samples) (state-same : length state′ ≡ length state)
     (block-same : length (take size block ++ (line′ ++ rest)) ≡ length block) where
-  pub filling-more : Filling image text p₀ samples₀ state₀ block₀ samples′ state′ (take size block ++ (line′ ++ rest)) next (size + n)
+  pub filling-more : Filling image text p₀ samples₀ state₀ block₀ samples′ state′ (take size block ++ (line′ ++ rest)) next
+      (size + n)
   filling-more =
       let after = linesLeft image text next samples′ state′ in
-      let falls : length after < length (linesLeft image text p₀ samples₀ state₀) = omega (arith, f .most, ap length (l .first)) in
+      let falls : length after < length (linesLeft image text p₀ samples₀ state₀) = omega
+      (arith, f .most, ap length (l .first)) in
       record {
         bytes =
             f .bytes ∙ ap (λ (ls : List (List ℕ)). take size block ++ joined ls) (l .first) ∙
@@ -93,11 +96,13 @@ module _ {image text : List ℕ} {p₀ : Progress} {samples₀ state₀ : List �
 -- A loop over blocks that ends with the script: fewer lines are left after each block, or it is the last.
 pub falls : {image text : List ℕ} {p : Progress} {samples state samples′ state′ : List ℤ} {block′ : List ℕ} {r : Block} →
     Filled image text p samples state samples′ state′ block′ r →
-    cond (r .ended) 0 (suc (length (linesLeft image text (r .progress) samples′ state′))) < suc (length (linesLeft image text p samples state))
+    cond (r .ended) 0 (suc (length (linesLeft image text (r .progress) samples′ state′))) < suc
+    (length (linesLeft image text p samples state))
 falls {image} {text} {p} {samples} {state} {samples′} {state′} {block′} {r} f = go (r .ended) refl
   where
     go : (b : Bool) → r .ended ≡ b →
-        cond b 0 (suc (length (linesLeft image text (r .progress) samples′ state′))) < suc (length (linesLeft image text p samples state))
+        cond b 0 (suc (length (linesLeft image text (r .progress) samples′ state′))) < suc
+        (length (linesLeft image text p samples state))
     go true e = omega arith
     go false e = omega (arith, f .fewer e)
 
@@ -111,7 +116,8 @@ pub data Blocks (image text : List ℕ) : Progress → List ℤ → List ℤ →
       Blocks image text (r .progress) samples′ state′ out → Blocks image text p samples state (take (r .size) block′ ++ out)
 
 -- They hold all lines that were left, and nothing else.
-pub blocks-hold : {image text : List ℕ} {p : Progress} {samples state : List ℤ} {out : List ℕ} → Blocks image text p samples state out →
+pub blocks-hold : {image text : List ℕ} {p : Progress} {samples state : List ℤ} {out : List ℕ} →
+    Blocks image text p samples state out →
     out ≡ joined (linesLeft image text p samples state)
 blocks-hold (Blocks.final samples′ state′ block′ r f e) = sym (f .last e)
 blocks-hold (Blocks.onward samples′ state′ block′ r f e b) = ap (take (r .size) block′ ++_) (blocks-hold b) ∙ sym (f .more e)

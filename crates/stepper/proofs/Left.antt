@@ -56,7 +56,8 @@ put-start {line} {bytes} {line′} {size} p =
     take-at bytes (drop (0 + length bytes) line) (length bytes) refl
 
 -- A cycle that has run, where the calls left begin with it, has printed the first of the lines left.
-module _ {image text : List ℕ} {p : Progress} {samples samples′ state state′ : List ℤ} {line line′ : List ℕ} {size : ℕ} (at left : ℕ)
+module _ {image text : List ℕ} {p : Progress} {samples samples′ state state′ : List ℤ} {line line′ : List ℕ} {size : ℕ}
+    (at left : ℕ)
     (u : Underway image text p samples state) (enough : Runnable image state samples′)
     (calls : callsLeft text (p .at) (p .left) samples ≡ cycle samples′ ∷ callsLeft text at left samples′)
     (ran : Printed image (p .line) samples′ state line state′ line′ size) where
@@ -72,7 +73,8 @@ module _ {image text : List ℕ} {p : Progress} {samples samples′ state state�
         first =
             ap (linesFrom image (p .line) state) calls ∙
             ap (λ (s : List ℤ). lineOf (p .line) (signalsOf image s) ∷ linesFrom image (suc (p .line)) s rest) leaves ∙
-            ap₂ (λ (b : List ℕ) (n : ℕ). b ∷ linesFrom image n state′ rest) (sym (put-start (ran .line-is))) (sym (add-one (p .line)));
+            ap₂ (λ (b : List ℕ) (n : ℕ). b ∷ linesFrom image n state′ rest) (sym (put-start (ran .line-is)))
+            (sym (add-one (p .line)));
         fits = ran .line-is .fits;
         number = refl;
         underway = record { runnable = ran .runnable; few = omega (arith, u .few, ap length calls) };

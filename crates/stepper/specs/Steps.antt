@@ -43,7 +43,8 @@ soughtCalls text samples (Sought.Cycle at left) = cycle samples ∷ callsLeft te
 soughtCalls text samples Sought.Nothing = []
 
 -- A cycle has run, and the line of the state that it left stands at the start of the buffer.
-pub record Printed (image : List ℕ) (number : ℕ) (samples state : List ℤ) (line : List ℕ) (state′ : List ℤ) (line′ : List ℕ) (size : ℕ) : Type 0 where
+pub record Printed (image : List ℕ) (number : ℕ) (samples state : List ℤ) (line : List ℕ) (state′ : List ℤ) (line′ : List ℕ)
+    (size : ℕ) : Type 0 where
   pub state-is : state′ ≡ cycleWords image state samples
   pub line-is : Put line 0 (lineOf number (signalsOf image state′)) line′ size
   pub runnable : Runnable image state′ samples

@@ -15,11 +15,13 @@ abbrev start : tie.After-image2 → tie.Start
 start k = k .before .before .before .before .before .before
 
 made : (k : tie.After-known-told) → let i = k .before .before .before in
-    Compiles (start i .args .program .now) (start i .args .schedule .now) (i .before .compile .last .1 .1 .0) (k .before .compiled .given .0 .0)
+    Compiles (start i .args .program .now) (start i .args .schedule .now) (i .before .compile .last .1 .1 .0)
+    (k .before .compiled .given .0 .0)
 made k =
     let i = k .before .before .before in
     let e = i .before .compile .ensures in
-    compiles _ _ _ (λ j. i .before .before .before .before .before .shared-slice-known .given j .fits) (omega (arith, i .image2 .given)) _ _
+    compiles _ _ _ (λ j. i .before .before .before .before .before .shared-slice-known .given j .fits)
+    (omega (arith, i .image2 .given)) _ _
     (sym (e .0) ∙ ap compiledOf (k .before .compiled .given .1)) (e .1)
 
 slice-aggregate-compile : tie.Need-slice-aggregate-compile

@@ -45,13 +45,17 @@ put-natural-slice-write-out : (t : ℕ) → put-natural-lts.Need-slice-write-out
   put-natural-below t,
   put-natural.Post,
 ) (put-natural-at t) put-natural.Post
-put-natural-slice-write-out t c = let s = c .before .before in omega (arith, s .pre .1, ap length (natural-one (s .args .n) (omega arith)))
+put-natural-slice-write-out t c =
+    let s = c .before .before in
+    omega (arith, s .pre .1, ap length (natural-one (s .args .n) (omega arith)))
 
 put-natural-add-result : (t : ℕ) → put-natural-lts.Need-add-result (
   put-natural-below t,
   put-natural.Post,
 ) (put-natural-at t) put-natural.Post
-put-natural-add-result t c = let s = c .before .before in omega (arith, s .pre .1, ap length (natural-one (s .args .n) (omega arith)))
+put-natural-add-result t c =
+    let s = c .before .before in
+    omega (arith, s .pre .1, ap length (natural-one (s .args .n) (omega arith)))
 
 put-natural-same-length : (t : ℕ) → put-natural-lts.Need-same-length (
   put-natural-below t,
@@ -63,7 +67,9 @@ put-natural-returns : (t : ℕ) → put-natural-lts.Need-returns (
   put-natural-below t,
   put-natural.Post,
 ) (put-natural-at t) put-natural.Post
-put-natural-returns t c = let s = c .before .before in put-is (sym (natural-one (s .args .n) (omega arith))) (put-one _ _ _ (put-natural-slice-write-out t c))
+put-natural-returns t c =
+    let s = c .before .before in
+    put-is (sym (natural-one (s .args .n) (omega arith))) (put-one _ _ _ (put-natural-slice-write-out t c))
 
 put-natural-put-natural-requires : (t : ℕ) → put-natural-lts.Need-put-natural-requires (
   put-natural-below t,
@@ -114,7 +120,8 @@ put-natural-returns-2 : (t : ℕ) → put-natural-lts.Need-returns-2 (
   put-natural.Post,
 ) (put-natural-at t) put-natural.Post
 put-natural-returns-2 t c = let s = c .before .before .before .before .before .before in
-    put-is (sym (natural-more (s .args .n) (omega arith))) (put-then (c .before .before .put-natural .ensures) (put-one _ _ _ (put-natural-slice-write-out-2 t c)))
+    put-is (sym (natural-more (s .args .n) (omega arith)))
+    (put-then (c .before .before .put-natural .ensures) (put-one _ _ _ (put-natural-slice-write-out-2 t c)))
 
 pub +put-natural-spec : {M : Type 1} → statement M
 +put-natural-spec = close μ-put-natural λ t. put-natural-lts.spec (

@@ -12,23 +12,22 @@ use native.Mathlib.Omega.{arith}
 use borrow.Author.Needs.{needs}
 use Rattle.decimal.proofs.put_decimal.Statement.{statement}
 use Rattle.decimal.proofs.put_decimal.Tie as tie
-use Rattle.decimal.proofs.put_decimal.Reads as reads
-use Rattle.decimal.proofs.put_decimal.Lts as lts
-use Rattle.decimal.proofs.put_natural.Reads as put-natural-reads
-use Rattle.word.proofs.bits.Reads as bits-reads
 
 same : (t : tie.Then1) → t .before .bits .result ≡ bitsOf (t .before .before .before .args .w)
 same t = of-local (t .before .before .before .fits .w) (t .before .bits .ensures)
 
-negative : (t : tie.Then1) → decimal (t .before .before .before .args .w) ≡ 45 ∷ natural (4294967295 - t .before .bits .result + 1)
+negative : (t : tie.Then1) → decimal (t .before .before .before .args .w) ≡
+    45 ∷ natural (4294967295 - t .before .bits .result + 1)
 negative t =
     let s = t .before .before .before in
-    decimal-minus (s .args .w) (s .fits .w .sfits) (t .if1 .taken) ∙ ap (λ (n : ℕ). 45 ∷ natural (4294967295 - n + 1)) (sym (same t))
+    decimal-minus (s .args .w) (s .fits .w .sfits) (t .if1 .taken) ∙
+    ap (λ (n : ℕ). 45 ∷ natural (4294967295 - n + 1)) (sym (same t))
 
 positive : (e : tie.Else1) → decimal (e .before .before .before .args .w) ≡ natural (e .before .bits .result)
 positive e =
     let s = e .before .before .before in
-    decimal-plus (s .args .w) (s .fits .w .sfits) (e .if1 .left) ∙ ap natural (sym (of-local (s .fits .w) (e .before .bits .ensures)))
+    decimal-plus (s .args .w) (s .fits .w .sfits) (e .if1 .left) ∙
+    ap natural (sym (of-local (s .fits .w) (e .before .bits .ensures)))
 
 bits-requires : tie.Need-bits-requires
 bits-requires c κs = search needs
@@ -43,19 +42,30 @@ sub-size : tie.Need-sub-size
 sub-size c = search needs
 
 add-size : tie.Need-add-size
-add-size c = let s = c .before .before .before in let m = minus (s .fits .w) (c .if1 .taken) in omega (arith, same c, m .out, m .small)
+add-size c =
+    let s = c .before .before .before in
+    let m = minus (s .fits .w) (c .if1 .taken) in
+    omega (arith, same c, m .out, m .small)
 
 put-natural-requires : tie.Need-put-natural-requires
-put-natural-requires c κs = let t = c .before in let s = t .before .before .before in simp length-set (omega (arith, s .pre, ap length (negative t)))
+put-natural-requires c κs =
+    let t = c .before in
+    let s = t .before .before .before in
+    simp length-set (omega (arith, s .pre, ap length (negative t)))
 
 same-length : tie.Need-same-length
 same-length c = let p = c .before .before .put-natural .ensures in put-length p ∙ simp length-set
 
 returns : tie.Need-returns
-returns c = let t = c .before .before .before .before in put-is (sym (negative t)) (put-then (put-one _ _ _ (slice-write-out t)) (c .before .before .put-natural .ensures))
+returns c =
+    let t = c .before .before .before .before in
+    put-is (sym (negative t)) (put-then (put-one _ _ _ (slice-write-out t)) (c .before .before .put-natural .ensures))
 
 put-natural-requires-2 : tie.Need-put-natural-requires-2
-put-natural-requires-2 c κs = let e = c .before in let s = e .before .before .before in omega (arith, s .pre, ap length (positive e))
+put-natural-requires-2 c κs =
+    let e = c .before in
+    let s = e .before .before .before in
+    omega (arith, s .pre, ap length (positive e))
 
 same-length-2 : tie.Need-same-length-2
 same-length-2 c = search needs

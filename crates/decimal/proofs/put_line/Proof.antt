@@ -15,10 +15,6 @@ use borrow.Author.Needs.{needs}
 use native.Mathlib.Omega.{arith}
 use Rattle.decimal.proofs.put_line.Statement.{statement}
 use Rattle.decimal.proofs.put_line.Tie as tie
-use Rattle.decimal.proofs.put_line.Reads as reads
-use Rattle.decimal.proofs.put_line.Lts as lts
-use Rattle.decimal.proofs.put_decimal.Reads as put-decimal-reads
-use Rattle.decimal.proofs.put_natural.Reads as put-natural-reads
 
 abbrev Inv-loop : tie.InvT-loop
 Inv-loop out₀ number words at₀ i₀ out at i = Put out₀ at₀ (spaced (take i words)) out at × (i ≤ length words) × (at ≤ 10 + 12 * i)
@@ -38,16 +34,23 @@ first l = l .before .before .before .put-natural .ensures
 size : (l : tie.At-loop Inv-loop μ-loop) → 1024 ≤ length (l .loop .out)
 size l = omega (arith, start l .pre .1, put-length (first l), put-length (l .loop .inv .0))
 
-ended : (e : tie.After-loop Inv-loop μ-loop) → spaced (take (e .before .loop .i) (start (e .before) .args .words .now)) ≡ spaced (start (e .before) .args .words .now)
+ended : (e : tie.After-loop Inv-loop μ-loop) → spaced (take (e .before .loop .i) (start (e .before) .args .words .now)) ≡
+    spaced (start (e .before) .args .words .now)
 ended e = ap spaced (take-all (e .before .loop .i) (start (e .before) .args .words .now) (omega arith))
 
 put-natural-requires : tie.Need-put-natural-requires Inv-loop μ-loop
-put-natural-requires c κs = let s = c .before .before in omega (arith, s .pre .1, natural-length 9 (s .args .number) (omega (arith, s .fits .number)))
+put-natural-requires c κs =
+    let s = c .before .before in
+    omega (arith, s .pre .1, natural-length 9 (s .args .number) (omega (arith, s .fits .number)))
 
 loop-holds : tie.Need-loop-holds Inv-loop μ-loop
 loop-holds c = let s = c .before .before .before .before .before in
-    let p = c .before .before .put-natural .ensures in
-    (record { holds = rw spaced-none; ends = rw spaced-none (omega arith); fits = p .fits }, omega arith, omega (arith, p .ends, natural-length 9 (s .args .number) (omega (arith, s .fits .number))))
+    let p = c .before .before .put-natural .ensures in (
+      record { holds = rw spaced-none; ends = rw spaced-none (omega arith); fits = p .fits },
+      omega arith,
+      omega
+          (arith, p .ends, natural-length 9 (s .args .number) (omega (arith, s .fits .number))),
+    )
 
 mul-w : tie.Need-mul-w Inv-loop μ-loop
 mul-w c = search needs
@@ -56,7 +59,9 @@ shared-slice-copy-out-w : tie.Need-shared-slice-copy-out-w Inv-loop μ-loop
 shared-slice-copy-out-w c = search needs
 
 slice-write-out : tie.Need-slice-write-out Inv-loop μ-loop
-slice-write-out c = let l = c .before .before in omega (arith, size l, l .loop .inv .2, start l .pre .0, c .before .loop-test .taken)
+slice-write-out c =
+    let l = c .before .before in
+    omega (arith, size l, l .loop .inv .2, start l .pre .0, c .before .loop-test .taken)
 
 add-next : tie.Need-add-next Inv-loop μ-loop
 add-next c = let l = c .before .before in omega (arith, l .loop .inv .2, start l .pre .0, c .before .loop-test .taken)
@@ -64,7 +69,17 @@ add-next c = let l = c .before .before in omega (arith, l .loop .inv .2, start l
 put-decimal-requires : tie.Need-put-decimal-requires Inv-loop μ-loop
 put-decimal-requires c κs = let l = c .before .before .before in
     let w = getD (start l .args .words .now) (l .loop .i) (pos 0) in
-    rw (kept _ (c .before .w .given)) (simp length-set (omega (arith, size l, l .loop .inv .2, start l .pre .0, c .before .before .loop-test .taken, decimal-length w (c .before .w .given))))
+    rw (kept _ (c .before .w .given))
+    (simp length-set
+    (omega (
+      arith,
+      size l,
+      l .loop .inv .2,
+      start l .pre .0,
+      c .before .before .loop-test .taken,
+      decimal-length w
+          (c .before .w .given),
+    )))
 
 add-i : tie.Need-add-i Inv-loop μ-loop
 add-i c = omega arith

@@ -42,7 +42,8 @@ list-is : (r : tie.After-run-list) → r .run-list .result .now ≡ listOf (imag
 list-is r = r .run-list .ensures ∙ ap (listOf (image (r .before))) (place (r .before))
 
 left : (g : tie.After-run-signals) → let q = g .before .before .before in let a = start q .args in
-    g .run-signals .last .1 .1 .1 .0 ≡ runSignals (image q) (listOf (image q) (positionOf (word q))) (a .samples .now) (a .state .now)
+    g .run-signals .last .1 .1 .1 .0 ≡
+    runSignals (image q) (listOf (image q) (positionOf (word q))) (a .samples .now) (a .state .now)
 left g =
     let r = g .before .before in
     let q = r .before in

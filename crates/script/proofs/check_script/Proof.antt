@@ -6,11 +6,6 @@ use native.Mathlib.Omega.{arith}
 use borrow.Author.Needs.{needs}
 use Rattle.script.proofs.check_script.Statement.{statement}
 use Rattle.script.proofs.check_script.Tie as tie
-use Rattle.script.proofs.check_script.Reads as reads
-use Rattle.script.proofs.check_script.Lts as lts
-use Rattle.script.proofs.check_sets.Reads as check-sets-reads
-use Rattle.script.proofs.read_script.Reads as read-script-reads
-use Rattle.script.proofs.refused.Reads as refused-reads
 
 refused-requires : tie.Need-refused-requires
 refused-requires c κs = search needs
@@ -29,7 +24,8 @@ enum-told-2 c = search needs
 
 returns-2 : tie.Need-returns-2
 returns-2 c = let r = c .before .before in
-    ap ruledOf (c .enum-told2 .given .1) ∙ sym (check-cut _ _ (r .before .if1 .left) (sym (r .read-script .ensures) ∙ ap ruledOf (c .enum-told2 .given .1)))
+    ap ruledOf (c .enum-told2 .given .1) ∙
+    sym (check-cut _ _ (r .before .if1 .left) (sym (r .read-script .ensures) ∙ ap ruledOf (c .enum-told2 .given .1)))
 
 check-sets-requires : tie.Need-check-sets-requires
 check-sets-requires c κs = search needs
@@ -37,7 +33,8 @@ check-sets-requires c κs = search needs
 returns-3 : tie.Need-returns-3
 returns-3 c = let t = c .before in
     let r = t .before .before in
-    c .check-sets .ensures ∙ sym (check-rest _ _ (r .before .if1 .left) (sym (r .read-script .ensures) ∙ ap ruledOf (t .enum-told .given .1)))
+    c .check-sets .ensures ∙
+    sym (check-rest _ _ (r .before .if1 .left) (sym (r .read-script .ensures) ∙ ap ruledOf (t .enum-told .given .1)))
 
 pub check-script-spec : {M : Type 1} → statement M
 check-script-spec =

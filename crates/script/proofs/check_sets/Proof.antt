@@ -13,15 +13,11 @@ use borrow.Author.Needs.{needs}
 use native.Mathlib.Omega.{arith}
 use Rattle.script.proofs.check_sets.Statement.{statement}
 use Rattle.script.proofs.check_sets.Tie as tie
-use Rattle.script.proofs.check_sets.Reads as reads
-use Rattle.script.proofs.check_sets.Lts as lts
-use Rattle.script.proofs.may_stand.Reads as may-stand-reads
-use Rattle.script.proofs.refused.Reads as refused-reads
-use Rattle.script.proofs.script_command_at.Reads as script-command-at-reads
-use Rattle.script.proofs.width_of.Reads as width-of-reads
 
 abbrev Inv-loop : tie.InvT-loop
-Inv-loop text inputs at₀ at = (inputsOnly (marked inputs) (scriptAt text 0 .actions) ≡ inputsOnly (marked inputs) (scriptAt text at .actions)) × (at ≤ length text)
+Inv-loop text inputs at₀ at =
+    (inputsOnly (marked inputs) (scriptAt text 0 .actions) ≡ inputsOnly (marked inputs) (scriptAt text at .actions)) ×
+    (at ≤ length text)
 
 abbrev μ-loop : tie.MeasureT-loop
 μ-loop text inputs at₀ at = length text - at
@@ -57,7 +53,8 @@ width-of-requires c κs = search needs
 returns : tie.Need-returns Inv-loop μ-loop
 returns c = let w = c .before in
     let l = turn w in
-    sym (l .loop .inv .0 ∙ sets-none (isInput w) _ (actions-here (text w) (l .loop .at) (w .width-of .result) (width w) (c .if1 .taken)))
+    sym (l .loop .inv .0 ∙ sets-none (isInput w) _
+    (actions-here (text w) (l .loop .at) (w .width-of .result) (width w) (c .if1 .taken)))
 
 may-stand-requires : tie.Need-may-stand-requires Inv-loop μ-loop
 may-stand-requires c κs = search needs
@@ -69,7 +66,9 @@ returns-2 : tie.Need-returns-2 Inv-loop μ-loop
 returns-2 c = let t = c .before in
     let w = t .before .before .before in
     let l = turn w in
-    c .refused .ensures ∙ sym (l .loop .inv .0 ∙ sets-bad (text w) (l .loop .at) (isInput w) (sym (stands (t .before)) ∙ not-true _ (t .if2 .taken)))
+    c .refused .ensures ∙
+    sym (l .loop .inv .0 ∙ sets-bad (text w) (l .loop .at) (isInput w)
+    (sym (stands (t .before)) ∙ not-true _ (t .if2 .taken)))
 
 add-at : tie.Need-add-at Inv-loop μ-loop
 add-at c = let w = c .before .before .before in omega (arith, within w)
@@ -79,8 +78,11 @@ loop-less c = let w = c .before .before .before in omega (arith, within w)
 
 loop-again : tie.Need-loop-again Inv-loop μ-loop
 loop-again c = let w = c .before .before .before in
-    let l = turn w in
-    (l .loop .inv .0 ∙ sets-more (text w) (l .loop .at) (w .width-of .result) (width w) (omega arith) (isInput w) (sym (stands (c .before)) ∙ not-false _ (c .if2 .left)), within w)
+    let l = turn w in (
+      l .loop .inv .0 ∙ sets-more (text w) (l .loop .at) (w .width-of .result) (width w) (omega arith) (isInput w)
+          (sym (stands (c .before)) ∙ not-false _ (c .if2 .left)),
+      within w,
+    )
 
 returns-3 : tie.Need-returns-3 Inv-loop μ-loop
 returns-3 c = let l = c .before in

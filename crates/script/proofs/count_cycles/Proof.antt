@@ -10,15 +10,10 @@ use borrow.Author.Needs.{needs}
 use native.Mathlib.Omega.{arith}
 use Rattle.script.proofs.count_cycles.Statement.{statement}
 use Rattle.script.proofs.count_cycles.Tie as tie
-use Rattle.script.proofs.count_cycles.Reads as reads
-use Rattle.script.proofs.count_cycles.Lts as lts
-use Rattle.script.proofs.runs_of.Reads as runs-of-reads
-use Rattle.script.proofs.script_command_at.Reads as script-command-at-reads
-use Rattle.script.proofs.wide.Reads as wide-reads
-use Rattle.script.proofs.width_of.Reads as width-of-reads
 
 abbrev Inv-loop : tie.InvT-loop
-Inv-loop text at₀ total₀ at total = (total + cyclesOf (scriptAt text at .actions) ≡ cyclesOf (scriptAt text 0 .actions)) × (total ≤ 255 * at) × (at ≤ length text)
+Inv-loop text at₀ total₀ at total =
+    (total + cyclesOf (scriptAt text at .actions) ≡ cyclesOf (scriptAt text 0 .actions)) × (total ≤ 255 * at) × (at ≤ length text)
 
 abbrev μ-loop : tie.MeasureT-loop
 μ-loop text at₀ total₀ at total = length text - at
@@ -57,7 +52,9 @@ wide-requires : tie.Need-wide-requires Inv-loop μ-loop
 wide-requires c κs = search needs
 
 add-total : tie.Need-add-total Inv-loop μ-loop
-add-total c = let w = c .before .before .before in omega (arith, turn w .loop .inv .1, turn w .before .before .pre, c .wide .ensures .1)
+add-total c =
+    let w = c .before .before .before in
+    omega (arith, turn w .loop .inv .1, turn w .before .before .pre, c .wide .ensures .1)
 
 add-at : tie.Need-add-at Inv-loop μ-loop
 add-at c = let w = c .before .before .before in omega (arith, within w)

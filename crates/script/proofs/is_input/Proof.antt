@@ -13,10 +13,6 @@ use native.Mathlib.Omega.{arith}
 use borrow.Author.Needs.{needs}
 use Rattle.script.proofs.is_input.Statement.{statement}
 use Rattle.script.proofs.is_input.Tie as tie
-use Rattle.script.proofs.is_input.Reads as reads
-use Rattle.script.proofs.is_input.Lts as lts
-use Rattle.image_check.proofs.code_offset.Reads as code-offset-reads
-use Rattle.script.proofs.wide.Reads as wide-reads
 
 abbrev start : tie.Else1 → tie.Start
 start e = e .before .before .before .before .before
@@ -36,20 +32,27 @@ wide-requires-2 c κs = search needs
 returns : tie.Need-returns
 unfolding fetches
 returns c = let s = c .before .before .before .before .before in
-    rw (le-ltb (s .args .x) (countOf (s .args .image .now)) (omega (arith, c .before .wide2 .ensures .0, c .before .before .wide .ensures .0)))
+    rw (le-ltb (s .args .x) (countOf (s .args .image .now))
+    (omega (arith, c .before .wide2 .ensures .0, c .before .before .wide .ensures .0)))
 
 code-offset-requires : tie.Need-code-offset-requires
 code-offset-requires c κs = (formed _ (c .before .before .before .before .before .pre) .good, c .before .before .wide .ensures .0)
 
 shared-slice-read-result : tie.Need-shared-slice-read-result
 shared-slice-read-result c = let e = c .before .before in let s = start e in
-    omega (arith, c .before .code-offset .ensures ∙ ap (codeOffset (s .args .image .now)) (e .before .wide2 .ensures .0), code-starts (s .args .image .now) (s .args .x) (s .pre) (below e))
+    omega (
+      arith,
+      c .before .code-offset .ensures ∙ ap (codeOffset (s .args .image .now))
+          (e .before .wide2 .ensures .0),
+      code-starts (s .args .image .now) (s .args .x) (s .pre) (below e),
+    )
 
 returns-2 : tie.Need-returns-2
 unfolding fetches
 returns-2 c = let e = c .before .before in let s = start e in
     rw (lt-ltb (s .args .x) (countOf (s .args .image .now)) (below e))
-    (ap (λ (k : ℕ). eqb (byteAt (s .args .image .now) k) 82) (c .before .code-offset .ensures ∙ ap (codeOffset (s .args .image .now)) (e .before .wide2 .ensures .0)))
+    (ap (λ (k : ℕ). eqb (byteAt (s .args .image .now) k) 82)
+    (c .before .code-offset .ensures ∙ ap (codeOffset (s .args .image .now)) (e .before .wide2 .ensures .0)))
 
 pub is-input-spec : {M : Type 1} → statement M
 is-input-spec =

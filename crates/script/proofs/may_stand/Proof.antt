@@ -3,9 +3,6 @@ use Rattle.script.specs.Steps.{mayStand}
 use borrow.Author.Needs.{needs}
 use Rattle.script.proofs.may_stand.Statement.{statement}
 use Rattle.script.proofs.may_stand.Tie as tie
-use Rattle.script.proofs.may_stand.Reads as reads
-use Rattle.script.proofs.may_stand.Lts as lts
-use Rattle.script.proofs.is_marked.Reads as is-marked-reads
 
 enum-told : tie.Need-enum-told
 enum-told c = search needs

@@ -11,12 +11,6 @@ use borrow.Author.Needs.{needs}
 use native.Mathlib.Omega.{arith}
 use Rattle.script.proofs.read_script.Statement.{statement}
 use Rattle.script.proofs.read_script.Tie as tie
-use Rattle.script.proofs.read_script.Reads as reads
-use Rattle.script.proofs.read_script.Lts as lts
-use Rattle.script.proofs.end_at.Reads as end-at-reads
-use Rattle.script.proofs.refused.Reads as refused-reads
-use Rattle.script.proofs.script_command_at.Reads as script-command-at-reads
-use Rattle.script.proofs.width_of.Reads as width-of-reads
 
 abbrev Inv-loop : tie.InvT-loop
 Inv-loop text at₀ at = (scriptAt text 0 .ending ≡ scriptAt text at .ending) × (at ≤ length text)
@@ -70,7 +64,8 @@ refused-requires c κs = search needs
 
 returns-2 : tie.Need-returns-2 Inv-loop μ-loop
 returns-2 c = let l = c .before .before in
-    c .refused .ensures ∙ sym (ending-past (l .before .before .args .text .now) (l .loop .at) (omega arith)) ∙ sym (l .loop .inv .0)
+    c .refused .ensures ∙ sym (ending-past (l .before .before .args .text .now) (l .loop .at) (omega arith)) ∙
+    sym (l .loop .inv .0)
 
 pub read-script-spec : {M : Type 1} → statement M
 read-script-spec =

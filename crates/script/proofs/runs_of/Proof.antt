@@ -3,8 +3,6 @@ use Rattle.script.specs.Steps.{runsOf}
 use borrow.Author.Needs.{needs}
 use Rattle.script.proofs.runs_of.Statement.{statement}
 use Rattle.script.proofs.runs_of.Tie as tie
-use Rattle.script.proofs.runs_of.Reads as reads
-use Rattle.script.proofs.runs_of.Lts as lts
 
 enum-told : tie.Need-enum-told
 enum-told c = search needs

@@ -46,7 +46,9 @@ returns-4 : tie.Need-returns-4
 unfolding altered
 returns-4 c = let s = c .before .before .before .before .before .before in
     let o = c .before .before .before .before in
-    rw (o .command .given .1) (c .before .store .ensures ∙ ap (λ (w : ℤ). set (s .args .samples .now) (o .command .given .0 .0) w) (toZ-ofZ (search needs)))
+    rw (o .command .given .1)
+    (c .before .store .ensures ∙ ap (λ (w : ℤ). set (s .args .samples .now) (o .command .given .0 .0) w)
+    (toZ-ofZ (search needs)))
 
 returns-5 : tie.Need-returns-5
 unfolding altered

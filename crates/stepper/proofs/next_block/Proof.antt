@@ -14,17 +14,20 @@ use Rattle.stepper.proofs.next_block.Statement.{statement}
 use Rattle.stepper.proofs.next_block.Tie as tie
 
 abbrev Inv-loop : tie.InvT-loop
-Inv-loop image text samples₀ state₀ block₀ reached₀ size₀ samples state block reached size = Filling image text reached₀ samples₀ state₀ block₀ samples state block reached size
+Inv-loop image text samples₀ state₀ block₀ reached₀ size₀ samples state block reached size =
+    Filling image text reached₀ samples₀ state₀ block₀ samples state block reached size
 
 abbrev μ-loop : tie.MeasureT-loop
-μ-loop image text samples₀ state₀ block₀ reached₀ size₀ samples state block reached size = length (linesLeft image text reached samples state)
+μ-loop image text samples₀ state₀ block₀ reached₀ size₀ samples state block reached size =
+    length (linesLeft image text reached samples state)
 
 abbrev turn : tie.After-next-line Inv-loop μ-loop → tie.At-loop Inv-loop μ-loop
 turn n = n .before .before .before .before .before
 
 -- the block as the step has left it is as long as before
 block-same : (b : tie.After-block Inv-loop μ-loop) → let n = b .before .before .before in
-    length (putMid (turn n .loop .size) (length (turn n .loop .block) - turn n .loop .size) (turn n .loop .block) (n .next-line .last .1 .1 .1 .1 .1 .0)) ≡
+    length (putMid (turn n .loop .size) (length (turn n .loop .block) - turn n .loop .size) (turn n .loop .block)
+    (n .next-line .last .1 .1 .1 .1 .1 .0)) ≡
     length (turn n .loop .block)
 block-same b =
     let n = b .before .before .before in
@@ -48,7 +51,9 @@ part-next-line-end : tie.Need-part-next-line-end Inv-loop μ-loop
 part-next-line-end c = search needs
 
 next-line-requires : tie.Need-next-line-requires Inv-loop μ-loop
-next-line-requires c κs = let l = c .before .before .before .before in (l .loop .inv .underway, simp (length-take, length-drop) (omega (arith, c .before .before .before .loop-test .taken)))
+next-line-requires c κs =
+    let l = c .before .before .before .before in
+    (l .loop .inv .underway, simp (length-take, length-drop) (omega (arith, c .before .before .before .loop-test .taken)))
 
 enum-known-next : tie.Need-enum-known-next Inv-loop μ-loop
 enum-known-next c = search needs
@@ -57,10 +62,14 @@ enum-told : tie.Need-enum-told Inv-loop μ-loop
 enum-told c = search needs
 
 same-length : tie.Need-same-length Inv-loop μ-loop
-same-length c = let n = c .before .before .before .before .before .before in n .next-line .kept .1 .1 .1 .0 ∙ turn n .loop .inv .samples-kept
+same-length c =
+    let n = c .before .before .before .before .before .before in
+    n .next-line .kept .1 .1 .1 .0 ∙ turn n .loop .inv .samples-kept
 
 same-length-2 : tie.Need-same-length-2 Inv-loop μ-loop
-same-length-2 c = let n = c .before .before .before .before .before .before in n .next-line .kept .1 .1 .1 .1 .0 ∙ turn n .loop .inv .state-kept
+same-length-2 c =
+    let n = c .before .before .before .before .before .before in
+    n .next-line .kept .1 .1 .1 .1 .0 ∙ turn n .loop .inv .state-kept
 
 same-length-3 : tie.Need-same-length-3 Inv-loop μ-loop
 same-length-3 c = let b = c .before .before .before in block-same b ∙ turn (b .before .before .before) .loop .inv .block-kept
@@ -79,7 +88,10 @@ returns c =
       more = λ e. let z : _≡_ {A = ℕ} 0 1 = cc in absurd (omega arith);
       underway = λ e. let z : _≡_ {A = ℕ} 0 1 = cc in absurd (omega arith);
       fewer = λ e. let z : _≡_ {A = ℕ} 0 1 = cc in absurd (omega arith);
-      last = λ e. filling-all f none ∙ sym (take-put (l .loop .size) (length (l .loop .block) - l .loop .size) (l .loop .block) (n .next-line .last .1 .1 .1 .1 .1 .0) (f .fits));
+      last =
+          λ e. filling-all f none ∙
+          sym (take-put (l .loop .size) (length (l .loop .block) - l .loop .size) (l .loop .block)
+          (n .next-line .last .1 .1 .1 .1 .1 .0) (f .fits));
     }
 
 -- the line of this turn
@@ -91,7 +103,8 @@ this : (c : tie.After-known-told Inv-loop μ-loop) →
     let l = turn n in
     let a = l .before .before .before .before .args in
     let line = n .next-line .last .1 .1 .1 in
-    Lined (a .image .now) (a .text .now) (l .loop .reached) (l .loop .samples) (l .loop .state) (line .0) (line .1 .0) (line .1 .1 .0)
+    Lined (a .image .now) (a .text .now) (l .loop .reached) (l .loop .samples) (l .loop .state) (line .0) (line .1 .0)
+    (line .1 .1 .0)
     (c .before .next .given .0 .0) (c .before .next .given .0 .1 .0)
 this c =
     let o = c .before .next .given in is-lined (o .0 .0) (o .0 .1 .0) (o .1) (at-step c .next-line .ensures)

@@ -23,22 +23,27 @@ run-start t = t .before .before .before .before
 run-calls : (t : tie.Then1) → let a = run-start t .args in
     callsLeft (a .text .now) (a .progress .at) (a .progress .left) (a .samples .now) ≡
     cycle (a .samples .now) ∷ callsLeft (a .text .now) (a .progress .at) (a .progress .left - 1) (a .samples .now)
-run-calls t = let a = run-start t .args in left-some (a .text .now) (a .progress .at) (a .samples .now) (a .progress .left) (t .if1 .taken)
+run-calls t =
+    let a = run-start t .args in
+    left-some (a .text .now) (a .progress .at) (a .samples .now) (a .progress .left) (t .if1 .taken)
 
 -- at its end
 abbrev seek-start : tie.After-seek → tie.Start
 seek-start k = k .before .before .before .before .before .before
 
 sought-calls : (k : tie.After-seek) → let a = seek-start k .args in
-    callsLeft (a .text .now) (a .progress .at) (a .progress .left) (a .samples .now) ≡ soughtCalls (a .text .now) (k .seek .last .1 .1 .0) (k .seek .result)
+    callsLeft (a .text .now) (a .progress .at) (a .progress .left) (a .samples .now) ≡
+    soughtCalls (a .text .now) (k .seek .last .1 .1 .0) (k .seek .result)
 sought-calls k =
     let a = seek-start k .args in
     let none : a .progress .left ≡ 0 = omega (arith, k .before .before .if1 .left) in
-    ap (λ (n : ℕ). callsLeft (a .text .now) (a .progress .at) n (a .samples .now)) none ∙ left-none (a .text .now) (a .progress .at) (a .samples .now) ∙ k .seek .ensures
+    ap (λ (n : ℕ). callsLeft (a .text .now) (a .progress .at) n (a .samples .now)) none ∙
+    left-none (a .text .now) (a .progress .at) (a .samples .now) ∙ k .seek .ensures
 
 cycle-calls : (o : tie.After-sought) → let k = o .before .before .before in let a = seek-start k .args in
     callsLeft (a .text .now) (a .progress .at) (a .progress .left) (a .samples .now) ≡
-    cycle (k .seek .last .1 .1 .0) ∷ callsLeft (a .text .now) (o .sought .given .0 .0) (o .sought .given .0 .1 .0) (k .seek .last .1 .1 .0)
+    cycle (k .seek .last .1 .1 .0) ∷ callsLeft (a .text .now) (o .sought .given .0 .0) (o .sought .given .0 .1 .0)
+    (k .seek .last .1 .1 .0)
 cycle-calls o =
     let k = o .before .before .before in
     sought-calls k ∙ ap (soughtCalls (seek-start k .args .text .now) (k .seek .last .1 .1 .0)) (o .sought .given .1)
@@ -90,7 +95,8 @@ returns-2 c =
     (sought-calls k ∙ ap (soughtCalls (a .text .now) (k .seek .last .1 .1 .0)) (c .enum-told .given .1))
 
 -- the samples that were sought are as many
-sought-runnable : (k : tie.After-seek) → let a = seek-start k .args in Runnable (a .image .now) (a .state .now) (k .seek .last .1 .1 .0)
+sought-runnable : (k : tie.After-seek) → let a =
+    seek-start k .args in Runnable (a .image .now) (a .state .now) (k .seek .last .1 .1 .0)
 sought-runnable k =
     let r = seek-start k .pre .0 .runnable in
     record { formed = r .formed; long = r .long; position = r .position; enough = omega (arith, r .enough, k .seek .kept) }

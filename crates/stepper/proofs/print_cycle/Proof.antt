@@ -19,7 +19,8 @@ run-cycle-requires : tie.Need-run-cycle-requires
 run-cycle-requires c κs = search needs
 
 shared-slice-read-wide : tie.Need-shared-slice-read-wide
-shared-slice-read-wide c = omega (arith, head _ (formed _ (c .before .before .before .before .before .before .pre .0 .formed) .good) .four)
+shared-slice-read-wide c =
+    omega (arith, head _ (formed _ (c .before .before .before .before .before .before .pre .0 .formed) .good) .four)
 
 wide-requires : tie.Need-wide-requires
 wide-requires c κs = search needs
@@ -38,8 +39,16 @@ part-put-line-end c = search needs
 
 put-line-requires : tie.Need-put-line-requires
 put-line-requires c κs = let w = c .before .before .before in
-    let s = w .before .before .before .before .before .before .before in
-    (omega (arith, c .put-line-arg2 .given .1, w .wide .ensures .0, head _ (formed _ (s .pre .0 .formed) .good) .signals), s .pre .1)
+    let s = w .before .before .before .before .before .before .before in (
+      omega (
+        arith,
+        c .put-line-arg2 .given .1,
+        w .wide .ensures .0,
+        head _
+            (formed _ (s .pre .0 .formed) .good) .signals,
+      ),
+      s .pre .1,
+    )
 
 same-length : tie.Need-same-length
 same-length c = search needs
@@ -55,7 +64,8 @@ returns c = let w = c .before .before .before .before .before .before in
     let count : w .wide .result + 1 - 1 ≡ countOf (s .args .image .now) = omega (arith, w .wide .ensures .0) in
     record {
       state-is = r .run-cycle .ensures .1;
-      line-is = put-is (ap (λ (k : ℕ). lineOf (s .args .number) (take k (drop 1 state))) count) (c .before .before .put-line .ensures);
+      line-is =
+          put-is (ap (λ (k : ℕ). lineOf (s .args .number) (take k (drop 1 state))) count) (c .before .before .put-line .ensures);
       runnable =
           subst (λ (l : List ℤ). Runnable (s .args .image .now) l (s .args .samples .now)) (sym (r .run-cycle .ensures .1))
           (stays-runnable (s .pre .0));

@@ -15,7 +15,9 @@ use Rattle.stepper.proofs.seek.Statement.{statement}
 use Rattle.stepper.proofs.seek.Tie as tie
 
 abbrev Inv-loop : tie.InvT-loop
-Inv-loop text from samples₀ at₀ samples at = (callsFrom samples₀ (scriptAt text from .actions) ≡ callsFrom samples (scriptAt text at .actions)) × (length samples ≡ length samples₀)
+Inv-loop text from samples₀ at₀ samples at =
+    (callsFrom samples₀ (scriptAt text from .actions) ≡ callsFrom samples (scriptAt text at .actions)) ×
+    (length samples ≡ length samples₀)
 
 abbrev μ-loop : tie.MeasureT-loop
 μ-loop text from samples₀ at₀ samples at = length text - at
@@ -43,8 +45,10 @@ here r =
     let w = at-width r in
     let l = turn w in
     let is = w .before .script-command-at .ensures in
-    seek-step (text w) (l .loop .at) (w .width-of .result) (r .runs-of .result) (l .loop .samples) (r .before .before .alter .last .0) (width w)
-    (omega (arith, r .before .before .before .before .if1 .left)) (r .before .before .alter .ensures ∙ ap (altered (l .loop .samples)) is)
+    seek-step (text w) (l .loop .at) (w .width-of .result) (r .runs-of .result) (l .loop .samples)
+    (r .before .before .alter .last .0) (width w)
+    (omega (arith, r .before .before .before .before .if1 .left))
+    (r .before .before .alter .ensures ∙ ap (altered (l .loop .samples)) is)
     (r .runs-of .ensures ∙ ap runsOf is)
 
 loop-holds : tie.Need-loop-holds Inv-loop μ-loop
@@ -85,7 +89,8 @@ returns-2 c = let r = c .before in
     let w = at-width r in
     let l = turn w in
     l .loop .inv .0 ∙ here r ∙
-    left-some (text w) (l .loop .at + w .width-of .result) (r .before .before .alter .last .0) (r .runs-of .result) (c .if2 .taken)
+    left-some (text w) (l .loop .at + w .width-of .result) (r .before .before .alter .last .0) (r .runs-of .result)
+    (c .if2 .taken)
 
 loop-less : tie.Need-loop-less Inv-loop μ-loop
 loop-less c = let w = at-width (c .before) in omega (arith, within w, c .before .before .before .before .before .if1 .left)

@@ -15,7 +15,8 @@ use Rattle.trial.proofs.print_lines.Tie as tie
 
 abbrev Inv-loop : tie.InvT-loop
 Inv-loop image text lines samples₀ state₀ block₀ progress₀ ended₀ samples state block progress ended =
-    (ended ≡ false → Underway image text progress samples state) × (length samples ≡ length samples₀) × (length state ≡ length state₀) ×
+    (ended ≡ false → Underway image text progress samples state) × (length samples ≡ length samples₀) ×
+    (length state ≡ length state₀) ×
     (length block ≡ 65536)
 
 abbrev μ-loop : tie.MeasureT-loop
@@ -32,7 +33,9 @@ at-start-requires : tie.Need-at-start-requires Inv-loop μ-loop
 at-start-requires c κs = search needs
 
 loop-holds : tie.Need-loop-holds Inv-loop μ-loop
-loop-holds c = let s = c .before .before .before .before in (λ e. rw (c .at-start .ensures) (s .pre), refl, refl, sym (c .before .large-buffer .ensures))
+loop-holds c =
+    let s = c .before .before .before .before in
+    (λ e. rw (c .at-start .ensures) (s .pre), refl, refl, sym (c .before .large-buffer .ensures))
 
 slice-aggregate-next-block : tie.Need-slice-aggregate-next-block Inv-loop μ-loop
 slice-aggregate-next-block c = search needs
