@@ -76,7 +76,7 @@ pub fn emit_expression(text: &[u8], at: usize, depth: usize, out: &mut [u8], to:
     requires { ⌜ Room depth (now text) at (length (now out)) to ⌝ }
     ensures { λ r. ⌜ Emits (now (text .entry)) at (now (out .entry)) to (now (out .exit)) (r .next) (r .end) ⌝ }
 {
-    let command = commands::command_at(text, at);
+    let command = commands::operator_at(text, at);
     match command {
         Command::Constant(w) => put_push(out, to, w, at + width::in_expression(0x20)),
         Command::Read(kind, operands) => put_access(
