@@ -1,6 +1,6 @@
 -- Laws of the answers of the checks, and of their steps. Assumes nothing.
 use Prim.Native.Nat.{ℕ, _≤_, _<_}
-use mathlib.Core.Bool.{and-eq-true-iff}
+use mathlib.Core.Bool.{true, and-eq-true-iff}
 use mathlib.Core.List.{List}
 use mathlib.Core.Path.{_≡_, refl, sym, ap, _∙_}
 use native.Mathlib.Omega.{arith}
@@ -18,11 +18,11 @@ use Rattle.model.specs.Schedule.{Schedule, Put, parseSchedule, placed}
 use Rattle.model.specs.declared.Fault.{Fault}
 use Rattle.model.proofs.Legal.{legal, signal-period}
 use Rattle.model.proofs.Outcomes.{then-accepted, accepted-then, refused-then, then-then, then-same, provided-true}
-use Rattle.rates.specs.Answers.{cyclesOf}
+use Rattle.rates.specs.Answers.{cyclesOf, TabledAs}
 use Rattle.reader.specs.Results.{judgementOf}
 use Rattle.rates.specs.declared.Cycles.{Cycles}
 use Rattle.rates.specs.declared.Cycles.the-variants as Cycles
-use Rattle.reader.specs.Tables.{ProgramReads, TablesOf, PeriodsOf, SlotsOf}
+use Rattle.reader.specs.Tables.{ProgramReads, TablesOf, PeriodsOf, ReadsOf, SlotsOf}
 use Rattle.reader.specs.declared.Judged.{Judged}
 use Rattle.reader.specs.declared.Judged.the-variants as Judged
 use Rattle.reader.specs.declared.ProgramRead.{ProgramRead}
@@ -69,10 +69,17 @@ unfolding Answers judgementOf
 judgement-answers Q (accepted tt) j e h = (e, h refl)
 judgement-answers Q (refused f) j e h = e
 
-pub program-answers : (o : Outcome Program) (r : ProgramRead) → ProgramReads o r → Answers (λ p. TablesOf p (r .tables)) o (r .judged)
+pub program-answers : (o : Outcome Program) (reads : List ℕ) (r : ProgramRead) → ProgramReads o reads r →
+    Answers (λ p. TablesOf p (r .tables) × ReadsOf p reads (r .tables .firsts)) o (r .judged)
 unfolding Answers ProgramReads
-program-answers (accepted p) r h = h
-program-answers (refused f) r h = h
+program-answers (accepted p) reads r h = (h .0, (h .1, h .2))
+program-answers (refused f) reads r h = h
+
+pub program-read : (text reads : List ℕ) (r : ProgramRead) → ProgramReads (parseProgram text) reads r → r .judged ≡ Judged.Fine →
+    TabledAs text reads (r .tables)
+program-read text reads r h e =
+    let a = answers-fine _ _ _ (program-answers _ reads r h) e in
+    (a .0, a .1, a .2 .0, a .2 .1)
 
 pub schedule-answers : (p : Program) (o : Outcome Schedule) (r : Placing) → ScheduledAs p o r →
     Answers (λ s. SlotsOf p s (r .slots .order) (r .slots .phases) (r .slots .ranks)) o (r .judged)
@@ -178,8 +185,14 @@ module _ (text : List ℕ) (p : Program) (t : Tables) (e : parseProgram text ≡
       let l : x < count p = omega (arith, tables .counts .signals-are) in
       omega (arith, per x l, signal-period (legal text p e .1) x l .0)
 
--- A schedule that passes 1.
-pub short-schedule : (program schedule : List ℕ) → shortEnough program schedule ≡ accepted tt → length schedule ≤ 193
-unfolding shortEnough
-short-schedule program schedule e =
-    leb-true _ _ (and-eq-true-iff (leb (length program) 8192) _ .0 (provided-true _ 1 0 e) .1)
+-- Texts that pass 1.
+module _ (program schedule : List ℕ) (e : shortEnough program schedule ≡ accepted tt) where
+  both-short : (leb (length program) 8192 ≡ true) × (leb (length schedule) 193 ≡ true)
+  unfolding shortEnough
+  both-short = and-eq-true-iff (leb (length program) 8192) _ .0 (provided-true _ 1 0 e)
+
+  pub short-program : length program ≤ 8192
+  short-program = leb-true _ _ (both-short .0)
+
+  pub short-schedule : length schedule ≤ 193
+  short-schedule = leb-true _ _ (both-short .1)

@@ -1,5 +1,5 @@
 -- What the answers of the checks say.
-use Prim.Native.Nat.{ℕ, _≤_}
+use Prim.Native.Nat.{ℕ, _*_, _≤_}
 use mathlib.Core.List.{List}
 use mathlib.Core.Path.{_≡_}
 use Rattle.model.specs.Compile.{Pair}
@@ -8,8 +8,6 @@ use Rattle.model.specs.Program.{Program, parseProgram}
 use Rattle.model.specs.Rates.{declaredAndRated, hypercycle, linked}
 use Rattle.model.specs.Schedule.{Schedule, Put, placed}
 use Rattle.reader.specs.Prepared.{Prepared}
-use Rattle.lookup.specs.Signals.{SignalsOf}
-use Rattle.lookup.specs.declared.Signals.{Signals}
 use Rattle.reader.specs.Tables.{TablesOf, SlotsOf}
 use Rattle.reader.specs.declared.Judged.{Judged}
 use Rattle.reader.specs.declared.Judged.the-variants as Judged
@@ -28,10 +26,9 @@ abbrev pub RatedAs : Outcome ℕ → Rated → Type 0
 RatedAs o r = Answers (λ h. r .hypercycle ≡ h) o (r .judged)
 
 -- The tables are those of p and s, which have passed 2 to 13.
-pub record Arranged (text : List ℕ) (t : Tables) (signals : Signals) (slots : Slots) (h : ℕ) (p : Program) (s : Schedule) : Type 0 where
+pub record Arranged (text : List ℕ) (t : Tables) (slots : Slots) (h : ℕ) (p : Program) (s : Schedule) : Type 0 where
   pub parsed : parseProgram text ≡ accepted p
   pub tables-are : TablesOf p t
-  pub signals-are : SignalsOf p signals
   pub rated : declaredAndRated p ≡ accepted tt
   pub hyper : hypercycle p ≡ accepted h
   pub links : linked p ≡ accepted tt
@@ -40,14 +37,18 @@ pub record Arranged (text : List ℕ) (t : Tables) (signals : Signals) (slots : 
   pub slots-are : SlotsOf p s (slots .order) (slots .phases) (slots .ranks)
 
 -- There is such a pair.
-abbrev pub Arrangement : List ℕ → Tables → Signals → Slots → ℕ → Type 0
-Arrangement text t signals slots h = (p : Program) × (s : Schedule) × Arranged text t signals slots h p s
+abbrev pub Arrangement : List ℕ → Tables → Slots → ℕ → Type 0
+Arrangement text t slots h = (p : Program) × (s : Schedule) × Arranged text t slots h p s
 
 -- The tables are those of the accepted pair q, as the emitter wants them.
 pub record Checks (text : List ℕ) (r : Checked) (q : Pair) : Type 0 where
-  pub prepared : Prepared text (r .tables) (r .periods) (r .slots .order) (r .slots .phases) (q .program) (q .schedule)
+  pub prepared : Prepared text (r .tables) (r .tables .periods) (r .slots .order) (r .slots .phases) (q .program) (q .schedule)
   pub hyper : r .hypercycle ≡ q .hypercycle
   pub bound : r .hypercycle ≤ 240
 
 abbrev pub CheckedAs : List ℕ → Outcome Pair → Checked → Type 0
 CheckedAs text o r = Answers (Checks text r) o (r .judged)
+
+-- A table of `room` entries is enough for the reads of a program of `size` bytes, if that passes 1.
+abbrev pub Spacious : ℕ → ℕ → Type 0
+Spacious size room = size ≤ 8192 → size ≤ 2 * room

@@ -1,5 +1,4 @@
 // The checks of a pair in the stated order.
-use lookup::Signals;
 use model::Fault;
 use rates::Cycles;
 use reader::Judged;
@@ -15,11 +14,11 @@ ghost use Rattle.model.specs.Outcome.{accepted};
 ghost use Rattle.model.specs.Program.{Program, parseProgram, count};
 ghost use Rattle.model.specs.Schedule.{Schedule};
 ghost use Rattle.model.specs.declared.Fault.{Fault};
-ghost use Rattle.rates.specs.Answers.{ReadAs};
+ghost use Rattle.rates.specs.Answers.{TabledAs};
 ghost use Rattle.reader.specs.Results.{judgementOf};
 ghost use Rattle.reader.specs.Tables.{TablesOf, PeriodsOf};
 ghost use Rattle.schedule.specs.Slots.{ScheduledAs};
-ghost use Rattle.checks.specs.Answers.{RatedAs, Arranged, Arrangement, CheckedAs};
+ghost use Rattle.checks.specs.Answers.{RatedAs, Arranged, Arrangement, CheckedAs, Spacious};
 ghost use Rattle.checks.specs.Steps.{ratesOf, scheduleFor, runsOf};
 
 fn refuse(number: u8, place: usize) -> Judged
@@ -69,21 +68,21 @@ fn judged_cycles(cycles: Cycles) -> Judged
 }
 
 // A program that is read: 7 and 8, 9, 10.
-fn check_rates(text: &[u8], tables: Tables, periods: &[u8; 64]) -> Rated
-    requires { ⌜ ReadAs (now text) tables ⌝ }
-    ensures { λ r. ⌜ ((p : Program) → parseProgram (now (text .entry)) ≡ accepted p → TablesOf p tables → PeriodsOf p (now (periods .entry)) → RatedAs (ratesOf p) r) ⌝ }
+fn check_rates(text: &[u8], reads: &[u16], tables: Tables) -> Rated
+    requires { ⌜ TabledAs (now text) (now reads) tables ⌝ }
+    ensures { λ r. ⌜ ((p : Program) → parseProgram (now (text .entry)) ≡ accepted p → TablesOf p tables → RatedAs (ratesOf p) r) ⌝ }
 {
-    let count = tables.signals;
-    let judged = rates::declared_and_rated(text, count, periods);
+    let judged = rates::declared_and_rated(text, reads, tables);
     let Judged::Fine = judged else {
         return unrated(judged);
     };
-    let cycles = rates::hypercycle(count, periods);
+    let periods = tables.periods;
+    let cycles = rates::hypercycle(tables.signals, &periods);
     let Cycles::Least(h) = cycles else {
         return unrated(judged_cycles(cycles));
     };
     Rated {
-        judged: rates::linked(text, tables),
+        judged: rates::linked(text, reads, tables),
         hypercycle: h,
     }
 }
@@ -119,19 +118,20 @@ fn check_schedule(schedule: &[u8], signals: usize, periods: &[u8; 64]) -> Placin
 }
 
 // The runs of a pair by its tables: 14, 15, 16.
-fn check_runs(text: &[u8], tables: Tables, signals: Signals, slots: Slots, h: usize) -> Judged
-    requires { ⌜ Arrangement (now text) tables signals slots h ⌝ }
-    ensures { λ r. ⌜ ((p : Program) (s : Schedule) → Arranged (now (text .entry)) tables signals slots h p s → r ≡ judgementOf (runsOf p s h)) ⌝ }
+fn check_runs(text: &[u8], reads: &[u16], tables: Tables, slots: Slots, h: usize) -> Judged
+    requires { ⌜ Arrangement (now text) tables slots h × TabledAs (now text) (now reads) tables ⌝ }
+    ensures { λ r. ⌜ ((p : Program) (s : Schedule) → Arranged (now (text .entry)) tables slots h p s → r ≡ judgementOf (runsOf p s h)) ⌝ }
 {
     let count = tables.signals;
-    let periods = signals.periods;
+    let firsts = tables.firsts;
+    let periods = tables.periods;
     let phases = slots.phases;
     let ranks = slots.ranks;
-    let reads = met::check_reads(text, count, &periods, &phases, &ranks);
-    let Judged::Fine = reads else {
-        return reads;
+    let of_reads = met::check_reads(text, reads, &firsts, count, &periods, &phases, &ranks);
+    let Judged::Fine = of_reads else {
+        return of_reads;
     };
-    let weights = signals.weights;
+    let weights = tables.weights;
     let loads = load::check_load(
         count,
         &periods,
@@ -144,14 +144,13 @@ fn check_runs(text: &[u8], tables: Tables, signals: Signals, slots: Slots, h: us
     let Judged::Fine = loads else {
         return loads;
     };
-    timely::check_latency(text, tables, &periods, &phases, h)
+    timely::check_latency(text, reads, tables, &periods, &phases, h)
 }
 
 // What the checks of a pair find. The tables are of use where it is fine.
 pub struct Checked {
     pub judged: Judged,
     pub tables: Tables,
-    pub periods: [u8; 64],
     pub slots: Slots,
     pub hypercycle: usize,
 }
@@ -162,33 +161,33 @@ fn refused(judged: Judged) -> Checked
     Checked {
         judged: judged,
         tables: Tables::new(),
-        periods: [0; 64],
         slots: Slots::new(),
         hypercycle: 0,
     }
 }
 
-// All checks of a program and a schedule, 1 to 16.
-pub fn check_pair(program: &[u8], schedule: &[u8]) -> Checked
+// All checks of a program and a schedule, with a table for the offsets of the reads: an entry for each two bytes of a program that
+// passes 1.
+fn check_with(program: &[u8], schedule: &[u8], reads: &mut [u16]) -> Checked
+    requires { ⌜ Spacious (length (now program)) (length (now reads)) ⌝ }
     ensures { λ r. ⌜ CheckedAs (now (program .entry)) (pairOf (now (program .entry)) (now (schedule .entry))) r ⌝ }
 {
     let lengths = check_lengths(program, schedule);
     let Judged::Fine = lengths else {
         return refused(lengths);
     };
-    let read = reader::read_program(program);
+    let read = reader::read_program(program, reads);
     let parsed = read.judged;
     let Judged::Fine = parsed else {
         return refused(parsed);
     };
     let tables = read.tables;
-    let signals = lookup::read_signals(program, tables);
-    let periods = signals.periods;
-    let rated = check_rates(program, tables, &periods);
+    let rated = check_rates(program, reads, tables);
     let rates = rated.judged;
     let Judged::Fine = rates else {
         return refused(rates);
     };
+    let periods = tables.periods;
     let placing = check_schedule(schedule, tables.signals, &periods);
     let placed = placing.judged;
     let Judged::Fine = placed else {
@@ -196,12 +195,37 @@ pub fn check_pair(program: &[u8], schedule: &[u8]) -> Checked
     };
     let slots = placing.slots;
     let h = rated.hypercycle;
-    let runs = check_runs(program, tables, signals, slots, h);
+    let runs = check_runs(program, reads, tables, slots, h);
     Checked {
         judged: runs,
         tables: tables,
-        periods: periods,
         slots: slots,
         hypercycle: h,
     }
+}
+
+// A program of at most 512 bytes: filling a table for the longest would take longer than the checks.
+fn check_short(program: &[u8], schedule: &[u8]) -> Checked
+    requires { ⌜ length (now program) ≤ 512 ⌝ }
+    ensures { λ r. ⌜ CheckedAs (now (program .entry)) (pairOf (now (program .entry)) (now (schedule .entry))) r ⌝ }
+{
+    let mut reads: [u16; 256] = [0; 256];
+    check_with(program, schedule, &mut reads)
+}
+
+fn check_long(program: &[u8], schedule: &[u8]) -> Checked
+    ensures { λ r. ⌜ CheckedAs (now (program .entry)) (pairOf (now (program .entry)) (now (schedule .entry))) r ⌝ }
+{
+    let mut reads: [u16; 4096] = [0; 4096];
+    check_with(program, schedule, &mut reads)
+}
+
+// All checks of a program and a schedule, 1 to 16.
+pub fn check_pair(program: &[u8], schedule: &[u8]) -> Checked
+    ensures { λ r. ⌜ CheckedAs (now (program .entry)) (pairOf (now (program .entry)) (now (schedule .entry))) r ⌝ }
+{
+    if program.len() <= 512 {
+        return check_short(program, schedule);
+    }
+    check_long(program, schedule)
 }

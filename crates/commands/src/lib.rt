@@ -12,6 +12,7 @@ ghost use Prim.Native.Nat.{_<_};
 ghost use lib.ListN.{length};
 ghost use Rattle.model.specs.Command.{operatorOf, keywordOf, keywordAt, isPeriod, isIndex, indexOf, modeOf, plainRead, sampledRead, commandOf, commandAt};
 ghost use Rattle.model.specs.Schedule.{scheduleCommandAt};
+ghost use Rattle.commands.specs.Operator.{operatorAt, kindOf, binaryOf, ReadStands, ReadTaken};
 
 // What a byte commands in an expression.
 fn operator_of(byte: u8) -> Keyword
@@ -243,29 +244,58 @@ fn constant_at(text: &[u8], at: usize) -> Command
     Command::Constant(w)
 }
 
-// A command of an expression, by its byte.
+// The read of a byte from 21 to 25.
+fn kind_of(byte: u8) -> Kind
+    ensures { λ r. ⌜ r ≡ kindOf byte ⌝ }
+{
+    match byte {
+        0x21 => Kind::Now,
+        0x22 => Kind::Last,
+        0x23 => Kind::When,
+        0x24 => Kind::LastWhen,
+        _ => Kind::Current,
+    }
+}
+
+// The operator of a byte from 30 to 36.
+fn binary_of(byte: u8) -> Binary
+    ensures { λ r. ⌜ r ≡ binaryOf byte ⌝ }
+{
+    match byte {
+        0x30 => Binary::Add,
+        0x31 => Binary::Sub,
+        0x32 => Binary::Mul,
+        0x33 => Binary::Less,
+        0x34 => Binary::Same,
+        0x35 => Binary::Min,
+        _ => Binary::Max,
+    }
+}
+
+// A command of an expression, by its byte. What acts alike is one arm, so that its callers can take it in.
 fn operand_at(byte: u8, text: &[u8], at: usize) -> Command
     requires { ⌜ at < length (now text) ⌝ }
     ensures { λ r. ⌜ r ≡ commandOf (operatorOf byte) (now (text .entry)) at ⌝ }
 {
     match byte {
         0x20 => constant_at(text, at),
-        0x21 => plain_read(Kind::Now, text, at),
-        0x22 => plain_read(Kind::Last, text, at),
-        0x23 => sampled_read(Kind::When, text, at),
-        0x24 => sampled_read(Kind::LastWhen, text, at),
-        0x25 => sampled_read(Kind::Current, text, at),
-        0x30 => Command::Binary(Binary::Add),
-        0x31 => Command::Binary(Binary::Sub),
-        0x32 => Command::Binary(Binary::Mul),
-        0x33 => Command::Binary(Binary::Less),
-        0x34 => Command::Binary(Binary::Same),
-        0x35 => Command::Binary(Binary::Min),
-        0x36 => Command::Binary(Binary::Max),
+        0x21 | 0x22 => plain_read(kind_of(byte), text, at),
+        0x23 | 0x24 | 0x25 => sampled_read(kind_of(byte), text, at),
+        0x30 | 0x31 | 0x32 | 0x33 | 0x34 | 0x35 | 0x36 => Command::Binary(binary_of(byte)),
         0x38 => Command::Negate,
         0x3A => Command::If,
         _ => Command::Unknown,
     }
+}
+
+// The operator at an offset of an expression, with its operands.
+pub fn operator_at(text: &[u8], at: usize) -> Command
+    ensures { λ r. ⌜ r ≡ operatorAt (now (text .entry)) at ⌝ }
+{
+    if text.len() <= at {
+        return Command::EndsEarly;
+    }
+    operand_at(text[at], text, at)
 }
 
 // The command at an offset of the program text, with its operands. It goes by the byte and not by its keyword: most of the time of
@@ -307,4 +337,39 @@ pub fn schedule_command_at(text: &[u8], at: usize) -> ScheduleCommand
         return ScheduleCommand::EndsEarly;
     }
     ScheduleCommand::Put(text[at + 1], text[at + 2])
+}
+
+// A read without its place: its kind and its operands.
+pub struct Taken {
+    pub kind: Kind,
+    pub operands: Sampled,
+}
+
+// The read that stands at an offset of an accepted text.
+pub fn taken_at(text: &[u8], at: usize) -> Taken
+    requires { ⌜ ReadStands (now text) at ⌝ }
+    ensures { λ r. ⌜ ReadTaken (now (text .entry)) at r ⌝ }
+{
+    let byte = text[at];
+    let signal = text[at + 1];
+    let kind = kind_of(byte);
+    if byte < 0x23 {
+        return Taken {
+            kind: kind,
+            operands: Sampled {
+                signal: signal,
+                factor: 1,
+                index: Index::Fixed(0),
+            },
+        };
+    }
+    let index = index_of(text[at + 2]);
+    Taken {
+        kind: kind,
+        operands: Sampled {
+            signal: signal,
+            factor: text[at + 3],
+            index: index,
+        },
+    }
 }

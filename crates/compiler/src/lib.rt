@@ -29,12 +29,12 @@ pub fn compile(program: &[u8], schedule: &[u8], image: &mut [u8]) -> Compiled
         return refused(judged);
     };
     let tables = checked.tables;
-    let periods = checked.periods;
+    let periods = tables.periods;
     let slots = checked.slots;
     let order = slots.order;
     let phases = slots.phases;
     let h = checked.hypercycle;
-    let layout = emitter::lay_out(program, tables, &periods, &order, &phases, h);
+    let layout = emitter::lay_out(tables, &periods, &order, &phases, h);
     let length = layout.end;
     if image.len() < length {
         return Compiled::Refused(Fault {

@@ -28,23 +28,11 @@ pub record Room (d : ℕ) (text : List ℕ) (at n to : ℕ) : Type 0 where
 pub record Emits (text : List ℕ) (at : ℕ) (l : List ℕ) (to : ℕ) (l′ : List ℕ) (next end : ℕ) : Type 0 where
   pub puts : (e : Expr) (n : ℕ) → Spells text at e n → Puts l to (exprCode e) n l′ next end
 
--- An expression stands at `at`, and n is the length of its code.
-pub record Stands (text : List ℕ) (at : ℕ) : Type 0 where
-  pub expr : Expr
-  pub next : ℕ
-  pub spelled : Spells text at expr next
-
-pub record Measures (text : List ℕ) (at n : ℕ) : Type 0 where
-  pub is : (e : Expr) (next : ℕ) → Spells text at e next → n ≡ length (exprCode e)
-
--- A signal is declared at `place`, and n is the length of its code, whatever its number is.
+-- A signal is declared at `place`.
 pub record SignalStands (text : List ℕ) (place : ℕ) : Type 0 where
   pub signal : Signal
   pub stands : signal .place ≡ place
   pub spelled : SpellsSignal text signal
-
-pub record MeasuresSignal (text : List ℕ) (place n : ℕ) : Type 0 where
-  pub is : (σ : Signal) → σ .place ≡ place → SpellsSignal text σ → (x : ℕ) → n ≡ length (signalCode x (σ .body))
 
 -- There is space for the code of the signal x, and l′ is l with it from `to` up to `end`.
 pub record SignalRoom (text : List ℕ) (place x n to : ℕ) : Type 0 where

@@ -3,14 +3,11 @@
 use Prim.Native.Nat.{ℕ}
 use mathlib.Core.Bool.{Bool, true, false}
 use mathlib.Core.List.{List, [], _∷_}
-use mathlib.Core.Path.{_≡_}
-use lib.ListN.{length}
 use Rattle.model.specs.Image.{binaryByte}
 use Rattle.model.specs.Width.{inExpression, readWidth}
 use Rattle.model.specs.Word.{wordBytes}
 use Rattle.model.specs.declared.Command.{Command}
 use Rattle.model.specs.declared.Command.the-variants as Command
-use Rattle.emit_code.specs.declared.Shape.{Shape}
 
 pub record Lead : Type 0 where
   -- whether the command is an operator or a leaf
@@ -38,8 +35,3 @@ leadOf (Command.Read kind x) = record { operator = true; width = readWidth kind;
 leadOf (Command.Binary operator) = record { operator = true; width = inExpression 0x30; arity = 2; last = binaryByte operator ∷ [] }
 leadOf Command.Negate = record { operator = true; width = inExpression 0x38; arity = 1; last = 0x38 ∷ [] }
 leadOf Command.If = record { operator = true; width = inExpression 0x3A; arity = 3; last = 0x3A ∷ [] }
-
-pub record ShapeOf (c : Command) (r : Shape) : Type 0 where
-  pub width : r .width ≡ leadOf c .width
-  pub operands : r .operands ≡ leadOf c .arity
-  pub code : r .code ≡ length (leadOf c .last)

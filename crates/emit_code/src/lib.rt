@@ -8,8 +8,7 @@ ghost use lib.ListN.{length};
 ghost use Rattle.model.specs.Image.{binaryByte};
 ghost use Rattle.model.specs.Width.{inCode};
 ghost use Rattle.model.specs.Word.{wordBytes};
-ghost use Rattle.emit_code.specs.Code.{Puts, Room, Emits, Stands, Measures, SignalRoom, EmitsSignal, SignalStands, MeasuresSignal};
-ghost use Rattle.emit_code.specs.Shape.{ShapeOf};
+ghost use Rattle.emit_code.specs.Code.{Puts, Room, Emits, SignalRoom, EmitsSignal};
 
 // Where the text goes on, and where the code ends.
 pub struct Emitted {
@@ -77,7 +76,7 @@ pub fn emit_expression(text: &[u8], at: usize, depth: usize, out: &mut [u8], to:
     requires { ⌜ Room depth (now text) at (length (now out)) to ⌝ }
     ensures { λ r. ⌜ Emits (now (text .entry)) at (now (out .entry)) to (now (out .exit)) (r .next) (r .end) ⌝ }
 {
-    let command = commands::command_at(text, at);
+    let command = commands::operator_at(text, at);
     match command {
         Command::Constant(w) => put_push(out, to, w, at + width::in_expression(0x20)),
         Command::Read(kind, operands) => put_access(
@@ -115,86 +114,6 @@ pub fn emit_expression(text: &[u8], at: usize, depth: usize, out: &mut [u8], to:
             put_operator(out, second, 0x3A)
         }
         _ => Emitted { next: at, end: to },
-    }
-}
-
-// The shape of an expression's first command: its bytes, its operands, and the bytes of code after theirs.
-struct Shape {
-    width: usize,
-    operands: usize,
-    code: usize,
-}
-
-fn shape_of(command: Command) -> Shape
-    ensures { λ r. ⌜ ShapeOf command r ⌝ }
-{
-    match command {
-        Command::Constant(_) => Shape {
-            width: width::in_expression(0x20),
-            operands: 0,
-            code: width::in_code(0x50),
-        },
-        Command::Read(kind, _) => {
-            let width = width::of_read(kind);
-            Shape {
-                width: width,
-                operands: 0,
-                code: width::in_code(0x51),
-            }
-        }
-        Command::Binary(_) => Shape {
-            width: width::in_expression(0x30),
-            operands: 2,
-            code: width::in_code(0x30),
-        },
-        Command::Negate => Shape {
-            width: width::in_expression(0x38),
-            operands: 1,
-            code: width::in_code(0x38),
-        },
-        Command::If => Shape {
-            width: width::in_expression(0x3A),
-            operands: 3,
-            code: width::in_code(0x3A),
-        },
-        // No command of an expression: the 1 is no width, only a step.
-        _ => Shape {
-            width: 1,
-            operands: 0,
-            code: 0,
-        },
-    }
-}
-
-// How many bytes the code of the expression at `at` takes: a walk over its commands, with the operands that are still to come.
-pub fn expression_length(text: &[u8], at: usize) -> usize
-    requires { ⌜ Stands (now text) at ⌝ }
-    ensures { λ r. ⌜ Measures (now (text .entry)) at r ⌝ }
-{
-    let mut next = at;
-    let mut operands: usize = 1;
-    let mut total: usize = 0;
-    while 0 < operands {
-        let command = commands::command_at(text, next);
-        let shape = shape_of(command);
-        next = next + shape.width;
-        operands = operands - 1 + shape.operands;
-        total = total + shape.code;
-    }
-    total
-}
-
-// How many bytes the code of the signal declared at `place` takes.
-pub fn signal_code_length(text: &[u8], place: usize) -> usize
-    requires { ⌜ SignalStands (now text) place ⌝ }
-    ensures { λ r. ⌜ MeasuresSignal (now (text .entry)) place r ⌝ }
-{
-    let command = commands::command_at(text, place);
-    match command {
-        Command::Equation(_, _, _) => {
-            expression_length(text, place + width::in_program(0x11)) + width::in_code(0x5F)
-        }
-        _ => width::in_code(0x52) + width::in_code(0x5F),
     }
 }
 

@@ -8,14 +8,15 @@ use lib.IntN.{ℤ}
 use lib.ListN.{length, getD, drop, drop-of-length-le, length-append}
 use lib.Seq.{drop-cons}
 use Rattle.model.specs.Image.{signalCode, joined, offsets, records}
-use Rattle.model.specs.Program.{Signal, Body, input, equation, noSignal}
+use Rattle.model.specs.Program.{Program, Signal, Body, input, equation, noSignal, count}
 use Rattle.model.specs.Search.{joinFrom}
 use Rattle.model.specs.Word.{twoBytes, fourBytes, wordAt, wordBytes}
 use Rattle.model.proofs.Commands.{command-sound}
 use Rattle.model.proofs.Legal.{SpellsBody, SpellsSignal}
-use Rattle.emitter.specs.Codes.{codesFrom}
+use Rattle.reader.specs.Tables.{Sums, codeIn}
+use Rattle.emitter.specs.Codes.{codesFrom, CodesAt}
 use Rattle.emitter.proofs.Joined.{joined-cons}
-use Rattle.emitter.proofs.Left.{Parts}
+use Rattle.emitter.proofs.Left.{Parts, parts-length}
 
 dropped : {A : Type 0} (l : List A) (x : ℕ) (d : A) → x < length l → drop x l ≡ getD l x d ∷ drop (x + 1) l
 dropped l x d lt = drop-cons l x d lt ∙ ap (λ (k : ℕ). getD l x d ∷ drop k l) (sym (add-one x))
@@ -91,16 +92,23 @@ pub code-start : (start : ℕ) (signals : List Signal) (x : ℕ) → x ≤ lengt
 unfolding codesLeft
 code-start start signals x le = start-at 0 x start signals x (omega arith) le
 
--- Tables that agree on the starts give the same records.
-pub records-by : (k start : ℕ) (signals : List Signal) (starts : List ℕ) → length signals ≤ length starts →
-    ((x : ℕ) → x < length signals → getD starts x 0 ≡ getD (offsets start (codesFrom k signals)) x 0) →
-    records signals starts ≡ records signals (offsets start (codesFrom k signals))
-unfolding codesFrom joinFrom offsets records
-records-by k start [] starts le e = refl
-records-by k start (σ ∷ signals) [] le e = absurd (omega arith)
-records-by k start (σ ∷ signals) (o ∷ os) le e =
-    ap₂ (λ (at : ℕ) l. wordBytes (σ .initial) ++ (twoBytes at ++ l)) (e 0 (omega arith))
-    (records-by (suc k) (start + length (signalCode k (σ .body))) signals os (omega arith) (λ x lt. e (suc x) (omega arith)))
+-- Each signal has an offset, and so has the end.
+pub starts-many : (k start : ℕ) (signals : List Signal) → length (offsets start (codesFrom k signals)) ≡ suc (length signals)
+unfolding codesFrom joinFrom offsets
+starts-many k start [] = refl
+starts-many k start (σ ∷ signals) = ap suc (starts-many (suc k) (start + length (signalCode k (σ .body))) signals)
+
+-- The table of the reader has where the code of each signal starts.
+module _ (p : Program) (table : List ℕ) (s : Sums codeIn p table) where
+  pub code-sum : (x : ℕ) → x ≤ count p →
+      getD table x 0 + length (codesLeft (p .signals) x) ≡ length (joined (codesFrom 0 (p .signals)))
+  code-sum zero le = omega (arith, s .first, ap length (codes-start (p .signals)))
+  code-sum (suc x) le =
+      let n = rw (add-one x) at (parts-length (codes-next (p .signals) x (omega arith))) in
+      omega (arith, s .rises x (omega arith), n, code-sum x (omega arith))
+
+  pub codes-by : (start : ℕ) → CodesAt start (p .signals) table
+  codes-by start x le = omega (arith, code-sum x le, code-start start (p .signals) x le)
 
 -- The initial word of a signal stands after its period.
 pub initial-word : (text : List ℕ) (σ : Signal) → SpellsSignal text σ →

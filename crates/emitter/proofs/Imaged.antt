@@ -16,10 +16,11 @@ use Rattle.model.specs.Word.{twoBytes}
 use Rattle.model.proofs.Legal.{legal, signal-spelled, signal-period}
 use Rattle.model.proofs.Stretches.{table-length, table-at, image-length}
 use Rattle.reader.specs.declared.Tables.{Tables}
-use Rattle.emitter.specs.Codes.{signalsIn, signalsOf, codesFrom, Declared}
+use Rattle.emitter.specs.Codes.{signalsIn, signalsOf, codesFrom, Declared, CodesAt}
 use Rattle.emitter.specs.Lists.{isDue, listBy, listsBy, pairs, Timed, Phased}
 use Rattle.reader.specs.Prepared.{Prepared}
 use Rattle.emitter.specs.Writing.{Wrote}
+use Rattle.emitter.proofs.Coded.{code-sum, codes-by, codes-end}
 use Rattle.emitter.proofs.Left.{Parts}
 use Rattle.emitter.proofs.Listed.{table-same}
 
@@ -88,6 +89,15 @@ module _ {text : List ℕ} {t : Tables} {periods order phases : List ℕ} {p : P
         short = rw (← codes-are) (omega (arith, l .1 .code, l .2));
       }
 
+  pub codes-at : (start : ℕ) → CodesAt start (signalsOf text) (t .codes)
+  codes-at start = rw (← signals-are) (codes-by p (t .codes) (r .tables .codes) start)
+
+  pub code-size : getD (t .codes) (t .signals) 0 ≡ length (joined (codesFrom 0 (signalsOf text)))
+  code-size =
+      let n = count-is in
+      rw (← signals-are)
+      (omega (arith, code-sum p (t .codes) (r .tables .codes) (t .signals) (omega arith), ap length (codes-end (p .signals) (t .signals) (omega arith))))
+
   pub in-order : (j : ℕ) → j < t .signals → getD order j 0 < count p
   in-order j lt =
       let e = r .slots .all-put in
@@ -144,18 +154,14 @@ module _ {text : List ℕ} {t : Tables} {periods order phases : List ℕ} {p : P
     pub lists-by : listsAt (count p) h ≡ listsAt (t .signals) h
     lists-by = ap (λ (n : ℕ). listsAt n h) count-is
 
-    codes-by : codesAt p s h ≡ codesBy h (t .signals) (listsBy periods order phases (t .signals) h)
+    pub code-by : codesAt p s h ≡ codesBy h (t .signals) (listsBy periods order phases (t .signals) h)
     unfolding codesAt
-    codes-by = ap₂ (codesBy h) count-is lists-are
-
-    pub starts-by : offsets (codesAt p s h) (codes p) ≡
-        offsets (codesBy h (t .signals) (listsBy periods order phases (t .signals) h)) (codesFrom 0 (signalsOf text))
-    starts-by = ap₂ offsets codes-by codes-are
+    code-by = ap₂ (codesBy h) count-is lists-are
 
     pub length-by : lengthOf p s h ≡
         lengthBy h (t .signals) (listsBy periods order phases (t .signals) h) (codesFrom 0 (signalsOf text))
     unfolding lengthOf
-    length-by = ap₂ (λ (at : ℕ) cs. at + length (joined cs)) codes-by codes-are
+    length-by = ap₂ (λ (at : ℕ) cs. at + length (joined cs)) code-by codes-are
 
     pub image-size : length (imageBy h (t .signals) (signalsOf text) (listsBy periods order phases (t .signals) h) (codesFrom 0 (signalsOf text))) ≡
         lengthOf p s h

@@ -8,7 +8,6 @@ use Rattle.model.specs.Outcome.{Outcome, accepted, refused}
 use Rattle.model.specs.Program.{Program, Signal, noSignal, parseProgram}
 use Rattle.model.specs.Search.{joinFrom}
 use Rattle.model.proofs.Legal.{SpellsSignal}
-use Rattle.emitter.specs.declared.Codes.{Codes}
 
 abbrev pub signalsIn : Outcome Program → List Signal
 signalsIn (accepted p) = p .signals
@@ -22,11 +21,10 @@ signalsOf text = signalsIn (parseProgram text)
 unfoldable pub codesFrom : ℕ → List Signal → List (List ℕ)
 codesFrom x signals = joinFrom x (λ x signal. signalCode x (signal .body) ∷ []) signals
 
--- Where the code of each signal starts, the first at `start`, and where the last ends.
-pub record CodesLaidOut (start : ℕ) (signals : List Signal) (r : Codes) : Type 0 where
-  pub starts-at : (x : ℕ) → x < length signals → getD (r .starts) x 0 ≡ getD (offsets start (codesFrom 0 signals)) x 0
-  pub space : length (r .starts) ≡ 64
-  pub ends : r .end ≡ start + length (joined (codesFrom 0 signals))
+-- The code of each signal starts at its entry of the table after `start`, and the last ends there.
+abbrev pub CodesAt : ℕ → List Signal → List ℕ → Type 0
+CodesAt start signals codes =
+    (x : ℕ) → x ≤ length signals → start + getD codes x 0 ≡ getD (offsets start (codesFrom 0 signals)) x 0
 
 -- The text declares n signals, and `places` says where. Their code is no longer than the text.
 pub record Declared (text places : List ℕ) (n : ℕ) : Type 0 where

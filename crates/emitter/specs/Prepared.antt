@@ -1,9 +1,8 @@
 -- What the emitter is given: an accepted pair by its tables, and the layout of its image.
-use Prim.Native.Nat.{ℕ, _≤_, _<_}
+use Prim.Native.Nat.{ℕ, _≤_}
 use mathlib.Core.List.{List}
 use mathlib.Core.Path.{_≡_}
-use lib.ListN.{length, getD}
-use Rattle.model.specs.Image.{codes, offsets, listsAt, codesAt, lengthOf}
+use Rattle.model.specs.Image.{listsAt, codesAt, lengthOf}
 use Rattle.model.specs.Program.{Program, count}
 use Rattle.model.specs.Schedule.{Schedule}
 use Rattle.reader.specs.Prepared.{Prepared}
@@ -13,8 +12,7 @@ use Rattle.emitter.specs.declared.Layout.{Layout}
 -- The layout is that of the image of p and s.
 pub record LaidOut (p : Program) (s : Schedule) (h : ℕ) (r : Layout) : Type 0 where
   pub lists-at : r .lists ≡ listsAt (count p) h
-  pub codes-at : (x : ℕ) → x < count p → getD (r .codes) x 0 ≡ getD (offsets (codesAt p s h) (codes p)) x 0
-  pub space : length (r .codes) ≡ 64
+  pub code-at : r .code ≡ codesAt p s h
   pub ends : r .end ≡ lengthOf p s h
 
 -- There is such a pair, and the hypercycle is short enough.
@@ -23,6 +21,10 @@ pub record Ready (text : List ℕ) (t : Tables) (periods order phases : List ℕ
   pub schedule : Schedule
   pub prepared : Prepared text t periods order phases program schedule
   pub hyper : h ≤ 240
+
+-- There is a text of which the tables are.
+abbrev pub Tabled : Tables → List ℕ → List ℕ → List ℕ → ℕ → Type 0
+Tabled t periods order phases h = (text : List ℕ) × Ready text t periods order phases h
 
 -- And the layout is that of its image, for which n bytes have space.
 pub record Fits (text : List ℕ) (t : Tables) (periods order phases : List ℕ) (h : ℕ) (r : Layout) (n : ℕ) : Type 0 where

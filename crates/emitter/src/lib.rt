@@ -1,7 +1,7 @@
 // The image of an accepted pair: its layout, and its parts one after another.
 use reader::Tables;
 ghost use mathlib.Core.Path.{_≡_};
-ghost use mathlib.Core.List.{_∷_, _++_};
+ghost use mathlib.Core.List.{List, _∷_, _++_};
 ghost use Prim.Native.Nat.{ℕ, _+_, _≤_, _<_};
 ghost use lib.ListN.{length, getD, drop};
 ghost use Rattle.model.specs.Image.{joined, offsets, records, lengthOf, imageOf};
@@ -10,16 +10,23 @@ ghost use Rattle.model.specs.Reads.{stored};
 ghost use Rattle.model.specs.Schedule.{Schedule};
 ghost use Rattle.model.specs.Width.{inProgram};
 ghost use Rattle.model.specs.Word.{twoBytes, wordAt, wordBytes};
-ghost use Rattle.emitter.specs.Codes.{signalsOf, codesFrom, Declared, CodesLaidOut};
+ghost use Rattle.emitter.specs.Codes.{signalsOf, codesFrom, Declared, CodesAt};
 ghost use Rattle.emitter.specs.Lists.{rateAt, isDue, runOf, listBy, listsBy, pairs, Timed, Phased};
 ghost use Rattle.reader.specs.Prepared.{Prepared};
-ghost use Rattle.emitter.specs.Prepared.{LaidOut, Ready, Fits};
+ghost use Rattle.emitter.specs.Prepared.{LaidOut, Tabled, Fits};
 ghost use Rattle.emitter.specs.Writing.{Wrote};
 
 fn wide(byte: u8) -> usize
     ensures { λ r. ⌜ (r ≡ byte) × (r < 256) ⌝ }
 {
     byte as usize
+}
+
+// An entry of a table as a number.
+fn wider(x: u16) -> usize
+    ensures { λ r. ⌜ (r ≡ x) × (r < 65536) ⌝ }
+{
+    x as usize
 }
 
 fn narrow(x: usize) -> u8
@@ -188,32 +195,6 @@ fn emit_offsets(
     put_offset(out, end, offset)
 }
 
-// Where the code of each signal starts, and where the last ends.
-struct Codes {
-    starts: [usize; 64],
-    end: usize,
-}
-
-// Lays out the code of n signals from `start` on.
-fn lay_out_codes(text: &[u8], places: &[usize; 64], n: usize, start: usize) -> Codes
-    requires { ⌜ Declared (now text) (now places) n × (start < 65536) ⌝ }
-    ensures { λ r. ⌜ CodesLaidOut start (signalsOf (now (text .entry))) r ⌝ }
-{
-    let mut starts: [usize; 64] = [0; 64];
-    let mut end = start;
-    let mut x: usize = 0;
-    while x < n {
-        starts[x] = end;
-        let code = emit_code::signal_code_length(text, places[x]);
-        end = end + code;
-        x = x + 1;
-    }
-    Codes {
-        starts: starts,
-        end: end,
-    }
-}
-
 // Writes the code of n signals.
 fn emit_codes(text: &[u8], places: &[usize; 64], n: usize, out: &mut [u8], to: usize) -> usize
     requires { ⌜ Declared (now text) (now places) n × (to + length (joined (codesFrom 0 (signalsOf (now text)))) ≤ length (now out)) ⌝ }
@@ -240,22 +221,24 @@ fn put_record(text: &[u8], place: usize, offset: usize, out: &mut [u8], to: usiz
     put_offset(out, after, offset)
 }
 
-// Writes the records of n signals, whose code starts at `starts`.
+// Writes the records of n signals, whose code starts at `codes` after `start`.
 fn emit_records(
     text: &[u8],
     places: &[usize; 64],
     n: usize,
-    starts: &[usize; 64],
+    codes: &[u16; 65],
+    start: usize,
     out: &mut [u8],
     to: usize,
 ) -> usize
-    requires { ⌜ Declared (now text) (now places) n × (n ≤ length (now starts)) × (to + length (records (signalsOf (now text)) (now starts)) ≤ length (now out)) ⌝ }
-    ensures { λ r. ⌜ Wrote (now (out .entry)) to (records (signalsOf (now (text .entry))) (now (starts .entry))) (now (out .exit)) r ⌝ }
+    requires { ⌜ Declared (now text) (now places) n × CodesAt start (signalsOf (now text)) (now codes) × (start + length (joined (codesFrom 0 (signalsOf (now text)))) ≤ length (now out)) × (to + length (records (signalsOf (now text)) (offsets start (codesFrom 0 (signalsOf (now text))))) ≤ length (now out)) ⌝ }
+    ensures { λ r. ⌜ Wrote (now (out .entry)) to (records (signalsOf (now (text .entry))) (offsets start (codesFrom 0 (signalsOf (now (text .entry)))))) (now (out .exit)) r ⌝ }
 {
     let mut end = to;
     let mut x: usize = 0;
     while x < n {
-        end = put_record(text, places[x], starts[x], out, end);
+        let code = wider(codes[x]);
+        end = put_record(text, places[x], start + code, out, end);
         x = x + 1;
     }
     end
@@ -271,35 +254,34 @@ fn put_head(h: usize, n: usize, size: usize, out: &mut [u8]) -> usize
     put_offset(out, 2, size)
 }
 
-// Where the run lists and the code of each signal start, and where the image ends: L.
+// Where the run lists and the code start, and where the image ends: L.
 pub struct Layout {
     pub lists: usize,
-    pub codes: [usize; 64],
+    pub code: usize,
     pub end: usize,
 }
 
-// Lays the image out.
+// Lays the image out. The text is not read again: the tables have the length of the code.
 pub fn lay_out(
-    text: &[u8],
     tables: Tables,
     periods: &[u8; 64],
     order: &[u8; 64],
     phases: &[u8; 64],
     h: usize,
 ) -> Layout
-    requires { ⌜ Ready (now text) tables (now periods) (now order) (now phases) h ⌝ }
-    ensures { λ r. ⌜ ((p : Program) (s : Schedule) → Prepared (now (text .entry)) tables (now (periods .entry)) (now (order .entry)) (now (phases .entry)) p s → LaidOut p s h r) ⌝ }
+    requires { ⌜ Tabled tables (now periods) (now order) (now phases) h ⌝ }
+    ensures { λ r. ⌜ ((text : List ℕ) (p : Program) (s : Schedule) → Prepared text tables (now (periods .entry)) (now (order .entry)) (now (phases .entry)) p s → LaidOut p s h r) ⌝ }
 {
     let n = tables.signals;
-    let places = tables.places;
+    let codes = tables.codes;
     let lists = 4 + 6 * n + 2 * (h + 1);
     let runs = lists_length(periods, order, phases, n, h);
-    let codes = lay_out_codes(text, &places, n, lists + runs);
-    let starts = codes.starts;
+    let code = lists + runs;
+    let size = wider(codes[n]);
     Layout {
         lists: lists,
-        codes: starts,
-        end: codes.end,
+        code: code,
+        end: code + size,
     }
 }
 
@@ -319,9 +301,9 @@ pub fn emit(
 {
     let n = tables.signals;
     let places = tables.places;
-    let starts = layout.codes;
+    let code_starts = tables.codes;
     let records = put_head(h, n, layout.end, out);
-    let offsets = emit_records(text, &places, n, &starts, out, records);
+    let offsets = emit_records(text, &places, n, &code_starts, layout.code, out, records);
     let lists = emit_offsets(periods, order, phases, n, h, layout.lists, out, offsets);
     let codes = emit_lists(periods, order, phases, n, h, out, lists);
     emit_codes(text, &places, n, out, codes);

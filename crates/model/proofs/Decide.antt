@@ -178,23 +178,7 @@ from-first i (suc n) test = go (test i) refl (firstFrom (suc i) n test) (from-fi
     go true e f h = (omega arith, omega arith, e, λ m low high. absurd (omega arith))
     go false e f h = shift e f h
 
--- There is one such answer.
-pub first-once : (i n : ℕ) (test : ℕ → Bool) (f g : Found) → IsFirst i n test f → IsFirst i n test g → f ≡ g
-first-once i n test (At j) (At k) h g = ap At (split (decLt j k) (decLt k j))
-  where
-    split : Dec (j < k) → Dec (k < j) → j ≡ k
-    split (yes l) d = absurd (false≢true (sym (g .3 j (h .0) l) ∙ h .2))
-    split (no l) (yes m) = absurd (false≢true (sym (h .3 k (g .0) m) ∙ g .2))
-    split (no l) (no m) = omega arith
-first-once i n test (At j) Nowhere h g = absurd (false≢true (sym (g j (h .0) (h .1)) ∙ h .2))
-first-once i n test Nowhere (At k) h g = absurd (false≢true (sym (h k (g .0) (g .1)) ∙ g .2))
-first-once i n test Nowhere Nowhere h g = refl
-
 module _ (n : ℕ) (test : ℕ → Bool) where
-  pub first-is : (f : Found) → IsFirst 0 n test f → first n test ≡ f
-  unfolding first
-  first-is f h = first-once 0 n test (firstFrom 0 n test) f (from-first 0 n test) h
-
   pub is-first : (f : Found) → first n test ≡ f → IsFirst 0 n test f
   unfolding first
   is-first f e = rw e at (from-first 0 n test)

@@ -173,10 +173,6 @@ module _ (p : Program) (s : Schedule) (h : ℕ) (whole : Multiple p h) where
   earlier c o =
       (mod-lt c (whole .positive), mod-le c h, rw (load-repeats p s h whole c) (true-over (p .cap) (load p s c) o))
 
-  not-over : (c : ℕ) → test c ≡ false → ¬ Over (p .cap) (load p s c)
-  unfolding test
-  not-over c e o = false≢true (sym e ∙ true-over (p .cap) (load p s c) o)
-
   found : (c : ℕ) → first h test ≡ At c → LowestFault (LoadFault p s) 15 c
   unfolding test
   found c e =

@@ -82,7 +82,7 @@ read-width LastWhen = omega arith
 read-width Current = omega arith
 
 module _ {text : List ℕ} where
-  expr-code : {at n : ℕ} {e : Expr} → Spells text at e n → at + length (exprCode e) ≤ n
+  pub expr-code : {at n : ℕ} {e : Expr} → Spells text at e n → at + length (exprCode e) ≤ n
   unfolding exprCode wordBytes fourBytes
   expr-code (Spells.constants e) = omega arith
   expr-code (Spells.reads {kind = kind} e) = omega (arith, read-width kind)

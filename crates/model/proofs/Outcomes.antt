@@ -194,9 +194,6 @@ pub cond-none : {A : Type 0} (t : Bool) (x : A) → cond t [] (x ∷ []) ≡ [] 
 cond-none true x e = refl
 cond-none false x e = absurd (omega (arith, ap length e))
 
-pub none-cond : {A : Type 0} (t : Bool) (x : A) → t ≡ true → cond t [] (x ∷ []) ≡ []
-none-cond t x e = rw e
-
 -- Joined lists.
 module _ {A B : Type 0} (f : ℕ → A → List B) where
   pub joinFrom-none : (i : ℕ) (xs : List A) (d : A) → joinFrom i f xs ≡ [] → (j : ℕ) → j < length xs →

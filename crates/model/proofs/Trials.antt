@@ -137,6 +137,3 @@ module _ (program schedule text : List ℕ) where
   pub trial-accepts : {q : Pair} {acts : List Action} → LegalPair program schedule q → LegalScript (q .program) text acts →
       trialOf program schedule text ≡ accepted (linesOf q text)
   trial-accepts {q} l s = passed l (accepted-then _ _ _ (legal-checked (q .program) text s))
-
-  pub trial-tried : (lines : List (List ℕ)) → trialOf program schedule text ≡ accepted lines → Tried lines
-  trial-tried lines e = answers-accepted _ _ _ lines trial-answers e

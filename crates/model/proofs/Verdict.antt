@@ -102,20 +102,6 @@ pair-passed program schedule q e =
       times = times;
     }))))))))))) e
 
-pub passed-pair : (program schedule : List ℕ) (q : Pair) → Passed program schedule q → pairOf program schedule ≡ accepted q
-unfolding pairOf
-passed-pair program schedule q t =
-    accepted-then _ _ _ (t .short) ∙
-    accepted-then _ _ _ (t .parses) ∙
-    accepted-then _ _ _ (t .rated) ∙
-    accepted-then _ _ _ (t .hyper) ∙
-    accepted-then _ _ _ (t .links) ∙
-    accepted-then _ _ _ (t .reads) ∙
-    accepted-then _ _ _ (t .places) ∙
-    accepted-then _ _ _ (t .meets) ∙
-    accepted-then _ _ _ (t .loads) ∙
-    accepted-then _ _ _ (t .times)
-
 -- A read is of a declared signal, and keeps its period rule.
 abbrev pub Rated : Program → ℕ → Read → Type 0
 Rated p r ρ =
@@ -186,18 +172,6 @@ module _ (p : Program) where
   chains-keep s h e =
       all-joined (λ j c. cond (keeps p s h c) [] (fault 16 (c .place) ∷ [])) (λ c. keeps p s h c ≡ true)
       (λ j c t. cond-none _ _ t) 0 (p .chains) (lowest-none _ e)
-
-  pub cycles-loaded : (s : Schedule) (h : ℕ) → loaded p s h ≡ accepted tt → (c : ℕ) → c < h →
-      isOver (p .cap) (load p s c) ≡ false
-  unfolding loaded
-  cycles-loaded s h e c lt = go (first h over) refl e
-    where
-      over : ℕ → Bool
-      over n = isOver (p .cap) (load p s n)
-
-      go : (f : Found) → first h over ≡ f → loadedOf f ≡ accepted tt → over c ≡ false
-      go (At n) q t = absurd (accepted≢refused _ tt _ t refl)
-      go Nowhere q t = is-first h over Nowhere q c (omega arith) (omega arith)
 
 -- A run list is no longer than the PUT order.
 chosen-length : {A : Type 0} (test : A → Bool) (xs : List A) → length (chosen test xs) ≤ length xs
@@ -280,9 +254,6 @@ module _ (program schedule : List ℕ) (q : Pair) (e : pairOf program schedule �
 
       K : Chain → Type 0
       K c = keeps p s (q .hypercycle) c ≡ true
-
-  pub pair-loaded : (c : ℕ) → c < q .hypercycle → isOver (q .program .cap) (load (q .program) (q .schedule) c) ≡ false
-  pair-loaded = cycles-loaded (q .program) (q .schedule) (q .hypercycle) (passed .loads)
 
   pub pair-bounded : Bytes program → Bounded (q .program) (q .schedule) (q .hypercycle)
   unfolding shortEnough lengthOf codesAt

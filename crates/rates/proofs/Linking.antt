@@ -1,8 +1,8 @@
 -- The links of a chain (10), link after link. Assumes nothing.
 use Prim.Native.Nat.{ℕ, suc, _+_, _-_, _≤_, _<_}
-use mathlib.Core.Bool.{true, false, _&&_}
+use mathlib.Core.Bool.{Bool, true, false, _&&_}
 use mathlib.Core.List.{List, [], _∷_}
-use mathlib.Core.Path.{_≡_, refl, sym, ap, _∙_}
+use mathlib.Core.Path.{_≡_, refl, ap, _∙_}
 use native.Mathlib.Omega.{arith}
 use lib.Dec.{eqb}
 use lib.ListN.{length, getD}
@@ -61,24 +61,23 @@ module _ (text : List ℕ) (p : Program) where
     link-inside lt = two (h .links) at (h .end) (h .spelled) (omega (arith, h .many)) .inside
 
     -- The next link is not linked, or is; or there is none.
-    pub link-broken : 1 < left → (r : ℕ) →
-        r ≡ countReads (byteAt text (at + 1)) (bodyReads (signalAt p (byteAt text (at + 2 + 1)) .body)) → eqb r 1 ≡ false →
-        isLinked p whole ≡ false
-    link-broken lt r e f =
-        let t = two (h .links) at (h .end) (h .spelled) (omega (arith, h .many)) in
-        h .judged ∙ t .judged ∙ ap (λ b. b && isLinked p (t .rest)) (ap (λ m. eqb m 1) (sym e) ∙ f)
+    abbrev once : Bool
+    once = eqb (countReads (byteAt text (at + 1)) (bodyReads (signalAt p (byteAt text (at + 2 + 1)) .body))) 1
 
-    pub link-on : 1 < left → (r : ℕ) →
-        r ≡ countReads (byteAt text (at + 1)) (bodyReads (signalAt p (byteAt text (at + 2 + 1)) .body)) → eqb r 1 ≡ true →
-        LinksLeft text p whole (at + 2) (left - 1)
-    link-on lt r e f =
+    pub link-broken : 1 < left → once ≡ false → isLinked p whole ≡ false
+    link-broken lt f =
+        let t = two (h .links) at (h .end) (h .spelled) (omega (arith, h .many)) in
+        h .judged ∙ t .judged ∙ ap (λ b. b && isLinked p (t .rest)) f
+
+    pub link-on : 1 < left → once ≡ true → LinksLeft text p whole (at + 2) (left - 1)
+    link-on lt f =
         let t = two (h .links) at (h .end) (h .spelled) (omega (arith, h .many)) in
         record {
           links = t .rest;
           end = h .end;
           spelled = t .spelled;
           many = omega (arith, h .many, t .fewer);
-          judged = h .judged ∙ t .judged ∙ ap (λ b. b && isLinked p (t .rest)) (ap (λ m. eqb m 1) (sym e) ∙ f);
+          judged = h .judged ∙ t .judged ∙ ap (λ b. b && isLinked p (t .rest)) f;
         }
 
     pub link-over : left ≤ 1 → isLinked p whole ≡ true
@@ -95,9 +94,6 @@ chain-start text p q j lt =
     )
 
 -- What the tables say of a chain: that it has a place in them, and where its links start.
-pub few-signals : (text : List ℕ) (tables : Tables) → ReadAs text tables → tables .signals ≤ 64
-few-signals text tables (p, q, t) = omega (arith, t .counts .signals-are, legal text p q .1 .fewSignals)
-
 pub few-chains : (text : List ℕ) (tables : Tables) → ReadAs text tables → tables .chains ≤ 16
 few-chains text tables (p, q, t) = omega (arith, t .counts .chains-are, legal text p q .1 .fewChains)
 

@@ -1,20 +1,23 @@
 -- What the answers of the checks stand for.
-use Prim.Native.Nat.{ℕ, _-_}
+use Prim.Native.Nat.{ℕ}
 use mathlib.Core.Bool.{Bool, true, false, cond}
 use mathlib.Core.List.{List}
 use mathlib.Core.Path.{_≡_}
 use lib.Dec.{ltb, eqb}
 use lib.ListN.{getD}
 use Rattle.model.specs.Outcome.{Outcome, accepted, refused, fault}
-use Rattle.model.specs.Program.{Program, parseProgram}
-use Rattle.model.specs.Rates.{periodRule}
+use Rattle.model.specs.Latency.{readOf}
+use Rattle.model.specs.Program.{Program, Read, bodyReads, parseProgram}
+use Rattle.model.specs.Rates.{periodRule, readFaults, linkFaults, countReads}
+use Rattle.model.specs.Search.{joinFrom}
+use Rattle.model.specs.declared.Fault.{Fault}
+use Rattle.model.specs.declared.Found.{Found}
+use Rattle.model.specs.declared.Found.the-variants.{At, Nowhere}
 use Rattle.model.specs.declared.Kind.{Kind}
 use Rattle.model.specs.declared.Sampled.{Sampled}
 use Rattle.rates.specs.declared.Cycles.{Cycles}
 use Rattle.rates.specs.declared.Cycles.the-variants as Cycles
-use Rattle.rates.specs.declared.Part.{Part}
-use Rattle.rates.specs.declared.Part.the-variants as Part
-use Rattle.reader.specs.Tables.{TablesOf}
+use Rattle.reader.specs.Tables.{ReadsOf, TablesOf}
 use Rattle.reader.specs.declared.Judged.{Judged}
 use Rattle.reader.specs.declared.Judged.the-variants as Judged
 use Rattle.reader.specs.declared.Tables.{Tables}
@@ -40,24 +43,27 @@ readJudged count periods at reader kind x =
     rateJudged (ltb (x .signal) count)
     (periodRule kind (periodAt periods (x .signal)) (periodAt periods reader) (x .factor)) at
 
--- A command after s signals.
-abbrev pub partJudged : ℕ → List ℕ → ℕ → ℕ → Part → Judged
-partJudged count periods at s Part.Other = Judged.Fine
-partJudged count periods at s Part.Signal = Judged.Fine
-partJudged count periods at s Part.Chain = Judged.Fine
-partJudged count periods at s (Part.Link signal) = rateJudged (ltb signal count) true at
-partJudged count periods at s Part.Operand = Judged.Fine
-partJudged count periods at s (Part.Read kind x) = readJudged count periods at (s - 1) kind x
+-- The faults of the reads, and of the LINKs.
+abbrev pub readRates : Program → List Fault
+readRates p = joinFrom 0 (λ s x. joinFrom 0 (λ i ρ. readFaults p x ρ) (bodyReads (x .body))) (p .signals)
 
--- 1 for a read of w.
-abbrev pub countedOf : ℕ → Part → ℕ
-countedOf w Part.Other = 0
-countedOf w Part.Signal = 0
-countedOf w Part.Chain = 0
-countedOf w (Part.Link signal) = 0
-countedOf w Part.Operand = 0
-countedOf w (Part.Read kind x) = cond (eqb (x .signal) w) 1 0
+abbrev pub linkRates : Program → List Fault
+linkRates p = joinFrom 0 (λ j c. joinFrom 0 (λ i l. linkFaults p l) (c .links)) (p .chains)
+
+-- The one of two refusals that has the lower place.
+unfoldable pub lowerOf : Judged → Judged → Judged
+lowerOf Judged.Fine b = b
+lowerOf (Judged.Refused f) Judged.Fine = Judged.Refused f
+lowerOf (Judged.Refused f) (Judged.Refused g) = Judged.Refused (cond (ltb (g .place) (f .place)) g f)
+
+-- Where the one read of w among these reads stands.
+unfoldable pub oneRead : ℕ → List Read → Found
+oneRead w ρs = cond (eqb (countReads w ρs) 1) (At (readOf w ρs .place)) Nowhere
 
 -- The tables are those of the program that the text is.
 abbrev pub ReadAs : List ℕ → Tables → Type 0
 ReadAs text tables = (p : Program) × (parseProgram text ≡ accepted p) × TablesOf p tables
+
+abbrev pub TabledAs : List ℕ → List ℕ → Tables → Type 0
+TabledAs text reads tables =
+    (p : Program) × (parseProgram text ≡ accepted p) × TablesOf p tables × ReadsOf p reads (tables .firsts)

@@ -3,14 +3,13 @@ use mathlib.Core.Path.{_≡_, refl, sym, ap, subst, _∙_}
 use mathlib.Core.Bool.{Bool, true, false, cond}
 use mathlib.Core.List.{List, [], _∷_, _++_}
 use Prim.Native.Nat.{ℕ, zero, suc, _+_, _-_, _≤_, _<_}
-use native.Mathlib.Numerals.{sub-one}
 use native.Mathlib.Omega.{arith}
 use lib.Dec.{leb, ltb, eqb}
 use lib.ListN.{length, List·getD-eq-default}
 use borrow.Author.Tests.{ltb-true, le-leb, lt-leb, eq-eqb, ne-eqb}
 use Rattle.model.specs.Command.{keywordAt, keywordOf, commandOf, commandAt}
 use Rattle.model.specs.Outcome.{Outcome, accepted, refused, fault, refuse, _▷_, provided, Parsed, parsed}
-use Rattle.model.specs.Program.{Expr, Link, operatorHere, node, parseExpr, parseLinks}
+use Rattle.model.specs.Program.{Link, operatorHere, parseLinks}
 use Rattle.model.specs.Width.{readWidth}
 use Rattle.model.specs.Word.{byteAt}
 use Rattle.model.specs.declared.Command.{Command}
@@ -20,7 +19,7 @@ use Rattle.model.specs.declared.Keyword.{Keyword}
 use Rattle.model.specs.declared.Kind.{Kind}
 use Rattle.model.specs.declared.Kind.the-variants.{Now, Last, When, LastWhen, Current}
 use Rattle.model.specs.declared.Keyword.the-variants as Keyword
-use Rattle.reader.specs.Results.{hereOf, expressionOf, linksOf, equationOf, chainOf}
+use Rattle.reader.specs.Results.{hereOf, linksOf, chainOf}
 use Rattle.reader.specs.declared.Entry.the-variants as Entry
 use Rattle.reader.specs.declared.LinksRead.{LinksRead}
 use Rattle.reader.specs.declared.LinksRead.the-variants as Read
@@ -39,68 +38,6 @@ pub here-refused : (at : ℕ) (o : Outcome (Unit {0})) {f : Fault} → Reached.R
 unfolding hereOf
 here-refused at (accepted a) e = let z : _≡_ {A = ℕ} 0 1 = cc in absurd (omega arith)
 here-refused at (refused f) e = cc
-
--- An operator that is accepted stands within the text.
-pub present : (text : List ℕ) (at : ℕ) → operatorHere text at (keywordAt text at) ≡ accepted tt → at < length text
-unfolding keywordAt
-present text at e = go (ltb at (length text)) refl e
-  where
-    go : (b : Bool) → ltb at (length text) ≡ b →
-        operatorHere text at (cond b (keywordOf (byteAt text at)) Keyword.Missing) ≡ accepted tt → at < length text
-    go true h e = ltb-true _ _ h
-    go false h e = let z : _≡_ {A = ℕ} 0 1 = cc in absurd (omega arith)
-
--- The expression at an operator that is accepted, where some depth is left, and where none is.
-pub parse-step : (d : ℕ) (text : List ℕ) (at : ℕ) → (d ≡ 0 → ⊥) → operatorHere text at (keywordAt text at) ≡ accepted tt →
-    parseExpr d text at ≡ node (λ n. parseExpr (d - 1) text n) text at (commandAt text at)
-unfolding parseExpr _▷_
-parse-step zero text at h e = absurd (h refl)
-parse-step (suc d) text at h e = rw (e, sub-one (suc d))
-
-pub parse-none : (text : List ℕ) (at : ℕ) → operatorHere text at (keywordAt text at) ≡ accepted tt →
-    parseExpr 0 text at ≡ refuse 4 at
-unfolding parseExpr _▷_
-parse-none text at e = rw e
-
--- And at one that is refused.
-pub parse-refused : (d : ℕ) (text : List ℕ) (at : ℕ) {f : Fault} → operatorHere text at (keywordAt text at) ≡ refused f →
-    parseExpr d text at ≡ refused f
-unfolding parseExpr _▷_
-parse-refused zero text at e = rw e
-parse-refused (suc d) text at e = rw e
-
--- The answers of a leaf and of a refusal.
-pub next-is : (x : Expr) (n : ℕ) → Reached.Next n ≡ expressionOf (parsed x n)
-unfolding expressionOf
-next-is x n = refl
-
-pub refused-is : (f : Fault) → Reached.Refused f ≡ expressionOf (refused f)
-unfolding expressionOf
-refused-is f = refl
-
--- An operand that is refused is the answer.
-pub stop : (o : Outcome (Parsed Expr)) (k : Parsed Expr → Outcome (Parsed Expr)) {r : Reached} {f : Fault} →
-    r ≡ expressionOf o → r ≡ Reached.Refused f → r ≡ expressionOf (o ▷ k)
-unfolding _▷_ expressionOf
-stop (accepted x) k {r} {f} e g = let z : _≡_ {A = ℕ} 0 1 = cc in absurd (omega arith)
-stop (refused q) k e g = e
-
--- After an operand that is read the rest decides.
-pub go-on : (o : Outcome (Parsed Expr)) (k : Parsed Expr → Outcome (Parsed Expr)) {r q : Reached} {n : ℕ} →
-    r ≡ expressionOf o → r ≡ Reached.Next n → ((v : Expr) → q ≡ expressionOf (k (record { value = v; next = n }))) →
-    q ≡ expressionOf (o ▷ k)
-unfolding _▷_ expressionOf
-go-on (accepted x) k {r} {q} {n} e g h =
-    let z : n ≡ x .next = cc in
-    subst (λ m. q ≡ expressionOf (k (record { value = x .value; next = m }))) z (h (x .value))
-go-on (refused f) k {r} {n = n} e g h = let z : _≡_ {A = ℕ} 0 1 = cc in absurd (omega arith)
-
--- The last operand's end is the expression's.
-pub last : (o : Outcome (Parsed Expr)) (f : Parsed Expr → Expr) {r : Reached} → r ≡ expressionOf o →
-    r ≡ expressionOf (o ▷ λ x. parsed (f x) (x .next))
-unfolding _▷_ expressionOf
-last (accepted x) f e = e
-last (refused q) f e = e
 
 pub width-most : (kind : Kind) → readWidth kind ≤ 4
 width-most Now = omega arith
@@ -138,40 +75,28 @@ pub links-more : (room : ℕ) (text : List ℕ) (at : ℕ) (links : List Link) �
 unfolding parseLinks _▷_ provided
 links-more room text at links e h = rw (eq-eqb (byteAt text at) 0x13 e, parseLinks) (rw (le-leb (at + 2) (length text) h))
 
--- The step of an EQ from its expression's answer, and of a LAT from its LINKs'.
-pub equation-next : (o : Outcome (Parsed Expr)) {r : Reached} {n : ℕ} → r ≡ expressionOf o → r ≡ Reached.Next n →
-    Step.Adds Entry.Signal n ≡ equationOf o
-unfolding expressionOf equationOf
-equation-next (accepted x) {r} {n} e g = let z : n ≡ x .next = cc in ap (Step.Adds Entry.Signal) z
-equation-next (refused f) {r} {n} e g = let z : _≡_ {A = ℕ} 0 1 = cc in absurd (omega arith)
-
-pub equation-refused : (o : Outcome (Parsed Expr)) {r : Reached} {f : Fault} → r ≡ expressionOf o → r ≡ Reached.Refused f →
-    Step.Refused f ≡ equationOf o
-unfolding expressionOf equationOf
-equation-refused (accepted x) {r} {f} e g = let z : _≡_ {A = ℕ} 0 1 = cc in absurd (omega arith)
-equation-refused (refused q) {r} {f} e g = let z : f ≡ q = cc in ap Step.Refused z
-
-pub chain-short : (at : ℕ) (o : Outcome (Parsed (List Link))) {r : LinksRead} {k n : ℕ} → r ≡ linksOf o → r ≡ Read.Links k n →
-    k < 2 → Step.Refused (fault 5 at) ≡ chainOf at o
+-- The step of a LAT from its LINKs.
+pub chain-short : (at count to : ℕ) (o : Outcome (Parsed (List Link))) {r : LinksRead} {k n : ℕ} → r ≡ linksOf o → r ≡ Read.Links k n →
+    k < 2 → Step.Refused (fault 5 at) ≡ chainOf at count to o
 unfolding linksOf chainOf
-chain-short at (accepted x) {r} {k} {n} e g h =
+chain-short at count to (accepted x) {r} {k} {n} e g h =
     let z : k ≡ length (x .value) = cc in rw (lt-leb 2 (length (x .value)) (omega arith))
-chain-short at (refused f) {r} {k} {n} e g h = let z : _≡_ {A = ℕ} 0 1 = cc in absurd (omega arith)
+chain-short at count to (refused f) {r} {k} {n} e g h = let z : _≡_ {A = ℕ} 0 1 = cc in absurd (omega arith)
 
-pub chain-next : (at : ℕ) (o : Outcome (Parsed (List Link))) {r : LinksRead} {k n : ℕ} → r ≡ linksOf o → r ≡ Read.Links k n →
-    2 ≤ k → Step.Adds (Entry.Chain k) n ≡ chainOf at o
+pub chain-next : (at count to : ℕ) (o : Outcome (Parsed (List Link))) {r : LinksRead} {k n : ℕ} → r ≡ linksOf o → r ≡ Read.Links k n →
+    2 ≤ k → Step.Adds (Entry.Chain k) (record { at = n; reads = count; code = to }) ≡ chainOf at count to o
 unfolding linksOf chainOf
-chain-next at (accepted x) {r} {k} {n} e g h =
+chain-next at count to (accepted x) {r} {k} {n} e g h =
     let z : k ≡ length (x .value) = cc in
     let y : n ≡ x .next = cc in
     rw (le-leb 2 (length (x .value)) (omega arith), z, y)
-chain-next at (refused f) {r} {k} {n} e g h = let z : _≡_ {A = ℕ} 0 1 = cc in absurd (omega arith)
+chain-next at count to (refused f) {r} {k} {n} e g h = let z : _≡_ {A = ℕ} 0 1 = cc in absurd (omega arith)
 
-pub chain-refused : (at : ℕ) (o : Outcome (Parsed (List Link))) {r : LinksRead} {f : Fault} → r ≡ linksOf o → r ≡ Read.Refused f →
-    Step.Refused f ≡ chainOf at o
+pub chain-refused : (at count to : ℕ) (o : Outcome (Parsed (List Link))) {r : LinksRead} {f : Fault} → r ≡ linksOf o → r ≡ Read.Refused f →
+    Step.Refused f ≡ chainOf at count to o
 unfolding linksOf chainOf
-chain-refused at (accepted x) {r} {f} e g = let z : _≡_ {A = ℕ} 0 1 = cc in absurd (omega arith)
-chain-refused at (refused q) {r} {f} e g = let z : f ≡ q = cc in ap Step.Refused z
+chain-refused at count to (accepted x) {r} {f} e g = let z : _≡_ {A = ℕ} 0 1 = cc in absurd (omega arith)
+chain-refused at count to (refused q) {r} {f} e g = let z : f ≡ q = cc in ap Step.Refused z
 
 -- A command that does not end early stands within the text.
 pub command-inside : (text : List ℕ) (at : ℕ) {k : Command} → commandAt text at ≡ k → (Command.EndsEarly ≡ k → ⊥) → at < length text

@@ -4,16 +4,17 @@ use model::Fault;
 use model::Keyword;
 ghost use mathlib.Core.Path.{_≡_};
 ghost use mathlib.Core.List.{[]};
-ghost use Prim.Native.Nat.{_+_, _≤_, _<_};
+ghost use Prim.Native.Nat.{_+_, _*_, _≤_, _<_};
 ghost use lib.Dec.{leb};
 ghost use lib.ListN.{length};
 ghost use Rattle.model.specs.Command.{keywordAt};
 ghost use Rattle.model.specs.Outcome.{provided};
-ghost use Rattle.model.specs.Program.{Program, operatorHere, parseExpr, parseLinks, commandHere, empty, parseProgram};
+ghost use Rattle.model.specs.Program.{Program, operatorHere, parseExpr, parseLinks, commandHere, parseProgram};
 ghost use Rattle.model.specs.Width.{inProgram};
-ghost use Rattle.reader.specs.Results.{hereOf, expressionOf, linksOf, chainOf, equationOf, endOf};
+ghost use Rattle.reader.specs.Results.{hereOf, linksOf, chainOf, endOf};
 ghost use Rattle.reader.specs.Steps.{Counts, Stepped};
-ghost use Rattle.reader.specs.Tables.{TablesOf, signalAdded, chainAdded, capAdded, entryAdded, Fits, judgedOf, ProgramReads};
+ghost use Rattle.reader.specs.Tables.{judgedOf, ProgramReads};
+ghost use Rattle.reader.specs.Walks.{deepOf, Room, Walks, WalksEquation};
 
 // The offset at which reading goes on, or the refusal.
 pub enum Reached {
@@ -52,48 +53,125 @@ fn operator_here(text: &[u8], at: usize) -> Reached
     }
 }
 
-// Reads the expression at `at`, which may nest `depth` deep.
-pub fn read_expression(text: &[u8], at: usize, depth: usize) -> Reached
-    ensures { λ r. ⌜ r ≡ expressionOf (parseExpr depth (now (text .entry)) at) ⌝ }
+// Where the reading of an expression stands: the offset in the text, how many reads the program has so far, and how many bytes of
+// code.
+pub struct Walk {
+    pub at: usize,
+    pub reads: usize,
+    pub code: usize,
+}
+
+// Where the reading of an expression goes on, or the refusal.
+pub enum Walked {
+    Next(Walk),
+    Refused(Fault),
+}
+
+fn refuse_walk(number: u8, place: usize) -> Walked
+    ensures { λ r. ⌜ r ≡ Walked.Refused (record { number = number; place = place }) ⌝ }
+{
+    Walked::Refused(Fault {
+        number: number,
+        place: place,
+    })
+}
+
+fn moved_on(at: usize, reads: usize, code: usize) -> Walked
+    ensures { λ r. ⌜ r ≡ Walked.Next (record { at = at; reads = reads; code = code }) ⌝ }
+{
+    Walked::Next(Walk {
+        at: at,
+        reads: reads,
+        code: code,
+    })
+}
+
+// The refusal at `at` where no operator may stand: 2 and 3 come before the depth.
+fn too_deep(text: &[u8], at: usize) -> Walked
+    ensures { λ r. ⌜ r ≡ deepOf at (operatorHere (now (text .entry)) at (keywordAt (now (text .entry)) at)) ⌝ }
 {
     let here = operator_here(text, at);
-    let Reached::Next(_) = here else {
-        return here;
-    };
-    if depth == 0 {
-        return refuse(4, at);
+    match here {
+        Reached::Next(_) => refuse_walk(4, at),
+        Reached::Refused(fault) => Walked::Refused(fault),
     }
-    let command = commands::command_at(text, at);
-    match command {
-        Command::EndsEarly => refuse(2, text.len()),
-        Command::Unknown => refuse(3, at),
-        Command::OutOfRange => refuse(5, at),
-        Command::End => refuse(3, at),
-        Command::Input(_, _) => refuse(3, at),
-        Command::Equation(_, _, _) => refuse(3, at),
-        Command::Latency(_, _) => refuse(3, at),
-        Command::Link(_) => refuse(3, at),
-        Command::Cap(_) => refuse(3, at),
-        Command::Constant(_) => Reached::Next(at + width::in_expression(0x20)),
-        Command::Read(kind, _) => Reached::Next(at + width::of_read(kind)),
+}
+
+// Reads the expression at `at`, which may nest `depth` deep. Keeps the offset of each of its reads in `reads`, from `count` on, and
+// counts the bytes of its code, from `to` on.
+pub fn read_expression(
+    text: &[u8],
+    at: usize,
+    count: usize,
+    to: usize,
+    depth: usize,
+    reads: &mut [u16],
+) -> Walked
+    requires { ⌜ Room (length (now text)) at count to (length (now reads)) ⌝ }
+    ensures { λ r. ⌜ Walks (parseExpr depth (now (text .entry)) at) (now (reads .entry)) count to (now (reads .exit)) r ⌝ }
+{
+    if depth == 0 {
+        return too_deep(text, at);
+    }
+    let operator = commands::operator_at(text, at);
+    match operator {
+        Command::EndsEarly => refuse_walk(2, text.len()),
+        Command::Unknown => refuse_walk(3, at),
+        Command::OutOfRange => refuse_walk(5, at),
+        Command::End => refuse_walk(3, at),
+        Command::Input(_, _) => refuse_walk(3, at),
+        Command::Equation(_, _, _) => refuse_walk(3, at),
+        Command::Latency(_, _) => refuse_walk(3, at),
+        Command::Link(_) => refuse_walk(3, at),
+        Command::Cap(_) => refuse_walk(3, at),
+        Command::Constant(_) => moved_on(
+            at + width::in_expression(0x20),
+            count,
+            to + width::in_code(0x50),
+        ),
+        Command::Read(kind, _) => {
+            reads[count] = at as u16;
+            moved_on(
+                at + width::of_read(kind),
+                count + 1,
+                to + width::in_code(0x51),
+            )
+        }
         Command::Binary(_) => {
-            let first = read_expression(text, at + width::in_expression(0x30), depth - 1);
-            let Reached::Next(second_at) = first else {
+            let first_at = at + width::in_expression(0x30);
+            let first = read_expression(text, first_at, count, to, depth - 1, reads);
+            let Walked::Next(a) = first else {
                 return first;
             };
-            read_expression(text, second_at, depth - 1)
+            let second = read_expression(text, a.at, a.reads, a.code, depth - 1, reads);
+            let Walked::Next(b) = second else {
+                return second;
+            };
+            moved_on(b.at, b.reads, b.code + width::in_code(0x30))
         }
-        Command::Negate => read_expression(text, at + width::in_expression(0x38), depth - 1),
+        Command::Negate => {
+            let operand_at = at + width::in_expression(0x38);
+            let operand = read_expression(text, operand_at, count, to, depth - 1, reads);
+            let Walked::Next(a) = operand else {
+                return operand;
+            };
+            moved_on(a.at, a.reads, a.code + width::in_code(0x38))
+        }
         Command::If => {
-            let condition = read_expression(text, at + width::in_expression(0x3A), depth - 1);
-            let Reached::Next(then_at) = condition else {
+            let condition_at = at + width::in_expression(0x3A);
+            let condition = read_expression(text, condition_at, count, to, depth - 1, reads);
+            let Walked::Next(a) = condition else {
                 return condition;
             };
-            let first = read_expression(text, then_at, depth - 1);
-            let Reached::Next(else_at) = first else {
+            let first = read_expression(text, a.at, a.reads, a.code, depth - 1, reads);
+            let Walked::Next(b) = first else {
                 return first;
             };
-            read_expression(text, else_at, depth - 1)
+            let second = read_expression(text, b.at, b.reads, b.code, depth - 1, reads);
+            let Walked::Next(d) = second else {
+                return second;
+            };
+            moved_on(d.at, d.reads, d.code + width::in_code(0x3A))
         }
     }
 }
@@ -136,16 +214,16 @@ pub fn read_links(text: &[u8], at: usize) -> LinksRead
     LinksRead::Links(count, next)
 }
 
-// What a command adds to a program: a signal, a chain of so many LINKs, a CAP.
+// What a command adds to a program: a signal of a period and a weight, a chain of so many LINKs, a CAP.
 pub enum Entry {
-    Signal,
+    Signal(u8, u16),
     Chain(usize),
     Cap(u32),
 }
 
-// What one command of the program text is: an entry with the offset after it, END, or the refusal.
+// What one command of the program text is: an entry with where the reading stands after it, END, or the refusal.
 pub enum Step {
-    Adds(Entry, usize),
+    Adds(Entry, Walk),
     End,
     Refused(Fault),
 }
@@ -192,30 +270,51 @@ fn command_here(text: &[u8], at: usize, signals: usize, chains: usize, capped: b
     }
 }
 
-// An EQ ends where its expression does.
-fn equation_step(text: &[u8], at: usize) -> Step
-    requires { ⌜ at < length (now text) ⌝ }
-    ensures { λ r. ⌜ r ≡ equationOf (parseExpr 16 (now (text .entry)) (at + inProgram 0x11)) ⌝ }
+// The step to an entry.
+fn adds(entry: Entry, at: usize, count: usize, to: usize) -> Step
+    ensures { λ r. ⌜ r ≡ Step.Adds entry (record { at = at; reads = count; code = to }) ⌝ }
 {
-    let reached = read_expression(text, at + width::in_program(0x11), 16);
+    Step::Adds(
+        entry,
+        Walk {
+            at: at,
+            reads: count,
+            code: to,
+        },
+    )
+}
+
+// An EQ ends where its expression does; after the expression's code comes a STORE.
+fn equation_step(
+    text: &[u8],
+    at: usize,
+    entry: Entry,
+    count: usize,
+    to: usize,
+    reads: &mut [u16],
+) -> Step
+    requires { ⌜ (at < length (now text)) × Room (length (now text)) at count to (length (now reads)) ⌝ }
+    ensures { λ r. ⌜ WalksEquation (parseExpr 16 (now (text .entry)) (at + inProgram 0x11)) entry (now (reads .entry)) count to (now (reads .exit)) r ⌝ }
+{
+    let reached = read_expression(text, at + width::in_program(0x11), count, to, 16, reads);
     match reached {
-        Reached::Next(next) => Step::Adds(Entry::Signal, next),
-        Reached::Refused(fault) => Step::Refused(fault),
+        Walked::Next(w) => adds(entry, w.at, w.reads, w.code + width::in_code(0x5F)),
+        Walked::Refused(fault) => Step::Refused(fault),
     }
 }
 
 // A LAT ends where its LINKs do; a chain has two of them at least.
-fn chain_step(text: &[u8], at: usize) -> Step
+fn chain_step(text: &[u8], at: usize, count: usize, to: usize) -> Step
     requires { ⌜ at < length (now text) ⌝ }
-    ensures { λ r. ⌜ r ≡ chainOf at (parseLinks 16 (now (text .entry)) (at + inProgram 0x12) []) ⌝ }
+    ensures { λ r. ⌜ r ≡ chainOf at count to (parseLinks 16 (now (text .entry)) (at + inProgram 0x12) []) ⌝ }
 {
     let read = read_links(text, at + width::in_program(0x12));
     match read {
-        LinksRead::Links(count, next) => {
-            if count < 2 {
+        LinksRead::Links(links, next) => {
+            if links < 2 {
                 return refuse_step(5, at);
             }
-            Step::Adds(Entry::Chain(count), next)
+            adds(Entry::Chain(links), next, count, to)
         }
         LinksRead::Refused(fault) => Step::Refused(fault),
     }
@@ -233,9 +332,20 @@ fn end_step(text: &[u8], at: usize) -> Step
     Step::End
 }
 
-// One command of the program text, after so many signals and chains.
-fn read_command(text: &[u8], at: usize, signals: usize, chains: usize, capped: bool) -> Step
-    ensures { λ r. ⌜ ((p : Program) → Counts p signals chains capped → Stepped (now (text .entry)) at p r) ⌝ }
+// One command of the program text, after so many signals and chains. Its reads are kept from `count` on; the code before it takes `to`
+// bytes.
+fn read_command(
+    text: &[u8],
+    at: usize,
+    signals: usize,
+    chains: usize,
+    capped: bool,
+    count: usize,
+    to: usize,
+    reads: &mut [u16],
+) -> Step
+    requires { ⌜ Room (length (now text)) at count to (length (now reads)) ⌝ }
+    ensures { λ r. ⌜ ((p : Program) → Counts p signals chains capped → Stepped (now (text .entry)) at p (now (reads .entry)) count to (now (reads .exit)) r) ⌝ }
 {
     let here = command_here(text, at, signals, chains, capped);
     if let Reached::Refused(fault) = here {
@@ -247,11 +357,22 @@ fn read_command(text: &[u8], at: usize, signals: usize, chains: usize, capped: b
         Command::Unknown => refuse_step(3, at),
         Command::OutOfRange => refuse_step(5, at),
         Command::End => end_step(text, at),
-        Command::Input(_, _) => Step::Adds(Entry::Signal, at + width::in_program(0x10)),
-        Command::Equation(_, _, _) => equation_step(text, at),
-        Command::Latency(_, _) => chain_step(text, at),
+        Command::Input(period, _) => {
+            let next = at + width::in_program(0x10);
+            let end = to + (width::in_code(0x52) + width::in_code(0x5F));
+            adds(Entry::Signal(period, 0), next, count, end)
+        }
+        Command::Equation(period, _, weight) => equation_step(
+            text,
+            at,
+            Entry::Signal(period, weight),
+            count,
+            to,
+            reads,
+        ),
+        Command::Latency(_, _) => chain_step(text, at, count, to),
         Command::Link(_) => refuse_step(3, at),
-        Command::Cap(limit) => Step::Adds(Entry::Cap(limit), at + width::in_program(0x14)),
+        Command::Cap(limit) => adds(Entry::Cap(limit), at + width::in_program(0x14), count, to),
         Command::Constant(_) => refuse_step(3, at),
         Command::Read(_, _) => refuse_step(3, at),
         Command::Binary(_) => refuse_step(3, at),
@@ -260,10 +381,15 @@ fn read_command(text: &[u8], at: usize, signals: usize, chains: usize, capped: b
     }
 }
 
-// Where things stand in a program text: the offset of each IN or EQ, of each LAT with the number of its LINKs, and the CAP.
+// What stands where in a program text, by signal and by chain. The reads of signal x are those from `firsts[x]` to
+// `firsts[x + 1]` of the table of reads, its code the bytes from `codes[x]` to `codes[x + 1]` of the whole code.
 pub struct Tables {
     pub signals: usize,
     pub places: [usize; 64],
+    pub periods: [u8; 64],
+    pub weights: [u16; 64],
+    pub firsts: [u16; 65],
+    pub codes: [u16; 65],
     pub chains: usize,
     pub starts: [usize; 16],
     pub lengths: [usize; 16],
@@ -272,90 +398,19 @@ pub struct Tables {
 }
 
 impl Tables {
-    pub fn new() -> Self
-        ensures { λ r. ⌜ TablesOf empty r ⌝ }
-    {
+    pub fn new() -> Self {
         Self {
             signals: 0,
             places: [0; 64],
+            periods: [0; 64],
+            weights: [0; 64],
+            firsts: [0; 65],
+            codes: [0; 65],
             chains: 0,
             starts: [0; 16],
             lengths: [0; 16],
             capped: false,
             limit: 0,
-        }
-    }
-
-    // The tables with one signal more, at `at`.
-    fn with_signal(self, at: usize) -> Self
-        requires { ⌜ self .signals < 64 ⌝ }
-        ensures { λ r. ⌜ r ≡ signalAdded self at ⌝ }
-    {
-        let index = self.signals;
-        let mut places = self.places;
-        places[index] = at;
-        let starts = self.starts;
-        let lengths = self.lengths;
-        Self {
-            signals: index + 1,
-            places: places,
-            chains: self.chains,
-            starts: starts,
-            lengths: lengths,
-            capped: self.capped,
-            limit: self.limit,
-        }
-    }
-
-    // The tables with one chain more, of so many LINKs, at `at`.
-    fn with_chain(self, at: usize, length: usize) -> Self
-        requires { ⌜ self .chains < 16 ⌝ }
-        ensures { λ r. ⌜ r ≡ chainAdded self at length ⌝ }
-    {
-        let index = self.chains;
-        let mut starts = self.starts;
-        starts[index] = at;
-        let mut lengths = self.lengths;
-        lengths[index] = length;
-        let places = self.places;
-        Self {
-            signals: self.signals,
-            places: places,
-            chains: index + 1,
-            starts: starts,
-            lengths: lengths,
-            capped: self.capped,
-            limit: self.limit,
-        }
-    }
-
-    // The tables with a CAP.
-    fn with_cap(self, limit: u32) -> Self
-        ensures { λ r. ⌜ r ≡ capAdded self limit ⌝ }
-    {
-        let places = self.places;
-        let starts = self.starts;
-        let lengths = self.lengths;
-        Self {
-            signals: self.signals,
-            places: places,
-            chains: self.chains,
-            starts: starts,
-            lengths: lengths,
-            capped: true,
-            limit: limit,
-        }
-    }
-
-    // The tables with an entry that stands at `at`.
-    fn with_entry(self, entry: Entry, at: usize) -> Self
-        requires { ⌜ Fits self entry ⌝ }
-        ensures { λ r. ⌜ r ≡ entryAdded self entry at ⌝ }
-    {
-        match entry {
-            Entry::Signal => self.with_signal(at),
-            Entry::Chain(length) => self.with_chain(at, length),
-            Entry::Cap(limit) => self.with_cap(limit),
         }
     }
 }
@@ -372,39 +427,83 @@ pub struct ProgramRead {
     pub tables: Tables,
 }
 
-// The answer at a step that adds nothing.
-fn stopped(step: Step, tables: Tables) -> ProgramRead
-    ensures { λ r. ⌜ r ≡ record { judged = judgedOf step; tables = tables } ⌝ }
+// The judgement at a step that adds nothing.
+fn judged_at(step: Step) -> Judged
+    ensures { λ r. ⌜ r ≡ judgedOf step ⌝ }
 {
     match step {
-        Step::Adds(_, _) => ProgramRead {
-            judged: Judged::Fine,
-            tables: tables,
-        },
-        Step::End => ProgramRead {
-            judged: Judged::Fine,
-            tables: tables,
-        },
-        Step::Refused(fault) => ProgramRead {
-            judged: Judged::Refused(fault),
-            tables: tables,
-        },
+        Step::Adds(_, _) => Judged::Fine,
+        Step::End => Judged::Fine,
+        Step::Refused(fault) => Judged::Refused(fault),
     }
 }
 
-// Reads a program text to its END: 2 to 6, or the tables of the program that it is.
-pub fn read_program(text: &[u8]) -> ProgramRead
-    ensures { λ r. ⌜ ProgramReads (parseProgram (now (text .entry))) r ⌝ }
+// Reads a program text to its END: 2 to 6, or the tables of the program that it is. Keeps the offset of each read in `reads`, which has
+// an entry for each two bytes of the text.
+pub fn read_program(text: &[u8], reads: &mut [u16]) -> ProgramRead
+    requires { ⌜ (length (now text) ≤ 8192) × (length (now text) ≤ 2 * length (now reads)) ⌝ }
+    ensures { λ r. ⌜ ProgramReads (parseProgram (now (text .entry))) (now (reads .exit)) r ⌝ }
 {
-    let mut tables = Tables::new();
+    let mut places: [usize; 64] = [0; 64];
+    let mut periods: [u8; 64] = [0; 64];
+    let mut weights: [u16; 64] = [0; 64];
+    let mut firsts: [u16; 65] = [0; 65];
+    let mut codes: [u16; 65] = [0; 65];
+    let mut starts: [usize; 16] = [0; 16];
+    let mut lengths: [usize; 16] = [0; 16];
+    let mut signals: usize = 0;
+    let mut chains: usize = 0;
+    let mut capped = false;
+    let mut limit: u32 = 0;
     let mut at: usize = 0;
+    let mut count: usize = 0;
+    let mut to: usize = 0;
     while at < text.len() {
-        let step = read_command(text, at, tables.signals, tables.chains, tables.capped);
-        let Step::Adds(entry, next) = step else {
-            return stopped(step, tables);
+        let step = read_command(text, at, signals, chains, capped, count, to, reads);
+        let Step::Adds(entry, walk) = step else {
+            return ProgramRead {
+                judged: judged_at(step),
+                tables: Tables {
+                    signals: signals,
+                    places: places,
+                    periods: periods,
+                    weights: weights,
+                    firsts: firsts,
+                    codes: codes,
+                    chains: chains,
+                    starts: starts,
+                    lengths: lengths,
+                    capped: capped,
+                    limit: limit,
+                },
+            };
         };
-        tables = tables.with_entry(entry, at);
-        at = next;
+        let place = at;
+        at = walk.at;
+        count = walk.reads;
+        to = walk.code;
+        match entry {
+            Entry::Signal(period, weight) => {
+                places[signals] = place;
+                periods[signals] = period;
+                weights[signals] = weight;
+                signals = signals + 1;
+                firsts[signals] = count as u16;
+                codes[signals] = to as u16;
+            }
+            Entry::Chain(links) => {
+                starts[chains] = place;
+                lengths[chains] = links;
+                chains = chains + 1;
+            }
+            Entry::Cap(most) => {
+                capped = true;
+                limit = most;
+            }
+        }
     }
-    stopped(refuse_step(2, text.len()), tables)
+    ProgramRead {
+        judged: judged_at(refuse_step(2, text.len())),
+        tables: Tables::new(),
+    }
 }

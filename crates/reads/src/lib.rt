@@ -3,8 +3,9 @@ use model::Found;
 use model::Index;
 use model::Kind;
 use model::Sampled;
+ghost use mathlib.Core.Bool.{false};
 ghost use mathlib.Core.Path.{_≡_};
-ghost use Prim.Native.Nat.{suc, _+_, _*_, _<_};
+ghost use Prim.Native.Nat.{ℕ, suc, _+_, _*_, _≤_, _<_};
 ghost use Rattle.model.specs.Reads.{between, line, writerFirst, share, ordered, settle};
 ghost use Rattle.reads.specs.Reads.{rateIn, indexFound, metBy};
 
@@ -49,11 +50,37 @@ fn meets_line(kind: Kind, w: Timing, r: Timing, index: u8) -> bool
     }
 }
 
+// How many runs end a whole period at or before a cycle.
+fn passed_runs(period: u8, phase: u8, cycle: u8) -> u8
+    ensures { λ m. ⌜ ((k : ℕ) → k < m → suc k * period + phase ≤ cycle) ⌝ }
+{
+    if period == 0 {
+        return 0;
+    }
+    if cycle < phase {
+        return 0;
+    }
+    (cycle - phase) / period
+}
+
+// The lowest index that can meet the line of a read.
+fn lowest_index(kind: Kind, w: Timing, r: Timing) -> u8
+    ensures { λ m. ⌜ ((k : ℕ) → k < m → line kind (rateIn w) (rateIn r) k ≡ false) ⌝ }
+{
+    match kind {
+        Kind::Now => 0,
+        Kind::Last => 0,
+        Kind::When => passed_runs(w.period, w.phase, r.phase),
+        Kind::LastWhen => passed_runs(w.period, w.phase, r.phase),
+        Kind::Current => passed_runs(r.period, r.phase, w.phase),
+    }
+}
+
 // The index of an open read: the one from 0 to n - 1 that meets its line, or none.
 fn settle_index(kind: Kind, w: Timing, r: Timing, n: u8) -> Found
     ensures { λ f. ⌜ f ≡ settle kind (rateIn w) (rateIn r) n ⌝ }
 {
-    let mut i: u8 = 0;
+    let mut i = lowest_index(kind, w, r);
     let settled = loop {
         if n <= i {
             break Found::Nowhere;

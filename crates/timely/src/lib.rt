@@ -1,4 +1,4 @@
-// The hops of a chain, taken from the program text.
+// The hops of a chain, each by the one read of the link before.
 use latency::Hop;
 use model::Command;
 use model::Fault;
@@ -19,7 +19,7 @@ ghost use Rattle.model.specs.Schedule.{Schedule};
 ghost use Rattle.model.specs.Search.{foundOr};
 ghost use Rattle.latency.specs.Back.{noHop};
 ghost use Rattle.latency.specs.Hops.{hopOf};
-ghost use Rattle.rates.specs.Answers.{periodAt};
+ghost use Rattle.rates.specs.Answers.{periodAt, TabledAs};
 ghost use Rattle.reader.specs.Results.{judgementOf};
 ghost use Rattle.reader.specs.Tables.{chainAt};
 ghost use Rattle.reads.specs.Reads.{rateIn};
@@ -82,25 +82,27 @@ fn no_hop() -> Hop
 // The hop of the one read of w in the equation of r.
 pub fn hop_at(
     text: &[u8],
+    reads: &[u16],
     tables: Tables,
     periods: &[u8; 64],
     phases: &[u8; 64],
     w: u8,
     r: u8,
 ) -> Hop
+    requires { ⌜ TabledAs (now text) (now reads) tables ⌝ }
     ensures { λ h. ⌜ ((p : Program) (s : Schedule) → Known (now (text .entry)) tables (now (periods .entry)) (now (phases .entry)) p s → w < count p → r < count p → countReads w (bodyReads (signalAt p r .body)) ≡ 1 → h ≡ hopOf p s r (readOf w (bodyReads (signalAt p r .body)))) ⌝ }
 {
-    let reader = r as usize;
-    if 64 <= reader {
+    let firsts = tables.firsts;
+    let found = rates::one_read(text, reads, &firsts, tables.signals, w, r);
+    let Found::At(at) = found else {
         return no_hop();
-    }
-    let places = tables.places;
-    let taken = path::find_read(text, places[reader], w);
+    };
+    let taken = commands::taken_at(text, at);
     let read = timing_at(periods, phases, w as usize);
-    let reads = timing_at(periods, phases, reader);
+    let reader = timing_at(periods, phases, r as usize);
     let kind = taken.kind;
     let operands = taken.operands;
-    let index = settled_index(kind, operands, read, reads);
+    let index = settled_index(kind, operands, read, reader);
     Hop {
         kind: kind,
         factor: operands.factor,
@@ -109,8 +111,15 @@ pub fn hop_at(
 }
 
 // The route of a chain, link after link.
-fn follow(text: &[u8], tables: Tables, periods: &[u8; 64], phases: &[u8; 64], chain: usize) -> Route
-    requires { ⌜ Joinable (now text) tables (now periods) (now phases) × (chain < tables .chains) ⌝ }
+fn follow(
+    text: &[u8],
+    reads: &[u16],
+    tables: Tables,
+    periods: &[u8; 64],
+    phases: &[u8; 64],
+    chain: usize,
+) -> Route
+    requires { ⌜ Joinable (now text) tables (now periods) (now phases) × (chain < tables .chains) × TabledAs (now text) (now reads) tables ⌝ }
     ensures { λ r. ⌜ ((p : Program) (s : Schedule) → Joined (now (text .entry)) tables (now (periods .entry)) (now (phases .entry)) p s → RouteOf p s r (backwards (chainAt p chain))) ⌝ }
 {
     let starts = tables.starts;
@@ -124,7 +133,7 @@ fn follow(text: &[u8], tables: Tables, periods: &[u8; 64], phases: &[u8; 64], ch
     while 1 < left {
         let second = at + width::in_program(0x13);
         let signal = text[second + 1];
-        let hop = hop_at(text, tables, periods, phases, last, signal);
+        let hop = hop_at(text, reads, tables, periods, phases, last, signal);
         hops[count] = hop;
         count = count + 1;
         last = signal;
@@ -158,13 +167,14 @@ fn first_run(count: usize, window: usize) -> usize
 // Whether a chain keeps its limit.
 fn keeps_time(
     text: &[u8],
+    reads: &[u16],
     tables: Tables,
     periods: &[u8; 64],
     phases: &[u8; 64],
     h: usize,
     chain: usize,
 ) -> bool
-    requires { ⌜ Judgeable (now text) tables (now periods) (now phases) h × (chain < tables .chains) ⌝ }
+    requires { ⌜ Judgeable (now text) tables (now periods) (now phases) h × (chain < tables .chains) × TabledAs (now text) (now reads) tables ⌝ }
     ensures { λ r. ⌜ ((p : Program) (s : Schedule) → Timed (now (text .entry)) tables (now (periods .entry)) (now (phases .entry)) h p s → r ≡ keeps p s h (chainAt p chain)) ⌝ }
 {
     let starts = tables.starts;
@@ -172,7 +182,7 @@ fn keeps_time(
     let Command::Latency(mode, bound) = command else {
         return true;
     };
-    let route = follow(text, tables, periods, phases, chain);
+    let route = follow(text, reads, tables, periods, phases, chain);
     let last = timing_at(periods, phases, route.last as usize);
     let source = timing_at(periods, phases, route.source as usize);
     let hops = route.hops;
@@ -194,19 +204,20 @@ fn keeps_time(
 // 16 at the lowest LAT whose chain does not keep its limit. (Chains × links × runs in the window.)
 pub fn check_latency(
     text: &[u8],
+    reads: &[u16],
     tables: Tables,
     periods: &[u8; 64],
     phases: &[u8; 64],
     h: usize,
 ) -> Judged
-    requires { ⌜ Judgeable (now text) tables (now periods) (now phases) h ⌝ }
+    requires { ⌜ Judgeable (now text) tables (now periods) (now phases) h × TabledAs (now text) (now reads) tables ⌝ }
     ensures answer { λ r. ⌜ ((p : Program) (s : Schedule) → Timed (now (text .entry)) tables (now (periods .entry)) (now (phases .entry)) h p s → r ≡ judgementOf (timely p s h)) ⌝ }
     ensures runs { λ r. ⌜ ((p : Program) (s : Schedule) → Timed (now (text .entry)) tables (now (periods .entry)) (now (phases .entry)) h p s → OverAllRuns p s r) ⌝ }
 {
     let starts = tables.starts;
     let mut chain: usize = 0;
     while chain < tables.chains {
-        if !keeps_time(text, tables, periods, phases, h, chain) {
+        if !keeps_time(text, reads, tables, periods, phases, h, chain) {
             return Judged::Refused(Fault {
                 number: 16,
                 place: starts[chain],

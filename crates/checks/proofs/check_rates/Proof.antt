@@ -20,13 +20,13 @@ unrated-requires c κs = search needs
 
 returns : tie.Need-returns
 unfolding ratesOf
-returns c p e t per =
+returns c p e t =
     let told = c .before .enum-told2 .given in
-    let d = c .before .before .before .declared-and-rated .ensures p e (t .counts .signals-are) per in
+    let d = c .before .before .before .declared-and-rated .ensures p e in
     answers-stop _ _ _ _ _ (judgement-refused _ _ _ d (told .1)) (c .unrated .ensures ∙ told .1)
 
 hypercycle-requires : tie.Need-hypercycle-requires
-hypercycle-requires c κs = let known = c .before .before .before .before .pre in few-signals _ _ _ (known .1) (known .2)
+hypercycle-requires c κs = let known = c .before .before .before .before .before .before .before .pre in few-signals _ _ _ (known .1) (known .2)
 
 enum-known-cycles : tie.Need-enum-known-cycles
 enum-known-cycles c = search needs
@@ -42,13 +42,13 @@ unrated-requires-2 c κs = search needs
 
 returns-2 : tie.Need-returns-2
 unfolding ratesOf
-returns-2 c p e t per =
+returns-2 c p e t =
     let told = c .before .before .enum-told3 .given in
     let n = t .counts .signals-are in
     let h = c .before .before .before .before in
-    let d = h .before .before .before in
-    answers-then _ _ _ _ _ (judgement-fine _ _ (d .declared-and-rated .ensures p e n per) (h .before .enum-told .given .1))
-    (answers-stop _ _ _ _ _ (cycles-refused _ _ _ (h .hypercycle .ensures p n per) (told .1))
+    let d = h .before .before .before .before .before in
+    answers-then _ _ _ _ _ (judgement-fine _ _ (d .declared-and-rated .ensures p e) (h .before .before .before .enum-told .given .1))
+    (answers-stop _ _ _ _ _ (cycles-refused _ _ _ (h .hypercycle .ensures p n (t .periods)) (told .1))
     (c .unrated2 .ensures ∙ c .before .judged-cycles .ensures _ (told .1)))
 
 linked-requires : tie.Need-linked-requires
@@ -56,12 +56,12 @@ linked-requires c κs = search needs
 
 returns-3 : tie.Need-returns-3
 unfolding ratesOf
-returns-3 c p e t per =
+returns-3 c p e t =
     let n = t .counts .signals-are in
     let h = c .before .before .before .before in
-    let d = h .before .before .before in
-    answers-then _ _ _ _ _ (judgement-fine _ _ (d .declared-and-rated .ensures p e n per) (h .before .enum-told .given .1))
-    (answers-then _ _ _ _ _ (cycles-least _ _ _ (h .hypercycle .ensures p n per) (c .before .before .cycles .given .1))
+    let d = h .before .before .before .before .before in
+    answers-then _ _ _ _ _ (judgement-fine _ _ (d .declared-and-rated .ensures p e) (h .before .before .before .enum-told .given .1))
+    (answers-then _ _ _ _ _ (cycles-least _ _ _ (h .hypercycle .ensures p n (t .periods)) (c .before .before .cycles .given .1))
     (answers-last _ _ _ _ (judgement-answers _ _ _ (c .linked .ensures p e t) (λ _. refl))))
 
 pub check-rates-spec : {M : Type 1} → statement M

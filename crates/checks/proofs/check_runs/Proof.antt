@@ -13,6 +13,7 @@ use Rattle.model.specs.Schedule.{Schedule}
 use Rattle.model.proofs.Hypercycle.{hypercycle-least}
 use Rattle.model.proofs.Puts.{placed-ordered}
 use Rattle.model.proofs.Verdict.{steps-accepted}
+use Rattle.rates.proofs.Judging.{indexed}
 use Rattle.reader.specs.Results.{judgementOf}
 use Rattle.timely.specs.Timely.{Timed}
 use Rattle.checks.specs.Answers.{Arranged}
@@ -22,45 +23,45 @@ use Rattle.checks.proofs.check_runs.Statement.{statement}
 use Rattle.checks.proofs.check_runs.Tie as tie
 
 abbrev Pair : tie.Start → Program → Schedule → Type 0
-Pair b p s = Arranged (now (b .args .text)) (b .args .tables) (b .args .signals) (b .args .slots) (b .args .h) p s
+Pair b p s = Arranged (now (b .args .text)) (b .args .tables) (b .args .slots) (b .args .h) p s
 
 abbrev start : tie.After-check-reads → tie.Start
-start r = r .before .before .before .before .before .before .before .before
+start r = r .before .before .before .before .before .before .before .before .before .before .before
 
 abbrev reads : tie.After-check-load → tie.After-check-reads
 reads l = l .before .before .before .before .before .before .before
 
 -- what the check of the reads asks
 bounded : (b : tie.Start) → (b .args .tables .signals ≤ 64) ×
-    ((x : ℕ) → x < b .args .tables .signals → 0 < getD (b .args .signals .periods) x 0)
+    ((x : ℕ) → x < b .args .tables .signals → 0 < getD (b .args .tables .periods) x 0)
 bounded b =
-    let g = b .pre .2 in
-    (few-signals _ _ _ (g .parsed) (g .tables-are), positive _ _ _ (g .parsed) (g .tables-are) (b .args .signals .periods) (g .signals-are .periods))
+    let g = b .pre .0 .2 in
+    (few-signals _ _ _ (g .parsed) (g .tables-are), positive _ _ _ (g .parsed) (g .tables-are) (b .args .tables .periods) (g .tables-are .periods))
 
 -- what the load asks
 phased : (b : tie.Start) → (b .args .tables .signals ≤ 64) × (b .args .h ≤ 240) ×
-    ((x : ℕ) → x < b .args .tables .signals → getD (b .args .slots .phases) x 0 < getD (b .args .signals .periods) x 0)
+    ((x : ℕ) → x < b .args .tables .signals → getD (b .args .slots .phases) x 0 < getD (b .args .tables .periods) x 0)
 phased b =
-    let p = b .pre .0 in
-    let s = b .pre .1 in
-    let g = b .pre .2 in (
+    let p = b .pre .0 .0 in
+    let s = b .pre .0 .1 in
+    let g = b .pre .0 .2 in (
       few-signals _ _ _ (g .parsed) (g .tables-are),
       hypercycle-least p (b .args .h) .0 (g .hyper) .bound,
       (λ x lt.
           let l : x < count p = omega (arith, g .tables-are .counts .signals-are) in
-          omega (arith, g .slots-are .phases-are x l, g .signals-are .periods x l, placed-ordered p (g .puts) s (g .places) .0 .phases x l)),
+          omega (arith, g .slots-are .phases-are x l, g .tables-are .periods x l, placed-ordered p (g .puts) s (g .places) .0 .phases x l)),
     )
 
 -- what the first two checks find of a pair
 reads-judged : (r : tie.After-check-reads) (p : Program) (s : Schedule) → Pair (start r) p s →
     r .check-reads .result ≡ judgementOf (met p s)
 reads-judged r p s g =
-    r .check-reads .ensures p s _ (g .parsed) (g .tables-are .counts .signals-are) (g .rated) (g .signals-are .periods) (g .slots-are)
+    r .check-reads .ensures p (g .parsed) s _ (g .rated) (g .tables-are .periods) (g .slots-are)
 
 load-judged : (l : tie.After-check-load) (p : Program) (s : Schedule) → Pair (start (reads l)) p s →
     l .check-load .result ≡ judgementOf (loaded p s (start (reads l) .args .h))
 load-judged l p s g =
-    l .check-load .ensures p s (g .tables-are .counts .signals-are) (g .signals-are .periods) (g .signals-are .weights)
+    l .check-load .ensures p s (g .tables-are .counts .signals-are) (g .tables-are .periods) (g .tables-are .weights)
     (g .slots-are .phases-are) (g .tables-are .cap)
 
 -- the load is judged where the reads are met
@@ -70,7 +71,7 @@ reads-met l p s g =
 
 -- reads that are met leave a pair whose latencies can be judged
 timed : (b : tie.Start) (p : Program) (s : Schedule) (g : Pair b p s) → met p s ≡ accepted tt →
-    Timed (now (b .args .text)) (b .args .tables) (b .args .signals .periods) (b .args .slots .phases) (b .args .h) p s
+    Timed (now (b .args .text)) (b .args .tables) (b .args .tables .periods) (b .args .slots .phases) (b .args .h) p s
 timed b p s g m =
     let h = hypercycle-least p (b .args .h) .0 (g .hyper) in
     record {
@@ -80,7 +81,7 @@ timed b p s g m =
                 record {
                   parsed = g .parsed;
                   tables-are = g .tables-are;
-                  periods-are = g .signals-are .periods;
+                  periods-are = g .tables-are .periods;
                   phases-are = g .slots-are .phases-are;
                 };
             rated = g .rated;
@@ -92,7 +93,9 @@ timed b p s g m =
     }
 
 check-reads-requires : tie.Need-check-reads-requires
-check-reads-requires c κs = bounded (c .before .before .before .before .before .before .before)
+check-reads-requires c κs =
+    let b = c .before .before .before .before .before .before .before .before .before .before in
+    (bounded b .0, bounded b .1, indexed _ _ _ (b .pre .1))
 
 enum-told : tie.Need-enum-told
 enum-told c = search needs
@@ -128,10 +131,10 @@ check-latency-requires : tie.Need-check-latency-requires
 check-latency-requires c κs =
     let l = c .before .before .before .before in
     let b = start (reads l) in
-    let p = b .pre .0 in
-    let s = b .pre .1 in
-    let g = b .pre .2 in
-    (p, s, timed b p s g (reads-met l p s g))
+    let p = b .pre .0 .0 in
+    let s = b .pre .0 .1 in
+    let g = b .pre .0 .2 in
+    ((p, s, timed b p s g (reads-met l p s g)), b .pre .1)
 
 returns-3 : tie.Need-returns-3
 unfolding runsOf

@@ -22,7 +22,7 @@ pair : (e : tie.After-enum-told) → let k = e .before .before in
 pair e = answers-fine _ _ _ (e .before .before .check-pair .ensures) (e .enum-told .given .1)
 
 abbrev ready : (e : tie.After-enum-told) → let k = e .before .before in let r = k .check-pair .result in
-    Ready (now (start k .args .program)) (r .tables) (r .periods) (r .slots .order) (r .slots .phases) (r .hypercycle)
+    Ready (now (start k .args .program)) (r .tables) (r .tables .periods) (r .slots .order) (r .slots .phases) (r .hypercycle)
 ready e =
     let k = pair e in
     record { program = k .0 .program; schedule = k .0 .schedule; prepared = k .2 .prepared; hyper = k .2 .bound }
@@ -33,7 +33,7 @@ checked l = l .before .before .before .before .before .before .before .before .b
 -- the layout of its image, with L
 laid-out : (l : tie.After-lay-out) → let q = pair (checked l) .0 in
     LaidOut (q .program) (q .schedule) (checked l .before .before .check-pair .result .hypercycle) (l .lay-out .result)
-laid-out l = l .lay-out .ensures _ _ (pair (checked l) .2 .prepared)
+laid-out l = l .lay-out .ensures _ _ _ (pair (checked l) .2 .prepared)
 
 check-pair-requires : tie.Need-check-pair-requires
 check-pair-requires c κs = search needs
@@ -54,7 +54,7 @@ returns c =
     (ap compiledOf (c .refused .ensures _ told) ∙ g .0, g .1)
 
 lay-out-requires : tie.Need-lay-out-requires
-lay-out-requires c κs = ready (c .before .before .before .before .before .before .before .before)
+lay-out-requires c κs = (_, ready (c .before .before .before .before .before .before .before .before))
 
 returns-2 : tie.Need-returns-2
 returns-2 c =

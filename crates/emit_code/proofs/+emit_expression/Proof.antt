@@ -29,10 +29,11 @@ use Rattle.emit_code.proofs.Laws.{
   word-length,
   same-word,
 }
+use Rattle.emit_code.proofs.Spans.{operator-is}
 use Rattle.emit_code.proofs.emit_expression.Reads as own
 use Rattle.emit_code.proofs.emit_expression.Kinds as kinds
 use Rattle.emit_code.proofs.+emit_expression.Lts-emit_expression as lts
-use Rattle.commands.proofs.command_at.Reads as command-at-reads
+use Rattle.commands.proofs.operator_at.Reads as operator-at-reads
 use Rattle.emit_code.proofs.binary_byte.Reads as binary-byte-reads
 use Rattle.emit_code.proofs.put_access.Reads as put-access-reads
 use Rattle.emit_code.proofs.put_operator.Reads as put-operator-reads
@@ -53,8 +54,8 @@ below t = and 2 kinds.ps (falls 2 kinds.ps _<_ μ t) own.Pre
 
 abbrev known : ℕ → lts.Claims
 known t = (
-  command-at-reads.Asked,
-  command-at-reads.Learnt,
+  operator-at-reads.Asked,
+  operator-at-reads.Learnt,
   in-expression-reads.Asked,
   in-expression-reads.Learnt,
   put-push-reads.Asked,
@@ -72,7 +73,7 @@ known t = (
 )
 
 -- where the command is known
-module _ (t : ℕ) (c : lts.After-command-at (known t) (given t) own.Post) where
+module _ (t : ℕ) (c : lts.After-operator-at (known t) (given t) own.Post) where
   abbrev text : List ℕ
   text = now (c .before .before .before .args .text)
 
@@ -91,9 +92,9 @@ module _ (t : ℕ) (c : lts.After-command-at (known t) (given t) own.Post) where
   room-at : Room depth text at size to
   room-at = c .before .before .before .pre .1
 
-  module _ (o : Command) (e : c .command-at .result ≡ o) where
+  module _ (o : Command) (e : c .operator-at .result ≡ o) where
     is : commandAt text at ≡ o
-    is = sym (c .command-at .ensures) ∙ e
+    is = sym (operator-is (room-at .spelled)) ∙ sym (c .operator-at .ensures) ∙ e
 
     some : 0 < depth
     some = positive o is room-at
@@ -104,8 +105,8 @@ module _ (t : ℕ) (c : lts.After-command-at (known t) (given t) own.Post) where
     rooms-at : Rooms (depth - 1) text (at + leadOf o .width) size to (leadOf o .arity) (length (leadOf o .last))
     rooms-at = rooms o is room-at
 
-command-at-requires : (t : ℕ) → lts.Need-command-at-requires (known t) (given t) own.Post
-command-at-requires t c κs = search needs
+operator-at-requires : (t : ℕ) → lts.Need-operator-at-requires (known t) (given t) own.Post
+operator-at-requires t c κs = search needs
 
 enum-known-command : (t : ℕ) → lts.Need-enum-known-command (known t) (given t) own.Post
 enum-known-command t c = search needs
@@ -237,12 +238,12 @@ returns-5 : (t : ℕ) → lts.Need-returns-5 (known t) (given t) own.Post
 returns-5 t c = emits-last _ (is t (c .before .before .before .before .before .before .before .before .before .before .before .before .before .before .before .before .before .before .before) _ (c .before .before .before .before .before .before .before .before .before .before .before .before .before .before .before .before .before .enum-told2 .given .1)) (emits-more (rw (c .before .before .before .before .before .before .before .before .before .before .before .before .before .before .before .before .in-expression4 .ensures) at (c .before .before .before .before .before .before .before .before .before .before .before .before .before .before .emit-expression4 .ensures)) (emits-more (c .before .before .before .before .before .before .before .before .before .before .emit-expression5 .ensures) (emits-more (c .before .before .before .before .before .before .emit-expression6 .ensures) emits-none))) (c .before .before .put-operator3 .ensures)
 
 returns-6 : (t : ℕ) → lts.Need-returns-6 (known t) (given t) own.Post
-returns-6 t c = absurd (no-operator (c .before .command-at .result) (c .match .keys6) (operator-stands _ (is t (c .before) _ refl) (room-at t (c .before))))
+returns-6 t c = absurd (no-operator (c .before .operator-at .result) (c .match .keys6) (operator-stands _ (is t (c .before) _ refl) (room-at t (c .before))))
 
 pub +emit-expression-spec : {M : Type 1} → statement M
 +emit-expression-spec =
     close μ (λ t. lts.spec (known t) (given t) own.Post
-    (command-at-requires t)
+    (operator-at-requires t)
     (enum-known-command t)
     (in-expression-requires t)
     (add-put-push t)

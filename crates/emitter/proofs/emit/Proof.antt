@@ -1,16 +1,15 @@
 -- `emitter::emit` meets its contract. Assumes nothing.
 use Prim.Native.Nat.{ℕ, _+_, _≤_}
 use mathlib.Core.List.{List, _++_}
-use mathlib.Core.Path.{_≡_, refl, ap, _∙_}
+use mathlib.Core.Path.{_≡_, refl, _∙_}
 use native.Mathlib.Omega.{arith}
-use lib.ListN.{length, getD}
+use lib.ListN.{length}
 use Rattle.model.specs.Image.{joined, offsets, records, listsAt}
 use Rattle.model.specs.Word.{twoBytes}
 use Rattle.emitter.specs.Codes.{signalsOf, codesFrom}
 use Rattle.emitter.specs.Lists.{listsBy, pairs}
 use Rattle.emitter.proofs.Left.{Left, starts, room, turn, done}
-use Rattle.emitter.proofs.Imaged.{codesBy, lengthBy, imageBy, head-first, both, last, declared, timed, count-is, lists-by, starts-by, length-by, image-size, image-written}
-use Rattle.emitter.proofs.Coded.{records-by}
+use Rattle.emitter.proofs.Imaged.{codesBy, lengthBy, imageBy, head-first, both, last, declared, timed, lists-by, codes-at, code-by, length-by, image-size, image-written}
 use borrow.Author.Needs.{needs}
 use Rattle.emitter.proofs.emit.Statement.{statement}
 use Rattle.emitter.proofs.emit.Tie as tie
@@ -43,12 +42,8 @@ module _ (s : tie.Start) where
   lists-at : s .args .layout .lists ≡ listsAt count (s .args .h)
   lists-at = s .pre .laid-out .lists-at ∙ lists-by (s .pre .ready .prepared) (s .args .h)
 
-  codes-at : records (signalsOf (s .args .text .now)) (s .args .layout .codes) ≡ recorded
-  codes-at =
-      let r = s .pre .ready .prepared in
-      let d = declared r in
-      records-by 0 _ _ _ (omega (arith, d .few, d .count-is, s .pre .laid-out .space))
-      (λ x lt. s .pre .laid-out .codes-at x (omega (arith, d .count-is, count-is r)) ∙ ap (λ (l : List ℕ). getD l x 0) (starts-by r (s .args .h)))
+  code-at : s .args .layout .code ≡ codesBy (s .args .h) count lists
+  code-at = s .pre .laid-out .code-at ∙ code-by (s .pre .ready .prepared) (s .args .h)
 
   ends : s .args .layout .end ≡ lengthBy (s .args .h) count lists codes
   ends = s .pre .laid-out .ends ∙ length-by (s .pre .ready .prepared) (s .args .h)
@@ -64,10 +59,10 @@ after-head c =
     turn (head-first (s .args .h) (count s) _ (lists s) (codes s)) starts (rw (ends s) at (c .put-head .ensures))
 
 after-records : (c : tie.After-emit-records) → let s = c .before .before .before .before .before .before .before .before .before .before .before .before in
-    Rest s (c .emit-records .last .1 .1 .1 .1 .0) (c .emit-records .result) (paired s ++ (joined (lists s) ++ joined (codes s)))
+    Rest s (c .emit-records .last .1 .1 .1 .1 .1 .0) (c .emit-records .result) (paired s ++ (joined (lists s) ++ joined (codes s)))
 after-records c =
     let s = c .before .before .before .before .before .before .before .before .before .before .before .before in
-    turn (both (recorded s) _) (after-head (c .before .before .before .before .before .before)) (rw (codes-at s) at (c .emit-records .ensures))
+    turn (both (recorded s) _) (after-head (c .before .before .before .before .before .before)) (rw (code-at s) at (c .emit-records .ensures))
 
 after-offsets : (c : tie.After-emit-offsets) → let s = c .before .before .before .before .before .before .before .before .before .before .before .before .before .before .before .before in
     Rest s (c .emit-offsets .last .1 .1 .1 .1 .1 .1 .0) (c .emit-offsets .result) (joined (lists s) ++ joined (codes s))
@@ -93,8 +88,9 @@ emit-records-requires c κs =
     let s = c .before .before .before .before .before .before .before .before .before .before .before in
     let l = after-head (c .before .before .before .before .before) in (
       declared (s .pre .ready .prepared),
-      omega (arith, declared (s .pre .ready .prepared) .few, s .pre .laid-out .space),
-      rw (codes-at s) (room (both (recorded s) _) l (space s)),
+      codes-at (s .pre .ready .prepared) (s .args .layout .code),
+      omega (arith, code-at s, ends s, s .pre .room, l .size),
+      rw (code-at s) (room (both (recorded s) _) l (space s)),
     )
 
 emit-offsets-requires : tie.Need-emit-offsets-requires

@@ -4,6 +4,11 @@ use mathlib.Core.Path.{_∙_}
 use borrow.Author.Needs.{needs}
 use Rattle.reader.proofs.chain_step.Statement.{statement}
 use Rattle.reader.proofs.chain_step.Tie as tie
+use Rattle.reader.proofs.chain_step.Reads as reads
+use Rattle.reader.proofs.chain_step.Lts as lts
+use Rattle.reader.proofs.adds.Reads as adds-reads
+use Rattle.reader.proofs.read_links.Reads as read-links-reads
+use Rattle.reader.proofs.refuse_step.Reads as refuse-step-reads
 
 in-program-requires : tie.Need-in-program-requires
 in-program-requires c κs = search needs
@@ -21,16 +26,19 @@ refuse-step-requires : tie.Need-refuse-step-requires
 refuse-step-requires c κs = search needs
 
 returns : tie.Need-returns
-returns c = c .refuse-step .ensures ∙ chain-short _ _ (rw (c .before .before .before .before .before .before .in-program .ensures) at (c .before .before .before .before .before .read-links .ensures)) (c .before .before .before .read .given .1) (c .before .if1 .taken)
+returns c = c .refuse-step .ensures ∙ chain-short _ _ _ _ (rw (c .before .before .before .before .before .before .in-program .ensures) at (c .before .before .before .before .before .read-links .ensures)) (c .before .before .before .read .given .1) (c .before .if1 .taken)
+
+adds-requires : tie.Need-adds-requires
+adds-requires c κs = search needs
 
 enum-known-read-2 : tie.Need-enum-known-read-2
 enum-known-read-2 c = search needs
 
 returns-2 : tie.Need-returns-2
-returns-2 c = chain-next _ _ (rw (c .before .before .before .before .before .in-program .ensures) at (c .before .before .before .before .read-links .ensures)) (c .before .before .read .given .1) (c .if1 .left)
+returns-2 c = c .adds .ensures ∙ chain-next _ _ _ _ (rw (c .before .before .before .before .before .before .in-program .ensures) at (c .before .before .before .before .before .read-links .ensures)) (c .before .before .before .read .given .1) (c .before .if1 .left)
 
 returns-3 : tie.Need-returns-3
-returns-3 c = chain-refused _ _ (rw (c .before .before .before .before .in-program .ensures) at (c .before .before .before .read-links .ensures)) (c .before .read2 .given .1)
+returns-3 c = chain-refused _ _ _ _ (rw (c .before .before .before .before .in-program .ensures) at (c .before .before .before .read-links .ensures)) (c .before .read2 .given .1)
 
 pub chain-step-spec : {M : Type 1} → statement M
 chain-step-spec =
@@ -42,6 +50,7 @@ chain-step-spec =
     enum-known-read
     refuse-step-requires
     returns
+    adds-requires
     enum-known-read-2
     returns-2
     returns-3)

@@ -19,20 +19,18 @@ use Rattle.reader.proofs.read_command.Tie as tie
 
 -- where a command may stand
 stands : (c : tie.After-enum-told) (p : Program) →
-    Counts p (c .before .before .before .before .args .signals) (c .before .before .before .before .args .chains)
-    (c .before .before .before .before .args .capped) →
-    commandHere (now (c .before .before .before .before .args .text)) (c .before .before .before .before .args .at) p
-    (keywordAt (now (c .before .before .before .before .args .text)) (c .before .before .before .before .args .at)) ≡
+    Counts p (c .before .before .before .before .before .args .signals) (c .before .before .before .before .before .args .chains) (c .before .before .before .before .before .args .capped) →
+    commandHere (now (c .before .before .before .before .before .args .text)) (c .before .before .before .before .before .args .at) p (keywordAt (now (c .before .before .before .before .before .args .text)) (c .before .before .before .before .before .args .at)) ≡
     accepted tt
 stands c p k = here-next _ _ _ (sym (c .enum-told .given .1) ∙ c .before .before .command-here .ensures p k)
 
 -- where it is known
 module _ (c : tie.After-command-at) where
   abbrev text : List ℕ
-  text = now (c .before .before .before .before .before .args .text)
+  text = now (c .before .before .before .before .before .before .args .text)
 
   abbrev at : ℕ
-  at = c .before .before .before .before .before .args .at
+  at = c .before .before .before .before .before .before .args .at
 
   is : (k : Command) → c .command-at .result ≡ k → commandAt text at ≡ k
   is k e = sym (c .command-at .ensures) ∙ e
@@ -47,7 +45,7 @@ enum-known-here : tie.Need-enum-known-here
 enum-known-here c = search needs
 
 returns : tie.Need-returns
-returns c = λ p k. step-stopped _ _ p (here-refused _ _ (sym (c .before .here .given .1) ∙ c .before .before .before .command-here .ensures p k))
+returns c = λ p k. step-stopped _ _ p _ _ _ (here-refused _ _ (sym (c .before .here .given .1) ∙ c .before .before .before .command-here .ensures p k))
 
 enum-told : tie.Need-enum-told
 enum-told c = search needs
@@ -79,122 +77,143 @@ enum-told-5 c = search needs
 end-step-requires : tie.Need-end-step-requires
 end-step-requires c κs = inside (c .before .before) _ (c .enum-told5 .given .1) (λ e. let z : _≡_ {A = ℕ} 0 1 = cc in omega arith)
 
-enum-told-6 : tie.Need-enum-told-6
-enum-told-6 c = search needs
+enum-known-command : tie.Need-enum-known-command
+enum-known-command c = search needs
 
 in-program-requires : tie.Need-in-program-requires
 in-program-requires c κs = search needs
 
-add-t14 : tie.Need-add-t14
-add-t14 c = omega (arith, inside (c .before .before .before) _ (c .before .enum-told6 .given .1) (λ e. let z : _≡_ {A = ℕ} 0 1 = cc in omega arith), c .before .before .before .before .before .before .before .before .good .0 .1)
+add-next : tie.Need-add-next
+add-next c = omega (arith, inside (c .before .before .before .before) _ (c .before .before .command .given .1) (λ e. let z : _≡_ {A = ℕ} 0 1 = cc in omega arith), c .before .before .before .before .before .before .before .before .before .before .pre .short, c .before .before .before .before .before .before .before .before .before .before .pre .small)
+
+in-code-requires : tie.Need-in-code-requires
+in-code-requires c κs = search needs
+
+in-code-requires-2 : tie.Need-in-code-requires-2
+in-code-requires-2 c κs = search needs
+
+add-end : tie.Need-add-end
+add-end c = search needs
+
+add-end-2 : tie.Need-add-end-2
+add-end-2 c = omega (arith, inside (c .before .before .before .before .before .before) _ (c .before .before .before .before .command .given .1) (λ e. let z : _≡_ {A = ℕ} 0 1 = cc in omega arith), c .before .before .before .before .before .before .before .before .before .before .before .before .pre .short, c .before .before .before .before .before .before .before .before .before .before .before .before .pre .small)
+
+adds-requires : tie.Need-adds-requires
+adds-requires c κs = search needs
+
+enum-known-command-2 : tie.Need-enum-known-command-2
+enum-known-command-2 c = search needs
+
+equation-step-requires : tie.Need-equation-step-requires
+equation-step-requires c κs = (inside (c .before .before .before .before) _ (c .before .before .command2 .given .1) (λ e. let z : _≡_ {A = ℕ} 0 1 = cc in omega arith), c .before .before .before .before .before .before .before .before .before .before .pre)
+
+enum-told-6 : tie.Need-enum-told-6
+enum-told-6 c = search needs
+
+chain-step-requires : tie.Need-chain-step-requires
+chain-step-requires c κs = inside (c .before .before) _ (c .enum-told6 .given .1) (λ e. let z : _≡_ {A = ℕ} 0 1 = cc in omega arith)
 
 enum-told-7 : tie.Need-enum-told-7
 enum-told-7 c = search needs
 
-equation-step-requires : tie.Need-equation-step-requires
-equation-step-requires c κs = inside (c .before .before) _ (c .enum-told7 .given .1) (λ e. let z : _≡_ {A = ℕ} 0 1 = cc in omega arith)
-
-enum-told-8 : tie.Need-enum-told-8
-enum-told-8 c = search needs
-
-chain-step-requires : tie.Need-chain-step-requires
-chain-step-requires c κs = inside (c .before .before) _ (c .enum-told8 .given .1) (λ e. let z : _≡_ {A = ℕ} 0 1 = cc in omega arith)
-
-enum-told-9 : tie.Need-enum-told-9
-enum-told-9 c = search needs
-
 refuse-step-requires-4 : tie.Need-refuse-step-requires-4
 refuse-step-requires-4 c κs = search needs
 
-enum-known-command : tie.Need-enum-known-command
-enum-known-command c = search needs
+enum-known-command-3 : tie.Need-enum-known-command-3
+enum-known-command-3 c = search needs
 
 in-program-requires-2 : tie.Need-in-program-requires-2
 in-program-requires-2 c κs = search needs
 
-add-t17 : tie.Need-add-t17
-add-t17 c = omega (arith, inside (c .before .before .before .before) _ (c .before .before .command .given .1) (λ e. let z : _≡_ {A = ℕ} 0 1 = cc in omega arith), c .before .before .before .before .before .before .before .before .before .good .0 .1)
+add-adds : tie.Need-add-adds
+add-adds c = omega (arith, inside (c .before .before .before .before) _ (c .before .before .command3 .given .1) (λ e. let z : _≡_ {A = ℕ} 0 1 = cc in omega arith), c .before .before .before .before .before .before .before .before .before .before .pre .short, c .before .before .before .before .before .before .before .before .before .before .pre .small)
 
-enum-told-10 : tie.Need-enum-told-10
-enum-told-10 c = search needs
+adds-requires-2 : tie.Need-adds-requires-2
+adds-requires-2 c κs = search needs
+
+enum-told-8 : tie.Need-enum-told-8
+enum-told-8 c = search needs
 
 refuse-step-requires-5 : tie.Need-refuse-step-requires-5
 refuse-step-requires-5 c κs = search needs
 
-enum-told-11 : tie.Need-enum-told-11
-enum-told-11 c = search needs
+enum-told-9 : tie.Need-enum-told-9
+enum-told-9 c = search needs
 
 refuse-step-requires-6 : tie.Need-refuse-step-requires-6
 refuse-step-requires-6 c κs = search needs
 
-enum-told-12 : tie.Need-enum-told-12
-enum-told-12 c = search needs
+enum-told-10 : tie.Need-enum-told-10
+enum-told-10 c = search needs
 
 refuse-step-requires-7 : tie.Need-refuse-step-requires-7
 refuse-step-requires-7 c κs = search needs
 
-enum-told-13 : tie.Need-enum-told-13
-enum-told-13 c = search needs
+enum-told-11 : tie.Need-enum-told-11
+enum-told-11 c = search needs
 
 refuse-step-requires-8 : tie.Need-refuse-step-requires-8
 refuse-step-requires-8 c κs = search needs
 
-enum-told-14 : tie.Need-enum-told-14
-enum-told-14 c = search needs
+enum-told-12 : tie.Need-enum-told-12
+enum-told-12 c = search needs
 
 refuse-step-requires-9 : tie.Need-refuse-step-requires-9
 refuse-step-requires-9 c κs = search needs
 
 returns-2 : tie.Need-returns-2
 unfolding declare
-returns-2 c = λ p k. subst (Stepped _ _ p) (sym (c .refuse-step .ensures)) (step-refused _ _ p (stands (c .before .before .before .before) p k) _ _ (is (c .before .before .before) _ (c .before .enum-told2 .given .1)) (λ next. refl))
+returns-2 c = λ p k. subst (Stepped _ _ p _ _ _ _) (sym (c .refuse-step .ensures)) (step-refused _ _ p _ _ _ (stands (c .before .before .before .before) p k) _ _ (is (c .before .before .before) _ (c .before .enum-told2 .given .1)) (λ next. refl))
 
 returns-3 : tie.Need-returns-3
 unfolding declare
-returns-3 c = λ p k. subst (Stepped _ _ p) (sym (c .refuse-step2 .ensures)) (step-refused _ _ p (stands (c .before .before .before .before) p k) _ _ (is (c .before .before .before) _ (c .before .enum-told3 .given .1)) (λ next. refl))
+returns-3 c = λ p k. subst (Stepped _ _ p _ _ _ _) (sym (c .refuse-step2 .ensures)) (step-refused _ _ p _ _ _ (stands (c .before .before .before .before) p k) _ _ (is (c .before .before .before) _ (c .before .enum-told3 .given .1)) (λ next. refl))
 
 returns-4 : tie.Need-returns-4
 unfolding declare
-returns-4 c = λ p k. subst (Stepped _ _ p) (sym (c .refuse-step3 .ensures)) (step-refused _ _ p (stands (c .before .before .before .before) p k) _ _ (is (c .before .before .before) _ (c .before .enum-told4 .given .1)) (λ next. refl))
+returns-4 c = λ p k. subst (Stepped _ _ p _ _ _ _) (sym (c .refuse-step3 .ensures)) (step-refused _ _ p _ _ _ (stands (c .before .before .before .before) p k) _ _ (is (c .before .before .before) _ (c .before .enum-told4 .given .1)) (λ next. refl))
 
 returns-5 : tie.Need-returns-5
-returns-5 c = λ p k. subst (Stepped _ _ p) (sym (c .end-step .ensures)) (step-end _ _ p (stands (c .before .before .before .before) p k) (is (c .before .before .before) _ (c .before .enum-told5 .given .1)))
+returns-5 c = λ p k. subst (Stepped _ _ p _ _ _ _) (sym (c .end-step .ensures)) (step-end _ _ p _ _ _ (stands (c .before .before .before .before) p k) (is (c .before .before .before) _ (c .before .enum-told5 .given .1)))
 
 returns-6 : tie.Need-returns-6
-returns-6 c = λ p k. rw (c .in-program .ensures) (step-input _ _ p (stands (c .before .before .before .before) p k) _ _ (is (c .before .before .before) _ (c .before .enum-told6 .given .1)))
+returns-6 c = λ p k. subst (Stepped _ _ p _ _ _ _) (sym (rw (c .before .before .before .in-program .ensures, c .before .before .in-code .ensures, c .before .in-code2 .ensures) at (c .adds .ensures))) (step-input _ _ p _ _ _ (stands (c .before .before .before .before .before .before .before .before) p k) _ _ (is (c .before .before .before .before .before .before .before) _ (c .before .before .before .before .before .command .given .1)))
+
+same-length : tie.Need-same-length
+same-length c = search needs
 
 returns-7 : tie.Need-returns-7
-returns-7 c = λ p k. subst (Stepped _ _ p) (sym (c .equation-step .ensures)) (step-equation _ _ p (stands (c .before .before .before .before) p k) _ _ _ (is (c .before .before .before) _ (c .before .enum-told7 .given .1)))
+returns-7 c = λ p k. step-equation _ _ p _ _ _ (stands (c .before .before .before .before .before .before .before .before) p k) _ _ _ (is (c .before .before .before .before .before .before .before) _ (c .before .before .before .before .before .command2 .given .1)) (c .before .before .equation-step .ensures)
 
 returns-8 : tie.Need-returns-8
-returns-8 c = λ p k. subst (Stepped _ _ p) (sym (c .chain-step .ensures)) (step-chain _ _ p (stands (c .before .before .before .before) p k) _ _ (is (c .before .before .before) _ (c .before .enum-told8 .given .1)))
+returns-8 c = λ p k. subst (Stepped _ _ p _ _ _ _) (sym (c .chain-step .ensures)) (step-chain _ _ p _ _ _ (stands (c .before .before .before .before) p k) _ _ (is (c .before .before .before) _ (c .before .enum-told6 .given .1)))
 
 returns-9 : tie.Need-returns-9
 unfolding declare
-returns-9 c = λ p k. subst (Stepped _ _ p) (sym (c .refuse-step4 .ensures)) (step-refused _ _ p (stands (c .before .before .before .before) p k) _ _ (is (c .before .before .before) _ (c .before .enum-told9 .given .1)) (λ next. refl))
+returns-9 c = λ p k. subst (Stepped _ _ p _ _ _ _) (sym (c .refuse-step4 .ensures)) (step-refused _ _ p _ _ _ (stands (c .before .before .before .before) p k) _ _ (is (c .before .before .before) _ (c .before .enum-told7 .given .1)) (λ next. refl))
 
 returns-10 : tie.Need-returns-10
-returns-10 c = λ p k. rw (c .in-program2 .ensures) (step-cap _ _ p (stands (c .before .before .before .before .before) p k) _ (is (c .before .before .before .before) _ (c .before .before .command .given .1)))
+returns-10 c = λ p k. subst (Stepped _ _ p _ _ _ _) (sym (rw (c .before .in-program2 .ensures) at (c .adds2 .ensures))) (step-cap _ _ p _ _ _ (stands (c .before .before .before .before .before .before) p k) _ (is (c .before .before .before .before .before) _ (c .before .before .before .command3 .given .1)))
 
 returns-11 : tie.Need-returns-11
 unfolding declare
-returns-11 c = λ p k. subst (Stepped _ _ p) (sym (c .refuse-step5 .ensures)) (step-refused _ _ p (stands (c .before .before .before .before) p k) _ _ (is (c .before .before .before) _ (c .before .enum-told10 .given .1)) (λ next. refl))
+returns-11 c = λ p k. subst (Stepped _ _ p _ _ _ _) (sym (c .refuse-step5 .ensures)) (step-refused _ _ p _ _ _ (stands (c .before .before .before .before) p k) _ _ (is (c .before .before .before) _ (c .before .enum-told8 .given .1)) (λ next. refl))
 
 returns-12 : tie.Need-returns-12
 unfolding declare
-returns-12 c = λ p k. subst (Stepped _ _ p) (sym (c .refuse-step6 .ensures)) (step-refused _ _ p (stands (c .before .before .before .before) p k) _ _ (is (c .before .before .before) _ (c .before .enum-told11 .given .1)) (λ next. refl))
+returns-12 c = λ p k. subst (Stepped _ _ p _ _ _ _) (sym (c .refuse-step6 .ensures)) (step-refused _ _ p _ _ _ (stands (c .before .before .before .before) p k) _ _ (is (c .before .before .before) _ (c .before .enum-told9 .given .1)) (λ next. refl))
 
 returns-13 : tie.Need-returns-13
 unfolding declare
-returns-13 c = λ p k. subst (Stepped _ _ p) (sym (c .refuse-step7 .ensures)) (step-refused _ _ p (stands (c .before .before .before .before) p k) _ _ (is (c .before .before .before) _ (c .before .enum-told12 .given .1)) (λ next. refl))
+returns-13 c = λ p k. subst (Stepped _ _ p _ _ _ _) (sym (c .refuse-step7 .ensures)) (step-refused _ _ p _ _ _ (stands (c .before .before .before .before) p k) _ _ (is (c .before .before .before) _ (c .before .enum-told10 .given .1)) (λ next. refl))
 
 returns-14 : tie.Need-returns-14
 unfolding declare
-returns-14 c = λ p k. subst (Stepped _ _ p) (sym (c .refuse-step8 .ensures)) (step-refused _ _ p (stands (c .before .before .before .before) p k) _ _ (is (c .before .before .before) _ (c .before .enum-told13 .given .1)) (λ next. refl))
+returns-14 c = λ p k. subst (Stepped _ _ p _ _ _ _) (sym (c .refuse-step8 .ensures)) (step-refused _ _ p _ _ _ (stands (c .before .before .before .before) p k) _ _ (is (c .before .before .before) _ (c .before .enum-told11 .given .1)) (λ next. refl))
 
 returns-15 : tie.Need-returns-15
 unfolding declare
-returns-15 c = λ p k. subst (Stepped _ _ p) (sym (c .refuse-step9 .ensures)) (step-refused _ _ p (stands (c .before .before .before .before) p k) _ _ (is (c .before .before .before) _ (c .before .enum-told14 .given .1)) (λ next. refl))
+returns-15 c = λ p k. subst (Stepped _ _ p _ _ _ _) (sym (c .refuse-step9 .ensures)) (step-refused _ _ p _ _ _ (stands (c .before .before .before .before) p k) _ _ (is (c .before .before .before) _ (c .before .enum-told12 .given .1)) (λ next. refl))
 
 pub read-command-spec : {M : Type 1} → statement M
 read-command-spec =
@@ -213,33 +232,40 @@ read-command-spec =
     refuse-step-requires-3
     enum-told-5
     end-step-requires
-    enum-told-6
-    in-program-requires
-    add-t14
-    enum-told-7
-    equation-step-requires
-    enum-told-8
-    chain-step-requires
-    enum-told-9
-    refuse-step-requires-4
     enum-known-command
+    in-program-requires
+    add-next
+    in-code-requires
+    in-code-requires-2
+    add-end
+    add-end-2
+    adds-requires
+    enum-known-command-2
+    equation-step-requires
+    enum-told-6
+    chain-step-requires
+    enum-told-7
+    refuse-step-requires-4
+    enum-known-command-3
     in-program-requires-2
-    add-t17
-    enum-told-10
+    add-adds
+    adds-requires-2
+    enum-told-8
     refuse-step-requires-5
-    enum-told-11
+    enum-told-9
     refuse-step-requires-6
-    enum-told-12
+    enum-told-10
     refuse-step-requires-7
-    enum-told-13
+    enum-told-11
     refuse-step-requires-8
-    enum-told-14
+    enum-told-12
     refuse-step-requires-9
     returns-2
     returns-3
     returns-4
     returns-5
     returns-6
+    same-length
     returns-7
     returns-8
     returns-9

@@ -21,15 +21,15 @@ abbrev rest : Program → Schedule → ℕ → ℕ → Outcome (Unit {0})
 rest p s h j = restFrom p 16 (keeps p s h) j
 
 abbrev Inv-loop : tie.InvT-loop
-Inv-loop text tables periods phases h starts chain₀ chain =
+Inv-loop text reads tables periods phases h starts chain₀ chain =
     (p : Program) (s : Schedule) → Timed text tables periods phases h p s → timely p s h ≡ rest p s h chain
 
 abbrev μ-loop : tie.MeasureT-loop
-μ-loop text tables periods phases h starts chain₀ chain = tables .chains - chain
+μ-loop text reads tables periods phases h starts chain₀ chain = tables .chains - chain
 
 few : (c : tie.Then1 Inv-loop μ-loop) → c .before .before .loop .chain < 16
 few c =
-    let k = c .before .before .before .before .before .pre .2 .joined .known in
+    let k = c .before .before .before .before .before .before .pre .0 .2 .joined .known in
     omega (arith, c .if1 .taken, few-chains _ _ (_, k .parsed, k .tables-are))
 
 loop-holds : tie.Need-loop-holds Inv-loop μ-loop
@@ -37,13 +37,15 @@ unfolding timely
 loop-holds c = λ p s t. rest-start p 16 (keeps p s _)
 
 keeps-time-requires : tie.Need-keeps-time-requires Inv-loop μ-loop
-keeps-time-requires c κs = (c .before .before .before .before .before .pre, c .if1 .taken)
+keeps-time-requires c κs =
+    let a = c .before .before .before .before .before .before in
+    (a .pre .0, c .if1 .taken, a .pre .1)
 
-mul-t10 : tie.Need-mul-t10 Inv-loop μ-loop
-mul-t10 c = omega (arith, few (c .before .before))
+mul-t11 : tie.Need-mul-t11 Inv-loop μ-loop
+mul-t11 c = omega (arith, few (c .before .before))
 
-array-read-t13 : tie.Need-array-read-t13 Inv-loop μ-loop
-array-read-t13 c = few (c .before .before)
+array-read-t14 : tie.Need-array-read-t14 Inv-loop μ-loop
+array-read-t14 c = few (c .before .before)
 
 returns : tie.Need-returns Inv-loop μ-loop
 unfolding judgementOf
@@ -86,8 +88,8 @@ check-latency-spec =
     μ-loop
     loop-holds
     keeps-time-requires
-    mul-t10
-    array-read-t13
+    mul-t11
+    array-read-t14
     returns
     add-chain
     loop-less

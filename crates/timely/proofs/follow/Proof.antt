@@ -16,30 +16,30 @@ use Rattle.timely.proofs.follow.Statement.{statement}
 use Rattle.timely.proofs.follow.Tie as tie
 
 abbrev Inv-loop : tie.InvT-loop
-Inv-loop text tables periods phases chain at₀ left₀ source last₀ count₀ hops₀ at left last count hops =
+Inv-loop text reads tables periods phases chain at₀ left₀ source last₀ count₀ hops₀ at left last count hops =
     (p : Program) (s : Schedule) → Joined text tables periods phases p s →
     Following text p s (backwards (chainAt p chain)) source at left last count hops
 
 abbrev μ-loop : tie.MeasureT-loop
-μ-loop text tables periods phases chain at₀ left₀ source last₀ count₀ hops₀ at left last count hops = left
+μ-loop text reads tables periods phases chain at₀ left₀ source last₀ count₀ hops₀ at left last count hops = left
 
 -- the first link lies within the text
-begins : (c : tie.After-lengths Inv-loop μ-loop) → Begun (now (c .before .before .before .args .text)) (c .before .before .before .args .tables) (c .before .before .before .pre .0 .0) (c .before .before .before .pre .0 .1) (c .before .before .before .args .chain)
+begins : (c : tie.After-lengths Inv-loop μ-loop) → Begun (now (c .before .before .before .before .args .text)) (c .before .before .before .before .args .tables) (c .before .before .before .before .pre .0 .0) (c .before .before .before .before .pre .0 .1) (c .before .before .before .before .args .chain)
 begins c =
-    let s = c .before .before .before in
+    let s = c .before .before .before .before in
     begun _ _ _ _ _ _ _ (s .pre .0 .2) (s .pre .1)
 
-few : (c : tie.After-lengths Inv-loop μ-loop) → c .before .before .before .args .chain < 16
+few : (c : tie.After-lengths Inv-loop μ-loop) → c .before .before .before .before .args .chain < 16
 few c =
-    let s = c .before .before .before in
+    let s = c .before .before .before .before in
     omega (arith, s .pre .1, few-chains _ _ (s .pre .0 .0, s .pre .0 .2 .known .parsed, s .pre .0 .2 .known .tables-are))
 
 -- and so do the two at hand
 next : (c : tie.In-loop Inv-loop μ-loop) →
-    (c .before .loop .at + 4 ≤ length (now (c .before .before .before .before .before .before .before .before .args .text))) ×
+    (c .before .loop .at + 4 ≤ length (now (c .before .before .before .before .before .before .before .before .before .args .text))) ×
     (c .before .loop .count < 15)
 next c =
-    let s = c .before .before .before .before .before .before .before .before in
+    let s = c .before .before .before .before .before .before .before .before .before in
     let n = next-link _ _ _ _ _ _ _ _ _ _ (c .before .loop .inv (s .pre .0 .0) (s .pre .0 .1) (s .pre .0 .2)) (c .loop-test .taken) in
     (n .inside, n .room)
 
@@ -72,7 +72,7 @@ no-hop-requires c κs = search needs
 
 loop-holds : tie.Need-loop-holds Inv-loop μ-loop
 loop-holds c =
-    let s = c .before .before .before .before .before .before in
+    let s = c .before .before .before .before .before .before .before in
     λ p s₀ j. rw (c .before .before .in-program .ensures) (begun _ _ _ _ p s₀ _ j (s .pre .1) .start _ refl)
 
 in-program-requires-2 : tie.Need-in-program-requires-2 Inv-loop μ-loop

@@ -1,31 +1,48 @@
 -- `timely::hop_at` meets its contract. Assumes nothing.
+use Prim.Native.Nat.{ℕ}
 use mathlib.Core.Path.{_≡_, sym, ap, _∙_}
 use native.Mathlib.Omega.{arith}
+use borrow.Author.Needs.{needs}
+use borrow.Author.Tests.{eqb-false}
+use Rattle.commands.specs.declared.Taken.{Taken}
 use Rattle.model.specs.Latency.{readOf}
 use Rattle.model.specs.Program.{Read, signalAt, bodyReads}
+use Rattle.model.specs.Rates.{countReads}
 use Rattle.model.specs.Reads.{rateOf, indexOf, settled}
+use Rattle.rates.proofs.Counting.{found-none, one-spelled, one-stands}
+use Rattle.rates.proofs.Judging.{indexed, few-signals}
 use Rattle.reads.specs.Reads.{rateIn}
-use Rattle.path.specs.Path.{takenOf}
-use Rattle.path.specs.declared.Taken.{Taken}
-use Rattle.timely.proofs.Laws.{few, rate-at, read-signal}
-use borrow.Author.Needs.{needs}
+use Rattle.timely.proofs.Laws.{rate-at, read-signal}
 use Rattle.timely.proofs.hop_at.Statement.{statement}
 use Rattle.timely.proofs.hop_at.Tie as tie
+
+one-read-requires : tie.Need-one-read-requires
+one-read-requires c κs =
+    let s = c .before .before .before .before in
+    (few-signals _ _ _ (s .pre), indexed _ _ _ (s .pre))
+
+enum-known-found : tie.Need-enum-known-found
+enum-known-found c = search needs
+
+enum-told : tie.Need-enum-told
+enum-told c = search needs
 
 no-hop-requires : tie.Need-no-hop-requires
 no-hop-requires c κs = search needs
 
 returns : tie.Need-returns
-returns c = λ p s k lw lr n. absurd (omega (arith, few k, c .before .if1 .taken))
+returns c =
+    let a = c .before .before .before .before .before .before .before .before .args in
+    λ p s k lw lr n.
+    let f = c .before .before .before .one-read .ensures p (k .parsed) in
+    let z = found-none _ _ (sym f ∙ c .before .enum-told .given .1) in
+    absurd (eqb-false (countReads (a .w) (bodyReads (signalAt p (a .r) .body))) 1 z n)
 
-mul-find-read : tie.Need-mul-find-read
-mul-find-read c = search needs
-
-array-read-find-read : tie.Need-array-read-find-read
-array-read-find-read c = search needs
-
-find-read-requires : tie.Need-find-read-requires
-find-read-requires c κs = search needs
+taken-at-requires : tie.Need-taken-at-requires
+taken-at-requires c κs =
+    let s = c .before .before .before .before .before .before .before .before in
+    let f = c .before .before .before .one-read .ensures (s .pre .0) (s .pre .1) in
+    one-stands _ _ (s .pre .1) _ _ _ (sym f ∙ c .before .found .given .1)
 
 timing-at-requires : tie.Need-timing-at-requires
 timing-at-requires c κs = search needs
@@ -39,13 +56,15 @@ settled-index-requires c κs = search needs
 returns-2 : tie.Need-returns-2
 unfolding settled
 returns-2 c =
-    let a = c .before .before .before .before .before .before .before .before .args in
-    let f = c .before .before .before .before .find-read in
+    let a = c .before .before .before .before .before .before .before .before .before .before .before .before .before .args in
+    let t = c .before .before .before .before .taken-at in
     let read = c .before .before .before .timing-at in
     let reader = c .before .before .timing-at2 in
     λ p s k lw lr n.
+    let f = c .before .before .before .before .before .before .before .before .one-read .ensures p (k .parsed) in
     let ρ : Read = readOf (a .w) (bodyReads (signalAt p (a .r) .body)) in
-    let taken : _≡_ {A = Taken} (f .result) (takenOf ρ) = f .ensures p (a .r) (k .parsed) lr (k .tables-are .places (a .r) lr) in
+    let taken : _≡_ {A = Taken} (t .result) (record { kind = ρ .kind; operands = ρ .operands }) =
+    t .ensures .is (ρ .kind) (ρ .operands) (one-spelled _ p (k .parsed) _ _ _ (sym f ∙ c .before .before .before .before .before .before .found .given .1)) in
     let w : rateIn (read .result) ≡ rateOf p s (ρ .operands .signal) =
     ap rateIn (read .ensures) ∙ rate-at k (a .w) lw ∙ ap (rateOf p s) (sym (read-signal (a .w) (bodyReads (signalAt p (a .r) .body)) (omega (arith, n)))) in
     let r : rateIn (reader .result) ≡ rateOf p s (a .r) = ap rateIn (reader .ensures) ∙ rate-at k (a .r) lr in
@@ -57,11 +76,12 @@ pub hop-at-spec : {M : Type 1} → statement M
 hop-at-spec =
     tie.close
     (tie.spec
+    one-read-requires
+    enum-known-found
+    enum-told
     no-hop-requires
     returns
-    mul-find-read
-    array-read-find-read
-    find-read-requires
+    taken-at-requires
     timing-at-requires
     timing-at-requires-2
     settled-index-requires

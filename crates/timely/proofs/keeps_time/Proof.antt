@@ -17,9 +17,9 @@ use borrow.Author.Needs.{needs}
 use Rattle.timely.proofs.keeps_time.Statement.{statement}
 use Rattle.timely.proofs.keeps_time.Tie as tie
 
-few : (c : tie.After-starts) → c .before .before .args .chain < 16
+few : (c : tie.After-starts) → c .before .before .before .args .chain < 16
 few c =
-    let a = c .before .before in
+    let a = c .before .before .before in
     let k = a .pre .0 .2 .joined .known in
     omega (arith, a .pre .1, few-chains _ _ (_, k .parsed, k .tables-are))
 
@@ -37,7 +37,7 @@ enum-known-command c = search needs
 
 returns : tie.Need-returns
 returns c =
-    let b = c .before .before .before .before in
+    let b = c .before .before .before .before .before in
     λ p s t. absurd (missed _ (c .before .command-at .ensures ∙ chain-command _ _ _ _ _ p s _ t (b .pre .1)) (c .match .keys2))
 
 follow-requires : tie.Need-follow-requires
@@ -59,7 +59,7 @@ window-of-requires : tie.Need-window-of-requires
 window-of-requires c κs =
     let b = c .before .before .before in
     let i = b .before .before .follow in
-    let a = b .before .before .before .before .before .before .before .before .before in
+    let a = b .before .before .before .before .before .before .before .before .before .before in
     let t = a .pre .0 .2 in
     let d = decided _ _ _ _ _ _ _ _ _ t (a .pre .1) (i .ensures _ _ (t .joined)) in
     (t .hyper, rw (b .timing-at .ensures) (d .positive))
@@ -67,7 +67,7 @@ window-of-requires c κs =
 first-run-requires : tie.Need-first-run-requires
 first-run-requires c κs =
     let i = c .before .before .before .before .before .before .follow in
-    let a = c .before .before .before .before .before .before .before .before .before .before .before .before .before in
+    let a = c .before .before .before .before .before .before .before .before .before .before .before .before .before .before in
     let t = a .pre .0 .2 in
     (decided _ _ _ _ _ _ _ _ _ t (a .pre .1) (i .ensures _ _ (t .joined)) .few, c .window-of .ensures .1)
 
@@ -79,7 +79,7 @@ is-timely-requires c κs =
     let g = c .before .window-of in
     let b = c .before .before .before .before .before in
     let i = b .before .before .follow in
-    let a = b .before .before .before .before .before .before .before .before .before in
+    let a = b .before .before .before .before .before .before .before .before .before .before in
     let t = a .pre .0 .2 in
     let d = decided _ _ _ _ _ _ _ _ _ t (a .pre .1) (i .ensures _ _ (t .joined)) in
     let w : g .result ≡ windowBy (a .args .h) (periodAt (now (a .args .periods)) (i .result .last)) =
@@ -96,7 +96,7 @@ returns-2 c =
     let b = e .before .before in
     let i = b .before .before .follow in
     let m = b .before .before .before in
-    let a = m .before .before .before .before .before .before in
+    let a = m .before .before .before .before .before .before .before in
     λ p s t.
     let d = decided _ _ _ _ _ p s _ _ t (a .pre .1) (i .ensures p s (t .joined)) in
     let found = m .before .before .before .command-at in

@@ -1,2 +1,0 @@
--- What the tables of signals and of a schedule say.
-pub mod Signals

@@ -1,2 +1,0 @@
--- What the reads of a path stand on.
-pub mod Path
