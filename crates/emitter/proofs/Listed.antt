@@ -6,9 +6,10 @@ use mathlib.Core.Path.{_≡_, refl, sym, ap, ap₂, _∙_}
 use native.Mathlib.Numerals.{add-one}
 use native.Mathlib.Omega.{arith}
 use lib.ListN.{length, getD}
+use Rattle.model.specs.Reads.{due}
 use Rattle.model.specs.Search.{table, tableFrom, chosen}
 use Rattle.emitter.proofs.Left.{Parts}
-use Rattle.emitter.specs.Lists.{isDue, runOf, listBy}
+use Rattle.emitter.specs.Lists.{rateAt, isDue, runOf, listBy}
 
 chosen-step : (test : ℕ → Bool) (x : ℕ) (xs : List ℕ) → chosen test (x ∷ xs) ≡ runOf (test x) x ++ chosen test xs
 unfolding chosen
@@ -18,9 +19,14 @@ chosen-step test x xs = go (test x)
     go true = refl
     go false = refl
 
-pub one-most : (b : Bool) (x : ℕ) → length (runOf b x) ≤ 1
-one-most true x = omega arith
-one-most false x = omega arith
+-- A run is one entry.
+one-entry : (b : Bool) (x : ℕ) → length (runOf b x) ≡ cond b 1 0
+one-entry true x = refl
+one-entry false x = refl
+
+pub run-size : (periods phases : List ℕ) (c x : ℕ) → length (runOf (isDue periods phases c x) x) ≡ cond (due (rateAt periods phases x) c) 1 0
+unfolding due
+run-size periods phases c x = one-entry (isDue periods phases c x) x
 
 -- Tables of functions that agree.
 same-from : {A : Type 0} (f g : ℕ → A) → ((c : ℕ) → f c ≡ g c) → (i n : ℕ) → tableFrom i n f ≡ tableFrom i n g

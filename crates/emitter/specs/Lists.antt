@@ -3,7 +3,8 @@ use Prim.Native.Nat.{ℕ, zero, _%_, _≤_, _<_}
 use mathlib.Core.Bool.{Bool, cond}
 use mathlib.Core.List.{List, [], _∷_}
 use lib.Dec.{eqb}
-use lib.ListN.{getD}
+use mathlib.Core.Path.{_≡_}
+use lib.ListN.{length, getD}
 use Rattle.model.specs.Reads.{Rate}
 use Rattle.model.specs.Search.{table, chosen, joinFrom}
 use Rattle.model.specs.Word.{twoBytes}
@@ -39,3 +40,7 @@ pub record Timed (periods order : List ℕ) (n : ℕ) : Type 0 where
 -- Their phases are below their periods.
 abbrev pub Phased : List ℕ → List ℕ → List ℕ → ℕ → Type 0
 Phased periods order phases n = (j : ℕ) → j < n → getD phases (getD order j 0) 0 < getD periods (getD order j 0) 0
+
+-- A table has the length of each run list.
+pub record RunsCounted (periods order phases : List ℕ) (n h : ℕ) (counts : List ℕ) : Type 0 where
+  pub counted : (c : ℕ) → c < h → getD counts c 0 ≡ length (listBy periods order phases n c)

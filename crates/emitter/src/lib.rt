@@ -11,7 +11,7 @@ ghost use Rattle.model.specs.Schedule.{Schedule};
 ghost use Rattle.model.specs.Width.{inProgram};
 ghost use Rattle.model.specs.Word.{twoBytes, wordAt, wordBytes};
 ghost use Rattle.emitter.specs.Codes.{signalsOf, codesFrom, Declared, CodesAt};
-ghost use Rattle.emitter.specs.Lists.{rateAt, isDue, runOf, listBy, listsBy, pairs, Timed, Phased};
+ghost use Rattle.emitter.specs.Lists.{rateAt, isDue, runOf, listBy, listsBy, pairs, Timed, Phased, RunsCounted};
 ghost use Rattle.reader.specs.Prepared.{Prepared};
 ghost use Rattle.emitter.specs.Prepared.{LaidOut, Tabled, Fits};
 ghost use Rattle.emitter.specs.Writing.{Wrote};
@@ -25,6 +25,12 @@ fn wide(byte: u8) -> usize
 // An entry of a table as a number.
 fn wider(x: u16) -> usize
     ensures { λ r. ⌜ (r ≡ x) × (r < 65536) ⌝ }
+{
+    x as usize
+}
+
+fn widest(x: u32) -> usize
+    ensures { λ r. ⌜ r ≡ x ⌝ }
 {
     x as usize
 }
@@ -47,13 +53,6 @@ fn is_due(periods: &[u8; 64], phases: &[u8; 64], x: u8, c: usize) -> bool
     c % period == phase
 }
 
-// The bytes of a run in a list: one where the signal is due.
-fn run_length(due: bool) -> usize
-    ensures { λ r. ⌜ ((x : ℕ) → r ≡ length (runOf due x)) ⌝ }
-{
-    if due { 1 } else { 0 }
-}
-
 // Writes a run of signal x where it is due. Says where the list goes on.
 fn put_run(due: bool, x: u8, out: &mut [u8], to: usize) -> usize
     requires { ⌜ to + length (runOf due x) ≤ length (now out) ⌝ }
@@ -66,20 +65,25 @@ fn put_run(due: bool, x: u8, out: &mut [u8], to: usize) -> usize
     to
 }
 
-// The length of the run list of cycle c: a step for each of the n signals.
-fn list_length(periods: &[u8; 64], order: &[u8; 64], phases: &[u8; 64], n: usize, c: usize) -> usize
-    requires { ⌜ Timed (now periods) (now order) n ⌝ }
-    ensures { λ r. ⌜ r ≡ length (listBy (now (periods .entry)) (now (order .entry)) (now (phases .entry)) n c) ⌝ }
+// How many signals run in each of h cycles: a step for each run of each signal.
+fn count_runs(
+    periods: &[u8; 64],
+    order: &[u8; 64],
+    phases: &[u8; 64],
+    n: usize,
+    h: usize,
+) -> [u32; 240]
+    requires { ⌜ Timed (now periods) (now order) n × Phased (now periods) (now order) (now phases) n × (h ≤ 240) ⌝ }
+    ensures { λ r. ⌜ RunsCounted (now (periods .entry)) (now (order .entry)) (now (phases .entry)) n h r ⌝ }
 {
-    let mut total: usize = 0;
+    let mut counts: [u32; 240] = [0; 240];
     let mut i: usize = 0;
     while i < n {
-        let due = is_due(periods, phases, order[i], c);
-        let run = run_length(due);
-        total = total + run;
+        let x = wide(order[i]);
+        load::add_runs(&mut counts, periods[x], phases[x], 1, h);
         i = i + 1;
     }
-    total
+    counts
 }
 
 // Writes the run list of cycle c, in PUT order.
@@ -180,15 +184,16 @@ fn emit_offsets(
     out: &mut [u8],
     to: usize,
 ) -> usize
-    requires { ⌜ Timed (now periods) (now order) n × (start + length (joined (listsBy (now periods) (now order) (now phases) n h)) ≤ length (now out)) × (to + length (pairs (offsets start (listsBy (now periods) (now order) (now phases) n h))) ≤ length (now out)) ⌝ }
+    requires { ⌜ (Timed (now periods) (now order) n × Phased (now periods) (now order) (now phases) n × (h ≤ 240)) × (start + length (joined (listsBy (now periods) (now order) (now phases) n h)) ≤ length (now out)) × (to + length (pairs (offsets start (listsBy (now periods) (now order) (now phases) n h))) ≤ length (now out)) ⌝ }
     ensures { λ r. ⌜ Wrote (now (out .entry)) to (pairs (offsets start (listsBy (now (periods .entry)) (now (order .entry)) (now (phases .entry)) n h))) (now (out .exit)) r ⌝ }
 {
+    let counts = count_runs(periods, order, phases, n, h);
     let mut offset = start;
     let mut end = to;
     let mut c: usize = 0;
     while c < h {
         end = put_offset(out, end, offset);
-        let runs = list_length(periods, order, phases, n, c);
+        let runs = widest(counts[c]);
         offset = offset + runs;
         c = c + 1;
     }
