@@ -105,7 +105,7 @@ emit-offsets-requires c κs =
 emit-lists-requires : tie.Need-emit-lists-requires
 emit-lists-requires c κs =
     let s = c .before .before .before .before .before .before .before .before .before .before .before .before .before .before .before .before .before .before .before in
-    (timed (s .pre .ready .prepared), room (both (joined (lists s)) _) (after-offsets (c .before .before .before)) (space s))
+    ((timed (s .pre .ready .prepared), phased (s .pre .ready .prepared), s .pre .ready .hyper), room (both (joined (lists s)) _) (after-offsets (c .before .before .before)) (space s))
 
 emit-codes-requires : tie.Need-emit-codes-requires
 emit-codes-requires c κs =
