@@ -1,5 +1,6 @@
 // The image of an accepted pair: its layout, and its parts one after another.
 use reader::Tables;
+ghost use mathlib.Core.Bool.{cond};
 ghost use mathlib.Core.Path.{_≡_};
 ghost use mathlib.Core.List.{List, _∷_, _++_};
 ghost use Prim.Native.Nat.{ℕ, _+_, _≤_, _<_};
@@ -11,7 +12,7 @@ ghost use Rattle.model.specs.Schedule.{Schedule};
 ghost use Rattle.model.specs.Width.{inProgram};
 ghost use Rattle.model.specs.Word.{twoBytes, wordAt, wordBytes};
 ghost use Rattle.emitter.specs.Codes.{signalsOf, codesFrom, Declared, CodesAt};
-ghost use Rattle.emitter.specs.Lists.{rateAt, isDue, runOf, listBy, listsBy, pairs, Timed, Phased};
+ghost use Rattle.emitter.specs.Lists.{rateAt, runOf, listBy, listsBy, pairs, Timed, Phased, RunsCounted, Runs};
 ghost use Rattle.reader.specs.Prepared.{Prepared};
 ghost use Rattle.emitter.specs.Prepared.{LaidOut, Tabled, Fits};
 ghost use Rattle.emitter.specs.Writing.{Wrote};
@@ -22,9 +23,21 @@ fn wide(byte: u8) -> usize
     byte as usize
 }
 
+fn lengthened(byte: u8) -> u16
+    ensures { λ r. ⌜ r ≡ byte ⌝ }
+{
+    byte as u16
+}
+
 // An entry of a table as a number.
 fn wider(x: u16) -> usize
     ensures { λ r. ⌜ (r ≡ x) × (r < 65536) ⌝ }
+{
+    x as usize
+}
+
+fn widest(x: u32) -> usize
+    ensures { λ r. ⌜ r ≡ x ⌝ }
 {
     x as usize
 }
@@ -34,24 +47,6 @@ fn narrow(x: usize) -> u8
     ensures { λ r. ⌜ r ≡ x ⌝ }
 {
     x as u8
-}
-
-// Whether signal x runs in cycle c.
-fn is_due(periods: &[u8; 64], phases: &[u8; 64], x: u8, c: usize) -> bool
-    requires { ⌜ (x < 64) × (0 < getD (now periods) x 0) ⌝ }
-    ensures { λ r. ⌜ r ≡ isDue (now (periods .entry)) (now (phases .entry)) c x ⌝ }
-{
-    let signal = wide(x);
-    let period = wide(periods[signal]);
-    let phase = wide(phases[signal]);
-    c % period == phase
-}
-
-// The bytes of a run in a list: one where the signal is due.
-fn run_length(due: bool) -> usize
-    ensures { λ r. ⌜ ((x : ℕ) → r ≡ length (runOf due x)) ⌝ }
-{
-    if due { 1 } else { 0 }
 }
 
 // Writes a run of signal x where it is due. Says where the list goes on.
@@ -66,41 +61,75 @@ fn put_run(due: bool, x: u8, out: &mut [u8], to: usize) -> usize
     to
 }
 
-// The length of the run list of cycle c: a step for each of the n signals.
-fn list_length(periods: &[u8; 64], order: &[u8; 64], phases: &[u8; 64], n: usize, c: usize) -> usize
-    requires { ⌜ Timed (now periods) (now order) n ⌝ }
-    ensures { λ r. ⌜ r ≡ length (listBy (now (periods .entry)) (now (order .entry)) (now (phases .entry)) n c) ⌝ }
-{
-    let mut total: usize = 0;
-    let mut i: usize = 0;
-    while i < n {
-        let due = is_due(periods, phases, order[i], c);
-        let run = run_length(due);
-        total = total + run;
-        i = i + 1;
-    }
-    total
-}
-
-// Writes the run list of cycle c, in PUT order.
-fn emit_list(
+// How many signals run in each of h cycles: a step for each run of each signal.
+fn count_runs(
     periods: &[u8; 64],
     order: &[u8; 64],
     phases: &[u8; 64],
+    n: usize,
+    h: usize,
+) -> [u32; 240]
+    requires { ⌜ Timed (now periods) (now order) n × Phased (now periods) (now order) (now phases) n × (h ≤ 240) ⌝ }
+    ensures { λ r. ⌜ RunsCounted (now (periods .entry)) (now (order .entry)) (now (phases .entry)) n h r ⌝ }
+{
+    let mut counts: [u32; 240] = [0; 240];
+    let mut i: usize = 0;
+    while i < n {
+        let x = wide(order[i]);
+        load::add_runs(&mut counts, periods[x], phases[x], 1, h);
+        i = i + 1;
+    }
+    counts
+}
+
+// The cycle of the first run of each signal, in PUT order.
+fn first_runs(order: &[u8; 64], phases: &[u8; 64], n: usize) -> [u16; 64]
+    requires { ⌜ (n ≤ 64) × ((j : ℕ) → j < n → getD (now order) j 0 < 64) ⌝ }
+    ensures { λ r. ⌜ ((j : ℕ) → j < n → getD r j 0 ≡ getD (now (phases .entry)) (getD (now (order .entry)) j 0) 0) ⌝ }
+{
+    let mut nexts: [u16; 64] = [0; 64];
+    let mut i: usize = 0;
+    while i < n {
+        let x = wide(order[i]);
+        nexts[i] = lengthened(phases[x]);
+        i = i + 1;
+    }
+    nexts
+}
+
+// The cycle of the next run of a signal after cycle c: a period later where it runs in c.
+fn run_after(due: bool, next: u16, period: u8) -> u16
+    requires { ⌜ next < 240 + period ⌝ }
+    ensures { λ r. ⌜ r ≡ next + cond due period 0 ⌝ }
+{
+    if due {
+        return next + (period as u16);
+    }
+    next
+}
+
+// Writes the run list of cycle c, in PUT order; `nexts` has the next run of each signal from c on, and then from c + 1 on.
+fn emit_list(
+    periods: &[u8; 64],
+    order: &[u8; 64],
+    nexts: &mut [u16; 64],
     n: usize,
     c: usize,
     out: &mut [u8],
     to: usize,
 ) -> usize
-    requires { ⌜ Timed (now periods) (now order) n × (to + length (listBy (now periods) (now order) (now phases) n c) ≤ length (now out)) ⌝ }
-    ensures { λ r. ⌜ Wrote (now (out .entry)) to (listBy (now (periods .entry)) (now (order .entry)) (now (phases .entry)) n c) (now (out .exit)) r ⌝ }
+    requires { ⌜ (length (now nexts) ≡ 64) × (c < 240) × ((phases : List ℕ) × Runs (now periods) (now order) phases n c (now nexts) × (to + length (listBy (now periods) (now order) phases n c) ≤ length (now out))) ⌝ }
+    ensures { λ r. ⌜ (length (now (nexts .exit)) ≡ 64) × ((phases : List ℕ) → Runs (now (periods .entry)) (now (order .entry)) phases n c (now (nexts .entry)) → Runs (now (periods .entry)) (now (order .entry)) phases n (c + 1) (now (nexts .exit)) × Wrote (now (out .entry)) to (listBy (now (periods .entry)) (now (order .entry)) phases n c) (now (out .exit)) r) ⌝ }
 {
     let mut end = to;
     let mut i: usize = 0;
     while i < n {
         let x = order[i];
-        let due = is_due(periods, phases, x, c);
+        let next = nexts[i];
+        let due = wider(next) == c;
         end = put_run(due, x, out, end);
+        let period = periods[wide(x)];
+        nexts[i] = run_after(due, next, period);
         i = i + 1;
     }
     end
@@ -138,7 +167,7 @@ fn lists_length(
     total
 }
 
-// Writes the run lists of h cycles.
+// Writes the run lists of h cycles, stepping each signal from run to run.
 fn emit_lists(
     periods: &[u8; 64],
     order: &[u8; 64],
@@ -148,13 +177,14 @@ fn emit_lists(
     out: &mut [u8],
     to: usize,
 ) -> usize
-    requires { ⌜ Timed (now periods) (now order) n × (to + length (joined (listsBy (now periods) (now order) (now phases) n h)) ≤ length (now out)) ⌝ }
+    requires { ⌜ (Timed (now periods) (now order) n × Phased (now periods) (now order) (now phases) n × (h ≤ 240)) × (to + length (joined (listsBy (now periods) (now order) (now phases) n h)) ≤ length (now out)) ⌝ }
     ensures { λ r. ⌜ Wrote (now (out .entry)) to (joined (listsBy (now (periods .entry)) (now (order .entry)) (now (phases .entry)) n h)) (now (out .exit)) r ⌝ }
 {
+    let mut nexts = first_runs(order, phases, n);
     let mut end = to;
     let mut c: usize = 0;
     while c < h {
-        end = emit_list(periods, order, phases, n, c, out, end);
+        end = emit_list(periods, order, &mut nexts, n, c, out, end);
         c = c + 1;
     }
     end
@@ -180,15 +210,16 @@ fn emit_offsets(
     out: &mut [u8],
     to: usize,
 ) -> usize
-    requires { ⌜ Timed (now periods) (now order) n × (start + length (joined (listsBy (now periods) (now order) (now phases) n h)) ≤ length (now out)) × (to + length (pairs (offsets start (listsBy (now periods) (now order) (now phases) n h))) ≤ length (now out)) ⌝ }
+    requires { ⌜ (Timed (now periods) (now order) n × Phased (now periods) (now order) (now phases) n × (h ≤ 240)) × (start + length (joined (listsBy (now periods) (now order) (now phases) n h)) ≤ length (now out)) × (to + length (pairs (offsets start (listsBy (now periods) (now order) (now phases) n h))) ≤ length (now out)) ⌝ }
     ensures { λ r. ⌜ Wrote (now (out .entry)) to (pairs (offsets start (listsBy (now (periods .entry)) (now (order .entry)) (now (phases .entry)) n h))) (now (out .exit)) r ⌝ }
 {
+    let counts = count_runs(periods, order, phases, n, h);
     let mut offset = start;
     let mut end = to;
     let mut c: usize = 0;
     while c < h {
         end = put_offset(out, end, offset);
-        let runs = list_length(periods, order, phases, n, c);
+        let runs = widest(counts[c]);
         offset = offset + runs;
         c = c + 1;
     }

@@ -43,7 +43,7 @@ module _ (a : Rate) (v : a .phase < a .period) where
       let l : c < a .period = omega arith in
       ne-eqb (c % a .period) (a .phase) (λ e. omega (arith, mod-eq-of-lt l))
 
-  due-between : (t c : ℕ) → due a t ≡ true → t < c → c < t + a .period → due a c ≡ false
+  pub due-between : (t c : ℕ) → due a t ≡ true → t < c → c < t + a .period → due a c ≡ false
   due-between t c e h g = go (due a c) refl
     where
       go : (b : Bool) → due a c ≡ b → b ≡ false

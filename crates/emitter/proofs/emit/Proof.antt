@@ -9,7 +9,7 @@ use Rattle.model.specs.Word.{twoBytes}
 use Rattle.emitter.specs.Codes.{signalsOf, codesFrom}
 use Rattle.emitter.specs.Lists.{listsBy, pairs}
 use Rattle.emitter.proofs.Left.{Left, starts, room, turn, done}
-use Rattle.emitter.proofs.Imaged.{codesBy, lengthBy, imageBy, head-first, both, last, declared, timed, lists-by, codes-at, code-by, length-by, image-size, image-written}
+use Rattle.emitter.proofs.Imaged.{codesBy, lengthBy, imageBy, head-first, both, last, declared, timed, phased, lists-by, codes-at, code-by, length-by, image-size, image-written}
 use borrow.Author.Needs.{needs}
 use Rattle.emitter.proofs.emit.Statement.{statement}
 use Rattle.emitter.proofs.emit.Tie as tie
@@ -97,7 +97,7 @@ emit-offsets-requires : tie.Need-emit-offsets-requires
 emit-offsets-requires c κs =
     let s = c .before .before .before .before .before .before .before .before .before .before .before .before .before .before .before in
     let l = after-records (c .before .before .before) in (
-      timed (s .pre .ready .prepared),
+      (timed (s .pre .ready .prepared), phased (s .pre .ready .prepared), s .pre .ready .hyper),
       omega (arith, lists-at s, ends s, s .pre .room, l .size),
       rw (lists-at s) (room (both (paired s) _) l (space s)),
     )
@@ -105,7 +105,7 @@ emit-offsets-requires c κs =
 emit-lists-requires : tie.Need-emit-lists-requires
 emit-lists-requires c κs =
     let s = c .before .before .before .before .before .before .before .before .before .before .before .before .before .before .before .before .before .before .before in
-    (timed (s .pre .ready .prepared), room (both (joined (lists s)) _) (after-offsets (c .before .before .before)) (space s))
+    ((timed (s .pre .ready .prepared), phased (s .pre .ready .prepared), s .pre .ready .hyper), room (both (joined (lists s)) _) (after-offsets (c .before .before .before)) (space s))
 
 emit-codes-requires : tie.Need-emit-codes-requires
 emit-codes-requires c κs =
