@@ -16,7 +16,8 @@ use Rattle.model.specs.Grammar.{LegalProgram, SpellsPuts}
 use Rattle.model.specs.Machine.{
   hyperOf,
   countOf,
-  wellFormed,
+  imagePart,
+  lentOk,
   isPosition,
   resetWords,
   cycleWords,
@@ -205,18 +206,20 @@ at-zero : {A : Type 0} (t : Bool) (n : ℕ) (o : Outcome A) → Refuses Zero o �
 at-zero t n o h = refuses-then Zero (provided t n 0) _ (refuses-provided Zero t n 0 (λ u. refl)) (λ u v. h)
 
 -- A reset or a cycle refuses at 0.
-pub places-zero : (image : List ℕ) (state : List ℤ) (c : Call) (f : Fault) → callOf image state c .answer ≡ refused f →
+pub places-zero : (lent : List ℕ) (state : List ℤ) (c : Call) (f : Fault) → callOf lent state c .answer ≡ refused f →
     f .place ≡ 0
 unfolding callOf resetOf cycleOf
-places-zero image state Call.reset f e =
+places-zero lent state Call.reset f e =
+    let image = imagePart lent in
     call-refused Zero state
-    (provided (wellFormed image) 20 0 ▷ λ _.
+    (provided (lentOk lent) 20 0 ▷ λ _.
     provided (ltb (countOf image) (length state)) 21 0 ▷ λ _.
     accepted (record { yields = 0; leaves = resetWords image state })) f
     (at-zero _ 20 _ (at-zero _ 21 (accepted _) tt)) e
-places-zero image state (Call.cycle samples) f e =
+places-zero lent state (Call.cycle samples) f e =
+    let image = imagePart lent in
     call-refused Zero state
-    (provided (wellFormed image) 20 0 ▷ λ _.
+    (provided (lentOk lent) 20 0 ▷ λ _.
     provided (ltb (countOf image) (length state)) 21 0 ▷ λ _.
     provided (isPosition (hyperOf image) (getD state 0 (pos 0))) 22 0 ▷ λ _.
     provided (leb (countOf image) (length samples)) 23 0 ▷ λ _.

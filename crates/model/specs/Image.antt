@@ -88,6 +88,10 @@ codesAt p s h = listsAt (count p) h + length (joined (runLists p s h))
 unfoldable pub lengthOf : Program → Schedule → ℕ → ℕ
 lengthOf p s h = codesAt p s h + length (joined (codes p))
 
+-- L + 4N, the length of an image of n signals with its tail: four bytes a signal.
+abbrev pub withTail : ℕ → ℕ → ℕ
+withTail length n = length + 4 * n
+
 -- Byte 0 H, byte 1 N, bytes 2-3 length L.
 unfoldable pub head : Program → Schedule → ℕ → List ℕ
 head p s h = h ∷ count p ∷ twoBytes (lengthOf p s h)
