@@ -3,9 +3,10 @@ ghost use mathlib.Core.Path.{_≡_};
 ghost use mathlib.Core.Bool.{true};
 ghost use Prim.Native.Nat.{ℕ, _+_, _<_, _≤_};
 ghost use lib.Dec.{ltb};
-ghost use lib.ListN.{length};
+ghost use lib.ListN.{length, take};
 ghost use Rattle.model.specs.Machine.{hyperOf, countOf, listOffset, codeOffset};
 ghost use Rattle.model.specs.Machine.{headOk, listsOk, entriesOk, codesOk, wellFormed};
+ghost use Rattle.image_check.specs.Lends.{Lends};
 ghost use Rattle.model.specs.Search.{allBelow};
 ghost use Rattle.model.specs.Word.{byteAt, twoAt};
 
@@ -162,4 +163,31 @@ pub fn well_formed(image: &[u8]) -> bool
         return false;
     }
     codes_ok(image, n)
+}
+
+// L, where what is lent has exactly L or exactly L + 4N bytes, and else 0.
+fn image_length(lent: &[u8]) -> usize
+    ensures { λ r. ⌜ (r ≤ length (now (lent .entry))) × Lends (now (lent .entry)) (take r (now (lent .entry))) ⌝ }
+{
+    if lent.len() < 4 {
+        return 0;
+    }
+    let length = offset_at(lent, 2);
+    let n = wide(lent[1]);
+    if lent.len() == length {
+        return length;
+    }
+    if lent.len() == length + 4 * n {
+        return length;
+    }
+    0
+}
+
+// The image in what is lent, with its tail or without: its first L bytes. An empty one, which is not well formed, where the length
+// is neither.
+pub fn image_in(lent: &[u8]) -> &[u8]
+    ensures { λ r. ⌜ Lends (now (lent .entry)) (now r) ⌝ }
+{
+    let length = image_length(lent);
+    &lent[..length]
 }
