@@ -74,7 +74,7 @@ module _ {image tail lent : List ℕ} (formed : wellFormed image ≡ true) (bear
       ap (λ (l : List ℕ). byteAt l i) (bears .whole) ∙
       List·getD-append image tail 0 i (omega (arith, headed image formed .four))
 
-  stated-length : statedLength lent ≡ length image
+  pub stated-length : statedLength lent ≡ length image
   unfolding twoAt
   stated-length = ap₂ (λ (a b : ℕ). a + 256 * b) (first-bytes 2 (omega arith)) (first-bytes 3 (omega arith)) ∙ headed image formed .stated
 
