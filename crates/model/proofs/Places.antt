@@ -1,4 +1,4 @@
--- Every refusal has a place that fits two bytes: within the text that is refused, below the hypercycle, or L. Assumes nothing.
+-- Every refusal has a small place: within the text that is refused, below the hypercycle, or L + 4N. Assumes nothing.
 use Prim.Native.Nat.{ℕ, zero, suc, _%_, _≤_, _<_}
 use mathlib.Core.Bool.{Bool}
 use mathlib.Core.List.{List, _++_}
@@ -51,7 +51,7 @@ use Rattle.model.proofs.Stopped.{
   room-declaration,
   unknown-inside,
 }
-use Rattle.model.proofs.Stretches.{image-length}
+use Rattle.model.proofs.Tails.{written-length}
 use Rattle.model.proofs.Verdict.{pair-bounded}
 
 operator-present : {k : Keyword} → IsOperator k → Present k
@@ -165,7 +165,7 @@ call-refused R lent (accepted job) f h e = absurd (accepted≢refused _ (job .yi
 call-refused R lent (refused g) f h e = refuses-fault {A = ℕ} R (refused g) f h e
 
 abbrev Small : ℕ → ℕ → Type 0
-Small n x = x ≤ 65535
+Small n x = x ≤ 65791
 
 abbrev Zero : ℕ → ℕ → Type 0
 Zero n x = x ≡ 0
@@ -176,23 +176,20 @@ module _ (program schedule : List ℕ) where
     where
       go : (o : Outcome Pair) → pairOf program schedule ≡ o → Refuses Small o
       go (accepted q) e = tt
-      go (refused f) e = refusal-small (refused-exactly program schedule (f .number) (f .place) .0 e)
+      go (refused f) e = omega (arith, refusal-small (refused-exactly program schedule (f .number) (f .place) .0 e))
 
-  image-small : Bytes program → (image : List ℕ) → verdictOf program schedule ≡ accepted image → length image ≤ 65535
+  image-small : Bytes program → (image : List ℕ) → verdictOf program schedule ≡ accepted image → length image ≤ 65791
   unfolding verdictOf
   image-small bytes image e =
       let h = then-accepted (pairOf program schedule) _ image e in
       let q = h .0 in
       let same = ap length (accepted-same _ image (h .2)) in
-      omega (
-        arith,
-        image-length (q .program) (q .schedule) (q .hypercycle),
-        pair-bounded program schedule q (h .1) bytes .size,
-      )
+      let bounded = pair-bounded program schedule q (h .1) bytes in
+      omega (arith, written-length (q .program) (q .schedule) (q .hypercycle), bounded .size, bounded .signals)
 
--- A compile refuses the texts, or answers 17 with L.
+-- A compile refuses the texts, or answers 17 with L + 4N.
 pub places-small : (program schedule buffer : List ℕ) → Bytes program → (f : Fault) →
-    compileOf program schedule buffer .answer ≡ refused f → f .place ≤ 65535
+    compileOf program schedule buffer .answer ≡ refused f → f .place ≤ 65791
 unfolding compileOf verdictOf
 places-small program schedule buffer bytes f e =
     call-refused Small buffer

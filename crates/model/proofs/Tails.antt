@@ -1,7 +1,7 @@
 -- What is lent to a call: an image, with its tail or without. Assumes nothing.
-use Prim.Native.Nat.{ℕ, _+_, _*_, _≤_, _<_}
+use Prim.Native.Nat.{ℕ, zero, suc, _+_, _*_, _≤_, _<_}
 use mathlib.Core.Bool.{Bool, true, false, _&&_, _||_}
-use mathlib.Core.List.{List, [], _++_, append-nil}
+use mathlib.Core.List.{List, [], _∷_, _++_, append-nil}
 use mathlib.Core.Logic.{_⊎_, inl, inr, ⊎-elim, _↔_}
 use mathlib.Core.Path.{_≡_, refl, sym, ap, ap₂, subst, _∙_}
 use native.Mathlib.Omega.{arith}
@@ -9,9 +9,9 @@ use borrow.Author.Tests.{leb-true, ltb-true, ltb-false, eqb-true, eq-eqb}
 use lib.Dec.{leb, ltb, eqb}
 use lib.IntN.{ℤ}
 use lib.ListN.{length, getD, take, drop, length-append, length-take, length-drop, take-append-drop, List·getD-append, List·getD-eq-default}
-use lib.Seq.{getD-take, take-append-seam, drop-append-seam}
-use Rattle.model.specs.Calls.{Call, reset, cycle, callOf}
-use Rattle.model.specs.Image.{listsAt, withTail}
+use lib.Seq.{getD-take, take-all, take-append-seam, drop-append-seam}
+use Rattle.model.specs.Calls.{Call, reset, cycle, callOf, logged, after, logAfter}
+use Rattle.model.specs.Image.{joined, listsAt, lengthOf, withTail, imageOf, tailEntry, tailOf, writtenOf, writtenLength}
 use Rattle.model.specs.Machine.{
   hyperOf,
   countOf,
@@ -29,9 +29,24 @@ use Rattle.model.specs.Machine.{
   cycleOf,
 }
 use Rattle.model.specs.Outcome.{Outcome, accepted, refused, refuse, _▷_, provided}
-use Rattle.model.specs.Tail.{tailIn, Bears}
-use Rattle.model.specs.Word.{byteAt, twoAt}
+use Rattle.model.specs.Program.{Program, count, signalAt}
+use Rattle.model.specs.Schedule.{Schedule, phaseOf}
+use Rattle.model.specs.Search.{table, joinFrom}
+use Rattle.model.specs.Tail.{tailIn, Bears, Tells}
+use Rattle.model.specs.Word.{byteAt, twoAt, twoBytes}
 use Rattle.model.proofs.Commands.{Bytes}
+use Rattle.model.proofs.Stretches.{
+  Stands,
+  front,
+  byte-from,
+  two-at,
+  table-length,
+  table-at,
+  part-at,
+  parts-next,
+  image-length,
+  image-count,
+}
 
 never : {X : Type 0} → false ≡ true → X
 never e = let z : _≡_ {A = ℕ} 0 1 = cc in absurd (omega arith)
@@ -180,3 +195,74 @@ call-alike {image} f b state reset =
 call-alike {image} f b state (cycle samples) =
     let own = bears-itself image in
     rw (lent-ok f b, lent-ok f own, part-is f b, part-is f own)
+
+-- So do lists of calls.
+pub list-alike : {image tail lent : List ℕ} → wellFormed image ≡ true → Bears image tail lent → (state : List ℤ) (cs : List Call) →
+    after lent state cs ≡ after image state cs
+unfolding after
+list-alike f b state [] = refl
+list-alike {image} f b state (c ∷ cs) =
+    list-alike f b _ cs ∙ ap (λ (e : Effect ℤ). after image (e .left) cs) (call-alike f b state c)
+
+pub log-alike : {image tail lent : List ℕ} → wellFormed image ≡ true → Bears image tail lent → (state : List ℤ)
+    (log : List (List ℤ)) (cs : List Call) → logAfter lent state log cs ≡ logAfter image state log cs
+unfolding logAfter
+log-alike f b state log [] = refl
+log-alike {image} f b state log (c ∷ cs) =
+    log-alike f b _ _ cs ∙
+    ap (λ (e : Effect ℤ). logAfter image (e .left) (logged c (e .answer) log) cs) (call-alike f b state c)
+
+-- Parts of four bytes each, joined.
+four-parts : (xs : List (List ℕ)) → ((x : ℕ) → x < length xs → length (getD xs x []) ≡ 4) → (x : ℕ) → x ≤ length xs →
+    length (joined (take x xs)) ≡ 4 * x
+unfolding joinFrom
+four-parts xs fours zero le = omega arith
+four-parts xs fours (suc x) le =
+    omega (arith, parts-next xs x (omega arith), fours x (omega arith), four-parts xs fours x (omega arith))
+
+-- The tail of a pair.
+module _ (p : Program) (s : Schedule) where
+  abbrev entry : ℕ → List ℕ
+  entry x = tailEntry (signalAt p x .label) (signalAt p x .period) (phaseOf s x)
+
+  entry-here : (x : ℕ) → x < count p → getD (table (count p) entry) x [] ≡ entry x
+  entry-here x lt = table-at (count p) entry x [] lt
+
+  fours : (x : ℕ) → x ≤ count p → length (joined (take x (table (count p) entry))) ≡ 4 * x
+  unfolding twoBytes
+  fours x le =
+      let n = table-length (count p) entry in
+      four-parts (table (count p) entry) (λ y lt. ap length (entry-here y (omega arith))) x (omega arith)
+
+  pub tail-length : length (tailOf p s) ≡ 4 * count p
+  unfolding tailOf
+  tail-length =
+      let n = table-length (count p) entry in
+      ap (λ (l : List (List ℕ)). length (joined l)) (sym (take-all (count p) (table (count p) entry) (omega arith))) ∙
+      fours (count p) (omega arith)
+
+  entry-stands : (x : ℕ) → x < count p → Stands (tailOf p s) (4 * x) (entry x)
+  unfolding tailOf
+  entry-stands x lt =
+      let n = table-length (count p) entry in
+      rw (fours x (omega arith), entry-here x lt) at (part-at (table (count p) entry) x (omega arith))
+
+  -- It tells the label, period and phase of each signal.
+  pub tail-tells : (x : ℕ) → x < count p → signalAt p x .label < 65536 → Tells (tailOf p s) x (signalAt p x) (phaseOf s x)
+  unfolding twoBytes
+  tail-tells x lt small =
+      let stands = entry-stands x lt in
+      record {
+        label-is = two-at (signalAt p x .label) (omega arith) (front (twoBytes (signalAt p x .label)) _ stands);
+        period-is = byte-from 2 (omega arith) stands;
+        phase-is = byte-from 3 (omega arith) stands;
+      }
+
+  -- What compile writes is the image of the pair, with this tail.
+  module _ (h : ℕ) where
+    pub written-bears : Bears (imageOf p s h) (tailOf p s) (writtenOf p s h)
+    unfolding writtenOf
+    written-bears = record { whole = refl; size = inr (tail-length ∙ ap (λ (n : ℕ). 4 * n) (sym (image-count p s h))) }
+
+    pub written-length : length (writtenOf p s h) ≡ writtenLength p s h
+    written-length = ap length (written-bears .whole) ∙ length-append (imageOf p s h) (tailOf p s) ∙ omega (arith, tail-length, image-length p s h)
