@@ -250,8 +250,8 @@ module _ (text : List ℕ) where
       declares (Command.Cap n) e room = onward (DeclaresOne.caps (room-of p _ (keyword-of text at _ e) room) e)
       declares (Command.Tag given) e room =
           let next = at + inProgram 0x15 in
-          holds-provided (Ended at label p) (ltb next (length text)) 2 (length text) _ (λ t.
-          holds-provided (Ended at label p) (isSignal (byteAt text next)) 3 at _ (λ u.
+          holds-provided (Ended at label p) (ltb next (length text)) _ _ _ (λ t.
+          holds-provided (Ended at label p) (isSignal (byteAt text next)) _ _ _ (λ u.
           onward (DeclaresOne.tags e (ltb-true next (length text) t) (signal-is (byteAt text next) .0 u))))
       declares (Command.Constant w) e room = tt
       declares (Command.Read kind x) e room = tt
