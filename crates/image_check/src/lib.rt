@@ -4,7 +4,7 @@ ghost use mathlib.Core.Bool.{true};
 ghost use Prim.Native.Nat.{ℕ, _+_, _<_, _≤_};
 ghost use lib.Dec.{ltb};
 ghost use lib.ListN.{length, take};
-ghost use Rattle.model.specs.Machine.{hyperOf, countOf, listOffset, codeOffset};
+ghost use Rattle.model.specs.Machine.{hyperOf, countOf, statedLength, listOffset, codeOffset};
 ghost use Rattle.model.specs.Machine.{headOk, listsOk, entriesOk, codesOk, wellFormed};
 ghost use Rattle.image_check.specs.Lends.{Lends};
 ghost use Rattle.model.specs.Search.{allBelow};
@@ -21,6 +21,14 @@ fn offset_at(image: &[u8], at: usize) -> usize
     ensures { λ r. ⌜ r ≡ twoAt (now (image .entry)) at ⌝ }
 {
     word::two_at(image, at) as usize
+}
+
+// L, as bytes 2-3 hold it.
+pub fn stated_length(image: &[u8]) -> usize
+    requires { ⌜ 4 ≤ length (now image) ⌝ }
+    ensures { λ r. ⌜ r ≡ statedLength (now (image .entry)) ⌝ }
+{
+    offset_at(image, 2)
 }
 
 // Offset c of the run lists in an image of n signals.
@@ -50,7 +58,7 @@ fn head_ok(image: &[u8]) -> bool
     if image.len() < 4 {
         return false;
     }
-    if offset_at(image, 2) != image.len() {
+    if stated_length(image) != image.len() {
         return false;
     }
     let h = wide(image[0]);
@@ -172,7 +180,7 @@ fn image_length(lent: &[u8]) -> usize
     if lent.len() < 4 {
         return 0;
     }
-    let length = offset_at(lent, 2);
+    let length = stated_length(lent);
     let n = wide(lent[1]);
     if lent.len() == length {
         return length;

@@ -14,8 +14,8 @@ lent w = w .before .before .before .before .before .args .lent .now
 returns : tie.Need-returns
 returns c = (omega arith, lends-short _ (c .if1 .taken))
 
-offset-at-requires : tie.Need-offset-at-requires
-offset-at-requires c κs = search needs
+stated-length-requires : tie.Need-stated-length-requires
+stated-length-requires c κs = search needs
 
 shared-slice-read-wide : tie.Need-shared-slice-read-wide
 shared-slice-read-wide c = search needs
@@ -27,7 +27,7 @@ returns-2 : tie.Need-returns-2
 returns-2 c =
     let w = c .before in
     let o = w .before .before in
-    (omega (arith, c .if2 .taken), lends-all (lent w) _ _ (o .offset-at .ensures) (w .wide .ensures .0) (c .if2 .taken))
+    (omega (arith, c .if2 .taken), lends-all (lent w) _ _ (o .stated-length .ensures) (w .wide .ensures .0) (c .if2 .taken))
 
 mul-if3 : tie.Need-mul-if3
 mul-if3 c = search needs
@@ -37,26 +37,26 @@ unfolding twoAt
 add-if3 c =
     let w = c .before in
     let bytes = w .before .shared-slice-known2 .given in
-    omega (arith, w .before .before .offset-at .ensures, w .wide .ensures .1, bytes 2 .fits, bytes 3 .fits)
+    omega (arith, w .before .before .stated-length .ensures, w .wide .ensures .1, bytes 2 .fits, bytes 3 .fits)
 
 returns-3 : tie.Need-returns-3
 returns-3 c =
     let w = c .before .before in
     let o = w .before .before in
-    (omega (arith, c .if3 .taken), lends-first (lent w) _ _ (o .offset-at .ensures) (w .wide .ensures .0) (c .if3 .taken))
+    (omega (arith, c .if3 .taken), lends-first (lent w) _ _ (o .stated-length .ensures) (w .wide .ensures .0) (c .if3 .taken))
 
 returns-4 : tie.Need-returns-4
 returns-4 c =
     let w = c .before .before in
     let o = w .before .before in
-    (omega arith, lends-neither (lent w) _ _ (o .offset-at .ensures) (w .wide .ensures .0) (c .before .if2 .left) (c .if3 .left))
+    (omega arith, lends-neither (lent w) _ _ (o .stated-length .ensures) (w .wide .ensures .0) (c .before .if2 .left) (c .if3 .left))
 
 pub image-length-spec : {M : Type 1} → statement M
 image-length-spec =
     tie.close
     (tie.spec
     returns
-    offset-at-requires
+    stated-length-requires
     shared-slice-read-wide
     wide-requires
     returns-2
