@@ -265,8 +265,8 @@ module _ (text : List ℕ) where
   declares-commands (suc left) at label p =
       let here = commandHere text at p (keywordAt text at) in
       holds-then (λ u. here ≡ accepted u) (Ended at label p) here _ (value-holds here) (λ u e.
-      declares (λ n l q. parseCommands left text n l q) (λ a l q. declares-commands left a l q) at label p (commandAt text at) refl
-      (here-room p text at (keywordAt text at) e))
+      declares (λ n l q. parseCommands left text n l q) (λ a l q. declares-commands left a l q) at label p (commandAt text at)
+      refl (here-room p text at (keywordAt text at) e))
 
   -- An accepted text declares its program.
   pub declared : (p : Program) → parseProgram text ≡ accepted p → (end : ℕ) × Declares text 0 0 empty end p

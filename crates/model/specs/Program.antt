@@ -148,7 +148,8 @@ parseLinks (suc room) text at links =
 abbrev pub isSignal : ℕ → Bool
 isSignal b = eqb b 0x10 || eqb b 0x11
 
--- A command with its operands, after those of p; `next` reads on. `label` is that of a TAG directly before it, 0 where there is none.
+-- A command with its operands, after those of p; `next` reads on. `label` is that of a TAG directly before it, 0 where there is
+-- none; IN and EQ take it.
 unfoldable pub declare : (ℕ → ℕ → Program → Outcome Program) → List ℕ → ℕ → ℕ → Program → Command → Outcome Program
 declare next text at label p Command.EndsEarly = refuse 2 (length text)
 declare next text at label p Command.Unknown = refuse 3 at
@@ -200,7 +201,8 @@ commandHere text at p (Keyword.Binary operator) = refuse 3 at
 commandHere text at p Keyword.Negate = refuse 3 at
 commandHere text at p Keyword.If = refuse 3 at
 
--- The commands from `at` on, after those of p and a TAG's label. Each takes a byte at least, so `left` bytes hold no more than `left` of them.
+-- The commands from `at` on, after those of p and a TAG's label. Each takes a byte at least, so `left` bytes hold no more than
+-- `left` of them.
 unfoldable pub parseCommands : ℕ → List ℕ → ℕ → ℕ → Program → Outcome Program
 parseCommands zero text at label p = refuse 2 (length text)
 parseCommands (suc left) text at label p =
