@@ -2,6 +2,7 @@
 pub mod Coded
 pub mod Counted
 pub mod Imaged
+pub mod Tailed
 pub mod Joined
 pub mod Left
 pub mod Listed

@@ -3,3 +3,4 @@ pub mod Codes
 pub mod Lists
 pub mod Prepared
 pub mod Writing
+pub mod Tail

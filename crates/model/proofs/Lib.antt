@@ -14,6 +14,7 @@ pub mod Window
 pub mod Bounds
 pub mod Stretches
 pub mod Runs
+pub mod Tails
 pub mod Counts
 pub mod Formed
 pub mod Offsets
