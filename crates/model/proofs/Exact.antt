@@ -11,7 +11,7 @@ use Rattle.model.specs.Grammar.{LegalProgram, LegalSchedule}
 use Rattle.model.specs.Latency.{timely}
 use Rattle.model.specs.Load.{loaded}
 use Rattle.model.specs.Outcome.{Outcome, accepted, refused, fault, _▷_, Parsed}
-use Rattle.model.specs.Program.{Program, empty, parseProgram}
+use Rattle.model.specs.Program.{leastFactor, Program, empty, parseProgram}
 use Rattle.model.specs.Rates.{declaredAndRated, hypercycle, linked}
 use Rattle.model.specs.Reads.{met}
 use Rattle.model.specs.Refusals.{RefusedAt}
@@ -36,7 +36,7 @@ use Rattle.model.proofs.Parses.{program-legal, schedule-legal}
 use Rattle.model.proofs.Stopped.{program-stops, schedule-stops}
 
 -- 2 to 6.
-program-judged : (text : List ℕ) → Judged (LegalProgram text) (Stops text 0 empty) (parseProgram text)
+program-judged : (text : List ℕ) → Judged (LegalProgram text) (Stops leastFactor text 0 empty) (parseProgram text)
 program-judged text = record { accepts = program-legal text; refuses = program-stops text }
 
 -- 11.

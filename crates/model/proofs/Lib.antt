@@ -38,6 +38,8 @@ pub mod Judged
 pub mod JudgedPuts
 pub mod JudgedRuns
 pub mod Exact
+pub mod Converted
+pub mod Rewritten
 pub mod Places
 pub mod Decimals
 pub mod Scripts

@@ -22,6 +22,8 @@ pub mod Reach
 pub mod Compile
 pub mod Report
 pub mod Conditions
+pub mod Convert
+pub mod Rewrite
 pub mod Refusals
 pub mod Calls
 pub mod Decimal
