@@ -81,6 +81,7 @@ keyword-is b h =
       ne-eqb b 0x12 (λ e. omega arith),
       ne-eqb b 0x13 (λ e. omega arith),
       ne-eqb b 0x14 (λ e. omega arith),
+      ne-eqb b 0x15 (λ e. omega arith),
     )
 
 pub command-is : (text : List ℕ) (at : ℕ) → 0x20 ≤ byteAt text at → operatorAt text at ≡ commandAt text at

@@ -49,6 +49,7 @@ pub fn keyword_of(byte: u8) -> Keyword
         0x12 => Keyword::Latency,
         0x13 => Keyword::Link,
         0x14 => Keyword::Cap,
+        0x15 => Keyword::Tag,
         _ => operator_of(byte),
     }
 }
@@ -231,6 +232,19 @@ fn cap_at(text: &[u8], at: usize) -> Command
     Command::Cap(limit)
 }
 
+// TAG: a label.
+fn tag_at(text: &[u8], at: usize) -> Command
+    requires { ⌜ at < length (now text) ⌝ }
+    ensures { λ r. ⌜ r ≡ commandOf Keyword.Tag (now (text .entry)) at ⌝ }
+{
+    let left = text.len() - at;
+    if left < width::in_program(0x15) {
+        return Command::EndsEarly;
+    }
+    let label = word::two_at(text, at + 1);
+    Command::Tag(label)
+}
+
 // CONST: a word.
 fn constant_at(text: &[u8], at: usize) -> Command
     requires { ⌜ at < length (now text) ⌝ }
@@ -314,6 +328,7 @@ pub fn command_at(text: &[u8], at: usize) -> Command
         0x12 => latency_at(text, at),
         0x13 => link_at(text, at),
         0x14 => cap_at(text, at),
+        0x15 => tag_at(text, at),
         _ => operand_at(byte, text, at),
     }
 }

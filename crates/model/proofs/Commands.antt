@@ -46,6 +46,10 @@ unfolding wordAt fourAt wordOf
 word-fits text at b =
     sfits-toZ {w = w32} {n = fourAt text at} (record { fits = omega (arith, b at, b (at + 1), b (at + 2), b (at + 3)) })
 
+pub two-fits : (text : List ℕ) (at : ℕ) → Bytes text → twoAt text at < 65536
+unfolding twoAt
+two-fits text at b = omega (arith, b at, b (at + 1))
+
 -- The operands of a read are in range.
 pub record ReadSound (x : Sampled) : Type 0 where
   pub positive : 1 ≤ x .factor
@@ -92,6 +96,7 @@ module _ (text : List ℕ) (at : ℕ) where
   Sound (Command.Latency mode bound) = at + inProgram 0x12 ≤ length text
   Sound (Command.Link signal) = at + inProgram 0x13 ≤ length text
   Sound (Command.Cap n) = at + inProgram 0x14 ≤ length text
+  Sound (Command.Tag label) = (label ≡ twoAt text (at + 1)) × (at + inProgram 0x15 ≤ length text)
   Sound (Command.Constant w) = (w ≡ wordAt text (at + 1)) × (at + inExpression 0x20 ≤ length text)
   Sound (Command.Read kind x) = ReadSound x × (at + readWidth kind ≤ length text)
   Sound (Command.Binary operator) = at + inExpression 0x30 ≤ length text
@@ -142,6 +147,7 @@ module _ (text : List ℕ) (at : ℕ) where
       whole-sound (inProgram 0x12) command (λ g. g)))
   keyword-sound Keyword.Link lt = whole-sound (inProgram 0x13) _ (λ h. h)
   keyword-sound Keyword.Cap lt = whole-sound (inProgram 0x14) _ (λ h. h)
+  keyword-sound Keyword.Tag lt = whole-sound (inProgram 0x15) _ (λ h. (refl, h))
   keyword-sound Keyword.Constant lt = whole-sound (inExpression 0x20) _ (λ h. (refl, h))
   keyword-sound (Keyword.Read Now) lt = plain-sound Now refl
   keyword-sound (Keyword.Read Last) lt = plain-sound Last refl
@@ -178,6 +184,7 @@ KeywordOf (Command.Equation period initial weight) k = k ≡ Keyword.Equation
 KeywordOf (Command.Latency mode bound) k = k ≡ Keyword.Latency
 KeywordOf (Command.Link signal) k = k ≡ Keyword.Link
 KeywordOf (Command.Cap n) k = k ≡ Keyword.Cap
+KeywordOf (Command.Tag label) k = k ≡ Keyword.Tag
 KeywordOf (Command.Constant w) k = k ≡ Keyword.Constant
 KeywordOf (Command.Read kind x) k = k ≡ Keyword.Read kind
 KeywordOf (Command.Binary operator) k = k ≡ Keyword.Binary operator
@@ -230,6 +237,9 @@ module _ (text : List ℕ) (at : ℕ) where
   command-keyword Keyword.Cap =
       operands-keyword Keyword.Cap (leb (at + inProgram 0x14) (length text)) true true
       (Command.Cap (fourAt text (at + 1))) refl
+  command-keyword Keyword.Tag =
+      operands-keyword Keyword.Tag (leb (at + inProgram 0x15) (length text)) true true
+      (Command.Tag (twoAt text (at + 1))) refl
   command-keyword Keyword.Constant =
       operands-keyword Keyword.Constant (leb (at + inExpression 0x20) (length text)) true true
       (Command.Constant (wordAt text (at + 1))) refl

@@ -705,7 +705,7 @@ converted-renamed p =
         map-map (mapSignal bareRead (λ at. 0)) (mapSignal convertedRead (λ at. at)) (p .signals) ∙
         ap (λ f. map f (p .signals))
         (fun-ext (λ x.
-        ap (λ b. record { place = 0; period = x .period; initial = x .initial; body = b }) (body-twice (x .body))))
+        ap (λ b. record { place = 0; period = x .period; initial = x .initial; body = b; label = x .label }) (body-twice (x .body))))
 
     chains : bare (converted p) .chains ≡ bare p .chains
     chains =

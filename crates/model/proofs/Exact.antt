@@ -36,7 +36,7 @@ use Rattle.model.proofs.Parses.{program-legal, schedule-legal}
 use Rattle.model.proofs.Stopped.{program-stops, schedule-stops}
 
 -- 2 to 6.
-program-judged : (text : List ℕ) → Judged (LegalProgram text) (Stops leastFactor text 0 empty) (parseProgram text)
+program-judged : (text : List ℕ) → Judged (LegalProgram text) (Stops leastFactor text 0 0 empty) (parseProgram text)
 program-judged text = record { accepts = program-legal text; refuses = program-stops text }
 
 -- 11.

@@ -40,9 +40,9 @@ use Rattle.model.specs.declared.Kind.{Kind}
 use Rattle.model.specs.declared.Kind.the-variants.{Now, Last, When, LastWhen, Current}
 use Rattle.model.proofs.All.{all-append, all-at}
 use Rattle.model.proofs.Bounds.{depth, bodyDepth, Words, BodyWords}
-use Rattle.model.proofs.Commands.{Bytes, word-fits, ReadSound, command-sound, link-command}
+use Rattle.model.proofs.Commands.{Bytes, word-fits, two-fits, ReadSound, command-sound, link-command}
 use Rattle.model.proofs.Outcomes.{joinFrom-append}
-use Rattle.model.proofs.Spelled.{Spells, SpellsLinks, Declares, declared}
+use Rattle.model.proofs.Spelled.{Spells, SpellsLinks, DeclaresOne, Declares, declared}
 
 -- A signal's command and what stands after it.
 abbrev pub SpellsBody : List ℕ → Signal → Body → Type 0
@@ -157,16 +157,28 @@ module _ {text : List ℕ} where
   links-after (SpellsLinks.ends e) = omega arith
   links-after (SpellsLinks.link e le r) = omega (arith, links-after r)
 
-  declares-legal : {at end : ℕ} {p q : Program} → Declares leastFactor text at p end q → Legal text at p →
+  one-legal : {at label next given : ℕ} {p q : Program} → DeclaresOne leastFactor text at label p next given q → Legal text at p →
+      Legal text next q
+  one-legal (DeclaresOne.inputs room e) l = more-signals _ l room e (omega arith)
+  one-legal (DeclaresOne.equations room e u d) l =
+      more-signals _ l room (e, _, u, d) (simp length-append (omega (arith, expr-code u)))
+  one-legal (DeclaresOne.chains room e u several few) l =
+      more-chains _ l room (record { command = e; end = _; links = u; several = several; few = few })
+      (omega (arith, links-after u))
+  one-legal (DeclaresOne.caps {n = n} room e) l = more-caps n l
+  one-legal (DeclaresOne.tags e more s) l =
+      record {
+        signals = l .signals;
+        chains = l .chains;
+        fewSignals = l .fewSignals;
+        fewChains = l .fewChains;
+        code = omega (arith, l .code);
+      }
+
+  declares-legal : {at label end : ℕ} {p q : Program} → Declares leastFactor text at label p end q → Legal text at p →
       Legal text end q × (length text ≡ end + 1)
   declares-legal (Declares.ends {at = at} e le) l = (l, omega (arith, command-sound text at _ e))
-  declares-legal (Declares.inputs {p = p} room e r) l = declares-legal r (more-signals _ l room e (omega arith))
-  declares-legal (Declares.equations {p = p} room e u d r) l =
-      declares-legal r (more-signals _ l room (e, _, u, d) (simp length-append (omega (arith, expr-code u))))
-  declares-legal (Declares.chains room e u several few r) l =
-      declares-legal r (more-chains _ l room
-      (record { command = e; end = _; links = u; several = several; few = few }) (omega (arith, links-after u)))
-  declares-legal (Declares.caps {n = n} room e r) l = declares-legal r (more-caps n l)
+  declares-legal (Declares.onward d r) l = declares-legal r (one-legal d l)
 
   none : Legal text 0 empty
   unfolding codes joinFrom
@@ -186,6 +198,31 @@ legal text p e =
     let d = declared leastFactor text p e in
     let l = declares-legal (d .1) none in
     (d .0, l .0, l .1)
+
+-- Labels are numbers of two bytes.
+abbrev Labelled : Signal → Type 0
+Labelled x = x .label < 65536
+
+module _ {text : List ℕ} (bytes : Bytes text) where
+  one-labelled : {at label next given : ℕ} {p q : Program} → DeclaresOne leastFactor text at label p next given q → label < 65536 →
+      All Labelled (p .signals) → (given < 65536) × All Labelled (q .signals)
+  one-labelled (DeclaresOne.inputs {p = p} room e) lt l = (omega arith, all-append Labelled (p .signals) (_ ∷ []) l (lt, tt))
+  one-labelled (DeclaresOne.equations {p = p} room e u d) lt l =
+      (omega arith, all-append Labelled (p .signals) (_ ∷ []) l (lt, tt))
+  one-labelled (DeclaresOne.chains room e u several few) lt l = (omega arith, l)
+  one-labelled (DeclaresOne.caps room e) lt l = (omega arith, l)
+  one-labelled (DeclaresOne.tags {at = at} e more s) lt l =
+      (rw (command-sound text at _ e .0) (two-fits text (at + 1) bytes), l)
+
+  declares-labelled : {at label end : ℕ} {p q : Program} → Declares leastFactor text at label p end q → label < 65536 →
+      All Labelled (p .signals) → All Labelled (q .signals)
+  declares-labelled (Declares.ends e le) lt l = l
+  declares-labelled (Declares.onward d r) lt l = let h = one-labelled d lt l in declares-labelled r (h .0) (h .1)
+
+pub signal-label : (text : List ℕ) (p : Program) → parseProgram text ≡ accepted p → Bytes text → (x : ℕ) → x < count p →
+    signalAt p x .label < 65536
+signal-label text p e bytes x lt =
+    all-at Labelled (p .signals) noSignal (declares-labelled bytes (declared leastFactor text p e .1) (omega arith) tt) x lt
 
 -- The links of a chain stand one after another.
 module _ {text : List ℕ} where

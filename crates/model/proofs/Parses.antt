@@ -9,7 +9,17 @@ use native.Mathlib.Omega.{arith}
 use borrow.Author.Tests.{le-leb, lt-ltb, eq-eqb}
 use lib.ListN.{length}
 use Rattle.model.specs.Command.{keywordAt, commandAt}
-use Rattle.model.specs.Grammar.{depth, Spells, SpellsLinks, Declares, LegalWith, LegalProgram, SpellsPuts, LegalSchedule}
+use Rattle.model.specs.Grammar.{
+  depth,
+  Spells,
+  SpellsLinks,
+  DeclaresOne,
+  Declares,
+  LegalWith,
+  LegalProgram,
+  SpellsPuts,
+  LegalSchedule,
+}
 use Rattle.model.specs.Outcome.{Outcome, accepted, Parsed, parsed}
 use Rattle.model.specs.Program.{
   Expr,
@@ -26,7 +36,6 @@ use Rattle.model.specs.Program.{
   parseProgram,
 }
 use Rattle.model.specs.Schedule.{Put, scheduleCommand, parsePuts, parseSchedule}
-use Rattle.model.specs.Stops.{DeclaresOne}
 use Rattle.model.specs.Width.{readWidth}
 use Rattle.model.specs.Word.{byteAt}
 use Rattle.model.specs.declared.Command.{Command}
@@ -37,7 +46,7 @@ use Rattle.model.proofs.Commands.{command-sound, keyword-of}
 use Rattle.model.proofs.Legal.{links-end}
 use Rattle.model.proofs.Outcomes.{accepted-then, true-provided}
 use Rattle.model.proofs.Puts.{put-sound, puts-spelled}
-use Rattle.model.proofs.Spelled.{declared}
+use Rattle.model.proofs.Spelled.{signal-is, declared}
 
 -- A number with one below it.
 pub one-below : (m d : ℕ) → suc m ≤ d → (e : ℕ) × (d ≡ suc e) × (m ≤ e)
@@ -52,12 +61,12 @@ module _ (least : ℕ) (text : List ℕ) where
   expr-step d at c e here = accepted-then _ _ tt here ∙ ap (node least (λ n. parseExpr least d text n) text at) e
 
   -- A command is judged before its operands are read.
-  pub command-step : (left at : ℕ) (p : Program) (c : Command) → commandAt text at ≡ c →
+  pub command-step : (left at label : ℕ) (p : Program) (c : Command) → commandAt text at ≡ c →
       commandHere text at p (keywordAt text at) ≡ accepted tt →
-      parseCommands least (suc left) text at p ≡ declare least (λ n q. parseCommands least left text n q) text at p c
+      parseCommands least (suc left) text at label p ≡ declare least (λ n l q. parseCommands least left text n l q) text at label p c
   unfolding parseCommands
-  command-step left at p c e here =
-      accepted-then _ _ tt here ∙ ap (declare least (λ n q. parseCommands least left text n q) text at p) e
+  command-step left at label p c e here =
+      accepted-then _ _ tt here ∙ ap (declare least (λ n l q. parseCommands least left text n l q) text at label p) e
 
 module _ {least : ℕ} {text : List ℕ} where
   pub spells-after : {at n : ℕ} {e : Expr} → Spells least text at e n → at < n
@@ -120,57 +129,59 @@ module _ {text : List ℕ} where
 
 module _ {least : ℕ} {text : List ℕ} where
   -- A legal command is read, and reading goes on after it: `left` is enough for the bytes that are left.
-  command-onward : {at next : ℕ} {p q : Program} → DeclaresOne least text at p next q → (left : ℕ) →
-      (at < length text) × (at < next) × (parseCommands least (suc left) text at p ≡ parseCommands least left text next q)
+  command-onward : {at label next given : ℕ} {p q : Program} → DeclaresOne least text at label p next given q → (left : ℕ) →
+      (at < length text) × (at < next) ×
+      (parseCommands least (suc left) text at label p ≡ parseCommands least left text next given q)
   unfolding declare
-  command-onward (DeclaresOne.inputs {at = at} {p = p} room e) left = (
+  command-onward (DeclaresOne.inputs {at = at} {label = label} {p = p} room e) left = (
     omega (arith, command-sound text at _ e .3),
     omega arith,
-    command-step least text left at p _ e (rw (keyword-of text at _ e) (true-provided _ 4 at (lt-ltb _ _ room))),
+    command-step least text left at label p _ e (rw (keyword-of text at _ e) (true-provided _ 4 at (lt-ltb _ _ room))),
   )
-  command-onward (DeclaresOne.equations {at = at} {p = p} room e u d) left = (
+  command-onward (DeclaresOne.equations {at = at} {label = label} {p = p} room e u d) left = (
     omega (arith, command-sound text at _ e .3),
     omega (arith, spells-after u),
-    command-step least text left at p _ e (rw (keyword-of text at _ e) (true-provided _ 4 at (lt-ltb _ _ room))) ∙
+    command-step least text left at label p _ e (rw (keyword-of text at _ e) (true-provided _ 4 at (lt-ltb _ _ room))) ∙
         accepted-then _ _ _ (parse-expr 16 u d),
   )
-  command-onward (DeclaresOne.chains {at = at} {p = p} room e u several few) left = (
+  command-onward (DeclaresOne.chains {at = at} {label = label} {p = p} room e u several few) left = (
     omega (arith, command-sound text at _ e),
     omega (arith, links-end u),
-    command-step least text left at p _ e (rw (keyword-of text at _ e) (true-provided _ 4 at (lt-ltb _ _ room))) ∙
+    command-step least text left at label p _ e (rw (keyword-of text at _ e) (true-provided _ 4 at (lt-ltb _ _ room))) ∙
         accepted-then _ _ _ (parse-links 16 [] u few) ∙
         accepted-then _ _ tt (true-provided _ 5 at (le-leb _ _ several)),
   )
-  command-onward (DeclaresOne.caps {at = at} {p = p} room e) left = (
+  command-onward (DeclaresOne.caps {at = at} {label = label} {p = p} room e) left = (
     omega (arith, command-sound text at _ e),
     omega arith,
-    command-step least text left at p _ e (rw (keyword-of text at _ e, room) (true-provided true 5 at refl)),
+    command-step least text left at label p _ e (rw (keyword-of text at _ e, room) (true-provided true 5 at refl)),
+  )
+  command-onward (DeclaresOne.tags {at = at} {label = label} {p = p} e more s) left = (
+    omega (arith, more),
+    omega arith,
+    command-step least text left at label p _ e (rw (keyword-of text at _ e)) ∙
+        accepted-then _ _ tt (true-provided _ 2 (length text) (lt-ltb _ _ more)) ∙
+        accepted-then _ _ tt (true-provided _ 3 at (signal-is _ .1 s)),
   )
 
-  pub parse-onward : {at next : ℕ} {p q : Program} (o : Outcome Program) → DeclaresOne least text at p next q →
-      ((k : ℕ) → length text ≤ next + k → parseCommands least k text next q ≡ o) → (left : ℕ) → length text ≤ at + left →
-      parseCommands least left text at p ≡ o
+  pub parse-onward : {at label next given : ℕ} {p q : Program} (o : Outcome Program) →
+      DeclaresOne least text at label p next given q →
+      ((k : ℕ) → length text ≤ next + k → parseCommands least k text next given q ≡ o) → (left : ℕ) → length text ≤ at + left →
+      parseCommands least left text at label p ≡ o
   parse-onward o d rest zero enough = let h = command-onward d zero in absurd (omega (arith, h .0))
   parse-onward o d rest (suc left) enough =
       let h = command-onward d left in h .2 ∙ rest left (omega (arith, h .1))
 
   -- Commands that declare a program are read.
-  parse-commands : {at end : ℕ} {p q : Program} → Declares least text at p end q → (left : ℕ) → length text ≤ at + left →
-      parseCommands least left text at p ≡ accepted q
+  parse-commands : {at label end : ℕ} {p q : Program} → Declares least text at label p end q → (left : ℕ) →
+      length text ≤ at + left → parseCommands least left text at label p ≡ accepted q
   unfolding declare
-  parse-commands (Declares.ends {at = at} {p = p} e le) left enough =
+  parse-commands (Declares.ends {at = at} {label = label} {p = p} e le) left enough =
       let q = one-below 0 left (omega (arith, command-sound text at _ e)) in
       rw (q .1)
-      (command-step least text (q .0) at p _ e (rw (keyword-of text at _ e)) ∙
+      (command-step least text (q .0) at label p _ e (rw (keyword-of text at _ e)) ∙
       accepted-then _ _ tt (true-provided _ 6 (at + 1) (le-leb _ _ le)))
-  parse-commands (Declares.inputs room e r) left enough =
-      parse-onward _ (DeclaresOne.inputs room e) (λ k l. parse-commands r k l) left enough
-  parse-commands (Declares.equations room e u d r) left enough =
-      parse-onward _ (DeclaresOne.equations room e u d) (λ k l. parse-commands r k l) left enough
-  parse-commands (Declares.chains room e u several few r) left enough =
-      parse-onward _ (DeclaresOne.chains room e u several few) (λ k l. parse-commands r k l) left enough
-  parse-commands (Declares.caps room e r) left enough =
-      parse-onward _ (DeclaresOne.caps room e) (λ k l. parse-commands r k l) left enough
+  parse-commands (Declares.onward d r) left enough = parse-onward _ d (λ k l. parse-commands r k l) left enough
 
 module _ {text : List ℕ} where
   -- PUTs that are spelled are read.

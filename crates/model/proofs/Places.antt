@@ -76,7 +76,7 @@ module _ (text : List ℕ) where
   links-inside le (StopsLinks.cut e lt) = omega arith
   links-inside le (StopsLinks.link e next s) = links-inside next s
 
-  commands-inside : {at n x : ℕ} {p : Program} → Stops leastFactor text at p n x → x ≤ length text
+  commands-inside : {at label n x : ℕ} {p : Program} → Stops leastFactor text at label p n x → x ≤ length text
   commands-inside (Stops.onward d s) = commands-inside s
   commands-inside (Stops.early le) = omega arith
   commands-inside (Stops.unknown lt u) = omega arith
@@ -89,6 +89,8 @@ module _ (text : List ℕ) where
   commands-inside (Stops.links {at = at} room e s) = links-inside (command-sound text at _ e) s
   commands-inside (Stops.short {at = at} room e u lt) = omega (arith, command-sound text at _ e)
   commands-inside (Stops.trailing e lt) = omega arith
+  commands-inside (Stops.tagsEnd e le) = omega arith
+  commands-inside (Stops.tagsOther e lt u) = omega arith
 
   puts-inside : {at x : ℕ} → StopsPuts text at x → x ≤ length text
   puts-inside (StopsPuts.onward e s) = puts-inside s

@@ -5,17 +5,17 @@ use mathlib.Core.List.{List, [], _∷_, _++_, map, map-append}
 use mathlib.Core.Logic.{_↔_, _⊎_, inl, inr}
 use mathlib.Core.Path.{_≡_, refl, sym, ap, ap₂, subst, _∙_}
 use native.Mathlib.Omega.{arith}
-use borrow.Author.Tests.{eqb-true, eqb-false, eq-eqb, le-ltb, le-leb}
-use lib.Dec.{eqb}
+use borrow.Author.Tests.{ltb-true, ltb-false, eqb-true, eqb-false, eq-eqb, le-ltb, le-leb}
+use lib.Dec.{ltb, eqb}
 use lib.IntN.{ℤ}
-use lib.ListN.{length, getD, take, drop, length-append, length-drop, length-map, List·getD-append}
+use lib.ListN.{length, getD, take, drop, length-append, length-drop, length-map, List·getD-append, List·getD-eq-default}
 use lib.Seq.{drop-drop, drop-append-seam, getD-drop, getD-take, length-take-le}
 use Rattle.model.specs.Accepted.{All}
 use Rattle.model.specs.Command.{keywordAt, commandOf, commandAt}
 use Rattle.model.specs.Compile.{Pair, pairOf, verdictOf}
 use Rattle.model.specs.Conditions.{LegalPairWith, LegalPair}
 use Rattle.model.specs.Convert.{isSingle, singleKind, mapExpr, mapSignal, mapLink, mapChain, bareRead, bare, Renamed}
-use Rattle.model.specs.Grammar.{depth, Spells, SpellsLinks, Declares, LegalWith, LegalProgram}
+use Rattle.model.specs.Grammar.{depth, Spells, SpellsLinks, IsSignal, DeclaresOne, Declares, LegalWith, LegalProgram}
 use Rattle.model.specs.Program.{
   leastFactor,
   Program,
@@ -82,6 +82,7 @@ written-inside (Written.equation h b r) = (h, omega arith)
 written-inside (Written.latency h b r) = (h, omega arith)
 written-inside (Written.link h b) = (h, omega arith)
 written-inside (Written.cap h b) = (h, omega arith)
+written-inside (Written.tag h b) = (h, omega arith)
 written-inside (Written.constant h b) = (h, omega arith)
 written-inside (Written.plain kind e h b) = (omega arith, width-some kind)
 written-inside (Written.sampled kind e h b r i) = (omega arith, width-some kind)
@@ -107,6 +108,7 @@ after-shorter (Command.Equation period initial weight) bytes h = h
 after-shorter (Command.Latency mode bound) bytes h = h
 after-shorter (Command.Link signal) bytes h = h
 after-shorter (Command.Cap n) bytes h = h
+after-shorter (Command.Tag label) bytes h = h
 after-shorter (Command.Constant w) bytes h = h
 after-shorter (Command.Read kind x) bytes h = go (eqb (x .factor) 1)
   where
@@ -152,6 +154,17 @@ AllowedIn p = All (λ x. All AllowedRead (bodyReads (x .body))) (p .signals)
 
 allowed-signal : (p : Program) (x : Signal) → AllowedIn p → All AllowedRead (bodyReads (x .body)) → AllowedIn (withSignal p x)
 allowed-signal p x h g = all-append (λ x. All AllowedRead (bodyReads (x .body))) (p .signals) (x ∷ []) h (g, tt)
+
+signal-inside : (text : List ℕ) (at : ℕ) → IsSignal (byteAt text at) → at < length text
+signal-inside text at signal = go (ltb at (length text)) refl
+  where
+    none : byteAt text at ≡ 0 → IsSignal (byteAt text at) → ⊥
+    none e (inl b) = omega arith
+    none e (inr b) = omega arith
+
+    go : (b : Bool) → ltb at (length text) ≡ b → at < length text
+    go true e = ltb-true _ _ e
+    go false e = absurd (none (List·getD-eq-default text 0 (ltb-false _ _ e)) signal)
 
 -- What programs that are the same up to places and the conversion share.
 module _ (p p′ : Program) where
@@ -242,6 +255,8 @@ module _ (text new : List ℕ) where
       rw (← c .bytes 1 (omega arith)) (Written.link (c .inside) (first-copied c (omega arith) ∙ b))
   written-copied (Written.cap h b) c =
       rw (← four-copied c 1 (omega arith)) (Written.cap (c .inside) (first-copied c (omega arith) ∙ b))
+  written-copied (Written.tag h b) c =
+      rw (← two-copied c 1 (omega arith)) (Written.tag (c .inside) (first-copied c (omega arith) ∙ b))
   written-copied (Written.constant h b) c =
       rw (← word-copied c 1 (omega arith)) (Written.constant (c .inside) (first-copied c (omega arith) ∙ b))
   written-copied (Written.plain kind e h b) c =
@@ -532,16 +547,17 @@ module _ (text new : List ℕ) where
   links-move (SpellsLinks.link e le r) f = link-moves _ _ _ e le (links-move r f)
 
   -- The commands from `at′` on declare, after p′, the same program.
-  pub record DeclaresMoved (p′ q : Program) (at′ : ℕ) : Type 0 where
+  pub record DeclaresMoved (p′ q : Program) (at′ label : ℕ) : Type 0 where
     pub program : Program
     pub end : ℕ
-    pub declares : Declares leastFactor new at′ p′ end program
+    pub declares : Declares leastFactor new at′ label p′ end program
     pub same : bare q ≡ bare program
     pub allowed : AllowedIn program
     pub short : length new ≤ length text
 
-  abbrev Declaring : (at : ℕ) (p q : Program) → Type 0
-  Declaring at p q = (at′ : ℕ) (p′ : Program) → bare p ≡ bare p′ → AllowedIn p′ → Stands at at′ → DeclaresMoved p′ q at′
+  abbrev Declaring : (at label : ℕ) (p q : Program) → Type 0
+  Declaring at label p q =
+      (at′ : ℕ) (p′ : Program) → bare p ≡ bare p′ → AllowedIn p′ → Stands at at′ → DeclaresMoved p′ q at′ label
 
   -- Nothing stands after the text.
   none-after : (left at : ℕ) → length text ≤ at → rewriteFrom left text at ≡ []
@@ -549,8 +565,8 @@ module _ (text new : List ℕ) where
   none-after zero at le = refl
   none-after (suc left) at le = rw (le-ltb at (length text) le) (none-after left (at + 0) (omega arith))
 
-  end-moves : (at : ℕ) (p : Program) → commandAt text at ≡ Command.End → length text ≤ at + 1 → Declaring at p p
-  end-moves at p e le at′ p′ same allowed s =
+  end-moves : (at label : ℕ) (p : Program) → commandAt text at ≡ Command.End → length text ≤ at + 1 → Declaring at label p p
+  end-moves at label p e le at′ p′ same allowed s =
       let k = kept Command.End e tt (λ bytes. refl) s in
       let n = k .next in
       let g : length new ≤ at′ + 1 =
@@ -564,54 +580,57 @@ module _ (text new : List ℕ) where
         short = omega (arith, s .shorter, written-inside (command-written text at Command.End .0 (e, tt)) .0);
       }
 
-  input-moves : (at period : ℕ) (initial : ℤ) (p q : Program) → count p < 64 →
+  input-moves : (at label period : ℕ) (initial : ℤ) (p q : Program) → count p < 64 →
       commandAt text at ≡ Command.Input period initial →
-      Declaring (at + 6) (withSignal p (record { place = at; period = period; initial = initial; body = input })) q →
-      Declaring at p q
-  input-moves at period initial p q room e f at′ p′ same allowed s =
+      Declaring (at + 6) 0
+      (withSignal p (record { place = at; period = period; initial = initial; body = input; label = label })) q →
+      Declaring at label p q
+  input-moves at label period initial p q room e f at′ p′ same allowed s =
       let k = kept (Command.Input period initial) e tt (λ bytes. refl) s in
       let fits : count p′ < 64 = omega (arith, count-same p p′ same) in
-      let x′ : Signal = record { place = at′; period = period; initial = initial; body = input } in
+      let x′ : Signal = record { place = at′; period = period; initial = initial; body = input; label = label } in
       let m =
       f (at′ + 6) (withSignal p′ x′) (signal-same p p′ _ x′ same refl) (allowed-signal p′ x′ allowed tt) (k .next) in
       record {
         program = m .program;
         end = m .end;
-        declares = Declares.inputs fits (k .here) (m .declares);
+        declares = Declares.onward (DeclaresOne.inputs fits (k .here)) (m .declares);
         same = m .same;
         allowed = m .allowed;
         short = m .short;
       }
 
-  equation-moves : (at next period weight : ℕ) (initial : ℤ) (x : Expr) (p q : Program) → count p < 64 →
+  equation-moves : (at label next period weight : ℕ) (initial : ℤ) (x : Expr) (p q : Program) → count p < 64 →
       commandAt text at ≡ Command.Equation period initial weight → Moves (at + 8) x next → depth x ≤ 16 →
-      Declaring next (withSignal p (record { place = at; period = period; initial = initial; body = equation weight x })) q →
-      Declaring at p q
-  equation-moves at next period weight initial x p q room e g deep f at′ p′ same allowed s =
+      Declaring next 0
+      (withSignal p (record { place = at; period = period; initial = initial; body = equation weight x; label = label })) q →
+      Declaring at label p q
+  equation-moves at label next period weight initial x p q room e g deep f at′ p′ same allowed s =
       let k = kept (Command.Equation period initial weight) e tt (λ bytes. refl) s in
       let a = g (at′ + 8) (k .next) in
       let fits : count p′ < 64 = omega (arith, count-same p p′ same) in
-      let x′ : Signal = record { place = at′; period = period; initial = initial; body = equation weight (a .expr) } in
-      let eq : mapSignal bareRead (λ at. 0) (record { place = at; period = period; initial = initial; body = equation weight x }) ≡
+      let x′ : Signal = record { place = at′; period = period; initial = initial; body = equation weight (a .expr); label = label } in
+      let eq : mapSignal bareRead (λ at. 0) (record { place = at; period = period; initial = initial; body = equation weight x; label = label }) ≡
       mapSignal bareRead (λ at. 0) x′ =
-      ap (λ b. record { place = 0; period = period; initial = initial; body = equation weight b }) (a .same) in
+      ap (λ b. record { place = 0; period = period; initial = initial; body = equation weight b; label = label }) (a .same) in
       let m =
       f (a .end) (withSignal p′ x′) (signal-same p p′ _ x′ same eq) (allowed-signal p′ x′ allowed (a .allowed)) (a .onward) in
       record {
         program = m .program;
         end = m .end;
         declares =
-            Declares.equations fits (k .here) (a .spells) (omega (arith, depth-same x (a .expr) (a .same))) (m .declares);
+            Declares.onward
+            (DeclaresOne.equations fits (k .here) (a .spells) (omega (arith, depth-same x (a .expr) (a .same)))) (m .declares);
         same = m .same;
         allowed = m .allowed;
         short = m .short;
       }
 
-  chain-moves : (at next bound : ℕ) (mode : Mode) (ls : List Link) (p q : Program) → length (p .chains) < 16 →
+  chain-moves : (at label next bound : ℕ) (mode : Mode) (ls : List Link) (p q : Program) → length (p .chains) < 16 →
       commandAt text at ≡ Command.Latency mode bound → ((b : ℕ) → Stands (at + 4) b → LinksMoved ls next b) → 2 ≤ length ls →
-      length ls ≤ 16 → Declaring next (withChain p (record { place = at; mode = mode; bound = bound; links = ls })) q →
-      Declaring at p q
-  chain-moves at next bound mode ls p q room e g low high f at′ p′ same allowed s =
+      length ls ≤ 16 → Declaring next 0 (withChain p (record { place = at; mode = mode; bound = bound; links = ls })) q →
+      Declaring at label p q
+  chain-moves at label next bound mode ls p q room e g low high f at′ p′ same allowed s =
       let k = kept (Command.Latency mode bound) e tt (λ bytes. refl) s in
       let a = g (at′ + 4) (k .next) in
       let fits : length (p′ .chains) < 16 = omega (arith, chains-same p p′ same) in
@@ -626,42 +645,67 @@ module _ (text new : List ℕ) where
         program = m .program;
         end = m .end;
         declares =
-            Declares.chains fits (k .here) (a .spells) (omega arith) (omega arith) (m .declares);
+            Declares.onward (DeclaresOne.chains fits (k .here) (a .spells) (omega arith) (omega arith)) (m .declares);
         same = m .same;
         allowed = m .allowed;
         short = m .short;
       }
 
-  cap-moves : (at n : ℕ) (p q : Program) → p .cap ≡ unlimited → commandAt text at ≡ Command.Cap n →
-      Declaring (at + 5) (withCap p n) q → Declaring at p q
-  cap-moves at n p q room e f at′ p′ same allowed s =
+  cap-moves : (at label n : ℕ) (p q : Program) → p .cap ≡ unlimited → commandAt text at ≡ Command.Cap n →
+      Declaring (at + 5) 0 (withCap p n) q → Declaring at label p q
+  cap-moves at label n p q room e f at′ p′ same allowed s =
       let k = kept (Command.Cap n) e tt (λ bytes. refl) s in
       let m = f (at′ + 5) (withCap p′ n) (ap (λ b. withCap b n) same) allowed (k .next) in
       record {
         program = m .program;
         end = m .end;
-        declares = Declares.caps (sym (ap (λ b. b .cap) same) ∙ room) (k .here) (m .declares);
+        declares = Declares.onward (DeclaresOne.caps (sym (ap (λ b. b .cap) same) ∙ room) (k .here)) (m .declares);
+        same = m .same;
+        allowed = m .allowed;
+        short = m .short;
+      }
+
+  -- A TAG stands where it stood, and IN or EQ after it.
+  tag-moves : (at label given : ℕ) (p q : Program) → commandAt text at ≡ Command.Tag given → IsSignal (byteAt text (at + 3)) →
+      Follows (at + 3) → Declaring (at + 3) given p q → Declaring at label p q
+  tag-moves at label given p q e signal follows f at′ p′ same allowed s =
+      let k = kept (Command.Tag given) e tt (λ bytes. refl) s in
+      let stays = follows (at′ + 3) (k .next) in
+      let m = f (at′ + 3) p′ same allowed (k .next) in
+      let here : IsSignal (byteAt new (at′ + 3)) = rw stays signal in
+      record {
+        program = m .program;
+        end = m .end;
+        declares = Declares.onward (DeclaresOne.tags (k .here) (signal-inside new (at′ + 3) here) here) (m .declares);
         same = m .same;
         allowed = m .allowed;
         short = m .short;
       }
 
   -- A declaration keeps its first byte, so that a chain ends where it ended.
-  declares-follows : {at end : ℕ} {p q : Program} → Declares 1 text at p end q → Follows at
-  declares-follows (Declares.ends e le) b s = kept Command.End e tt (λ bytes. refl) s .first
-  declares-follows (Declares.inputs room e r) b s = kept (Command.Input _ _) e tt (λ bytes. refl) s .first
-  declares-follows (Declares.equations room e x deep r) b s = kept (Command.Equation _ _ _) e tt (λ bytes. refl) s .first
-  declares-follows (Declares.chains room e l low high r) b s = kept (Command.Latency _ _) e tt (λ bytes. refl) s .first
-  declares-follows (Declares.caps room e r) b s = kept (Command.Cap _) e tt (λ bytes. refl) s .first
+  one-follows : {at label next given : ℕ} {p q : Program} → DeclaresOne 1 text at label p next given q → Follows at
+  one-follows (DeclaresOne.inputs room e) b s = kept (Command.Input _ _) e tt (λ bytes. refl) s .first
+  one-follows (DeclaresOne.equations room e x deep) b s = kept (Command.Equation _ _ _) e tt (λ bytes. refl) s .first
+  one-follows (DeclaresOne.chains room e l low high) b s = kept (Command.Latency _ _) e tt (λ bytes. refl) s .first
+  one-follows (DeclaresOne.caps room e) b s = kept (Command.Cap _) e tt (λ bytes. refl) s .first
+  one-follows (DeclaresOne.tags e more signal) b s = kept (Command.Tag _) e tt (λ bytes. refl) s .first
 
-  declares-moves : {at end : ℕ} {p q : Program} → Declares 1 text at p end q → Declaring at p q
-  declares-moves (Declares.ends e le) = end-moves _ _ e le
-  declares-moves (Declares.inputs {p = p} room e r) = input-moves _ _ _ p _ room e (declares-moves r)
-  declares-moves (Declares.equations {p = p} room e x deep r) =
-      equation-moves _ _ _ _ _ _ p _ room e (expr-moves x) deep (declares-moves r)
-  declares-moves (Declares.chains {p = p} room e l low high r) =
-      chain-moves _ _ _ _ _ p _ room e (links-move l (declares-follows r)) low high (declares-moves r)
-  declares-moves (Declares.caps {p = p} room e r) = cap-moves _ _ p _ room e (declares-moves r)
+  declares-follows : {at label end : ℕ} {p q : Program} → Declares 1 text at label p end q → Follows at
+  declares-follows (Declares.ends e le) b s = kept Command.End e tt (λ bytes. refl) s .first
+  declares-follows (Declares.onward d r) b s = one-follows d b s
+
+  declared-moves : {at label next given : ℕ} {p r : Program} (q : Program) → DeclaresOne 1 text at label p next given r → Follows next →
+      Declaring next given r q → Declaring at label p q
+  declared-moves q (DeclaresOne.inputs {p = p} room e) follows r = input-moves _ _ _ _ p q room e r
+  declared-moves q (DeclaresOne.equations {p = p} room e x deep) follows r = equation-moves _ _ _ _ _ _ _ p q room e (expr-moves x) deep r
+  declared-moves q (DeclaresOne.chains {p = p} room e l low high) follows r =
+      chain-moves _ _ _ _ _ _ p q room e (links-move l follows) low high r
+  declared-moves q (DeclaresOne.caps {p = p} room e) follows r = cap-moves _ _ _ p q room e r
+  declared-moves q (DeclaresOne.tags {p = p} e more signal) follows r = tag-moves _ _ _ p q e signal follows r
+
+  declares-moves : {at label end : ℕ} {p q : Program} → Declares 1 text at label p end q → Declaring at label p q
+  declares-moves (Declares.ends e le) = end-moves _ _ _ e le
+  declares-moves (Declares.onward {r = q} d r) = declared-moves q d (declares-follows r) (declares-moves r)
 
 -- A legal text, rewritten.
 pub record Rewritten (text : List ℕ) (p : Program) : Type 0 where

@@ -1,27 +1,23 @@
 -- What the parser accepts is spelled as the grammar says: inductions over an accepted text go by its relations.
 -- Assumes nothing.
 use Prim.Native.Nat.{ℕ, zero, suc, _+_, _≤_, _<_}
-use mathlib.Core.Bool.{Bool, true, false, false≢true}
+use mathlib.Core.Bool.{Bool, true, false, _||_, false≢true}
 use mathlib.Core.List.{List, [], _∷_, _++_, append-assoc, append-nil}
+use mathlib.Core.Logic.{_↔_, inl, inr}
 use mathlib.Core.Path.{_≡_, refl, sym, subst, _∙_}
 use native.Mathlib.Omega.{arith}
 use borrow.Author.Tests.{leb-true, ltb-true, eqb-true}
-use lib.Dec.{leb, eqb}
+use lib.Dec.{leb, ltb, eqb}
 use lib.ListN.{length}
 use Rattle.model.specs.Command.{keywordAt, commandAt}
-pub use Rattle.model.specs.Grammar.{Spells, SpellsLinks, Declares}
+pub use Rattle.model.specs.Grammar.{Spells, SpellsLinks, IsSignal, DeclaresOne, Declares}
 use Rattle.model.specs.Outcome.{Outcome, accepted, refuse, _▷_, provided, Parsed, parsed}
 use Rattle.model.specs.Program.{
   Read,
   Expr,
-  input,
-  equation,
   Link,
   Program,
   empty,
-  withSignal,
-  withChain,
-  withCap,
   Limit,
   unlimited,
   limit,
@@ -30,6 +26,7 @@ use Rattle.model.specs.Program.{
   node,
   parseExpr,
   parseLinks,
+  isSignal,
   declare,
   isUnlimited,
   commandHere,
@@ -58,6 +55,19 @@ use Rattle.model.proofs.Outcomes.{
   accepted≢refused,
 }
 
+-- IN or EQ, as a test.
+pub signal-is : (b : ℕ) → (isSignal b ≡ true) ↔ IsSignal b
+signal-is b = (go (eqb b 0x10) (eqb b 0x11) refl refl, back)
+  where
+    go : (i e : Bool) → eqb b 0x10 ≡ i → eqb b 0x11 ≡ e → i || e ≡ true → IsSignal b
+    go true e f g t = inl (eqb-true b 0x10 f)
+    go false true f g t = inr (eqb-true b 0x11 g)
+    go false false f g t = absurd (false≢true t)
+
+    back : IsSignal b → isSignal b ≡ true
+    back (inl h) = rw h
+    back (inr h) = rw h
+
 no-limit : (l : Limit) → isUnlimited l ≡ true → l ≡ unlimited
 no-limit unlimited e = refl
 no-limit (limit n) e = absurd (false≢true e)
@@ -73,6 +83,7 @@ module _ (p : Program) where
   RoomFor Keyword.Latency = length (p .chains) < 16
   RoomFor Keyword.Link = Unit {0}
   RoomFor Keyword.Cap = p .cap ≡ unlimited
+  RoomFor Keyword.Tag = Unit {0}
   RoomFor Keyword.Constant = Unit {0}
   RoomFor (Keyword.Read kind) = Unit {0}
   RoomFor (Keyword.Binary operator) = Unit {0}
@@ -85,6 +96,7 @@ module _ (p : Program) where
   room-for (HasRoom.equation h) = h
   room-for (HasRoom.latency h) = h
   room-for (HasRoom.cap h) = h
+  room-for HasRoom.tag = tt
 
   pub room-of : {k : Keyword} (j : Keyword) → k ≡ j → HasRoom p k → RoomFor j
   room-of j e r = subst RoomFor e (room-for r)
@@ -99,6 +111,7 @@ module _ (p : Program) where
   here-room text at Keyword.Latency e = HasRoom.latency (ltb-true _ _ (provided-true _ 4 at e))
   here-room text at Keyword.Link e = absurd (accepted≢refused _ tt _ e refl)
   here-room text at Keyword.Cap e = HasRoom.cap (no-limit (p .cap) (provided-true _ 5 at e))
+  here-room text at Keyword.Tag e = HasRoom.tag
   here-room text at Keyword.Constant e = absurd (accepted≢refused _ tt _ e refl)
   here-room text at (Keyword.Read kind) e = absurd (accepted≢refused _ tt _ e refl)
   here-room text at (Keyword.Binary operator) e = absurd (accepted≢refused _ tt _ e refl)
@@ -122,6 +135,7 @@ module _ (least : ℕ) (text : List ℕ) where
   reads-node d sub h at (Command.Latency mode bound) e = tt
   reads-node d sub h at (Command.Link signal) e = tt
   reads-node d sub h at (Command.Cap n) e = tt
+  reads-node d sub h at (Command.Tag label) e = tt
   reads-node d sub h at (Command.Constant w) e = (Spells.constants e, omega arith)
   reads-node d sub h at (Command.Read kind x) e =
       holds-provided (Reads (suc d) at) (isAllowed least kind x) 5 at _ (λ t. (Spells.reads e t, omega arith))
@@ -198,61 +212,66 @@ module _ (least : ℕ) (text : List ℕ) where
       let h = holds-value (ReadsLinks room at []) (parseLinks room text at []) o (reads-links room at []) e in
       (rw (h .1) (h .2), rw (h .1) (h .3))
 
-  abbrev Ended : ℕ → Program → Program → Type 0
-  Ended at p q = (end : ℕ) × Declares least text at p end q
+  abbrev Ended : ℕ → ℕ → Program → Program → Type 0
+  Ended at label p q = (end : ℕ) × Declares least text at label p end q
 
   -- The commands after this one are read by `next`.
   module _
-      (next : ℕ → Program → Outcome Program)
-      (h : (a : ℕ) (p : Program) → Holds (Ended a p) (next a p))
-      (at : ℕ)
+      (next : ℕ → ℕ → Program → Outcome Program)
+      (h : (a l : ℕ) (p : Program) → Holds (Ended a l p) (next a l p))
+      (at label : ℕ)
       (p : Program)
     where
-      onward : (a : ℕ) (r : Program) → ((end : ℕ) (q : Program) → Declares least text a r end q → Declares least text at p end q) →
-          Holds (Ended at p) (next a r)
-      onward a r g = holds-map (Ended a r) (Ended at p) (next a r) (λ q x. (x .0, g (x .0) q (x .1))) (h a r)
+      onward : {a l : ℕ} {r : Program} → DeclaresOne least text at label p a l r → Holds (Ended at label p) (next a l r)
+      onward {a} {l} {r} d =
+          holds-map (Ended a l r) (Ended at label p) (next a l r) (λ q x. (x .0, Declares.onward d (x .1))) (h a l r)
 
-      declares : (c : Command) → commandAt text at ≡ c → HasRoom p (keywordAt text at) → Holds (Ended at p) (declare least next text at p c)
+      declares : (c : Command) → commandAt text at ≡ c → HasRoom p (keywordAt text at) →
+          Holds (Ended at label p) (declare least next text at label p c)
       unfolding declare
       declares Command.EndsEarly e room = tt
       declares Command.Unknown e room = tt
       declares Command.OutOfRange e room = tt
       declares Command.End e room =
-          holds-provided (Ended at p) (leb (length text) (at + 1)) 6 (at + 1) (accepted p) (λ t. (at, Declares.ends e (leb-true _ _ t)))
+          holds-provided (Ended at label p) (leb (length text) (at + 1)) 6 (at + 1) (accepted p) (λ t.
+          (at, Declares.ends e (leb-true _ _ t)))
       declares (Command.Input period initial) e room =
-          onward (at + 6) (withSignal p (record { place = at; period = period; initial = initial; body = input }))
-          (λ end q r. Declares.inputs (room-of p _ (keyword-of text at _ e) room) e r)
+          onward (DeclaresOne.inputs (room-of p _ (keyword-of text at _ e) room) e)
       declares (Command.Equation period initial weight) e room =
-          holds-then (Reads 16 (at + inProgram 0x11)) (Ended at p) (parseExpr least 16 text (at + inProgram 0x11)) _
+          holds-then (Reads 16 (at + inProgram 0x11)) (Ended at label p) (parseExpr least 16 text (at + inProgram 0x11)) _
           (reads-expr 16 (at + inProgram 0x11)) (λ x u.
-          onward (x .next)
-          (withSignal p (record { place = at; period = period; initial = initial; body = equation weight (x .value) }))
-          (λ end q r. Declares.equations (room-of p _ (keyword-of text at _ e) room) e (u .0) (u .1) r))
+          onward (DeclaresOne.equations (room-of p _ (keyword-of text at _ e) room) e (u .0) (u .1)))
       declares (Command.Latency mode bound) e room =
-          holds-then (ReadsLinks 16 (at + 4) []) (Ended at p) (parseLinks 16 text (at + 4) []) _
+          holds-then (ReadsLinks 16 (at + 4) []) (Ended at label p) (parseLinks 16 text (at + 4) []) _
           (reads-links 16 (at + 4) []) (λ x u.
-          holds-provided (Ended at p) (leb 2 (length (x .value))) 5 at _ (λ t.
-          onward (x .next) (withChain p (record { place = at; mode = mode; bound = bound; links = x .value }))
-          (λ end q r. Declares.chains (room-of p _ (keyword-of text at _ e) room) e (rw (u .1) (u .2)) (leb-true 2 (length (x .value)) t) (rw (u .1) (u .3)) r)))
+          holds-provided (Ended at label p) (leb 2 (length (x .value))) 5 at _ (λ t.
+          onward
+          (DeclaresOne.chains (room-of p _ (keyword-of text at _ e) room) e (rw (u .1) (u .2))
+          (leb-true 2 (length (x .value)) t) (rw (u .1) (u .3)))))
       declares (Command.Link signal) e room = tt
-      declares (Command.Cap n) e room = onward (at + 5) (withCap p n) (λ end q r. Declares.caps (room-of p _ (keyword-of text at _ e) room) e r)
+      declares (Command.Cap n) e room = onward (DeclaresOne.caps (room-of p _ (keyword-of text at _ e) room) e)
+      declares (Command.Tag given) e room =
+          let next = at + inProgram 0x15 in
+          holds-provided (Ended at label p) (ltb next (length text)) 2 (length text) _ (λ t.
+          holds-provided (Ended at label p) (isSignal (byteAt text next)) 3 at _ (λ u.
+          onward (DeclaresOne.tags e (ltb-true next (length text) t) (signal-is (byteAt text next) .0 u))))
       declares (Command.Constant w) e room = tt
       declares (Command.Read kind x) e room = tt
       declares (Command.Binary operator) e room = tt
       declares Command.Negate e room = tt
       declares Command.If e room = tt
 
-  declares-commands : (left at : ℕ) (p : Program) → Holds (Ended at p) (parseCommands least left text at p)
+  declares-commands : (left at label : ℕ) (p : Program) → Holds (Ended at label p) (parseCommands least left text at label p)
   unfolding parseCommands commandAt
-  declares-commands zero at p = tt
-  declares-commands (suc left) at p =
+  declares-commands zero at label p = tt
+  declares-commands (suc left) at label p =
       let here = commandHere text at p (keywordAt text at) in
-      holds-then (λ u. here ≡ accepted u) (Ended at p) here _ (value-holds here) (λ u e.
-      declares (λ n q. parseCommands least left text n q) (λ a q. declares-commands left a q) at p (commandAt text at) refl
+      holds-then (λ u. here ≡ accepted u) (Ended at label p) here _ (value-holds here) (λ u e.
+      declares (λ n l q. parseCommands least left text n l q) (λ a l q. declares-commands left a l q) at label p (commandAt text at) refl
       (here-room p text at (keywordAt text at) e))
 
   -- An accepted text declares its program.
-  pub declared : (p : Program) → parseWith least text ≡ accepted p → (end : ℕ) × Declares least text 0 empty end p
+  pub declared : (p : Program) → parseWith least text ≡ accepted p → (end : ℕ) × Declares least text 0 0 empty end p
   unfolding parseWith
   declared p e =
-      holds-value (Ended 0 empty) (parseCommands least (length text) text 0 empty) p (declares-commands (length text) 0 empty) e
+      holds-value (Ended 0 0 empty) (parseCommands least (length text) text 0 0 empty) p (declares-commands (length text) 0 0 empty) e

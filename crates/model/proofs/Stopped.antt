@@ -10,6 +10,7 @@ use borrow.Author.Tests.{leb-true, leb-false, ltb-true, ltb-false, le-leb, lt-le
 use lib.Dec.{leb, ltb, eqb}
 use lib.ListN.{length}
 use Rattle.model.specs.Command.{operatorOf, keywordOf, keywordAt, commandAt}
+use Rattle.model.specs.Grammar.{IsSignal, DeclaresOne}
 use Rattle.model.specs.Outcome.{Outcome, accepted, refused, refuse, fault, _▷_, provided, Parsed, parsed}
 use Rattle.model.specs.Program.{
   leastFactor,
@@ -26,6 +27,7 @@ use Rattle.model.specs.Program.{
   parseExpr,
   parseLinks,
   declare,
+  isSignal,
   isUnlimited,
   commandHere,
   parseCommands,
@@ -42,7 +44,6 @@ use Rattle.model.specs.Stops.{
   StopsExpr,
   StopsLinks,
   HasRoom,
-  DeclaresOne,
   Stops,
   StopsPuts,
 }
@@ -68,7 +69,7 @@ use Rattle.model.proofs.Outcomes.{
 }
 use Rattle.model.proofs.Parses.{expr-step, command-step, spells-after, parse-expr, parse-links, parse-onward}
 use Rattle.model.proofs.Puts.{put-sound}
-use Rattle.model.proofs.Spelled.{spelled, links-spelled, RoomFor, room-of, here-room}
+use Rattle.model.proofs.Spelled.{signal-is, spelled, links-spelled, RoomFor, room-of, here-room}
 
 -- What holds of a refusal, where there is one.
 abbrev pub Refuses : {A : Type 0} → (ℕ → ℕ → Type 0) → Outcome A → Type 0
@@ -105,6 +106,7 @@ Present Keyword.Equation = Unit {0}
 Present Keyword.Latency = Unit {0}
 Present Keyword.Link = Unit {0}
 Present Keyword.Cap = Unit {0}
+Present Keyword.Tag = Unit {0}
 Present Keyword.Constant = Unit {0}
 Present (Keyword.Read kind) = Unit {0}
 Present (Keyword.Binary operator) = Unit {0}
@@ -147,7 +149,8 @@ module _ (Q : Keyword → Type 0) where
         (either (eqb b 0x12) _ _ (all _ tt)
         (either (eqb b 0x13) _ _ (all _ tt)
         (either (eqb b 0x14) _ _ (all _ tt)
-        (operator-all b))))))
+        (either (eqb b 0x15) _ _ (all _ tt)
+        (operator-all b)))))))
 
 keyword-present : (b : ℕ) → Present (keywordOf b)
 keyword-present = keyword-all Present (λ k h. h)
@@ -188,6 +191,7 @@ Operator Keyword.Equation = ⊥
 Operator Keyword.Latency = ⊥
 Operator Keyword.Link = ⊥
 Operator Keyword.Cap = ⊥
+Operator Keyword.Tag = ⊥
 Operator Keyword.Constant = Unit {0}
 Operator (Keyword.Read kind) = Unit {0}
 Operator (Keyword.Binary operator) = Unit {0}
@@ -217,6 +221,7 @@ module _ (least : ℕ) (text : List ℕ) where
   here-stops d at Keyword.Latency e = StopsExpr.unknown (keyword-inside text at (rw e tt)) (not-operator _ e (λ h. h))
   here-stops d at Keyword.Link e = StopsExpr.unknown (keyword-inside text at (rw e tt)) (not-operator _ e (λ h. h))
   here-stops d at Keyword.Cap e = StopsExpr.unknown (keyword-inside text at (rw e tt)) (not-operator _ e (λ h. h))
+  here-stops d at Keyword.Tag e = StopsExpr.unknown (keyword-inside text at (rw e tt)) (not-operator _ e (λ h. h))
   here-stops d at Keyword.Constant e = tt
   here-stops d at (Keyword.Read kind) e = tt
   here-stops d at (Keyword.Binary operator) e = tt
@@ -232,6 +237,7 @@ module _ (least : ℕ) (text : List ℕ) where
   here-operator at Keyword.Latency e = absurd (accepted≢refused _ tt _ e refl)
   here-operator at Keyword.Link e = absurd (accepted≢refused _ tt _ e refl)
   here-operator at Keyword.Cap e = absurd (accepted≢refused _ tt _ e refl)
+  here-operator at Keyword.Tag e = absurd (accepted≢refused _ tt _ e refl)
   here-operator at Keyword.Constant e = IsOperator.constant
   here-operator at (Keyword.Read kind) e = IsOperator.read
   here-operator at (Keyword.Binary operator) e = IsOperator.binary
@@ -263,6 +269,7 @@ module _ (least : ℕ) (text : List ℕ) where
       node-stops (Command.Latency mode bound) e i = absurd (not-operator _ (keyword-of text at _ e) (λ h. h) i)
       node-stops (Command.Link signal) e i = absurd (not-operator _ (keyword-of text at _ e) (λ h. h) i)
       node-stops (Command.Cap n) e i = absurd (not-operator _ (keyword-of text at _ e) (λ h. h) i)
+      node-stops (Command.Tag label) e i = absurd (not-operator _ (keyword-of text at _ e) (λ h. h) i)
       node-stops (Command.Constant w) e i = tt
       node-stops (Command.Read kind x) e i =
           let R = StopsExpr least text (suc d) at in
@@ -319,6 +326,7 @@ module _ (least : ℕ) (text : List ℕ) where
   other-here at Keyword.Latency h u = refl
   other-here at Keyword.Link h u = refl
   other-here at Keyword.Cap h u = refl
+  other-here at Keyword.Tag h u = refl
   other-here at Keyword.Constant h u = absurd (u IsOperator.constant)
   other-here at (Keyword.Read kind) h u = absurd (u IsOperator.read)
   other-here at (Keyword.Binary operator) h u = absurd (u IsOperator.binary)
@@ -426,6 +434,7 @@ Declaration Keyword.Equation = Unit {0}
 Declaration Keyword.Latency = Unit {0}
 Declaration Keyword.Link = ⊥
 Declaration Keyword.Cap = Unit {0}
+Declaration Keyword.Tag = Unit {0}
 Declaration Keyword.Constant = ⊥
 Declaration (Keyword.Read kind) = ⊥
 Declaration (Keyword.Binary operator) = ⊥
@@ -438,6 +447,7 @@ declaration-is IsDeclaration.input = tt
 declaration-is IsDeclaration.equation = tt
 declaration-is IsDeclaration.latency = tt
 declaration-is IsDeclaration.cap = tt
+declaration-is IsDeclaration.tag = tt
 
 not-declaration : {k : Keyword} (j : Keyword) → k ≡ j → (Declaration j → ⊥) → ¬ IsDeclaration k
 not-declaration j e h i = h (subst Declaration e (declaration-is i))
@@ -448,6 +458,7 @@ declaration-present IsDeclaration.input = tt
 declaration-present IsDeclaration.equation = tt
 declaration-present IsDeclaration.latency = tt
 declaration-present IsDeclaration.cap = tt
+declaration-present IsDeclaration.tag = tt
 
 pub room-declaration : {p : Program} {k : Keyword} → HasRoom p k → IsDeclaration k
 room-declaration HasRoom.end = IsDeclaration.end
@@ -455,6 +466,7 @@ room-declaration (HasRoom.input h) = IsDeclaration.input
 room-declaration (HasRoom.equation h) = IsDeclaration.equation
 room-declaration (HasRoom.latency h) = IsDeclaration.latency
 room-declaration (HasRoom.cap h) = IsDeclaration.cap
+room-declaration HasRoom.tag = IsDeclaration.tag
 
 capped : (l : Limit) → isUnlimited l ≡ false → ¬ (l ≡ unlimited)
 capped l e q = false≢true (sym e ∙ ap isUnlimited q)
@@ -463,35 +475,46 @@ not-unlimited : (l : Limit) → ¬ (l ≡ unlimited) → isUnlimited l ≡ false
 not-unlimited unlimited h = absurd (h refl)
 not-unlimited (limit n) h = refl
 
+not-signal : (b : ℕ) → isSignal b ≡ false → ¬ IsSignal b
+not-signal b e h = false≢true (sym e ∙ signal-is b .1 h)
+
+no-signal : (b : ℕ) → ¬ IsSignal b → isSignal b ≡ false
+no-signal b u = go (isSignal b) refl
+  where
+    go : (t : Bool) → isSignal b ≡ t → isSignal b ≡ false
+    go true e = absurd (u (signal-is b .0 e))
+    go false e = e
+
 module _ (least : ℕ) (text : List ℕ) where
-  module _ (at : ℕ) (p : Program) where
+  module _ (at label : ℕ) (p : Program) where
     -- 2, 3, then counts and second CAP.
-    unknown-stops : (k : Keyword) → keywordAt text at ≡ k → Present k → (Declaration k → ⊥) → Stops least text at p 3 at
+    unknown-stops : (k : Keyword) → keywordAt text at ≡ k → Present k → (Declaration k → ⊥) → Stops least text at label p 3 at
     unknown-stops k e h u = Stops.unknown (keyword-inside text at (subst Present (sym e) h)) (not-declaration k e u)
 
     many-stops : (k : Keyword) → keywordAt text at ≡ k → IsDeclaration k → ¬ (k ≡ Keyword.Cap) → ¬ RoomFor p k →
-        Stops least text at p 4 at
+        Stops least text at label p 4 at
     many-stops k e i u v =
         Stops.many (subst IsDeclaration (sym e) i) (λ q. u (sym e ∙ q)) (λ r. v (room-of p k e r))
 
-    command-here : (k : Keyword) → keywordAt text at ≡ k → Refuses (Stops least text at p) (commandHere text at p k)
+    command-here : (k : Keyword) → keywordAt text at ≡ k → Refuses (Stops least text at label p) (commandHere text at p k)
     command-here Keyword.Missing e = Stops.early (missing-keyword text at e)
     command-here Keyword.Unknown e = unknown-stops _ e tt (λ h. h)
     command-here Keyword.End e = tt
     command-here Keyword.Input e =
-        refuses-provided (Stops least text at p) _ 4 at (λ t.
+        refuses-provided (Stops least text at label p) _ 4 at (λ t.
         many-stops Keyword.Input e IsDeclaration.input (λ q. let z : _≡_ {A = ℕ} 0 1 = cc in omega arith) (λ r.
         omega (arith, ltb-false (count p) 64 t)))
     command-here Keyword.Equation e =
-        refuses-provided (Stops least text at p) _ 4 at (λ t.
+        refuses-provided (Stops least text at label p) _ 4 at (λ t.
         many-stops Keyword.Equation e IsDeclaration.equation (λ q. let z : _≡_ {A = ℕ} 0 1 = cc in omega arith) (λ r.
         omega (arith, ltb-false (count p) 64 t)))
     command-here Keyword.Latency e =
-        refuses-provided (Stops least text at p) _ 4 at (λ t.
+        refuses-provided (Stops least text at label p) _ 4 at (λ t.
         many-stops Keyword.Latency e IsDeclaration.latency (λ q. let z : _≡_ {A = ℕ} 0 1 = cc in omega arith) (λ r.
         omega (arith, ltb-false (length (p .chains)) 16 t)))
     command-here Keyword.Link e = unknown-stops _ e tt (λ h. h)
-    command-here Keyword.Cap e = refuses-provided (Stops least text at p) _ 5 at (λ t. Stops.second e (capped (p .cap) t))
+    command-here Keyword.Cap e = refuses-provided (Stops least text at label p) _ 5 at (λ t. Stops.second e (capped (p .cap) t))
+    command-here Keyword.Tag e = tt
     command-here Keyword.Constant e = unknown-stops _ e tt (λ h. h)
     command-here (Keyword.Read kind) e = unknown-stops _ e tt (λ h. h)
     command-here (Keyword.Binary operator) e = unknown-stops _ e tt (λ h. h)
@@ -504,55 +527,65 @@ module _ (least : ℕ) (text : List ℕ) where
     room-here (HasRoom.equation h) = true-provided _ 4 at (lt-ltb _ _ h)
     room-here (HasRoom.latency h) = true-provided _ 4 at (lt-ltb _ _ h)
     room-here (HasRoom.cap h) = rw h (true-provided true 5 at refl)
+    room-here HasRoom.tag = refl
 
     -- The command is fit; `next` reads on from any offset after it.
     module _
-        (next : ℕ → Program → Outcome Program)
-        (stops : (a : ℕ) (q : Program) → at < a → Refuses (Stops least text a q) (next a q))
+        (next : ℕ → ℕ → Program → Outcome Program)
+        (stops : (a l : ℕ) (q : Program) → at < a → Refuses (Stops least text a l q) (next a l q))
       where
-        onward : (a : ℕ) (q : Program) → at < a → DeclaresOne least text at p a q → Refuses (Stops least text at p) (next a q)
-        onward a q lt d =
-            refuses-map (Stops least text a q) (Stops least text at p) (next a q) (λ n x s. Stops.onward d s) (stops a q lt)
+        onward : {a l : ℕ} {q : Program} → at < a → DeclaresOne least text at label p a l q →
+            Refuses (Stops least text at label p) (next a l q)
+        onward {a} {l} {q} lt d =
+            refuses-map (Stops least text a l q) (Stops least text at label p) (next a l q) (λ n x s. Stops.onward d s) (stops a l q lt)
 
         never : (c : Command) (j : Keyword) → keywordAt text at ≡ j → (Declaration j → ⊥) → HasRoom p (keywordAt text at) →
-            Refuses (Stops least text at p) (declare least next text at p c)
+            Refuses (Stops least text at label p) (declare least next text at label p c)
         never c j e u r = absurd (not-declaration j e u (room-declaration r))
 
         declare-stops : (c : Command) → commandAt text at ≡ c → HasRoom p (keywordAt text at) →
-            Refuses (Stops least text at p) (declare least next text at p c)
+            Refuses (Stops least text at label p) (declare least next text at label p c)
         unfolding declare
         declare-stops Command.EndsEarly e r = Stops.cut r e
         declare-stops Command.Unknown e r = never Command.Unknown _ (keyword-of text at _ e) (λ h. h) r
         declare-stops Command.OutOfRange e r = Stops.outside r e
         declare-stops Command.End e r =
-            refuses-then (Stops least text at p) (provided (leb (length text) (at + 1)) 6 (at + 1)) _
-            (refuses-provided (Stops least text at p) _ 6 (at + 1) (λ t. Stops.trailing e (leb-false _ _ t))) (λ u t. tt)
+            refuses-then (Stops least text at label p) (provided (leb (length text) (at + 1)) 6 (at + 1)) _
+            (refuses-provided (Stops least text at label p) _ 6 (at + 1) (λ t. Stops.trailing e (leb-false _ _ t))) (λ u t. tt)
         declare-stops (Command.Input period initial) e r =
-            onward (at + 6) _ (omega arith) (DeclaresOne.inputs (room-of p _ (keyword-of text at _ e) r) e)
+            onward (omega arith) (DeclaresOne.inputs (room-of p _ (keyword-of text at _ e) r) e)
         declare-stops (Command.Equation period initial weight) e r =
             let room = room-of p _ (keyword-of text at _ e) r in
-            refuses-then (Stops least text at p) (parseExpr least 16 text (at + inProgram 0x11)) _
-            (refuses-map (StopsExpr least text 16 (at + inProgram 0x11)) (Stops least text at p)
-            (parseExpr least 16 text (at + inProgram 0x11)) (λ n x s.
+            refuses-then (Stops least text at label p) (parseExpr least 16 text (at + inProgram 0x11)) _
+            (refuses-map (StopsExpr least text 16 (at + inProgram 0x11)) (Stops least text at label p) (parseExpr least 16 text (at + inProgram 0x11)) (λ n x s.
             Stops.expression room e s) (expr-stops least text 16 (at + inProgram 0x11)))
             (λ o q.
             let s = spelled least text 16 (at + inProgram 0x11) (o .value) (o .next) q in
-            onward (o .next) _ (omega (arith, spells-after (s .0))) (DeclaresOne.equations room e (s .0) (s .1)))
+            onward (omega (arith, spells-after (s .0))) (DeclaresOne.equations room e (s .0) (s .1)))
         declare-stops (Command.Latency mode bound) e r =
             let room = room-of p _ (keyword-of text at _ e) r in
-            refuses-then (Stops least text at p) (parseLinks 16 text (at + 4) []) _
-            (refuses-map (StopsLinks text 16 (at + 4)) (Stops least text at p) (parseLinks 16 text (at + 4) []) (λ n x s.
+            refuses-then (Stops least text at label p) (parseLinks 16 text (at + 4) []) _
+            (refuses-map (StopsLinks text 16 (at + 4)) (Stops least text at label p) (parseLinks 16 text (at + 4) []) (λ n x s.
             Stops.links room e s) (links-stop least text 16 (at + 4) []))
             (λ o q.
             let s = links-spelled least text 16 (at + 4) o q in
-            refuses-then (Stops least text at p) (provided (leb 2 (length (o .value))) 5 at) _
-            (refuses-provided (Stops least text at p) _ 5 at (λ t. Stops.short room e (s .0) (leb-false _ _ t)))
+            refuses-then (Stops least text at label p) (provided (leb 2 (length (o .value))) 5 at) _
+            (refuses-provided (Stops least text at label p) _ 5 at (λ t. Stops.short room e (s .0) (leb-false _ _ t)))
             (λ u t.
-            onward (o .next) _ (omega (arith, links-end (s .0)))
+            onward (omega (arith, links-end (s .0)))
             (DeclaresOne.chains room e (s .0) (leb-true _ _ (provided-true _ 5 at t)) (s .1))))
         declare-stops (Command.Link signal) e r = never (Command.Link signal) _ (keyword-of text at _ e) (λ h. h) r
         declare-stops (Command.Cap n) e r =
-            onward (at + 5) _ (omega arith) (DeclaresOne.caps (room-of p _ (keyword-of text at _ e) r) e)
+            onward (omega arith) (DeclaresOne.caps (room-of p _ (keyword-of text at _ e) r) e)
+        declare-stops (Command.Tag given) e r =
+            let after = at + inProgram 0x15 in
+            refuses-then (Stops least text at label p) (provided (ltb after (length text)) 2 (length text)) _
+            (refuses-provided (Stops least text at label p) _ 2 (length text) (λ t. Stops.tagsEnd e (ltb-false _ _ t)))
+            (λ u t.
+            let more = ltb-true _ _ (provided-true _ 2 (length text) t) in
+            refuses-then (Stops least text at label p) (provided (isSignal (byteAt text after)) 3 at) _
+            (refuses-provided (Stops least text at label p) _ 3 at (λ f. Stops.tagsOther e more (not-signal _ f)))
+            (λ v f. onward (omega arith) (DeclaresOne.tags e more (signal-is _ .0 (provided-true _ 3 at f)))))
         declare-stops (Command.Constant w) e r = never (Command.Constant w) _ (keyword-of text at _ e) (λ h. h) r
         declare-stops (Command.Read kind x) e r = never (Command.Read kind x) _ (keyword-of text at _ e) (λ h. h) r
         declare-stops (Command.Binary operator) e r = never (Command.Binary operator) _ (keyword-of text at _ e) (λ h. h) r
@@ -560,15 +593,15 @@ module _ (least : ℕ) (text : List ℕ) where
         declare-stops Command.If e r = never Command.If _ (keyword-of text at _ e) (λ h. h) r
 
   -- Commands that are refused stop.
-  commands-stop : (left at : ℕ) (p : Program) → length text ≤ at + left →
-      Refuses (Stops least text at p) (parseCommands least left text at p)
+  commands-stop : (left at label : ℕ) (p : Program) → length text ≤ at + left →
+      Refuses (Stops least text at label p) (parseCommands least left text at label p)
   unfolding parseCommands
-  commands-stop zero at p enough = let le : length text ≤ at = omega arith in Stops.early le
-  commands-stop (suc left) at p enough =
-      refuses-then (Stops least text at p) (commandHere text at p (keywordAt text at)) _
-      (command-here at p (keywordAt text at) refl)
+  commands-stop zero at label p enough = let le : length text ≤ at = omega arith in Stops.early le
+  commands-stop (suc left) at label p enough =
+      refuses-then (Stops least text at label p) (commandHere text at p (keywordAt text at)) _
+      (command-here at label p (keywordAt text at) refl)
       (λ u e.
-      declare-stops at p (λ n q. parseCommands least left text n q) (λ a q lt. commands-stop left a q (omega arith))
+      declare-stops at label p (λ n l q. parseCommands least left text n l q) (λ a l q lt. commands-stop left a l q (omega arith))
       (commandAt text at) refl (here-room p text at (keywordAt text at) e))
 
   -- What stops is refused.
@@ -579,6 +612,7 @@ module _ (least : ℕ) (text : List ℕ) where
   many-here at p IsDeclaration.equation u r = false-provided _ 4 at (not-below (λ h. r (HasRoom.equation h)))
   many-here at p IsDeclaration.latency u r = false-provided _ 4 at (not-below (λ h. r (HasRoom.latency h)))
   many-here at p IsDeclaration.cap u r = absurd (u refl)
+  many-here at p IsDeclaration.tag u r = absurd (r HasRoom.tag)
 
   unknown-here : (at : ℕ) (p : Program) (k : Keyword) → Present k → ¬ IsDeclaration k → commandHere text at p k ≡ refuse 3 at
   unknown-here at p Keyword.Missing h u = absurd h
@@ -589,6 +623,7 @@ module _ (least : ℕ) (text : List ℕ) where
   unknown-here at p Keyword.Latency h u = absurd (u IsDeclaration.latency)
   unknown-here at p Keyword.Link h u = refl
   unknown-here at p Keyword.Cap h u = absurd (u IsDeclaration.cap)
+  unknown-here at p Keyword.Tag h u = absurd (u IsDeclaration.tag)
   unknown-here at p Keyword.Constant h u = refl
   unknown-here at p (Keyword.Read kind) h u = refl
   unknown-here at p (Keyword.Binary operator) h u = refl
@@ -596,51 +631,58 @@ module _ (least : ℕ) (text : List ℕ) where
   unknown-here at p Keyword.If h u = refl
 
   -- A command that is there and refused before its operands.
-  judged-refused : (left at : ℕ) (p : Program) (f : Fault) → at < length text → length text ≤ at + left →
-      commandHere text at p (keywordAt text at) ≡ refused f → parseCommands least left text at p ≡ refused f
+  judged-refused : (left at label : ℕ) (p : Program) (f : Fault) → at < length text → length text ≤ at + left →
+      commandHere text at p (keywordAt text at) ≡ refused f → parseCommands least left text at label p ≡ refused f
   unfolding parseCommands
-  judged-refused zero at p f lt enough e = absurd (omega arith)
-  judged-refused (suc left) at p f lt enough e = refused-then _ _ f e
+  judged-refused zero at label p f lt enough e = absurd (omega arith)
+  judged-refused (suc left) at label p f lt enough e = refused-then _ _ f e
 
   -- A command that is fit, and refused by its operands or what stands after them.
-  declared-refused : (left at : ℕ) (p : Program) (f : Fault) (c : Command) → commandAt text at ≡ c →
+  declared-refused : (left at label : ℕ) (p : Program) (f : Fault) (c : Command) → commandAt text at ≡ c →
       HasRoom p (keywordAt text at) → length text ≤ at + left →
-      ((next : ℕ → Program → Outcome Program) → declare least next text at p c ≡ refused f) → parseCommands least left text at p ≡ refused f
-  declared-refused zero at p f c e r enough g =
+      ((next : ℕ → ℕ → Program → Outcome Program) → declare least next text at label p c ≡ refused f) → parseCommands least left text at label p ≡ refused f
+  declared-refused zero at label p f c e r enough g =
       absurd (omega (arith, keyword-inside text at (declaration-present (room-declaration r))))
-  declared-refused (suc left) at p f c e r enough g =
-      command-step least text left at p c e (room-here at p r) ∙ g (λ n q. parseCommands least left text n q)
+  declared-refused (suc left) at label p f c e r enough g =
+      command-step least text left at label p c e (room-here at label p r) ∙ g (λ n l q. parseCommands least left text n l q)
 
-  commands-refused : {at n x : ℕ} {p : Program} → Stops least text at p n x → (left : ℕ) → length text ≤ at + left →
-      parseCommands least left text at p ≡ refused (fault n x)
+  commands-refused : {at label n x : ℕ} {p : Program} → Stops least text at label p n x → (left : ℕ) → length text ≤ at + left →
+      parseCommands least left text at label p ≡ refused (fault n x)
   unfolding declare parseCommands
   commands-refused (Stops.onward d s) left enough = parse-onward _ d (λ k l. commands-refused s k l) left enough
   commands-refused (Stops.early le) zero enough = refl
   commands-refused (Stops.early {at = at} le) (suc left) enough = refused-then _ _ _ (rw (keyword-missing text at le))
-  commands-refused (Stops.unknown {at = at} {p = p} lt u) left enough =
-      judged-refused left at p _ lt enough (unknown-here at p (keywordAt text at) (inside-keyword text at lt) u)
-  commands-refused (Stops.many {at = at} {p = p} i u r) left enough =
-      judged-refused left at p _ (keyword-inside text at (declaration-present i)) enough (many-here at p i u r)
-  commands-refused (Stops.second {at = at} {p = p} e u) left enough =
-      judged-refused left at p _ (keyword-inside text at (rw e tt)) enough
+  commands-refused (Stops.unknown {at = at} {label = label} {p = p} lt u) left enough =
+      judged-refused left at label p _ lt enough (unknown-here at p (keywordAt text at) (inside-keyword text at lt) u)
+  commands-refused (Stops.many {at = at} {label = label} {p = p} i u r) left enough =
+      judged-refused left at label p _ (keyword-inside text at (declaration-present i)) enough (many-here at p i u r)
+  commands-refused (Stops.second {at = at} {label = label} {p = p} e u) left enough =
+      judged-refused left at label p _ (keyword-inside text at (rw e tt)) enough
       (rw e (false-provided _ 5 at (not-unlimited (p .cap) u)))
-  commands-refused (Stops.cut {at = at} {p = p} r e) left enough =
-      declared-refused left at p _ _ e r enough (λ next. refl)
-  commands-refused (Stops.outside {at = at} {p = p} r e) left enough =
-      declared-refused left at p _ _ e r enough (λ next. refl)
-  commands-refused (Stops.expression {at = at} {p = p} room e s) left enough =
-      declared-refused left at p _ _ e (rw (keyword-of text at _ e) (HasRoom.equation room)) enough (λ next.
+  commands-refused (Stops.cut {at = at} {label = label} {p = p} r e) left enough =
+      declared-refused left at label p _ _ e r enough (λ next. refl)
+  commands-refused (Stops.outside {at = at} {label = label} {p = p} r e) left enough =
+      declared-refused left at label p _ _ e r enough (λ next. refl)
+  commands-refused (Stops.expression {at = at} {label = label} {p = p} room e s) left enough =
+      declared-refused left at label p _ _ e (rw (keyword-of text at _ e) (HasRoom.equation room)) enough (λ next.
       refused-then _ _ _ (expr-refused least text s))
-  commands-refused (Stops.links {at = at} {p = p} room e s) left enough =
-      declared-refused left at p _ _ e (rw (keyword-of text at _ e) (HasRoom.latency room)) enough (λ next.
+  commands-refused (Stops.links {at = at} {label = label} {p = p} room e s) left enough =
+      declared-refused left at label p _ _ e (rw (keyword-of text at _ e) (HasRoom.latency room)) enough (λ next.
       refused-then _ _ _ (links-refused least text [] s))
-  commands-refused (Stops.short {at = at} {p = p} room e u lt) left enough =
-      declared-refused left at p _ _ e (rw (keyword-of text at _ e) (HasRoom.latency room)) enough (λ next.
+  commands-refused (Stops.short {at = at} {label = label} {p = p} room e u lt) left enough =
+      declared-refused left at label p _ _ e (rw (keyword-of text at _ e) (HasRoom.latency room)) enough (λ next.
       accepted-then _ _ _ (parse-links 16 [] u (omega arith)) ∙
       refused-then _ _ _ (false-provided _ 5 at (lt-leb _ _ lt)))
-  commands-refused (Stops.trailing {at = at} {p = p} e lt) left enough =
-      declared-refused left at p _ _ e (rw (keyword-of text at _ e) HasRoom.end) enough (λ next.
+  commands-refused (Stops.trailing {at = at} {label = label} {p = p} e lt) left enough =
+      declared-refused left at label p _ _ e (rw (keyword-of text at _ e) HasRoom.end) enough (λ next.
       refused-then _ _ _ (false-provided _ 6 (at + 1) (lt-leb _ _ lt)))
+  commands-refused (Stops.tagsEnd {at = at} {label = label} {p = p} e le) left enough =
+      declared-refused left at label p _ _ e (rw (keyword-of text at _ e) HasRoom.tag) enough (λ next.
+      refused-then _ _ _ (false-provided _ 2 (length text) (le-ltb _ _ le)))
+  commands-refused (Stops.tagsOther {at = at} {label = label} {p = p} e lt u) left enough =
+      declared-refused left at label p _ _ e (rw (keyword-of text at _ e) HasRoom.tag) enough (λ next.
+      accepted-then _ _ tt (true-provided _ 2 (length text) (lt-ltb _ _ lt)) ∙
+      refused-then _ _ _ (false-provided _ 3 at (no-signal _ u)))
 
   -- PUTs.
   ends-early : (at : ℕ) → length text ≤ at → scheduleCommandAt text at ≡ ScheduleCommand.EndsEarly
@@ -707,11 +749,11 @@ module _ (least : ℕ) (text : List ℕ) where
       refused-then _ _ _ (false-provided _ 11 (at + 1) (lt-leb _ _ lt))
 
 -- Reading a program text is refused exactly where and as it stops.
-pub program-stops : (text : List ℕ) (n x : ℕ) → (parseProgram text ≡ refused (fault n x)) ↔ Stops leastFactor text 0 empty n x
+pub program-stops : (text : List ℕ) (n x : ℕ) → (parseProgram text ≡ refused (fault n x)) ↔ Stops leastFactor text 0 0 empty n x
 unfolding parseWith
 program-stops text n x = (
-  λ e. refuses-fault (Stops leastFactor text 0 empty) _ (fault n x) (commands-stop 2 text (length text) 0 empty (omega arith)) e,
-  λ s. commands-refused 2 text s (length text) (omega arith),
+  λ e. refuses-fault (Stops leastFactor text 0 0 empty) _ (fault n x) (commands-stop leastFactor text (length text) 0 0 empty (omega arith)) e,
+  λ s. commands-refused leastFactor text s (length text) (omega arith),
 )
 
 -- Reading a schedule text is refused, with 11, exactly where it stops.

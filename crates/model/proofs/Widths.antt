@@ -187,6 +187,10 @@ module _ (text : List ℕ) (at : ℕ) where
       spans (inProgram 0x14) (omega arith) h (rw b) (λ m g.
       rw (← four text m (at + 1) (omega arith))
       (Written.cap (long text m _ g h) (byte text m at (omega arith) ∙ b)))
+  text-span c (Written.tag h b) =
+      spans (inProgram 0x15) (omega arith) h (rw b) (λ m g.
+      rw (← two text m (at + 1) (omega arith))
+      (Written.tag (long text m _ g h) (byte text m at (omega arith) ∙ b)))
   text-span c (Written.constant h b) =
       spans (inExpression 0x20) (omega arith) h (rw b) (λ m g.
       rw (← word text m (at + 1) (omega arith))

@@ -61,6 +61,7 @@ Byte b Keyword.Equation = b ≡ 0x11
 Byte b Keyword.Latency = b ≡ 0x12
 Byte b Keyword.Link = b ≡ 0x13
 Byte b Keyword.Cap = b ≡ 0x14
+Byte b Keyword.Tag = b ≡ 0x15
 Byte b Keyword.Constant = b ≡ 0x20
 Byte b (Keyword.Read kind) = b ≡ readByte kind
 Byte b (Keyword.Binary operator) = b ≡ binaryByte operator
@@ -101,7 +102,8 @@ keyword-byte b =
     (either b 0x11 Keyword.Equation _ (λ e. e)
     (either b 0x12 Keyword.Latency _ (λ e. e)
     (either b 0x13 Keyword.Link _ (λ e. e)
-    (either b 0x14 Keyword.Cap _ (λ e. e) (operator-byte b))))))
+    (either b 0x14 Keyword.Cap _ (λ e. e)
+    (either b 0x15 Keyword.Tag _ (λ e. e) (operator-byte b)))))))
 
 -- Ranges.
 in-periods : (n : ℕ) → (leb 1 n && leb n 240 ≡ true) ↔ InPeriods n
@@ -174,6 +176,7 @@ module _ (text : List ℕ) (at : ℕ) where
       whole-reads (inProgram 0x12) command (λ g w. Written.latency g b (leb-true mode 1 t))))
   keyword-reads Keyword.Link b lt = whole-reads (inProgram 0x13) _ (λ h w. Written.link h b)
   keyword-reads Keyword.Cap b lt = whole-reads (inProgram 0x14) _ (λ h w. Written.cap h b)
+  keyword-reads Keyword.Tag b lt = whole-reads (inProgram 0x15) _ (λ h w. Written.tag h b)
   keyword-reads Keyword.Constant b lt = whole-reads (inExpression 0x20) _ (λ h w. Written.constant h b)
   keyword-reads (Keyword.Read Now) b lt = plain-reads Now refl b
   keyword-reads (Keyword.Read Last) b lt = plain-reads Last refl b
@@ -262,6 +265,7 @@ module _ (text : List ℕ) (at : ℕ) where
   )
   written-command c (Written.link h b) = (written-keyword Keyword.Link (omega arith) (rw b) ∙ there (inProgram 0x13) _ h, tt)
   written-command c (Written.cap h b) = (written-keyword Keyword.Cap (omega arith) (rw b) ∙ there (inProgram 0x14) _ h, tt)
+  written-command c (Written.tag h b) = (written-keyword Keyword.Tag (omega arith) (rw b) ∙ there (inProgram 0x15) _ h, tt)
   written-command c (Written.constant h b) =
       (written-keyword Keyword.Constant (omega arith) (rw b) ∙ there (inExpression 0x20) _ h, tt)
   written-command c (Written.plain kind e h b) = (

@@ -46,7 +46,8 @@ keywordOf b =
     (cond (eqb b 0x11) Keyword.Equation
     (cond (eqb b 0x12) Keyword.Latency
     (cond (eqb b 0x13) Keyword.Link
-    (cond (eqb b 0x14) Keyword.Cap (operatorOf b))))))
+    (cond (eqb b 0x14) Keyword.Cap
+    (cond (eqb b 0x15) Keyword.Tag (operatorOf b)))))))
 
 unfoldable pub keywordAt : List ℕ → ℕ → Keyword
 keywordAt text at = cond (ltb at (length text)) (keywordOf (byteAt text at)) Keyword.Missing
@@ -117,6 +118,7 @@ commandOf Keyword.Latency text at =
     (whole text at (inProgram 0x12) (Command.Latency (modeOf (byteAt text (at + 1))) (twoAt text (at + 2)))))
 commandOf Keyword.Link text at = whole text at (inProgram 0x13) (Command.Link (byteAt text (at + 1)))
 commandOf Keyword.Cap text at = whole text at (inProgram 0x14) (Command.Cap (fourAt text (at + 1)))
+commandOf Keyword.Tag text at = whole text at (inProgram 0x15) (Command.Tag (twoAt text (at + 1)))
 commandOf Keyword.Constant text at = whole text at (inExpression 0x20) (Command.Constant (wordAt text (at + 1)))
 commandOf (Keyword.Read kind) text at = readOf kind text at
 commandOf (Keyword.Binary operator) text at = Command.Binary operator

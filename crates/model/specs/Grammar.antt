@@ -3,6 +3,7 @@
 use Prim.Native.Nat.{ℕ, suc, _+_, _≤_, _<_, max}
 use mathlib.Core.Bool.{true, false}
 use mathlib.Core.List.{List, [], _∷_}
+use mathlib.Core.Logic.{_⊎_}
 use mathlib.Core.Path.{_≡_}
 use lib.Dec.{eqb}
 use lib.IntN.{ℤ}
@@ -68,33 +69,42 @@ pub data SpellsLinks (text : List ℕ) : ℕ → List Link → ℕ → Type 0 wh
       SpellsLinks text (at + inProgram 0x13) ls n →
       SpellsLinks text at (record { place = at; signal = byteAt text (at + 1) } ∷ ls) n
 
--- The commands from `at` up to END at `end`, the last byte, make q of p: at most 64 signals, 16 chains of 2 to 16 links,
--- expressions at most 16 deep, one CAP.
-pub data Declares (least : ℕ) (text : List ℕ) : ℕ → Program → ℕ → Program → Type 0 where
-  ends : {at : ℕ} {p : Program} → commandAt text at ≡ Command.End → length text ≤ at + inProgram 0x00 →
-      Declares least text at p at p
-  inputs : {at end period : ℕ} {initial : ℤ} {p q : Program} → count p < 64 →
+-- IN or EQ.
+abbrev pub IsSignal : ℕ → Type 0
+IsSignal b = (b ≡ 0x10) ⊎ (b ≡ 0x11)
+
+-- A legal command from `at` up to `next`, other than END, makes q of p: at most 64 signals, 16 chains of 2 to 16 links, expressions
+-- at most 16 deep, one CAP. The number after an offset is the label that a TAG directly before it gives, 0 where there is none.
+pub data DeclaresOne (least : ℕ) (text : List ℕ) : ℕ → ℕ → Program → ℕ → ℕ → Program → Type 0 where
+  inputs : {at label period : ℕ} {initial : ℤ} {p : Program} → count p < 64 →
       commandAt text at ≡ Command.Input period initial →
-      Declares least text (at + inProgram 0x10)
-      (withSignal p (record { place = at; period = period; initial = initial; body = input })) end q →
-      Declares least text at p end q
-  equations : {at next end period weight : ℕ} {initial : ℤ} {e : Expr} {p q : Program} → count p < 64 →
+      DeclaresOne least text at label p (at + inProgram 0x10) 0
+      (withSignal p (record { place = at; period = period; initial = initial; body = input; label = label }))
+  equations : {at label next period weight : ℕ} {initial : ℤ} {e : Expr} {p : Program} → count p < 64 →
       commandAt text at ≡ Command.Equation period initial weight → Spells least text (at + inProgram 0x11) e next →
       depth e ≤ 16 →
-      Declares least text next
-      (withSignal p (record { place = at; period = period; initial = initial; body = equation weight e })) end q →
-      Declares least text at p end q
-  chains : {at next end bound : ℕ} {mode : Mode} {ls : List Link} {p q : Program} → length (p .chains) < 16 →
+      DeclaresOne least text at label p next 0
+      (withSignal p (record { place = at; period = period; initial = initial; body = equation weight e; label = label }))
+  chains : {at label next bound : ℕ} {mode : Mode} {ls : List Link} {p : Program} → length (p .chains) < 16 →
       commandAt text at ≡ Command.Latency mode bound → SpellsLinks text (at + inProgram 0x12) ls next →
       2 ≤ length ls → length ls ≤ 16 →
-      Declares least text next (withChain p (record { place = at; mode = mode; bound = bound; links = ls })) end q →
-      Declares least text at p end q
-  caps : {at end n : ℕ} {p q : Program} → p .cap ≡ unlimited → commandAt text at ≡ Command.Cap n →
-      Declares least text (at + inProgram 0x14) (withCap p n) end q → Declares least text at p end q
+      DeclaresOne least text at label p next 0 (withChain p (record { place = at; mode = mode; bound = bound; links = ls }))
+  caps : {at label n : ℕ} {p : Program} → p .cap ≡ unlimited → commandAt text at ≡ Command.Cap n →
+      DeclaresOne least text at label p (at + inProgram 0x14) 0 (withCap p n)
+  tags : {at label given : ℕ} {p : Program} → commandAt text at ≡ Command.Tag given →
+      at + inProgram 0x15 < length text → IsSignal (byteAt text (at + inProgram 0x15)) →
+      DeclaresOne least text at label p (at + inProgram 0x15) given p
+
+-- The commands from `at` up to END at `end`, the last byte, make q of p.
+pub data Declares (least : ℕ) (text : List ℕ) : ℕ → ℕ → Program → ℕ → Program → Type 0 where
+  ends : {at label : ℕ} {p : Program} → commandAt text at ≡ Command.End → length text ≤ at + inProgram 0x00 →
+      Declares least text at label p at p
+  onward : {at label next given end : ℕ} {p q r : Program} → DeclaresOne least text at label p next given q →
+      Declares least text next given q end r → Declares least text at label p end r
 
 -- A legal program text, and the program that it declares.
 abbrev pub LegalWith : ℕ → List ℕ → Program → Type 0
-LegalWith least text p = (end : ℕ) × Declares least text 0 empty end p
+LegalWith least text p = (end : ℕ) × Declares least text 0 0 empty end p
 
 abbrev pub LegalProgram : List ℕ → Program → Type 0
 LegalProgram text p = LegalWith leastFactor text p

@@ -1,6 +1,6 @@
 -- Programs: their trees, and reading one from its text (refusals 2 to 6).
 use Prim.Native.Nat.{ℕ, zero, suc, _+_}
-use mathlib.Core.Bool.{Bool, true, false, cond}
+use mathlib.Core.Bool.{Bool, true, false, _||_}
 use mathlib.Core.List.{List, [], _∷_, _++_}
 use lib.Dec.{leb, ltb, eqb}
 use lib.IntN.{ℤ, pos}
@@ -37,12 +37,13 @@ pub data Body : Type 0 where
   input : Body
   equation : ℕ → Expr → Body
 
--- A signal, with the offset of its IN or EQ.
+-- A signal, with the offset of its IN or EQ, and its label: that of the TAG before it, or 0.
 pub record Signal : Type 0 where
   pub place : ℕ
   pub period : ℕ
   pub initial : ℤ
   pub body : Body
+  pub label : ℕ
 
 pub record Link : Type 0 where
   pub place : ℕ
@@ -81,7 +82,7 @@ abbrev pub count : Program → ℕ
 count p = length (p .signals)
 
 abbrev pub noSignal : Signal
-noSignal = record { place = 0; period = 1; initial = pos 0; body = input }
+noSignal = record { place = 0; period = 1; initial = pos 0; body = input; label = 0 }
 
 abbrev pub signalAt : Program → ℕ → Signal
 signalAt p s = getD (p .signals) s noSignal
@@ -96,6 +97,7 @@ operatorHere text at Keyword.Equation = refuse 3 at
 operatorHere text at Keyword.Latency = refuse 3 at
 operatorHere text at Keyword.Link = refuse 3 at
 operatorHere text at Keyword.Cap = refuse 3 at
+operatorHere text at Keyword.Tag = refuse 3 at
 operatorHere text at Keyword.Constant = accepted tt
 operatorHere text at (Keyword.Read kind) = accepted tt
 operatorHere text at (Keyword.Binary operator) = accepted tt
@@ -125,6 +127,7 @@ node least sub text at (Command.Equation period initial weight) = refuse 3 at
 node least sub text at (Command.Latency mode bound) = refuse 3 at
 node least sub text at (Command.Link signal) = refuse 3 at
 node least sub text at (Command.Cap n) = refuse 3 at
+node least sub text at (Command.Tag label) = refuse 3 at
 node least sub text at (Command.Constant w) = parsed (constant w) (at + inExpression 0x20)
 node least sub text at (Command.Read kind operands) =
     provided (isAllowed least kind operands) 5 at ▷ λ _.
@@ -155,30 +158,40 @@ parseLinks (suc room) text at links =
       | false ↦ parsed links at
     ]
 
--- A command with its operands, after those of p; `next` reads on.
-unfoldable pub declare : ℕ → (ℕ → Program → Outcome Program) → List ℕ → ℕ → Program → Command → Outcome Program
-declare least next text at p Command.EndsEarly = refuse 2 (length text)
-declare least next text at p Command.Unknown = refuse 3 at
-declare least next text at p Command.OutOfRange = refuse 5 at
-declare least next text at p Command.End =
+-- The bytes of IN and EQ.
+abbrev pub isSignal : ℕ → Bool
+isSignal b = eqb b 0x10 || eqb b 0x11
+
+-- A command with its operands, after those of p; `next` reads on. `label` is that of a TAG directly before it, 0 where there is none.
+unfoldable pub declare : ℕ → (ℕ → ℕ → Program → Outcome Program) → List ℕ → ℕ → ℕ → Program → Command → Outcome Program
+declare least next text at label p Command.EndsEarly = refuse 2 (length text)
+declare least next text at label p Command.Unknown = refuse 3 at
+declare least next text at label p Command.OutOfRange = refuse 5 at
+declare least next text at label p Command.End =
     provided (leb (length text) (at + inProgram 0x00)) 6 (at + inProgram 0x00) ▷ λ _. accepted p
-declare least next text at p (Command.Input period initial) =
-    next (at + inProgram 0x10) (withSignal p (record { place = at; period = period; initial = initial; body = input }))
-declare least next text at p (Command.Equation period initial weight) =
+declare least next text at label p (Command.Input period initial) =
+    next (at + inProgram 0x10) 0
+    (withSignal p (record { place = at; period = period; initial = initial; body = input; label = label }))
+declare least next text at label p (Command.Equation period initial weight) =
     parseExpr least 16 text (at + inProgram 0x11) ▷ λ e.
-    next (e .next)
-    (withSignal p (record { place = at; period = period; initial = initial; body = equation weight (e .value) }))
-declare least next text at p (Command.Latency mode bound) =
+    next (e .next) 0
+    (withSignal p (record { place = at; period = period; initial = initial; body = equation weight (e .value); label = label }))
+declare least next text at label p (Command.Latency mode bound) =
     parseLinks 16 text (at + inProgram 0x12) [] ▷ λ ls.
     provided (leb 2 (length (ls .value))) 5 at ▷ λ _.
-    next (ls .next) (withChain p (record { place = at; mode = mode; bound = bound; links = ls .value }))
-declare least next text at p (Command.Link signal) = refuse 3 at
-declare least next text at p (Command.Cap n) = next (at + inProgram 0x14) (withCap p n)
-declare least next text at p (Command.Constant w) = refuse 3 at
-declare least next text at p (Command.Read kind operands) = refuse 3 at
-declare least next text at p (Command.Binary operator) = refuse 3 at
-declare least next text at p Command.Negate = refuse 3 at
-declare least next text at p Command.If = refuse 3 at
+    next (ls .next) 0 (withChain p (record { place = at; mode = mode; bound = bound; links = ls .value }))
+declare least next text at label p (Command.Link signal) = refuse 3 at
+declare least next text at label p (Command.Cap n) = next (at + inProgram 0x14) 0 (withCap p n)
+-- A TAG stands directly before IN or EQ: 2 if the text ends after it, 3 if anything else follows.
+declare least next text at label p (Command.Tag given) =
+    provided (ltb (at + inProgram 0x15) (length text)) 2 (length text) ▷ λ _.
+    provided (isSignal (byteAt text (at + inProgram 0x15))) 3 at ▷ λ _.
+    next (at + inProgram 0x15) given p
+declare least next text at label p (Command.Constant w) = refuse 3 at
+declare least next text at label p (Command.Read kind operands) = refuse 3 at
+declare least next text at label p (Command.Binary operator) = refuse 3 at
+declare least next text at label p Command.Negate = refuse 3 at
+declare least next text at label p Command.If = refuse 3 at
 
 abbrev pub isUnlimited : Limit → Bool
 isUnlimited unlimited = true
@@ -194,22 +207,23 @@ commandHere text at p Keyword.Equation = provided (ltb (count p) 64) 4 at
 commandHere text at p Keyword.Latency = provided (ltb (length (p .chains)) 16) 4 at
 commandHere text at p Keyword.Link = refuse 3 at
 commandHere text at p Keyword.Cap = provided (isUnlimited (p .cap)) 5 at
+commandHere text at p Keyword.Tag = accepted tt
 commandHere text at p Keyword.Constant = refuse 3 at
 commandHere text at p (Keyword.Read kind) = refuse 3 at
 commandHere text at p (Keyword.Binary operator) = refuse 3 at
 commandHere text at p Keyword.Negate = refuse 3 at
 commandHere text at p Keyword.If = refuse 3 at
 
--- The commands from `at` on, after those of p. Each takes a byte at least, so `left` bytes hold no more than `left` of them.
-unfoldable pub parseCommands : ℕ → ℕ → List ℕ → ℕ → Program → Outcome Program
-parseCommands least zero text at p = refuse 2 (length text)
-parseCommands least (suc left) text at p =
+-- The commands from `at` on, after those of p and a TAG's label. Each takes a byte at least, so `left` bytes hold no more than `left` of them.
+unfoldable pub parseCommands : ℕ → ℕ → List ℕ → ℕ → ℕ → Program → Outcome Program
+parseCommands least zero text at label p = refuse 2 (length text)
+parseCommands least (suc left) text at label p =
     commandHere text at p (keywordAt text at) ▷ λ _.
-    declare least (λ n q. parseCommands least left text n q) text at p (commandAt text at)
+    declare least (λ n l q. parseCommands least left text n l q) text at label p (commandAt text at)
 
 -- A program text whose factors go from `least` on: by the earlier rule from 1, now from 2.
 unfoldable pub parseWith : ℕ → List ℕ → Outcome Program
-parseWith least text = parseCommands least (length text) text 0 empty
+parseWith least text = parseCommands least (length text) text 0 0 empty
 
 abbrev pub parseProgram : List ℕ → Outcome Program
 parseProgram text = parseWith leastFactor text

@@ -68,7 +68,7 @@ pub data RefusedAt (program schedule : List ℕ) : ℕ → ℕ → Type 0 where
   -- 1 text too long (0).
   long : ¬ ShortEnough program schedule → RefusedAt program schedule 1 0
   -- 2 to 6: the program text stops.
-  stopped : {n x : ℕ} → ShortEnough program schedule → Stops leastFactor program 0 empty n x → RefusedAt program schedule n x
+  stopped : {n x : ℕ} → ShortEnough program schedule → Stops leastFactor program 0 0 empty n x → RefusedAt program schedule n x
   -- 7 and 8 in order of offset.
   unrated : {n x : ℕ} {p : Program} → ShortEnough program schedule → LegalProgram program p →
       LowestFault (RateFault p) n x → RefusedAt program schedule n x

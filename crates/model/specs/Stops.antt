@@ -8,15 +8,11 @@ use mathlib.Core.Path.{_≡_}
 use lib.IntN.{ℤ}
 use lib.ListN.{length}
 use Rattle.model.specs.Command.{keywordAt, commandAt}
-use Rattle.model.specs.Grammar.{depth, Spells, SpellsLinks}
+use Rattle.model.specs.Grammar.{depth, Spells, SpellsLinks, IsSignal, DeclaresOne}
 use Rattle.model.specs.Program.{
   Expr,
-  Body,
   Link,
   Program,
-  withSignal,
-  withChain,
-  withCap,
   unlimited,
   count,
   isAllowed,
@@ -54,6 +50,7 @@ pub data IsDeclaration : Keyword → Type 0 where
   equation : IsDeclaration Keyword.Equation
   latency : IsDeclaration Keyword.Latency
   cap : IsDeclaration Keyword.Cap
+  tag : IsDeclaration Keyword.Tag
 
 -- k expressions from `at` up to `next`, each at most d deep.
 pub data SpellsOperands (least : ℕ) (text : List ℕ) (d : ℕ) : ℕ → ℕ → ℕ → Type 0 where
@@ -92,50 +89,39 @@ pub data HasRoom (p : Program) : Keyword → Type 0 where
   equation : count p < 64 → HasRoom p Keyword.Equation
   latency : length (p .chains) < 16 → HasRoom p Keyword.Latency
   cap : p .cap ≡ unlimited → HasRoom p Keyword.Cap
+  tag : HasRoom p Keyword.Tag
 
--- A legal command from `at` up to `next`, other than END, makes q of p.
-pub data DeclaresOne (least : ℕ) (text : List ℕ) : ℕ → Program → ℕ → Program → Type 0 where
-  inputs : {at period : ℕ} {initial : ℤ} {p : Program} → count p < 64 → commandAt text at ≡ Command.Input period initial →
-      DeclaresOne least text at p (at + inProgram 0x10)
-      (withSignal p (record { place = at; period = period; initial = initial; body = Body.input }))
-  equations : {at next period weight : ℕ} {initial : ℤ} {e : Expr} {p : Program} → count p < 64 →
-      commandAt text at ≡ Command.Equation period initial weight → Spells least text (at + inProgram 0x11) e next →
-      depth e ≤ 16 →
-      DeclaresOne least text at p next
-      (withSignal p (record { place = at; period = period; initial = initial; body = Body.equation weight e }))
-  chains : {at next bound : ℕ} {mode : Mode} {ls : List Link} {p : Program} → length (p .chains) < 16 →
-      commandAt text at ≡ Command.Latency mode bound → SpellsLinks text (at + inProgram 0x12) ls next →
-      2 ≤ length ls → length ls ≤ 16 →
-      DeclaresOne least text at p next (withChain p (record { place = at; mode = mode; bound = bound; links = ls }))
-  caps : {at n : ℕ} {p : Program} → p .cap ≡ unlimited → commandAt text at ≡ Command.Cap n →
-      DeclaresOne least text at p (at + inProgram 0x14) (withCap p n)
-
--- The commands from `at` on, after those of p, stop.
-pub data Stops (least : ℕ) (text : List ℕ) : ℕ → Program → ℕ → ℕ → Type 0 where
+-- The commands from `at` on, after those of p and a TAG's label, stop.
+pub data Stops (least : ℕ) (text : List ℕ) : ℕ → ℕ → Program → ℕ → ℕ → Type 0 where
   -- A legal command, and what stands after it stops.
-  onward : {at next n x : ℕ} {p q : Program} → DeclaresOne least text at p next q → Stops least text next q n x → Stops least text at p n x
+  onward : {at label next given n x : ℕ} {p q : Program} → DeclaresOne least text at label p next given q →
+      Stops least text next given q n x → Stops least text at label p n x
   -- At the command: 2, 3, then counts and second CAP.
-  early : {at : ℕ} {p : Program} → length text ≤ at → Stops least text at p 2 (length text)
-  unknown : {at : ℕ} {p : Program} → at < length text → ¬ IsDeclaration (keywordAt text at) → Stops least text at p 3 at
-  many : {at : ℕ} {p : Program} → IsDeclaration (keywordAt text at) → ¬ (keywordAt text at ≡ Keyword.Cap) →
-      ¬ HasRoom p (keywordAt text at) → Stops least text at p 4 at
-  second : {at : ℕ} {p : Program} → keywordAt text at ≡ Keyword.Cap → ¬ (p .cap ≡ unlimited) → Stops least text at p 5 at
+  early : {at label : ℕ} {p : Program} → length text ≤ at → Stops least text at label p 2 (length text)
+  unknown : {at label : ℕ} {p : Program} → at < length text → ¬ IsDeclaration (keywordAt text at) → Stops least text at label p 3 at
+  many : {at label : ℕ} {p : Program} → IsDeclaration (keywordAt text at) → ¬ (keywordAt text at ≡ Keyword.Cap) →
+      ¬ HasRoom p (keywordAt text at) → Stops least text at label p 4 at
+  second : {at label : ℕ} {p : Program} → keywordAt text at ≡ Keyword.Cap → ¬ (p .cap ≡ unlimited) → Stops least text at label p 5 at
   -- Then its operands.
-  cut : {at : ℕ} {p : Program} → HasRoom p (keywordAt text at) → commandAt text at ≡ Command.EndsEarly →
-      Stops least text at p 2 (length text)
-  outside : {at : ℕ} {p : Program} → HasRoom p (keywordAt text at) → commandAt text at ≡ Command.OutOfRange →
-      Stops least text at p 5 at
-  -- Then the expression of an EQ, the LINKs of a LAT, and what stands after END.
-  expression : {at period weight n x : ℕ} {initial : ℤ} {p : Program} → count p < 64 →
+  cut : {at label : ℕ} {p : Program} → HasRoom p (keywordAt text at) → commandAt text at ≡ Command.EndsEarly →
+      Stops least text at label p 2 (length text)
+  outside : {at label : ℕ} {p : Program} → HasRoom p (keywordAt text at) → commandAt text at ≡ Command.OutOfRange →
+      Stops least text at label p 5 at
+  -- Then the expression of an EQ, the LINKs of a LAT, what stands after END, and what is not IN or EQ after a TAG.
+  expression : {at label period weight n x : ℕ} {initial : ℤ} {p : Program} → count p < 64 →
       commandAt text at ≡ Command.Equation period initial weight → StopsExpr least text 16 (at + inProgram 0x11) n x →
-      Stops least text at p n x
-  links : {at bound n x : ℕ} {mode : Mode} {p : Program} → length (p .chains) < 16 →
-      commandAt text at ≡ Command.Latency mode bound → StopsLinks text 16 (at + inProgram 0x12) n x → Stops least text at p n x
-  short : {at next bound : ℕ} {mode : Mode} {ls : List Link} {p : Program} → length (p .chains) < 16 →
+      Stops least text at label p n x
+  links : {at label bound n x : ℕ} {mode : Mode} {p : Program} → length (p .chains) < 16 →
+      commandAt text at ≡ Command.Latency mode bound → StopsLinks text 16 (at + inProgram 0x12) n x → Stops least text at label p n x
+  short : {at label next bound : ℕ} {mode : Mode} {ls : List Link} {p : Program} → length (p .chains) < 16 →
       commandAt text at ≡ Command.Latency mode bound → SpellsLinks text (at + inProgram 0x12) ls next →
-      length ls < 2 → Stops least text at p 5 at
-  trailing : {at : ℕ} {p : Program} → commandAt text at ≡ Command.End → at + inProgram 0x00 < length text →
-      Stops least text at p 6 (at + inProgram 0x00)
+      length ls < 2 → Stops least text at label p 5 at
+  trailing : {at label : ℕ} {p : Program} → commandAt text at ≡ Command.End → at + inProgram 0x00 < length text →
+      Stops least text at label p 6 (at + inProgram 0x00)
+  tagsEnd : {at label given : ℕ} {p : Program} → commandAt text at ≡ Command.Tag given →
+      length text ≤ at + inProgram 0x15 → Stops least text at label p 2 (length text)
+  tagsOther : {at label given : ℕ} {p : Program} → commandAt text at ≡ Command.Tag given →
+      at + inProgram 0x15 < length text → ¬ IsSignal (byteAt text (at + inProgram 0x15)) → Stops least text at label p 3 at
 
 -- The PUTs from `at` on stop at a place.
 pub data StopsPuts (text : List ℕ) : ℕ → ℕ → Type 0 where

@@ -27,7 +27,9 @@ programWidth b =
     -- LINK signal
     (cond (eqb b 0x13) (Bytes 2)
     -- CAP limit
-    (cond (eqb b 0x14) (Bytes 5) Unlisted)))))
+    (cond (eqb b 0x14) (Bytes 5)
+    -- TAG label
+    (cond (eqb b 0x15) (Bytes 3) Unlisted))))))
 
 -- Expression.
 abbrev pub expressionWidth : ℕ → Width

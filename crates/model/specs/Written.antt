@@ -45,6 +45,8 @@ pub data Written (text : List ℕ) (at : ℕ) : Command → Type 0 where
       Written text at (Command.Link (byteAt text (at + 1)))
   cap : at + inProgram 0x14 ≤ length text → byteAt text at ≡ 0x14 →
       Written text at (Command.Cap (fourAt text (at + 1)))
+  tag : at + inProgram 0x15 ≤ length text → byteAt text at ≡ 0x15 →
+      Written text at (Command.Tag (twoAt text (at + 1)))
   constant : at + inExpression 0x20 ≤ length text → byteAt text at ≡ 0x20 →
       Written text at (Command.Constant (wordAt text (at + 1)))
   -- NOW and LAST: a signal.
@@ -91,6 +93,7 @@ Whole (Command.Equation period initial weight) = Unit {0}
 Whole (Command.Latency mode bound) = Unit {0}
 Whole (Command.Link signal) = Unit {0}
 Whole (Command.Cap n) = Unit {0}
+Whole (Command.Tag label) = Unit {0}
 Whole (Command.Constant w) = Unit {0}
 Whole (Command.Read kind operands) = Unit {0}
 Whole (Command.Binary operator) = Unit {0}

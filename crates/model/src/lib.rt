@@ -51,6 +51,7 @@ pub enum Keyword {
     Latency,
     Link,
     Cap,
+    Tag,
     Constant,
     Read(Kind),
     Binary(Binary),
@@ -77,6 +78,8 @@ pub enum Command {
     Link(u8),
     // limit
     Cap(u32),
+    // label
+    Tag(u16),
     Constant(i32),
     Read(Kind, Sampled),
     Binary(Binary),

@@ -6,10 +6,10 @@ use Prim.Native.Nat.{ℕ, zero, suc, _+_, _-_, _≤_, _<_}
 use native.Mathlib.Omega.{arith}
 use lib.Dec.{leb, ltb, eqb}
 use lib.ListN.{length, List·getD-eq-default}
-use borrow.Author.Tests.{ltb-true, le-leb, lt-leb, eq-eqb, ne-eqb}
+use borrow.Author.Tests.{ltb-true, le-ltb, lt-ltb, le-leb, lt-leb, eq-eqb, ne-eqb}
 use Rattle.model.specs.Command.{keywordAt, keywordOf, commandOf, commandAt}
 use Rattle.model.specs.Outcome.{Outcome, accepted, refused, fault, refuse, _▷_, provided, Parsed, parsed}
-use Rattle.model.specs.Program.{Link, operatorHere, parseLinks}
+use Rattle.model.specs.Program.{Link, operatorHere, parseLinks, isSignal}
 use Rattle.model.specs.Width.{readWidth}
 use Rattle.model.specs.Word.{byteAt}
 use Rattle.model.specs.declared.Command.{Command}
@@ -19,7 +19,7 @@ use Rattle.model.specs.declared.Keyword.{Keyword}
 use Rattle.model.specs.declared.Kind.{Kind}
 use Rattle.model.specs.declared.Kind.the-variants.{Now, Last, When, LastWhen, Current}
 use Rattle.model.specs.declared.Keyword.the-variants as Keyword
-use Rattle.reader.specs.Results.{hereOf, linksOf, chainOf}
+use Rattle.reader.specs.Results.{hereOf, linksOf, chainOf, tagOf}
 use Rattle.reader.specs.declared.Entry.the-variants as Entry
 use Rattle.reader.specs.declared.LinksRead.{LinksRead}
 use Rattle.reader.specs.declared.LinksRead.the-variants as Read
@@ -97,6 +97,19 @@ pub chain-refused : (at count to : ℕ) (o : Outcome (Parsed (List Link))) {r : 
 unfolding linksOf chainOf
 chain-refused at count to (accepted x) {r} {f} e g = let z : _≡_ {A = ℕ} 0 1 = cc in absurd (omega arith)
 chain-refused at count to (refused q) {r} {f} e g = let z : f ≡ q = cc in ap Step.Refused z
+
+-- The step of a TAG from the byte after it.
+module _ (text : List ℕ) (at label count to : ℕ) where
+  pub tag-ends : length text ≤ at + 3 → Step.Refused (fault 2 (length text)) ≡ tagOf text at label count to
+  unfolding tagOf
+  tag-ends h = rw (le-ltb (at + 3) (length text) h)
+
+  abbrev tagBy : Bool → Step
+  tagBy t = cond t (Step.Adds (Entry.Label label) (record { at = at + 3; reads = count; code = to })) (Step.Refused (fault 3 at))
+
+  pub tag-by : (t : Bool) → at + 3 < length text → isSignal (byteAt text (at + 3)) ≡ t → tagBy t ≡ tagOf text at label count to
+  unfolding tagOf
+  tag-by t h e = rw (lt-ltb (at + 3) (length text) h) (ap tagBy (sym e))
 
 -- A command that does not end early stands within the text.
 pub command-inside : (text : List ℕ) (at : ℕ) {k : Command} → commandAt text at ≡ k → (Command.EndsEarly ≡ k → ⊥) → at < length text

@@ -18,6 +18,7 @@ restricted least (Command.Equation period initial weight) = Command.Equation per
 restricted least (Command.Latency mode bound) = Command.Latency mode bound
 restricted least (Command.Link signal) = Command.Link signal
 restricted least (Command.Cap n) = Command.Cap n
+restricted least (Command.Tag label) = Command.Tag label
 restricted least (Command.Constant w) = Command.Constant w
 restricted least (Command.Read kind x) = cond (isAllowed least kind x) (Command.Read kind x) Command.OutOfRange
 restricted least (Command.Binary operator) = Command.Binary operator

@@ -6,15 +6,15 @@ use model::Kind;
 use model::Sampled;
 ghost use mathlib.Core.Path.{_≡_};
 ghost use mathlib.Core.List.{[]};
-ghost use Prim.Native.Nat.{_+_, _*_, _≤_, _<_};
+ghost use Prim.Native.Nat.{ℕ, _+_, _*_, _≤_, _<_};
 ghost use lib.Dec.{leb};
 ghost use lib.ListN.{length};
 ghost use Rattle.model.specs.Command.{keywordAt};
 ghost use Rattle.model.specs.Outcome.{provided};
-ghost use Rattle.model.specs.Program.{Program, operatorHere, isAllowed, parseExpr, parseLinks, commandHere, parseWith};
+ghost use Rattle.model.specs.Program.{Program, operatorHere, isAllowed, parseExpr, parseLinks, isSignal, commandHere, parseWith};
 ghost use Rattle.model.specs.Width.{inProgram};
 ghost use Rattle.reader.specs.Factors.{operatorFrom};
-ghost use Rattle.reader.specs.Results.{hereOf, linksOf, chainOf, endOf};
+ghost use Rattle.reader.specs.Results.{hereOf, linksOf, chainOf, tagOf, endOf};
 ghost use Rattle.reader.specs.Steps.{Counts, Stepped};
 ghost use Rattle.reader.specs.Tables.{judgedOf, ProgramReads};
 ghost use Rattle.reader.specs.Walks.{deepOf, Room, Walks, WalksEquation};
@@ -48,6 +48,7 @@ fn operator_here(text: &[u8], at: usize) -> Reached
         Keyword::Latency => refuse(3, at),
         Keyword::Link => refuse(3, at),
         Keyword::Cap => refuse(3, at),
+        Keyword::Tag => refuse(3, at),
         Keyword::Constant => Reached::Next(at),
         Keyword::Read(_) => Reached::Next(at),
         Keyword::Binary(_) => Reached::Next(at),
@@ -155,6 +156,7 @@ pub fn read_expression(
         Command::Latency(_, _) => refuse_walk(3, at),
         Command::Link(_) => refuse_walk(3, at),
         Command::Cap(_) => refuse_walk(3, at),
+        Command::Tag(_) => refuse_walk(3, at),
         Command::Constant(_) => moved_on(
             at + width::in_expression(0x20),
             count,
@@ -245,11 +247,13 @@ pub fn read_links(text: &[u8], at: usize) -> LinksRead
     LinksRead::Links(count, next)
 }
 
-// What a command adds to a program: a signal of a period and a weight, a chain of so many LINKs, a CAP.
+// What a command adds to a program: a signal of a period and a weight, a chain of so many LINKs, a CAP, a label for the signal
+// after it.
 pub enum Entry {
     Signal(u8, u16),
     Chain(usize),
     Cap(u32),
+    Label(u16),
 }
 
 // What one command of the program text is: an entry with where the reading stands after it, END, or the refusal.
@@ -293,6 +297,7 @@ fn command_here(text: &[u8], at: usize, signals: usize, chains: usize, capped: b
         Keyword::Latency => judge(chains < 16, 4, at),
         Keyword::Link => refuse(3, at),
         Keyword::Cap => judge(!capped, 5, at),
+        Keyword::Tag => Reached::Next(at),
         Keyword::Constant => refuse(3, at),
         Keyword::Read(_) => refuse(3, at),
         Keyword::Binary(_) => refuse(3, at),
@@ -352,6 +357,28 @@ fn chain_step(text: &[u8], at: usize, count: usize, to: usize) -> Step
     }
 }
 
+fn is_signal(byte: u8) -> bool
+    ensures { λ r. ⌜ r ≡ isSignal byte ⌝ }
+{
+    byte == 0x10 || byte == 0x11
+}
+
+// A TAG stands directly before IN or EQ, which takes its label.
+fn tag_step(text: &[u8], at: usize, label: u16, count: usize, to: usize) -> Step
+    requires { ⌜ at < length (now text) ⌝ }
+    ensures { λ r. ⌜ r ≡ tagOf (now (text .entry)) at label count to ⌝ }
+{
+    let next = at + width::in_program(0x15);
+    if text.len() <= next {
+        return refuse_step(2, text.len());
+    }
+    let byte = text[next];
+    if !is_signal(byte) {
+        return refuse_step(3, at);
+    }
+    adds(Entry::Label(label), next, count, to)
+}
+
 // END is the last byte.
 fn end_step(text: &[u8], at: usize) -> Step
     requires { ⌜ at < length (now text) ⌝ }
@@ -378,7 +405,7 @@ fn read_command(
     reads: &mut [u16],
 ) -> Step
     requires { ⌜ Room (length (now text)) at count to (length (now reads)) ⌝ }
-    ensures { λ r. ⌜ ((p : Program) → Counts p signals chains capped → Stepped least (now (text .entry)) at p (now (reads .entry)) count to (now (reads .exit)) r) ⌝ }
+    ensures { λ r. ⌜ ((p : Program) (label : ℕ) → Counts p signals chains capped → Stepped least (now (text .entry)) at label p (now (reads .entry)) count to (now (reads .exit)) r) ⌝ }
 {
     let here = command_here(text, at, signals, chains, capped);
     if let Reached::Refused(fault) = here {
@@ -407,6 +434,7 @@ fn read_command(
         Command::Latency(_, _) => chain_step(text, at, count, to),
         Command::Link(_) => refuse_step(3, at),
         Command::Cap(limit) => adds(Entry::Cap(limit), at + width::in_program(0x14), count, to),
+        Command::Tag(label) => tag_step(text, at, label, count, to),
         Command::Constant(_) => refuse_step(3, at),
         Command::Read(_, _) => refuse_step(3, at),
         Command::Binary(_) => refuse_step(3, at),
@@ -422,6 +450,7 @@ pub struct Tables {
     pub places: [usize; 64],
     pub periods: [u8; 64],
     pub weights: [u16; 64],
+    pub labels: [u16; 64],
     pub firsts: [u16; 65],
     pub codes: [u16; 65],
     pub chains: usize,
@@ -438,6 +467,7 @@ impl Tables {
             places: [0; 64],
             periods: [0; 64],
             weights: [0; 64],
+            labels: [0; 64],
             firsts: [0; 65],
             codes: [0; 65],
             chains: 0,
@@ -481,6 +511,7 @@ pub fn read_program(least: u8, text: &[u8], reads: &mut [u16]) -> ProgramRead
     let mut places: [usize; 64] = [0; 64];
     let mut periods: [u8; 64] = [0; 64];
     let mut weights: [u16; 64] = [0; 64];
+    let mut labels: [u16; 64] = [0; 64];
     let mut firsts: [u16; 65] = [0; 65];
     let mut codes: [u16; 65] = [0; 65];
     let mut starts: [usize; 16] = [0; 16];
@@ -490,6 +521,7 @@ pub fn read_program(least: u8, text: &[u8], reads: &mut [u16]) -> ProgramRead
     let mut capped = false;
     let mut limit: u32 = 0;
     let mut at: usize = 0;
+    let mut label: u16 = 0;
     let mut count: usize = 0;
     let mut to: usize = 0;
     while at < text.len() {
@@ -502,6 +534,7 @@ pub fn read_program(least: u8, text: &[u8], reads: &mut [u16]) -> ProgramRead
                     places: places,
                     periods: periods,
                     weights: weights,
+                    labels: labels,
                     firsts: firsts,
                     codes: codes,
                     chains: chains,
@@ -521,18 +554,25 @@ pub fn read_program(least: u8, text: &[u8], reads: &mut [u16]) -> ProgramRead
                 places[signals] = place;
                 periods[signals] = period;
                 weights[signals] = weight;
+                labels[signals] = label;
                 signals = signals + 1;
                 firsts[signals] = count as u16;
                 codes[signals] = to as u16;
+                label = 0;
             }
             Entry::Chain(links) => {
                 starts[chains] = place;
                 lengths[chains] = links;
                 chains = chains + 1;
+                label = 0;
             }
             Entry::Cap(most) => {
                 capped = true;
                 limit = most;
+                label = 0;
+            }
+            Entry::Label(given) => {
+                label = given;
             }
         }
     }

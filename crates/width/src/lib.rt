@@ -22,6 +22,8 @@ pub fn program(byte: u8) -> Width
         0x13 => Width::Bytes(2),
         // CAP limit
         0x14 => Width::Bytes(5),
+        // TAG label
+        0x15 => Width::Bytes(3),
         _ => Width::Unlisted,
     }
 }

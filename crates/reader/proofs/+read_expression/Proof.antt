@@ -205,17 +205,23 @@ refuse-walk-requires-9 t c κs = search needs
 enum-told-10 : (t : ℕ) → lts.Need-enum-told-10 (known t) (given t) own.Post
 enum-told-10 t c = search needs
 
+refuse-walk-requires-10 : (t : ℕ) → lts.Need-refuse-walk-requires-10 (known t) (given t) own.Post
+refuse-walk-requires-10 t c κs = search needs
+
+enum-told-11 : (t : ℕ) → lts.Need-enum-told-11 (known t) (given t) own.Post
+enum-told-11 t c = search needs
+
 in-expression-requires : (t : ℕ) → lts.Need-in-expression-requires (known t) (given t) own.Post
 in-expression-requires t c κs = search needs
 
 add-moved-on : (t : ℕ) → lts.Need-add-moved-on (known t) (given t) own.Post
-add-moved-on t c = omega (arith, constant-inside t (c .before .before .before) (c .before .enum-told10 .given .1), room t (c .before .before .before) .short, room t (c .before .before .before) .small)
+add-moved-on t c = omega (arith, constant-inside t (c .before .before .before) (c .before .enum-told11 .given .1), room t (c .before .before .before) .short, room t (c .before .before .before) .small)
 
 in-code-requires : (t : ℕ) → lts.Need-in-code-requires (known t) (given t) own.Post
 in-code-requires t c κs = search needs
 
 add-moved-on-2 : (t : ℕ) → lts.Need-add-moved-on-2 (known t) (given t) own.Post
-add-moved-on-2 t c = omega (arith, constant-inside t (c .before .before .before .before) (c .before .before .enum-told10 .given .1), room t (c .before .before .before .before) .short, room t (c .before .before .before .before) .small)
+add-moved-on-2 t c = omega (arith, constant-inside t (c .before .before .before .before) (c .before .before .enum-told11 .given .1), room t (c .before .before .before .before) .short, room t (c .before .before .before .before) .small)
 
 moved-on-requires : (t : ℕ) → lts.Need-moved-on-requires (known t) (given t) own.Post
 moved-on-requires t c κs = search needs
@@ -250,14 +256,14 @@ add-moved-on-5 t c = omega (arith, read-inside t (c .before .before .before .bef
 moved-on-requires-2 : (t : ℕ) → lts.Need-moved-on-requires-2 (known t) (given t) own.Post
 moved-on-requires-2 t c κs = search needs
 
-enum-told-11 : (t : ℕ) → lts.Need-enum-told-11 (known t) (given t) own.Post
-enum-told-11 t c = search needs
+enum-told-12 : (t : ℕ) → lts.Need-enum-told-12 (known t) (given t) own.Post
+enum-told-12 t c = search needs
 
 in-expression-requires-2 : (t : ℕ) → lts.Need-in-expression-requires-2 (known t) (given t) own.Post
 in-expression-requires-2 t c κs = search needs
 
 add-first-at : (t : ℕ) → lts.Need-add-first-at (known t) (given t) own.Post
-add-first-at t c = omega (arith, inside t (c .before .before .before) _ (c .before .enum-told11 .given .1) (λ e. let z : _≡_ {A = ℕ} 0 1 = cc in omega arith), room t (c .before .before .before) .short)
+add-first-at t c = omega (arith, inside t (c .before .before .before) _ (c .before .enum-told12 .given .1) (λ e. let z : _≡_ {A = ℕ} 0 1 = cc in omega arith), room t (c .before .before .before) .short)
 
 sub-read-expression : (t : ℕ) → lts.Need-sub-read-expression (known t) (given t) own.Post
 sub-read-expression t c = search needs
@@ -268,15 +274,15 @@ read-expression-requires t c κs = (omega (arith, c .before .before .before .bef
 enum-known-first : (t : ℕ) → lts.Need-enum-known-first (known t) (given t) own.Post
 enum-known-first t c = search needs
 
-enum-told-12 : (t : ℕ) → lts.Need-enum-told-12 (known t) (given t) own.Post
-enum-told-12 t c = search needs
+enum-told-13 : (t : ℕ) → lts.Need-enum-told-13 (known t) (given t) own.Post
+enum-told-13 t c = search needs
 
 same-length : (t : ℕ) → lts.Need-same-length (known t) (given t) own.Post
 same-length t c = search needs
 
 returns-2 : (t : ℕ) → lts.Need-returns-2 (known t) (given t) own.Post
 unfolding node
-returns-2 t c = rw (step t (c .before .before .before .before .before .before .before .before .before) _ (c .before .before .before .before .before .before .before .enum-told11 .given .1)) (stop _ _ (rw (c .before .before .before .before .before .before .in-expression2 .ensures) at (c .before .before .before .before .read-expression .ensures)) (c .enum-told12 .given .1))
+returns-2 t c = rw (step t (c .before .before .before .before .before .before .before .before .before) _ (c .before .before .before .before .before .before .before .enum-told12 .given .1)) (stop _ _ (rw (c .before .before .before .before .before .before .in-expression2 .ensures) at (c .before .before .before .before .read-expression .ensures)) (c .enum-told13 .given .1))
 
 sub-read-expression-2 : (t : ℕ) → lts.Need-sub-read-expression-2 (known t) (given t) own.Post
 sub-read-expression-2 t c = search needs
@@ -287,15 +293,15 @@ read-expression-requires-2 t c κs = (omega (arith, c .before .before .before .b
 enum-known-second : (t : ℕ) → lts.Need-enum-known-second (known t) (given t) own.Post
 enum-known-second t c = search needs
 
-enum-told-13 : (t : ℕ) → lts.Need-enum-told-13 (known t) (given t) own.Post
-enum-told-13 t c = search needs
+enum-told-14 : (t : ℕ) → lts.Need-enum-told-14 (known t) (given t) own.Post
+enum-told-14 t c = search needs
 
 same-length-2 : (t : ℕ) → lts.Need-same-length-2 (known t) (given t) own.Post
 same-length-2 t c = search needs
 
 returns-3 : (t : ℕ) → lts.Need-returns-3 (known t) (given t) own.Post
 unfolding node
-returns-3 t c = rw (step t (c .before .before .before .before .before .before .before .before .before .before .before .before .before .before .before .before) _ (c .before .before .before .before .before .before .before .before .before .before .before .before .before .before .enum-told11 .given .1)) (go-on _ _ (rw (c .before .before .before .before .before .before .before .before .before .before .before .before .before .in-expression2 .ensures) at (c .before .before .before .before .before .before .before .before .before .before .before .read-expression .ensures)) (c .before .before .before .before .before .before .before .first .given .1) (λ x m. stop _ _ (c .before .before .before .before .read-expression2 .ensures) (c .enum-told13 .given .1)))
+returns-3 t c = rw (step t (c .before .before .before .before .before .before .before .before .before .before .before .before .before .before .before .before) _ (c .before .before .before .before .before .before .before .before .before .before .before .before .before .before .enum-told12 .given .1)) (go-on _ _ (rw (c .before .before .before .before .before .before .before .before .before .before .before .before .before .in-expression2 .ensures) at (c .before .before .before .before .before .before .before .before .before .before .before .read-expression .ensures)) (c .before .before .before .before .before .before .before .first .given .1) (λ x m. stop _ _ (c .before .before .before .before .read-expression2 .ensures) (c .enum-told14 .given .1)))
 
 in-code-requires-3 : (t : ℕ) → lts.Need-in-code-requires-3 (known t) (given t) own.Post
 in-code-requires-3 t c κs = search needs
@@ -306,14 +312,14 @@ add-moved-on-6 t c = let h = more t (c .before .before .before .before .before .
 moved-on-requires-3 : (t : ℕ) → lts.Need-moved-on-requires-3 (known t) (given t) own.Post
 moved-on-requires-3 t c κs = search needs
 
-enum-told-14 : (t : ℕ) → lts.Need-enum-told-14 (known t) (given t) own.Post
-enum-told-14 t c = search needs
+enum-told-15 : (t : ℕ) → lts.Need-enum-told-15 (known t) (given t) own.Post
+enum-told-15 t c = search needs
 
 in-expression-requires-3 : (t : ℕ) → lts.Need-in-expression-requires-3 (known t) (given t) own.Post
 in-expression-requires-3 t c κs = search needs
 
 add-operand-at : (t : ℕ) → lts.Need-add-operand-at (known t) (given t) own.Post
-add-operand-at t c = omega (arith, inside t (c .before .before .before) _ (c .before .enum-told14 .given .1) (λ e. let z : _≡_ {A = ℕ} 0 1 = cc in omega arith), room t (c .before .before .before) .short)
+add-operand-at t c = omega (arith, inside t (c .before .before .before) _ (c .before .enum-told15 .given .1) (λ e. let z : _≡_ {A = ℕ} 0 1 = cc in omega arith), room t (c .before .before .before) .short)
 
 sub-read-expression-3 : (t : ℕ) → lts.Need-sub-read-expression-3 (known t) (given t) own.Post
 sub-read-expression-3 t c = search needs
@@ -324,15 +330,15 @@ read-expression-requires-3 t c κs = (omega (arith, c .before .before .before .b
 enum-known-operand : (t : ℕ) → lts.Need-enum-known-operand (known t) (given t) own.Post
 enum-known-operand t c = search needs
 
-enum-told-15 : (t : ℕ) → lts.Need-enum-told-15 (known t) (given t) own.Post
-enum-told-15 t c = search needs
+enum-told-16 : (t : ℕ) → lts.Need-enum-told-16 (known t) (given t) own.Post
+enum-told-16 t c = search needs
 
 same-length-3 : (t : ℕ) → lts.Need-same-length-3 (known t) (given t) own.Post
 same-length-3 t c = search needs
 
 returns-4 : (t : ℕ) → lts.Need-returns-4 (known t) (given t) own.Post
 unfolding node
-returns-4 t c = rw (step t (c .before .before .before .before .before .before .before .before .before) _ (c .before .before .before .before .before .before .before .enum-told14 .given .1)) (stop _ _ (rw (c .before .before .before .before .before .before .in-expression3 .ensures) at (c .before .before .before .before .read-expression3 .ensures)) (c .enum-told15 .given .1))
+returns-4 t c = rw (step t (c .before .before .before .before .before .before .before .before .before) _ (c .before .before .before .before .before .before .before .enum-told15 .given .1)) (stop _ _ (rw (c .before .before .before .before .before .before .in-expression3 .ensures) at (c .before .before .before .before .read-expression3 .ensures)) (c .enum-told16 .given .1))
 
 in-code-requires-4 : (t : ℕ) → lts.Need-in-code-requires-4 (known t) (given t) own.Post
 in-code-requires-4 t c κs = search needs
@@ -343,14 +349,14 @@ add-moved-on-7 t c = let h = one t (c .before .before .before .before .before .b
 moved-on-requires-4 : (t : ℕ) → lts.Need-moved-on-requires-4 (known t) (given t) own.Post
 moved-on-requires-4 t c κs = search needs
 
-enum-told-16 : (t : ℕ) → lts.Need-enum-told-16 (known t) (given t) own.Post
-enum-told-16 t c = search needs
+enum-told-17 : (t : ℕ) → lts.Need-enum-told-17 (known t) (given t) own.Post
+enum-told-17 t c = search needs
 
 in-expression-requires-4 : (t : ℕ) → lts.Need-in-expression-requires-4 (known t) (given t) own.Post
 in-expression-requires-4 t c κs = search needs
 
 add-condition-at : (t : ℕ) → lts.Need-add-condition-at (known t) (given t) own.Post
-add-condition-at t c = omega (arith, inside t (c .before .before .before) _ (c .before .enum-told16 .given .1) (λ e. let z : _≡_ {A = ℕ} 0 1 = cc in omega arith), room t (c .before .before .before) .short)
+add-condition-at t c = omega (arith, inside t (c .before .before .before) _ (c .before .enum-told17 .given .1) (λ e. let z : _≡_ {A = ℕ} 0 1 = cc in omega arith), room t (c .before .before .before) .short)
 
 sub-read-expression-4 : (t : ℕ) → lts.Need-sub-read-expression-4 (known t) (given t) own.Post
 sub-read-expression-4 t c = search needs
@@ -361,15 +367,15 @@ read-expression-requires-4 t c κs = (omega (arith, c .before .before .before .b
 enum-known-condition : (t : ℕ) → lts.Need-enum-known-condition (known t) (given t) own.Post
 enum-known-condition t c = search needs
 
-enum-told-17 : (t : ℕ) → lts.Need-enum-told-17 (known t) (given t) own.Post
-enum-told-17 t c = search needs
+enum-told-18 : (t : ℕ) → lts.Need-enum-told-18 (known t) (given t) own.Post
+enum-told-18 t c = search needs
 
 same-length-4 : (t : ℕ) → lts.Need-same-length-4 (known t) (given t) own.Post
 same-length-4 t c = search needs
 
 returns-5 : (t : ℕ) → lts.Need-returns-5 (known t) (given t) own.Post
 unfolding node
-returns-5 t c = rw (step t (c .before .before .before .before .before .before .before .before .before) _ (c .before .before .before .before .before .before .before .enum-told16 .given .1)) (stop _ _ (rw (c .before .before .before .before .before .before .in-expression4 .ensures) at (c .before .before .before .before .read-expression4 .ensures)) (c .enum-told17 .given .1))
+returns-5 t c = rw (step t (c .before .before .before .before .before .before .before .before .before) _ (c .before .before .before .before .before .before .before .enum-told17 .given .1)) (stop _ _ (rw (c .before .before .before .before .before .before .in-expression4 .ensures) at (c .before .before .before .before .read-expression4 .ensures)) (c .enum-told18 .given .1))
 
 sub-read-expression-5 : (t : ℕ) → lts.Need-sub-read-expression-5 (known t) (given t) own.Post
 sub-read-expression-5 t c = search needs
@@ -380,15 +386,15 @@ read-expression-requires-5 t c κs = (omega (arith, c .before .before .before .b
 enum-known-first-2 : (t : ℕ) → lts.Need-enum-known-first-2 (known t) (given t) own.Post
 enum-known-first-2 t c = search needs
 
-enum-told-18 : (t : ℕ) → lts.Need-enum-told-18 (known t) (given t) own.Post
-enum-told-18 t c = search needs
+enum-told-19 : (t : ℕ) → lts.Need-enum-told-19 (known t) (given t) own.Post
+enum-told-19 t c = search needs
 
 same-length-5 : (t : ℕ) → lts.Need-same-length-5 (known t) (given t) own.Post
 same-length-5 t c = search needs
 
 returns-6 : (t : ℕ) → lts.Need-returns-6 (known t) (given t) own.Post
 unfolding node
-returns-6 t c = rw (step t (c .before .before .before .before .before .before .before .before .before .before .before .before .before .before .before .before) _ (c .before .before .before .before .before .before .before .before .before .before .before .before .before .before .enum-told16 .given .1)) (go-on _ _ (rw (c .before .before .before .before .before .before .before .before .before .before .before .before .before .in-expression4 .ensures) at (c .before .before .before .before .before .before .before .before .before .before .before .read-expression4 .ensures)) (c .before .before .before .before .before .before .before .condition .given .1) (λ x m. stop _ _ (c .before .before .before .before .read-expression5 .ensures) (c .enum-told18 .given .1)))
+returns-6 t c = rw (step t (c .before .before .before .before .before .before .before .before .before .before .before .before .before .before .before .before) _ (c .before .before .before .before .before .before .before .before .before .before .before .before .before .before .enum-told17 .given .1)) (go-on _ _ (rw (c .before .before .before .before .before .before .before .before .before .before .before .before .before .in-expression4 .ensures) at (c .before .before .before .before .before .before .before .before .before .before .before .read-expression4 .ensures)) (c .before .before .before .before .before .before .before .condition .given .1) (λ x m. stop _ _ (c .before .before .before .before .read-expression5 .ensures) (c .enum-told19 .given .1)))
 
 sub-read-expression-6 : (t : ℕ) → lts.Need-sub-read-expression-6 (known t) (given t) own.Post
 sub-read-expression-6 t c = search needs
@@ -399,15 +405,15 @@ read-expression-requires-6 t c κs = (omega (arith, c .before .before .before .b
 enum-known-second-2 : (t : ℕ) → lts.Need-enum-known-second-2 (known t) (given t) own.Post
 enum-known-second-2 t c = search needs
 
-enum-told-19 : (t : ℕ) → lts.Need-enum-told-19 (known t) (given t) own.Post
-enum-told-19 t c = search needs
+enum-told-20 : (t : ℕ) → lts.Need-enum-told-20 (known t) (given t) own.Post
+enum-told-20 t c = search needs
 
 same-length-6 : (t : ℕ) → lts.Need-same-length-6 (known t) (given t) own.Post
 same-length-6 t c = search needs
 
 returns-7 : (t : ℕ) → lts.Need-returns-7 (known t) (given t) own.Post
 unfolding node
-returns-7 t c = rw (step t (c .before .before .before .before .before .before .before .before .before .before .before .before .before .before .before .before .before .before .before .before .before .before .before) _ (c .before .before .before .before .before .before .before .before .before .before .before .before .before .before .before .before .before .before .before .before .before .enum-told16 .given .1)) (go-on _ _ (rw (c .before .before .before .before .before .before .before .before .before .before .before .before .before .before .before .before .before .before .before .before .in-expression4 .ensures) at (c .before .before .before .before .before .before .before .before .before .before .before .before .before .before .before .before .before .before .read-expression4 .ensures)) (c .before .before .before .before .before .before .before .before .before .before .before .before .before .before .condition .given .1) (λ x m. go-on _ _ (c .before .before .before .before .before .before .before .before .before .before .before .read-expression5 .ensures) (c .before .before .before .before .before .before .before .first2 .given .1) (λ y n. stop _ _ (c .before .before .before .before .read-expression6 .ensures) (c .enum-told19 .given .1))))
+returns-7 t c = rw (step t (c .before .before .before .before .before .before .before .before .before .before .before .before .before .before .before .before .before .before .before .before .before .before .before) _ (c .before .before .before .before .before .before .before .before .before .before .before .before .before .before .before .before .before .before .before .before .before .enum-told17 .given .1)) (go-on _ _ (rw (c .before .before .before .before .before .before .before .before .before .before .before .before .before .before .before .before .before .before .before .before .in-expression4 .ensures) at (c .before .before .before .before .before .before .before .before .before .before .before .before .before .before .before .before .before .before .read-expression4 .ensures)) (c .before .before .before .before .before .before .before .before .before .before .before .before .before .before .condition .given .1) (λ x m. go-on _ _ (c .before .before .before .before .before .before .before .before .before .before .before .read-expression5 .ensures) (c .before .before .before .before .before .before .before .first2 .given .1) (λ y n. stop _ _ (c .before .before .before .before .read-expression6 .ensures) (c .enum-told20 .given .1))))
 
 in-code-requires-5 : (t : ℕ) → lts.Need-in-code-requires-5 (known t) (given t) own.Post
 in-code-requires-5 t c κs = search needs
@@ -456,35 +462,39 @@ returns-16 t c = walks-refused _ (step t (c .before .before .before) _ (c .befor
 
 returns-17 : (t : ℕ) → lts.Need-returns-17 (known t) (given t) own.Post
 unfolding node
-returns-17 t c = rw (step t (c .before .before .before .before .before) _ (c .before .before .before .enum-told10 .given .1)) (walks-constant _ _ (rw (c .before .before .in-expression .ensures, c .before .in-code .ensures) at (c .moved-on .ensures)))
+returns-17 t c = walks-refused _ (step t (c .before .before .before) _ (c .before .enum-told10 .given .1)) (c .refuse-walk10 .ensures)
+
+returns-18 : (t : ℕ) → lts.Need-returns-18 (known t) (given t) own.Post
+unfolding node
+returns-18 t c = rw (step t (c .before .before .before .before .before) _ (c .before .before .before .enum-told11 .given .1)) (walks-constant _ _ (rw (c .before .before .in-expression .ensures, c .before .in-code .ensures) at (c .moved-on .ensures)))
 
 same-length-7 : (t : ℕ) → lts.Need-same-length-7 (known t) (given t) own.Post
 same-length-7 t c = search needs
 
-returns-18 : (t : ℕ) → lts.Need-returns-18 (known t) (given t) own.Post
+returns-19 : (t : ℕ) → lts.Need-returns-19 (known t) (given t) own.Post
 unfolding node
-returns-18 t c = rw (read-step t (c .before .before .before .before .before .before) (c .before .before .before .before .operator .given .1)) (walks-read _ (rw (c .before .before .of-read .ensures, c .before .in-code2 .ensures) at (c .moved-on2 .ensures)))
+returns-19 t c = rw (read-step t (c .before .before .before .before .before .before) (c .before .before .before .before .operator .given .1)) (walks-read _ (rw (c .before .before .of-read .ensures, c .before .in-code2 .ensures) at (c .moved-on2 .ensures)))
 
 same-length-8 : (t : ℕ) → lts.Need-same-length-8 (known t) (given t) own.Post
 same-length-8 t c = search needs
 
-returns-19 : (t : ℕ) → lts.Need-returns-19 (known t) (given t) own.Post
+returns-20 : (t : ℕ) → lts.Need-returns-20 (known t) (given t) own.Post
 unfolding node
-returns-19 t c = rw (step t (c .before .before .before .before .before .before .before .before .before .before .before .before .before .before .before .before .before .before .before .before) _ (c .before .before .before .before .before .before .before .before .before .before .before .before .before .before .before .before .before .before .enum-told11 .given .1)) (go-on _ _ (rw (c .before .before .before .before .before .before .before .before .before .before .before .before .before .before .before .before .before .in-expression2 .ensures) at (c .before .before .before .before .before .before .before .before .before .before .before .before .before .before .before .read-expression .ensures)) (c .before .before .before .before .before .before .before .before .before .before .before .first .given .1) (λ x m. go-on _ _ (c .before .before .before .before .before .before .before .before .read-expression2 .ensures) (c .before .before .before .before .second .given .1) (λ y n. walks-two x m y n _ (rw (c .before .before .in-code3 .ensures) at (c .moved-on3 .ensures)))))
+returns-20 t c = rw (step t (c .before .before .before .before .before .before .before .before .before .before .before .before .before .before .before .before .before .before .before .before) _ (c .before .before .before .before .before .before .before .before .before .before .before .before .before .before .before .before .before .before .enum-told12 .given .1)) (go-on _ _ (rw (c .before .before .before .before .before .before .before .before .before .before .before .before .before .before .before .before .before .in-expression2 .ensures) at (c .before .before .before .before .before .before .before .before .before .before .before .before .before .before .before .read-expression .ensures)) (c .before .before .before .before .before .before .before .before .before .before .before .first .given .1) (λ x m. go-on _ _ (c .before .before .before .before .before .before .before .before .read-expression2 .ensures) (c .before .before .before .before .second .given .1) (λ y n. walks-two x m y n _ (rw (c .before .before .in-code3 .ensures) at (c .moved-on3 .ensures)))))
 
 same-length-9 : (t : ℕ) → lts.Need-same-length-9 (known t) (given t) own.Post
 same-length-9 t c = search needs
 
-returns-20 : (t : ℕ) → lts.Need-returns-20 (known t) (given t) own.Post
+returns-21 : (t : ℕ) → lts.Need-returns-21 (known t) (given t) own.Post
 unfolding node
-returns-20 t c = rw (step t (c .before .before .before .before .before .before .before .before .before .before .before .before .before) _ (c .before .before .before .before .before .before .before .before .before .before .before .enum-told14 .given .1)) (go-on _ _ (rw (c .before .before .before .before .before .before .before .before .before .before .in-expression3 .ensures) at (c .before .before .before .before .before .before .before .before .read-expression3 .ensures)) (c .before .before .before .before .operand .given .1) (λ x m. walks-one x m (rw (c .before .before .in-code4 .ensures) at (c .moved-on4 .ensures))))
+returns-21 t c = rw (step t (c .before .before .before .before .before .before .before .before .before .before .before .before .before) _ (c .before .before .before .before .before .before .before .before .before .before .before .enum-told15 .given .1)) (go-on _ _ (rw (c .before .before .before .before .before .before .before .before .before .before .in-expression3 .ensures) at (c .before .before .before .before .before .before .before .before .read-expression3 .ensures)) (c .before .before .before .before .operand .given .1) (λ x m. walks-one x m (rw (c .before .before .in-code4 .ensures) at (c .moved-on4 .ensures))))
 
 same-length-10 : (t : ℕ) → lts.Need-same-length-10 (known t) (given t) own.Post
 same-length-10 t c = search (needs, c .before .before .before .before .before .before .before .before .before .before .before .before .before .before .before .before .before .before .before .before .before .reads4 .given)
 
-returns-21 : (t : ℕ) → lts.Need-returns-21 (known t) (given t) own.Post
+returns-22 : (t : ℕ) → lts.Need-returns-22 (known t) (given t) own.Post
 unfolding node
-returns-21 t c = rw (step t (c .before .before .before .before .before .before .before .before .before .before .before .before .before .before .before .before .before .before .before .before .before .before .before .before .before .before .before) _ (c .before .before .before .before .before .before .before .before .before .before .before .before .before .before .before .before .before .before .before .before .before .before .before .before .before .enum-told16 .given .1)) (go-on _ _ (rw (c .before .before .before .before .before .before .before .before .before .before .before .before .before .before .before .before .before .before .before .before .before .before .before .before .in-expression4 .ensures) at (c .before .before .before .before .before .before .before .before .before .before .before .before .before .before .before .before .before .before .before .before .before .before .read-expression4 .ensures)) (c .before .before .before .before .before .before .before .before .before .before .before .before .before .before .before .before .before .before .condition .given .1) (λ x m. go-on _ _ (c .before .before .before .before .before .before .before .before .before .before .before .before .before .before .before .read-expression5 .ensures) (c .before .before .before .before .before .before .before .before .before .before .before .first2 .given .1) (λ y n. go-on _ _ (c .before .before .before .before .before .before .before .before .read-expression6 .ensures) (c .before .before .before .before .second2 .given .1) (λ z k. walks-three x m y n z k (rw (c .before .before .in-code5 .ensures) at (c .moved-on5 .ensures))))))
+returns-22 t c = rw (step t (c .before .before .before .before .before .before .before .before .before .before .before .before .before .before .before .before .before .before .before .before .before .before .before .before .before .before .before) _ (c .before .before .before .before .before .before .before .before .before .before .before .before .before .before .before .before .before .before .before .before .before .before .before .before .before .enum-told17 .given .1)) (go-on _ _ (rw (c .before .before .before .before .before .before .before .before .before .before .before .before .before .before .before .before .before .before .before .before .before .before .before .before .in-expression4 .ensures) at (c .before .before .before .before .before .before .before .before .before .before .before .before .before .before .before .before .before .before .before .before .before .before .read-expression4 .ensures)) (c .before .before .before .before .before .before .before .before .before .before .before .before .before .before .before .before .before .before .condition .given .1) (λ x m. go-on _ _ (c .before .before .before .before .before .before .before .before .before .before .before .before .before .before .before .read-expression5 .ensures) (c .before .before .before .before .before .before .before .before .before .before .before .first2 .given .1) (λ y n. go-on _ _ (c .before .before .before .before .before .before .before .before .read-expression6 .ensures) (c .before .before .before .before .second2 .given .1) (λ z k. walks-three x m y n z k (rw (c .before .before .in-code5 .ensures) at (c .moved-on5 .ensures))))))
 
 pub +read-expression-spec : {M : Type 1} → statement M
 +read-expression-spec =
@@ -511,6 +521,8 @@ pub +read-expression-spec : {M : Type 1} → statement M
     (enum-told-9 t)
     (refuse-walk-requires-9 t)
     (enum-told-10 t)
+    (refuse-walk-requires-10 t)
+    (enum-told-11 t)
     (in-expression-requires t)
     (add-moved-on t)
     (in-code-requires t)
@@ -526,55 +538,55 @@ pub +read-expression-spec : {M : Type 1} → statement M
     (in-code-requires-2 t)
     (add-moved-on-5 t)
     (moved-on-requires-2 t)
-    (enum-told-11 t)
+    (enum-told-12 t)
     (in-expression-requires-2 t)
     (add-first-at t)
     (sub-read-expression t)
     (read-expression-requires t)
     (enum-known-first t)
-    (enum-told-12 t)
+    (enum-told-13 t)
     (same-length t)
     (returns-2 t)
     (sub-read-expression-2 t)
     (read-expression-requires-2 t)
     (enum-known-second t)
-    (enum-told-13 t)
+    (enum-told-14 t)
     (same-length-2 t)
     (returns-3 t)
     (in-code-requires-3 t)
     (add-moved-on-6 t)
     (moved-on-requires-3 t)
-    (enum-told-14 t)
+    (enum-told-15 t)
     (in-expression-requires-3 t)
     (add-operand-at t)
     (sub-read-expression-3 t)
     (read-expression-requires-3 t)
     (enum-known-operand t)
-    (enum-told-15 t)
+    (enum-told-16 t)
     (same-length-3 t)
     (returns-4 t)
     (in-code-requires-4 t)
     (add-moved-on-7 t)
     (moved-on-requires-4 t)
-    (enum-told-16 t)
+    (enum-told-17 t)
     (in-expression-requires-4 t)
     (add-condition-at t)
     (sub-read-expression-4 t)
     (read-expression-requires-4 t)
     (enum-known-condition t)
-    (enum-told-17 t)
+    (enum-told-18 t)
     (same-length-4 t)
     (returns-5 t)
     (sub-read-expression-5 t)
     (read-expression-requires-5 t)
     (enum-known-first-2 t)
-    (enum-told-18 t)
+    (enum-told-19 t)
     (same-length-5 t)
     (returns-6 t)
     (sub-read-expression-6 t)
     (read-expression-requires-6 t)
     (enum-known-second-2 t)
-    (enum-told-19 t)
+    (enum-told-20 t)
     (same-length-6 t)
     (returns-7 t)
     (in-code-requires-5 t)
@@ -590,11 +602,12 @@ pub +read-expression-spec : {M : Type 1} → statement M
     (returns-15 t)
     (returns-16 t)
     (returns-17 t)
-    (same-length-7 t)
     (returns-18 t)
-    (same-length-8 t)
+    (same-length-7 t)
     (returns-19 t)
-    (same-length-9 t)
+    (same-length-8 t)
     (returns-20 t)
+    (same-length-9 t)
+    (returns-21 t)
     (same-length-10 t)
-    (returns-21 t))
+    (returns-22 t))

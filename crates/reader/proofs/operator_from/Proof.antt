@@ -36,7 +36,7 @@ returns-2 c =
 
 -- What is no read is left as it is.
 abbrev others : List ℕ
-others = 0 ∷ 1 ∷ 2 ∷ 3 ∷ 4 ∷ 5 ∷ 6 ∷ 7 ∷ 8 ∷ 9 ∷ 11 ∷ 12 ∷ 13 ∷ []
+others = 0 ∷ 1 ∷ 2 ∷ 3 ∷ 4 ∷ 5 ∷ 6 ∷ 7 ∷ 8 ∷ 9 ∷ 10 ∷ 12 ∷ 13 ∷ 14 ∷ []
 
 left : (least : ℕ) (c : Command) → OneOf others (tagOf (declared enum) c) → c ≡ restricted least c
 left least Command.EndsEarly k = refl
@@ -48,8 +48,9 @@ left least (Command.Equation period initial weight) k = refl
 left least (Command.Latency mode bound) k = refl
 left least (Command.Link signal) k = refl
 left least (Command.Cap n) k = refl
+left least (Command.Tag label) k = refl
 left least (Command.Constant w) k = refl
-left least (Command.Read kind x) k = absurd (miss others 10 tt k)
+left least (Command.Read kind x) k = absurd (miss others 11 tt k)
 left least (Command.Binary operator) k = refl
 left least Command.Negate k = refl
 left least Command.If k = refl

@@ -12,7 +12,7 @@ use Rattle.model.specs.declared.Command.{Command}
 use Rattle.model.specs.declared.Command.the-variants as Command
 use Rattle.reader.specs.Steps.{Counts, Stepped}
 use Rattle.reader.proofs.Laws.{here-next, here-refused, command-inside}
-use Rattle.reader.proofs.Steps.{step-stopped, step-refused, step-end, step-input, step-equation, step-chain, step-cap}
+use Rattle.reader.proofs.Steps.{step-stopped, step-refused, step-end, step-input, step-equation, step-chain, step-cap, step-tag}
 use borrow.Author.Needs.{needs}
 use Rattle.reader.proofs.read_command.Statement.{statement}
 use Rattle.reader.proofs.read_command.Tie as tie
@@ -45,7 +45,7 @@ enum-known-here : tie.Need-enum-known-here
 enum-known-here c = search needs
 
 returns : tie.Need-returns
-returns c = λ p k. step-stopped _ _ _ p _ _ _ (here-refused _ _ (sym (c .before .here .given .1) ∙ c .before .before .before .command-here .ensures p k))
+returns c = λ p label k. step-stopped _ _ _ label p _ _ _ (here-refused _ _ (sym (c .before .here .given .1) ∙ c .before .before .before .command-here .ensures p k))
 
 enum-told : tie.Need-enum-told
 enum-told c = search needs
@@ -131,6 +131,13 @@ add-adds c = omega (arith, inside (c .before .before .before .before) _ (c .befo
 adds-requires-2 : tie.Need-adds-requires-2
 adds-requires-2 c κs = search needs
 
+enum-known-command-4 : tie.Need-enum-known-command-4
+enum-known-command-4 c = search needs
+
+tag-step-requires : tie.Need-tag-step-requires
+tag-step-requires c κs =
+    inside (c .before .before .before) _ (c .before .command4 .given .1) (λ e. let z : _≡_ {A = ℕ} 0 1 = cc in omega arith)
+
 enum-told-8 : tie.Need-enum-told-8
 enum-told-8 c = search needs
 
@@ -163,57 +170,63 @@ refuse-step-requires-9 c κs = search needs
 
 returns-2 : tie.Need-returns-2
 unfolding declare
-returns-2 c = λ p k. subst (Stepped _ _ _ p _ _ _ _) (sym (c .refuse-step .ensures)) (step-refused _ _ _ p _ _ _ (stands (c .before .before .before .before) p k) _ _ (is (c .before .before .before) _ (c .before .enum-told2 .given .1)) (λ next. refl))
+returns-2 c = λ p label k. subst (Stepped _ _ _ label p _ _ _ _) (sym (c .refuse-step .ensures)) (step-refused _ _ _ label p _ _ _ (stands (c .before .before .before .before) p k) _ _ (is (c .before .before .before) _ (c .before .enum-told2 .given .1)) (λ next. refl))
 
 returns-3 : tie.Need-returns-3
 unfolding declare
-returns-3 c = λ p k. subst (Stepped _ _ _ p _ _ _ _) (sym (c .refuse-step2 .ensures)) (step-refused _ _ _ p _ _ _ (stands (c .before .before .before .before) p k) _ _ (is (c .before .before .before) _ (c .before .enum-told3 .given .1)) (λ next. refl))
+returns-3 c = λ p label k. subst (Stepped _ _ _ label p _ _ _ _) (sym (c .refuse-step2 .ensures)) (step-refused _ _ _ label p _ _ _ (stands (c .before .before .before .before) p k) _ _ (is (c .before .before .before) _ (c .before .enum-told3 .given .1)) (λ next. refl))
 
 returns-4 : tie.Need-returns-4
 unfolding declare
-returns-4 c = λ p k. subst (Stepped _ _ _ p _ _ _ _) (sym (c .refuse-step3 .ensures)) (step-refused _ _ _ p _ _ _ (stands (c .before .before .before .before) p k) _ _ (is (c .before .before .before) _ (c .before .enum-told4 .given .1)) (λ next. refl))
+returns-4 c = λ p label k. subst (Stepped _ _ _ label p _ _ _ _) (sym (c .refuse-step3 .ensures)) (step-refused _ _ _ label p _ _ _ (stands (c .before .before .before .before) p k) _ _ (is (c .before .before .before) _ (c .before .enum-told4 .given .1)) (λ next. refl))
 
 returns-5 : tie.Need-returns-5
-returns-5 c = λ p k. subst (Stepped _ _ _ p _ _ _ _) (sym (c .end-step .ensures)) (step-end _ _ _ p _ _ _ (stands (c .before .before .before .before) p k) (is (c .before .before .before) _ (c .before .enum-told5 .given .1)))
+returns-5 c = λ p label k. subst (Stepped _ _ _ label p _ _ _ _) (sym (c .end-step .ensures)) (step-end _ _ _ label p _ _ _ (stands (c .before .before .before .before) p k) (is (c .before .before .before) _ (c .before .enum-told5 .given .1)))
 
 returns-6 : tie.Need-returns-6
-returns-6 c = λ p k. subst (Stepped _ _ _ p _ _ _ _) (sym (rw (c .before .before .before .in-program .ensures, c .before .before .in-code .ensures, c .before .in-code2 .ensures) at (c .adds .ensures))) (step-input _ _ _ p _ _ _ (stands (c .before .before .before .before .before .before .before .before) p k) _ _ (is (c .before .before .before .before .before .before .before) _ (c .before .before .before .before .before .command .given .1)))
+returns-6 c = λ p label k. subst (Stepped _ _ _ label p _ _ _ _) (sym (rw (c .before .before .before .in-program .ensures, c .before .before .in-code .ensures, c .before .in-code2 .ensures) at (c .adds .ensures))) (step-input _ _ _ label p _ _ _ (stands (c .before .before .before .before .before .before .before .before) p k) _ _ (is (c .before .before .before .before .before .before .before) _ (c .before .before .before .before .before .command .given .1)))
 
 same-length : tie.Need-same-length
 same-length c = search needs
 
 returns-7 : tie.Need-returns-7
-returns-7 c = λ p k. step-equation _ _ _ p _ _ _ (stands (c .before .before .before .before .before .before .before .before) p k) _ _ _ (is (c .before .before .before .before .before .before .before) _ (c .before .before .before .before .before .command2 .given .1)) (c .before .before .equation-step .ensures)
+returns-7 c = λ p label k. step-equation _ _ _ label p _ _ _ (stands (c .before .before .before .before .before .before .before .before) p k) _ _ _ (is (c .before .before .before .before .before .before .before) _ (c .before .before .before .before .before .command2 .given .1)) (c .before .before .equation-step .ensures)
 
 returns-8 : tie.Need-returns-8
-returns-8 c = λ p k. subst (Stepped _ _ _ p _ _ _ _) (sym (c .chain-step .ensures)) (step-chain _ _ _ p _ _ _ (stands (c .before .before .before .before) p k) _ _ (is (c .before .before .before) _ (c .before .enum-told6 .given .1)))
+returns-8 c = λ p label k. subst (Stepped _ _ _ label p _ _ _ _) (sym (c .chain-step .ensures)) (step-chain _ _ _ label p _ _ _ (stands (c .before .before .before .before) p k) _ _ (is (c .before .before .before) _ (c .before .enum-told6 .given .1)))
 
 returns-9 : tie.Need-returns-9
 unfolding declare
-returns-9 c = λ p k. subst (Stepped _ _ _ p _ _ _ _) (sym (c .refuse-step4 .ensures)) (step-refused _ _ _ p _ _ _ (stands (c .before .before .before .before) p k) _ _ (is (c .before .before .before) _ (c .before .enum-told7 .given .1)) (λ next. refl))
+returns-9 c = λ p label k. subst (Stepped _ _ _ label p _ _ _ _) (sym (c .refuse-step4 .ensures)) (step-refused _ _ _ label p _ _ _ (stands (c .before .before .before .before) p k) _ _ (is (c .before .before .before) _ (c .before .enum-told7 .given .1)) (λ next. refl))
 
 returns-10 : tie.Need-returns-10
-returns-10 c = λ p k. subst (Stepped _ _ _ p _ _ _ _) (sym (rw (c .before .in-program2 .ensures) at (c .adds2 .ensures))) (step-cap _ _ _ p _ _ _ (stands (c .before .before .before .before .before .before) p k) _ (is (c .before .before .before .before .before) _ (c .before .before .before .command3 .given .1)))
+returns-10 c = λ p label k. subst (Stepped _ _ _ label p _ _ _ _) (sym (rw (c .before .in-program2 .ensures) at (c .adds2 .ensures))) (step-cap _ _ _ label p _ _ _ (stands (c .before .before .before .before .before .before) p k) _ (is (c .before .before .before .before .before) _ (c .before .before .before .command3 .given .1)))
 
 returns-11 : tie.Need-returns-11
-unfolding declare
-returns-11 c = λ p k. subst (Stepped _ _ _ p _ _ _ _) (sym (c .refuse-step5 .ensures)) (step-refused _ _ _ p _ _ _ (stands (c .before .before .before .before) p k) _ _ (is (c .before .before .before) _ (c .before .enum-told8 .given .1)) (λ next. refl))
+returns-11 c = λ p label k.
+    subst (Stepped _ _ _ label p _ _ _ _) (sym (c .tag-step .ensures))
+    (step-tag _ _ _ label p _ _ _ (stands (c .before .before .before .before .before) p k) _
+    (is (c .before .before .before .before) _ (c .before .before .command4 .given .1)))
 
 returns-12 : tie.Need-returns-12
 unfolding declare
-returns-12 c = λ p k. subst (Stepped _ _ _ p _ _ _ _) (sym (c .refuse-step6 .ensures)) (step-refused _ _ _ p _ _ _ (stands (c .before .before .before .before) p k) _ _ (is (c .before .before .before) _ (c .before .enum-told9 .given .1)) (λ next. refl))
+returns-12 c = λ p label k. subst (Stepped _ _ _ label p _ _ _ _) (sym (c .refuse-step5 .ensures)) (step-refused _ _ _ label p _ _ _ (stands (c .before .before .before .before) p k) _ _ (is (c .before .before .before) _ (c .before .enum-told8 .given .1)) (λ next. refl))
 
 returns-13 : tie.Need-returns-13
 unfolding declare
-returns-13 c = λ p k. subst (Stepped _ _ _ p _ _ _ _) (sym (c .refuse-step7 .ensures)) (step-refused _ _ _ p _ _ _ (stands (c .before .before .before .before) p k) _ _ (is (c .before .before .before) _ (c .before .enum-told10 .given .1)) (λ next. refl))
+returns-13 c = λ p label k. subst (Stepped _ _ _ label p _ _ _ _) (sym (c .refuse-step6 .ensures)) (step-refused _ _ _ label p _ _ _ (stands (c .before .before .before .before) p k) _ _ (is (c .before .before .before) _ (c .before .enum-told9 .given .1)) (λ next. refl))
 
 returns-14 : tie.Need-returns-14
 unfolding declare
-returns-14 c = λ p k. subst (Stepped _ _ _ p _ _ _ _) (sym (c .refuse-step8 .ensures)) (step-refused _ _ _ p _ _ _ (stands (c .before .before .before .before) p k) _ _ (is (c .before .before .before) _ (c .before .enum-told11 .given .1)) (λ next. refl))
+returns-14 c = λ p label k. subst (Stepped _ _ _ label p _ _ _ _) (sym (c .refuse-step7 .ensures)) (step-refused _ _ _ label p _ _ _ (stands (c .before .before .before .before) p k) _ _ (is (c .before .before .before) _ (c .before .enum-told10 .given .1)) (λ next. refl))
 
 returns-15 : tie.Need-returns-15
 unfolding declare
-returns-15 c = λ p k. subst (Stepped _ _ _ p _ _ _ _) (sym (c .refuse-step9 .ensures)) (step-refused _ _ _ p _ _ _ (stands (c .before .before .before .before) p k) _ _ (is (c .before .before .before) _ (c .before .enum-told12 .given .1)) (λ next. refl))
+returns-15 c = λ p label k. subst (Stepped _ _ _ label p _ _ _ _) (sym (c .refuse-step8 .ensures)) (step-refused _ _ _ label p _ _ _ (stands (c .before .before .before .before) p k) _ _ (is (c .before .before .before) _ (c .before .enum-told11 .given .1)) (λ next. refl))
+
+returns-16 : tie.Need-returns-16
+unfolding declare
+returns-16 c = λ p label k. subst (Stepped _ _ _ label p _ _ _ _) (sym (c .refuse-step9 .ensures)) (step-refused _ _ _ label p _ _ _ (stands (c .before .before .before .before) p k) _ _ (is (c .before .before .before) _ (c .before .enum-told12 .given .1)) (λ next. refl))
 
 pub read-command-spec : {M : Type 1} → statement M
 read-command-spec =
@@ -250,6 +263,8 @@ read-command-spec =
     in-program-requires-2
     add-adds
     adds-requires-2
+    enum-known-command-4
+    tag-step-requires
     enum-told-8
     refuse-step-requires-5
     enum-told-9
@@ -274,4 +289,5 @@ read-command-spec =
     returns-12
     returns-13
     returns-14
-    returns-15)
+    returns-15
+    returns-16)
