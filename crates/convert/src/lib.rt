@@ -6,13 +6,13 @@ use model::Kind;
 use reader::Judged;
 ghost use mathlib.Core.Path.{_≡_};
 ghost use mathlib.Core.List.{_++_};
-ghost use Prim.Native.Nat.{_+_, _≤_};
+ghost use Prim.Native.Nat.{_+_, _*_, _≤_};
 ghost use lib.ListN.{length, take, drop};
 ghost use Rattle.model.specs.Compile.{compiledOf};
 ghost use Rattle.model.specs.Convert.{singleKind};
 ghost use Rattle.model.specs.Rewrite.{rewrite, convertOf};
 ghost use Rattle.model.specs.Written.{readByte};
-ghost use Rattle.emitter.specs.Writing.{Wrote};
+ghost use Rattle.model.specs.Writing.{Wrote};
 ghost use Rattle.convert.specs.Pieces.{widthIn, lengthIn, pieceOf, pieceAt};
 
 // What a command becomes: its bytes as they are, so many; or, for so many bytes, a byte and a signal.
@@ -41,15 +41,16 @@ fn piece_of(command: Command) -> Piece
         Command::EndsEarly => Piece::Keep(0),
         Command::Unknown => Piece::Keep(0),
         Command::OutOfRange => Piece::Keep(0),
-        Command::End => Piece::Keep(1),
-        Command::Input(_, _) => Piece::Keep(6),
-        Command::Equation(_, _, _) => Piece::Keep(8),
-        Command::Latency(_, _) => Piece::Keep(4),
-        Command::Link(_) => Piece::Keep(2),
-        Command::Cap(_) => Piece::Keep(5),
-        Command::Constant(_) => Piece::Keep(5),
+        Command::End => Piece::Keep(width::in_program(0x00)),
+        Command::Input(_, _) => Piece::Keep(width::in_program(0x10)),
+        Command::Equation(_, _, _) => Piece::Keep(width::in_program(0x11)),
+        Command::Latency(_, _) => Piece::Keep(width::in_program(0x12)),
+        Command::Link(_) => Piece::Keep(width::in_program(0x13)),
+        Command::Cap(_) => Piece::Keep(width::in_program(0x14)),
+        Command::Tag(_) => Piece::Keep(width::in_program(0x15)),
+        Command::Constant(_) => Piece::Keep(width::in_expression(0x20)),
         Command::Read(kind, x) => {
-            let width = reader::read_width(kind);
+            let width = width::of_read(kind);
             let factor = x.factor;
             if factor == 1 {
                 let byte = short_byte(kind);
@@ -57,9 +58,9 @@ fn piece_of(command: Command) -> Piece
             }
             Piece::Keep(width)
         }
-        Command::Binary(_) => Piece::Keep(1),
-        Command::Negate => Piece::Keep(1),
-        Command::If => Piece::Keep(1),
+        Command::Binary(_) => Piece::Keep(width::in_expression(0x30)),
+        Command::Negate => Piece::Keep(width::in_expression(0x38)),
+        Command::If => Piece::Keep(width::in_expression(0x3A)),
     }
 }
 
@@ -161,23 +162,33 @@ fn refuse(number: u8, place: usize) -> Compiled
     })
 }
 
-// Converts a program text: its new length, 1 to 6 as the reader gives them with n = 1 allowed, or 17 where the buffer is shorter.
-pub fn convert(program: &[u8], out: &mut [u8]) -> Compiled
-    ensures answer { λ r. ⌜ compiledOf r ≡ convertOf (now (program .entry)) (now (out .entry)) .answer ⌝ }
-    ensures left { λ _. ⌜ now (out .exit) ≡ convertOf (now (program .entry)) (now (out .entry)) .left ⌝ }
+// Converts a program text that passes 1, with a table for the offsets of its reads: an entry for each two bytes.
+fn convert_with(program: &[u8], result: &mut [u8], reads: &mut [u16]) -> Compiled
+    requires { ⌜ (length (now program) ≤ 8192) × (length (now program) ≤ 2 * length (now reads)) ⌝ }
+    ensures answer { λ r. ⌜ compiledOf r ≡ convertOf (now (program .entry)) (now (result .entry)) .answer ⌝ }
+    ensures left { λ _. ⌜ now (result .exit) ≡ convertOf (now (program .entry)) (now (result .entry)) .left ⌝ }
 {
-    if 8192 < program.len() {
-        return refuse(1, 0);
-    }
-    let read = reader::read_program(program, 1);
+    let read = reader::read_program(1, program, reads);
     let judged = read.judged;
     if let Judged::Refused(fault) = judged {
         return Compiled::Refused(fault);
     }
     let length = rewritten_length(program);
-    if out.len() < length {
+    if result.len() < length {
         return refuse(17, length);
     }
-    let end = write(program, &mut out[..]);
+    let end = write(program, &mut result[..]);
     Compiled::Length(end)
+}
+
+// Converts a program text: its new length; 1 to 6 as the reader gives them with n = 1 allowed; or 17 where the buffer is shorter.
+pub fn convert(program: &[u8], result: &mut [u8]) -> Compiled
+    ensures answer { λ r. ⌜ compiledOf r ≡ convertOf (now (program .entry)) (now (result .entry)) .answer ⌝ }
+    ensures left { λ _. ⌜ now (result .exit) ≡ convertOf (now (program .entry)) (now (result .entry)) .left ⌝ }
+{
+    if 8192 < program.len() {
+        return refuse(1, 0);
+    }
+    let mut reads: [u16; 4096] = [0; 4096];
+    convert_with(program, result, &mut reads)
 }

@@ -3,5 +3,4 @@ pub mod Coded
 pub mod Counted
 pub mod Imaged
 pub mod Joined
-pub mod Left
 pub mod Listed

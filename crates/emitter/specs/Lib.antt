@@ -2,4 +2,3 @@
 pub mod Codes
 pub mod Lists
 pub mod Prepared
-pub mod Writing

@@ -15,7 +15,7 @@ ghost use Rattle.emitter.specs.Codes.{signalsOf, codesFrom, Declared, Co
 ghost use Rattle.emitter.specs.Lists.{rateAt, runOf, listBy, listsBy, pairs, Timed, Phased, RunsCounted, Runs};
 ghost use Rattle.reader.specs.Prepared.{Prepared};
 ghost use Rattle.emitter.specs.Prepared.{LaidOut, Tabled, Fits};
-ghost use Rattle.emitter.specs.Writing.{Wrote};
+ghost use Rattle.model.specs.Writing.{Wrote};
 
 fn wide(byte: u8) -> usize
     ensures { λ r. ⌜ (r ≡ byte) × (r < 256) ⌝ }

@@ -13,6 +13,7 @@ pub mod Alike
 pub mod Window
 pub mod Bounds
 pub mod Stretches
+pub mod Left
 pub mod Runs
 pub mod Counts
 pub mod Formed

@@ -30,3 +30,4 @@ pub mod Decimal
 pub mod Script
 pub mod Trial
 pub mod TrialRefusals
+pub mod Writing

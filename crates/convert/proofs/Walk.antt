@@ -12,7 +12,8 @@ use lib.Seq.{drop-cons, length-take-le, sets, sets-eq}
 use Rattle.model.specs.Command.{commandAt}
 use Rattle.model.specs.Convert.{singleKind}
 use Rattle.model.specs.Outcome.{Outcome, accepted, refused, refuse, _▷_, provided}
-use Rattle.model.specs.Program.{Program, readWidth, parseWith}
+use Rattle.model.specs.Program.{Program, parseWith}
+use Rattle.model.specs.Width.{readWidth}
 use Rattle.model.specs.Rewrite.{widthOf, bytesAfter, rewriteAt, rewriteFrom, rewrite, convertOf}
 use Rattle.model.specs.Written.{readByte}
 use Rattle.model.specs.declared.Command.{Command}
@@ -21,8 +22,8 @@ use Rattle.model.specs.declared.Fault.{Fault}
 use Rattle.model.specs.declared.Kind.{Kind}
 use Rattle.model.specs.declared.Kind.the-variants.{Now, Last, When, LastWhen, Current}
 use Rattle.model.proofs.Commands.{Sound, command-sound}
-use Rattle.emitter.specs.Writing.{Wrote}
-use Rattle.emitter.proofs.Left.{Parts}
+use Rattle.model.specs.Writing.{Wrote}
+use Rattle.model.proofs.Left.{Parts}
 use Rattle.reader.specs.Tables.{ProgramReads}
 use Rattle.reader.specs.declared.Judged.{Judged}
 use Rattle.reader.specs.declared.Judged.the-variants as Judged
@@ -57,6 +58,7 @@ piece-width (Command.Equation period initial weight) = refl
 piece-width (Command.Latency mode bound) = refl
 piece-width (Command.Link signal) = refl
 piece-width (Command.Cap n) = refl
+piece-width (Command.Tag label) = refl
 piece-width (Command.Constant w) = refl
 piece-width (Command.Read kind x) = go (eqb (x .factor) 1) (readByte (singleKind kind)) (x .signal)
   where
@@ -77,6 +79,7 @@ piece-bytes (Command.Equation period initial weight) l = refl
 piece-bytes (Command.Latency mode bound) l = refl
 piece-bytes (Command.Link signal) l = refl
 piece-bytes (Command.Cap n) l = refl
+piece-bytes (Command.Tag label) l = refl
 piece-bytes (Command.Constant w) l = refl
 piece-bytes (Command.Read kind x) l = go (eqb (x .factor) 1) (readByte (singleKind kind)) (x .signal)
   where
@@ -106,6 +109,7 @@ piece-short (Command.Equation period initial weight) = omega arith
 piece-short (Command.Latency mode bound) = omega arith
 piece-short (Command.Link signal) = omega arith
 piece-short (Command.Cap n) = omega arith
+piece-short (Command.Tag label) = omega arith
 piece-short (Command.Constant w) = omega arith
 piece-short (Command.Read kind x) = go (eqb (x .factor) 1) (readByte (singleKind kind)) (x .signal)
   where
@@ -132,6 +136,7 @@ sound-inside text at (Command.Equation period initial weight) h le = h .3
 sound-inside text at (Command.Latency mode bound) h le = h
 sound-inside text at (Command.Link signal) h le = h
 sound-inside text at (Command.Cap n) h le = h
+sound-inside text at (Command.Tag label) h le = h .1
 sound-inside text at (Command.Constant w) h le = h .1
 sound-inside text at (Command.Read kind x) h le = h .1
 sound-inside text at (Command.Binary operator) h le = h
@@ -214,19 +219,19 @@ module _ (program buffer : List ℕ) where
           )
 
 -- What the reader's answer says of the text.
-module _ (o : Outcome Program) (r : ProgramRead) where
-  pub read-refused : (f : Fault) → ProgramReads o r → r .judged ≡ Judged.Refused f → o ≡ refused f
+module _ (o : Outcome Program) (reads : List ℕ) (r : ProgramRead) where
+  pub read-refused : (f : Fault) → ProgramReads o reads r → r .judged ≡ Judged.Refused f → o ≡ refused f
   unfolding ProgramReads
   read-refused f h e = go o h
     where
-      go : (o : Outcome Program) → ProgramReads o r → o ≡ refused f
+      go : (o : Outcome Program) → ProgramReads o reads r → o ≡ refused f
       go (accepted p) h = let a = h .0 in let z : _≡_ {A = ℕ} 0 1 = cc in absurd (omega arith)
       go (refused g) h = let z : g ≡ f = cc in ap refused z
 
-  pub read-fine : ProgramReads o r → r .judged ≡ Judged.Fine → (p : Program) × (o ≡ accepted p)
+  pub read-fine : ProgramReads o reads r → r .judged ≡ Judged.Fine → (p : Program) × (o ≡ accepted p)
   unfolding ProgramReads
   read-fine h e = go o h
     where
-      go : (o : Outcome Program) → ProgramReads o r → (p : Program) × (o ≡ accepted p)
+      go : (o : Outcome Program) → ProgramReads o reads r → (p : Program) × (o ≡ accepted p)
       go (accepted p) h = (p, refl)
       go (refused g) h = let z : _≡_ {A = ℕ} 0 1 = cc in absurd (omega arith)
