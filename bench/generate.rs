@@ -30,6 +30,8 @@ pub struct Shape {
     pub bushy: bool,
     pub chains: usize,
     pub capped: bool,
+    /// Whether some signals have labels.
+    pub tagged: bool,
     /// About how many bytes all expressions have at most.
     pub bytes: usize,
 }
@@ -57,6 +59,7 @@ impl Shape {
             bushy: random.one_in(2),
             chains: if random.one_in(2) { random.below(if large { 17 } else { 4 }) } else { 0 },
             capped: random.one_in(3),
+            tagged: random.one_in(2),
             bytes: if large { 7300 } else { 40 + random.below(600) },
         }
     }
@@ -74,6 +77,7 @@ pub enum Twist {
     LinkUnread,
     Cap,
     Latency,
+    Tag,
 }
 
 impl Twist {
@@ -87,6 +91,7 @@ impl Twist {
             5 => Twist::LinkUnread,
             6 | 7 => Twist::Cap,
             8..=10 => Twist::Latency,
+            11..=13 => Twist::Tag,
             _ => Twist::None,
         }
     }
@@ -151,7 +156,8 @@ fn signals(random: &mut Random, shape: &Shape) -> Vec<Signal> {
 
 fn declaration(random: &mut Random, shape: &Shape, signals: &[Signal], own: usize, room: usize) -> (Vec<u8>, Vec<Read>) {
     let signal = &signals[own];
-    let mut text = vec![if signal.input { 0x10 } else { 0x11 }, signal.period as u8];
+    let mut text = if shape.tagged && random.one_in(2) { tag(random) } else { vec![] };
+    text.extend([if signal.input { 0x10 } else { 0x11 }, signal.period as u8]);
     text.extend(random.word().to_le_bytes());
     if signal.input {
         return (text, vec![]);
@@ -160,6 +166,12 @@ fn declaration(random: &mut Random, shape: &Shape, signals: &[Signal], own: usiz
     let mut equation = Equation { signals, own, room, text, reads: vec![] };
     equation.expression(random, shape.depth, shape.bushy);
     (equation.text, equation.reads)
+}
+
+/// A TAG, its label now and then of bytes that are commands themselves.
+fn tag(random: &mut Random) -> Vec<u8> {
+    let byte = |random: &mut Random| if random.one_in(2) { random.byte() } else { 0x10 + random.below(6) as u8 };
+    vec![0x15, byte(random), byte(random)]
 }
 
 /// An equation being written.
@@ -388,6 +400,13 @@ fn excess(random: &mut Random, signals: &[Signal], twist: Twist, commands: &mut 
                 *expected = if full { 4 } else { 10 };
             }
         }
+        // Well placed before an IN or EQ that has no other.
+        Twist::Tag => {
+            let place = random.below(commands.len() + 1);
+            let placed = commands.get(place).is_some_and(|next| matches!(next[0], 0x10 | 0x11));
+            commands.insert(place, tag(random));
+            *expected = if placed { *expected } else { 3 };
+        }
         _ => {}
     }
 }
@@ -419,7 +438,7 @@ pub fn reschedule(random: &mut Random, schedule: &mut Vec<u8>) {
 /// One change to what seems a command or a read: to its byte or to an operand, now and then with the text cut just there, so that
 /// what is judged first shows.
 pub fn mistake(random: &mut Random, program: &mut Vec<u8>) {
-    let seems = |&at: &usize| matches!(program[at], 0x10..=0x14 | NOW..=CURRENT);
+    let seems = |&at: &usize| matches!(program[at], 0x10..=0x15 | NOW..=CURRENT);
     let places: Vec<usize> = (0..program.len()).filter(seems).collect();
     if places.is_empty() {
         return;
@@ -428,6 +447,7 @@ pub fn mistake(random: &mut Random, program: &mut Vec<u8>) {
     let at = (random.pick(&places) + offset).min(program.len() - 1);
     program[at] = match random.below(4) {
         0 if offset == 0 => NOW + random.below(5) as u8,
+        1 if offset == 0 => 0x10 + random.below(6) as u8,
         0 | 1 => random.below(6) as u8,
         2 => random.below(65) as u8,
         _ => random.byte(),

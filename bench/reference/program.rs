@@ -17,6 +17,8 @@ pub struct Signal {
     pub reads: Range<usize>,
     /// Where its code starts in the program's code.
     pub code: usize,
+    /// That of the TAG before it, or 0.
+    pub label: u16,
 }
 
 #[derive(Clone, Copy, PartialEq)]
@@ -65,6 +67,7 @@ pub fn parse(text: &[u8]) -> Result<Program, Refusal> {
     let mut parser = Parser {
         text,
         at: 0,
+        label: 0,
         program: Program {
             signals: Vec::with_capacity(SIGNALS.min(text.len() / 6)),
             reads: Vec::with_capacity(text.len() / 4),
@@ -82,6 +85,8 @@ pub fn parse(text: &[u8]) -> Result<Program, Refusal> {
 struct Parser<'a> {
     text: &'a [u8],
     at: usize,
+    /// For the signal that comes next.
+    label: u16,
     program: Program,
 }
 
@@ -107,6 +112,7 @@ impl Parser<'_> {
             0x11 => self.equation(at)?,
             0x12 => self.chain(at)?,
             0x14 => self.cap(at)?,
+            0x15 => self.tag(at)?,
             _ => return Err((3, at)),
         }
         Ok(true)
@@ -129,6 +135,7 @@ impl Parser<'_> {
             weight: 0,
             reads: reads..reads,
             code: self.program.code.len(),
+            label: std::mem::take(&mut self.label),
         });
         Ok(signal as u8)
     }
@@ -244,5 +251,15 @@ impl Parser<'_> {
         }
         self.program.cap = Some(u32::from_le_bytes(self.take()?));
         Ok(())
+    }
+
+    /// What follows a TAG is looked at once its label is taken.
+    fn tag(&mut self, at: usize) -> Result<(), Refusal> {
+        self.label = u16::from_le_bytes(self.take()?);
+        match self.text.get(self.at) {
+            Some(0x10 | 0x11) => Ok(()),
+            Some(_) => Err((3, at)),
+            None => Err((2, self.text.len())),
+        }
     }
 }

@@ -255,7 +255,7 @@ module _ {text : List ℕ} {at to : ℕ} {l : List ℕ} where
 
 -- A command that is none of an expression.
 abbrev pub others : List ℕ
-others = 0 ∷ 1 ∷ 2 ∷ 3 ∷ 4 ∷ 5 ∷ 6 ∷ 7 ∷ 8 ∷ []
+others = 0 ∷ 1 ∷ 2 ∷ 3 ∷ 4 ∷ 5 ∷ 6 ∷ 7 ∷ 8 ∷ 9 ∷ []
 
 pub no-lead : (c : Command) → OneOf others (tagOf (declared enum) c) → leadOf c ≡ noLead
 no-lead Command.EndsEarly h = refl
@@ -267,11 +267,12 @@ no-lead (Command.Equation period initial weight) h = refl
 no-lead (Command.Latency mode bound) h = refl
 no-lead (Command.Link signal) h = refl
 no-lead (Command.Cap n) h = refl
-no-lead (Command.Constant w) h = absurd (miss others 9 tt h)
-no-lead (Command.Read kind x) h = absurd (miss others 10 tt h)
-no-lead (Command.Binary operator) h = absurd (miss others 11 tt h)
-no-lead Command.Negate h = absurd (miss others 12 tt h)
-no-lead Command.If h = absurd (miss others 13 tt h)
+no-lead (Command.Tag label) h = refl
+no-lead (Command.Constant w) h = absurd (miss others 10 tt h)
+no-lead (Command.Read kind x) h = absurd (miss others 11 tt h)
+no-lead (Command.Binary operator) h = absurd (miss others 12 tt h)
+no-lead Command.Negate h = absurd (miss others 13 tt h)
+no-lead Command.If h = absurd (miss others 14 tt h)
 
 pub no-operator : (c : Command) → OneOf others (tagOf (declared enum) c) → leadOf c .operator ≡ true → ⊥
 no-operator c h e = false≢true (sym (ap (λ (x : Lead). x .operator) (no-lead c h)) ∙ e)
@@ -295,6 +296,7 @@ spans text at (Command.Equation period initial weight) q e = absurd (false≢tru
 spans text at (Command.Latency mode bound) q e = absurd (false≢true e)
 spans text at (Command.Link signal) q e = absurd (false≢true e)
 spans text at (Command.Cap n) q e = absurd (false≢true e)
+spans text at (Command.Tag label) q e = absurd (false≢true e)
 spans text at (Command.Constant w) q e = (omega arith, command-sound text at _ q .1)
 spans text at (Command.Read kind x) q e = (omega (arith, read-some kind), command-sound text at _ q .1)
 spans text at (Command.Binary operator) q e = (omega arith, command-sound text at _ q)

@@ -29,7 +29,7 @@ pub record Equated (text : List ℕ) (place : ℕ) (σ : Signal) : Type 0 where
   pub body : σ .body ≡ equation weight expr
 
 abbrev notEquation : List ℕ
-notEquation = 0 ∷ 1 ∷ 2 ∷ 3 ∷ 4 ∷ 6 ∷ 7 ∷ 8 ∷ 9 ∷ 10 ∷ 11 ∷ 12 ∷ 13 ∷ []
+notEquation = 0 ∷ 1 ∷ 2 ∷ 3 ∷ 4 ∷ 6 ∷ 7 ∷ 8 ∷ 9 ∷ 10 ∷ 11 ∷ 12 ∷ 13 ∷ 14 ∷ []
 
 module _ (text : List ℕ) (place : ℕ) (σ : Signal) (at : σ .place ≡ place) (h : SpellsSignal text σ) where
   pub equated : {period weight : ℕ} {initial : ℤ} → commandAt text place ≡ Command.Equation period initial weight →

@@ -56,6 +56,7 @@ module _ {text : List ℕ} {at : ℕ} where
   high (Written.latency h b r) o = absurd (false≢true o)
   high (Written.link h b) o = absurd (false≢true o)
   high (Written.cap h b) o = absurd (false≢true o)
+  high (Written.tag h b) o = absurd (false≢true o)
   high (Written.constant h b) o = omega (arith, b)
   high (Written.plain kind e h b) o = omega (arith, b, read-high kind)
   high (Written.sampled kind e h b r i) o = omega (arith, b, read-high kind)

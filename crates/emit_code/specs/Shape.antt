@@ -30,6 +30,7 @@ leadOf (Command.Equation period initial weight) = noLead
 leadOf (Command.Latency mode bound) = noLead
 leadOf (Command.Link signal) = noLead
 leadOf (Command.Cap n) = noLead
+leadOf (Command.Tag label) = noLead
 leadOf (Command.Constant w) = record { operator = true; width = inExpression 0x20; arity = 0; last = 0x50 ∷ wordBytes w }
 leadOf (Command.Read kind x) = record { operator = true; width = readWidth kind; arity = 0; last = 0x51 ∷ x .signal ∷ [] }
 leadOf (Command.Binary operator) = record { operator = true; width = inExpression 0x30; arity = 2; last = binaryByte operator ∷ [] }

@@ -84,7 +84,7 @@ chain-command text tables periods phases h p s chain t lt =
 
 -- The commands other than LAT.
 abbrev others : List ℕ
-others = 0 ∷ 1 ∷ 2 ∷ 3 ∷ 4 ∷ 5 ∷ 7 ∷ 8 ∷ 9 ∷ 10 ∷ 11 ∷ 12 ∷ 13 ∷ []
+others = 0 ∷ 1 ∷ 2 ∷ 3 ∷ 4 ∷ 5 ∷ 7 ∷ 8 ∷ 9 ∷ 10 ∷ 11 ∷ 12 ∷ 13 ∷ 14 ∷ []
 
 pub missed : (c : Command) {mode : Mode} {bound : ℕ} → c ≡ Command.Latency mode bound → OneOf others (tagOf (sum enum) c) → ⊥
 missed c e k = miss others 6 tt (subst (λ y. OneOf others (tagOf (sum enum) y)) e k)
