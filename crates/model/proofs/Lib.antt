@@ -41,6 +41,7 @@ pub mod JudgedRuns
 pub mod Exact
 pub mod Converted
 pub mod Rewritten
+pub mod Unchanged
 pub mod Places
 pub mod Decimals
 pub mod Scripts

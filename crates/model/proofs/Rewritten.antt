@@ -74,7 +74,7 @@ width-some When = omega arith
 width-some LastWhen = omega arith
 width-some Current = omega arith
 
-written-inside : {text : List ℕ} {at : ℕ} {c : Command} → Written text at c →
+pub written-inside : {text : List ℕ} {at : ℕ} {c : Command} → Written text at c →
     (at + widthOf c ≤ length text) × (1 ≤ widthOf c)
 written-inside (Written.end h b) = (h, omega arith)
 written-inside (Written.input h b r) = (h, omega arith)
@@ -560,7 +560,7 @@ module _ (text new : List ℕ) where
       (at′ : ℕ) (p′ : Program) → bare p ≡ bare p′ → AllowedIn p′ → Stands at at′ → DeclaresMoved p′ q at′ label
 
   -- Nothing stands after the text.
-  none-after : (left at : ℕ) → length text ≤ at → rewriteFrom left text at ≡ []
+  pub none-after : (left at : ℕ) → length text ≤ at → rewriteFrom left text at ≡ []
   unfolding rewriteFrom rewriteAt commandAt keywordAt commandOf
   none-after zero at le = refl
   none-after (suc left) at le = rw (le-ltb at (length text) le) (none-after left (at + 0) (omega arith))

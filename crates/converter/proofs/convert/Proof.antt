@@ -1,10 +1,10 @@
--- `convert::convert` meets its contract. Assumes nothing.
+-- `converter::convert` meets its contract. Assumes nothing.
 use mathlib.Core.Path.{ap, _∙_}
 use Rattle.model.specs.Compile.{compiledOf}
-use Rattle.convert.proofs.Walk.{convert-long}
+use Rattle.converter.proofs.Walk.{convert-long}
 use borrow.Author.Needs.{needs}
-use Rattle.convert.proofs.convert.Statement.{statement}
-use Rattle.convert.proofs.convert.Tie as tie
+use Rattle.converter.proofs.convert.Statement.{statement}
+use Rattle.converter.proofs.convert.Tie as tie
 
 refuse-requires : tie.Need-refuse-requires
 refuse-requires c κs = search needs

@@ -1,13 +1,13 @@
--- `convert::convert_with` meets its contract. Assumes nothing.
+-- `converter::convert_with` meets its contract. Assumes nothing.
 use mathlib.Core.Path.{_≡_, ap, _∙_}
 use denote.Ref.{now}
 use Rattle.model.specs.Compile.{compiledOf}
 use Rattle.model.specs.Outcome.{accepted}
 use Rattle.model.specs.Program.{Program, parseWith}
-use Rattle.convert.proofs.Walk.{convert-refused, convert-short, convert-done, read-refused, read-fine}
+use Rattle.converter.proofs.Walk.{convert-refused, convert-short, convert-done, read-refused, read-fine}
 use borrow.Author.Needs.{needs}
-use Rattle.convert.proofs.convert_with.Statement.{statement}
-use Rattle.convert.proofs.convert_with.Tie as tie
+use Rattle.converter.proofs.convert_with.Statement.{statement}
+use Rattle.converter.proofs.convert_with.Tie as tie
 
 -- the text and what is read of it, before its length is taken
 module _ (e : tie.After-enum-told) where

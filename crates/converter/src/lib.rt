@@ -13,7 +13,7 @@ ghost use Rattle.model.specs.Convert.{singleKind};
 ghost use Rattle.model.specs.Rewrite.{rewrite, convertOf};
 ghost use Rattle.model.specs.Written.{readByte};
 ghost use Rattle.model.specs.Writing.{Wrote};
-ghost use Rattle.convert.specs.Pieces.{widthIn, lengthIn, pieceOf, pieceAt};
+ghost use Rattle.converter.specs.Pieces.{widthIn, lengthIn, pieceOf, pieceAt};
 
 // What a command becomes: its bytes as they are, so many; or, for so many bytes, a byte and a signal.
 enum Piece {

@@ -5,12 +5,13 @@ use mathlib.Core.List.{List, [], _∷_, _++_}
 use mathlib.Core.Path.{_≡_, refl, sym, ap, subst, _∙_}
 use native.Mathlib.Numerals.{add-one}
 use native.Mathlib.Omega.{arith}
-use borrow.Author.Tests.{le-leb, lt-leb}
-use lib.Dec.{eqb}
+use borrow.Author.Tests.{leb-true, le-leb, lt-leb}
+use lib.Dec.{leb, eqb}
 use lib.ListN.{length, getD, take, drop, length-drop}
 use lib.Seq.{drop-cons, length-take-le, sets, sets-eq}
 use Rattle.model.specs.Command.{commandAt}
 use Rattle.model.specs.Convert.{singleKind}
+use Rattle.model.specs.Machine.{effect}
 use Rattle.model.specs.Outcome.{Outcome, accepted, refused, refuse, _▷_, provided}
 use Rattle.model.specs.Program.{Program, parseWith}
 use Rattle.model.specs.Width.{readWidth}
@@ -28,9 +29,9 @@ use Rattle.reader.specs.Tables.{ProgramReads}
 use Rattle.reader.specs.declared.Judged.{Judged}
 use Rattle.reader.specs.declared.Judged.the-variants as Judged
 use Rattle.reader.specs.declared.ProgramRead.{ProgramRead}
-use Rattle.convert.specs.Pieces.{widthIn, lengthIn, bytesIn, pieceOf, pieceAt}
-use Rattle.convert.specs.declared.Piece.{Piece}
-use Rattle.convert.specs.declared.Piece.the-variants as Piece
+use Rattle.converter.specs.Pieces.{widthIn, lengthIn, bytesIn, pieceOf, pieceAt}
+use Rattle.converter.specs.declared.Piece.{Piece}
+use Rattle.converter.specs.declared.Piece.the-variants as Piece
 
 -- Bytes that are copied one by one.
 pub copy-step : (text : List ℕ) (i left : ℕ) → 0 < left → i + left ≤ length text →
@@ -235,3 +236,22 @@ module _ (o : Outcome Program) (reads : List ℕ) (r : ProgramRead) where
       go : (o : Outcome Program) → ProgramReads o reads r → (p : Program) × (o ≡ accepted p)
       go (accepted p) h = (p, refl)
       go (refused g) h = let z : _≡_ {A = ℕ} 0 1 = cc in absurd (omega arith)
+
+-- What is accepted fits.
+pub convert-fits : (program buffer : List ℕ) (n : ℕ) → accepted n ≡ convertOf program buffer .answer → n ≤ length buffer
+unfolding convertOf provided _▷_
+convert-fits program buffer n e =
+    go (leb (length program) 8192) (parseWith 1 program) (leb (length (rewrite program)) (length buffer)) refl e
+  where
+    size : ℕ
+    size = length (rewrite program)
+
+    go : (a : Bool) (o : Outcome Program) (b : Bool) → leb size (length buffer) ≡ b →
+        accepted n ≡
+        effect buffer
+        (provided a 1 0 ▷ λ _. o ▷ λ p. provided b 17 size ▷ λ _.
+        accepted (record { yields = size; leaves = rewrite program ++ drop size buffer })) .answer → n ≤ length buffer
+    go false o b q e = let z : _≡_ {A = ℕ} 0 1 = cc in absurd (omega arith)
+    go true (refused f) b q e = let z : _≡_ {A = ℕ} 0 1 = cc in absurd (omega arith)
+    go true (accepted p) false q e = let z : _≡_ {A = ℕ} 0 1 = cc in absurd (omega arith)
+    go true (accepted p) true q e = let z : n ≡ size = cc in omega (arith, leb-true size (length buffer) q)
