@@ -42,6 +42,7 @@ pub mod Exact
 pub mod Converted
 pub mod Rewritten
 pub mod Unchanged
+pub mod Conversions
 pub mod Places
 pub mod Decimals
 pub mod Scripts

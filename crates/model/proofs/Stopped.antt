@@ -31,8 +31,7 @@ use Rattle.model.specs.Program.{
   isUnlimited,
   commandHere,
   parseCommands,
-  parseProgram,
-  parseWith,
+    parseWith,
   isAllowed,
 }
 use Rattle.model.specs.Schedule.{Put, scheduleCommandAt, scheduleCommand, parsePuts, parseSchedule}
@@ -749,11 +748,11 @@ module _ (least : ℕ) (text : List ℕ) where
       refused-then _ _ _ (false-provided _ 11 (at + 1) (lt-leb _ _ lt))
 
 -- Reading a program text is refused exactly where and as it stops.
-pub program-stops : (text : List ℕ) (n x : ℕ) → (parseProgram text ≡ refused (fault n x)) ↔ Stops leastFactor text 0 0 empty n x
+pub with-stops : (least : ℕ) (text : List ℕ) (n x : ℕ) → (parseWith least text ≡ refused (fault n x)) ↔ Stops least text 0 0 empty n x
 unfolding parseWith
-program-stops text n x = (
-  λ e. refuses-fault (Stops leastFactor text 0 0 empty) _ (fault n x) (commands-stop leastFactor text (length text) 0 0 empty (omega arith)) e,
-  λ s. commands-refused leastFactor text s (length text) (omega arith),
+with-stops least text n x = (
+  λ e. refuses-fault (Stops least text 0 0 empty) _ (fault n x) (commands-stop least text (length text) 0 0 empty (omega arith)) e,
+  λ s. commands-refused least text s (length text) (omega arith),
 )
 
 -- Reading a schedule text is refused, with 11, exactly where it stops.

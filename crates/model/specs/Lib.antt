@@ -31,3 +31,4 @@ pub mod Script
 pub mod Trial
 pub mod TrialRefusals
 pub mod Writing
+pub mod Conversion
