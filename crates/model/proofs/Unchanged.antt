@@ -69,9 +69,9 @@ module _ (text : List ℕ) where
   factor-two : (kind : Kind) (x : Sampled) → readWidth kind ≡ 4 → isAllowed leastFactor kind x ≡ true → eqb (x .factor) 1 ≡ false
   factor-two Now x d a = absurd (omega arith)
   factor-two Last x d a = absurd (omega arith)
-  factor-two When x d a = ne-eqb (x .factor) 1 (λ e. omega (arith, leb-true 2 (x .factor) a))
-  factor-two LastWhen x d a = ne-eqb (x .factor) 1 (λ e. omega (arith, leb-true 2 (x .factor) a))
-  factor-two Current x d a = ne-eqb (x .factor) 1 (λ e. omega (arith, leb-true 2 (x .factor) a))
+  factor-two When x d a = ne-eqb (x .factor) 1 (λ e. omega (arith, leb-true leastFactor (x .factor) a))
+  factor-two LastWhen x d a = ne-eqb (x .factor) 1 (λ e. omega (arith, leb-true leastFactor (x .factor) a))
+  factor-two Current x d a = ne-eqb (x .factor) 1 (λ e. omega (arith, leb-true leastFactor (x .factor) a))
 
   abbrev Lasting : Command → Type 0
   Lasting (Command.Read kind x) = isAllowed leastFactor kind x ≡ true
