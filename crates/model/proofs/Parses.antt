@@ -22,6 +22,7 @@ use Rattle.model.specs.Grammar.{
 }
 use Rattle.model.specs.Outcome.{Outcome, accepted, Parsed, parsed}
 use Rattle.model.specs.Program.{
+  leastFactor,
   Expr,
   Link,
   Program,
@@ -208,7 +209,7 @@ unfolding parseWith
 with-legal least text p = (declared least text p, λ l. parse-commands (l .1) (length text) (omega arith))
 
 pub program-legal : (text : List ℕ) (p : Program) → (parseProgram text ≡ accepted p) ↔ LegalProgram text p
-program-legal = with-legal 2
+program-legal = with-legal leastFactor
 
 -- Reading accepts the legal schedule texts and no others.
 pub schedule-legal : (text : List ℕ) (puts : Parsed (List Put)) → (parseSchedule text ≡ accepted puts) ↔ LegalSchedule text puts
