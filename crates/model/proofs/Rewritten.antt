@@ -135,7 +135,7 @@ single-width Current = refl
 abbrev pub Allowed : Kind → Sampled → Type 0
 Allowed kind x = (readWidth kind ≡ 2) ⊎ (2 ≤ x .factor)
 
-allowed-true : (kind : Kind) (x : Sampled) → Allowed kind x → isAllowed 2 kind x ≡ true
+allowed-true : (kind : Kind) (x : Sampled) → Allowed kind x → isAllowed leastFactor kind x ≡ true
 allowed-true Now x h = refl
 allowed-true Last x h = refl
 allowed-true When x (inl h) = absurd (omega arith)
