@@ -139,11 +139,11 @@ allowed-true : (kind : Kind) (x : Sampled) → Allowed kind x → isAllowed leas
 allowed-true Now x h = refl
 allowed-true Last x h = refl
 allowed-true When x (inl h) = absurd (omega arith)
-allowed-true When x (inr h) = le-leb 2 (x .factor) h
+allowed-true When x (inr h) = le-leb leastFactor (x .factor) (omega arith)
 allowed-true LastWhen x (inl h) = absurd (omega arith)
-allowed-true LastWhen x (inr h) = le-leb 2 (x .factor) h
+allowed-true LastWhen x (inr h) = le-leb leastFactor (x .factor) (omega arith)
 allowed-true Current x (inl h) = absurd (omega arith)
-allowed-true Current x (inr h) = le-leb 2 (x .factor) h
+allowed-true Current x (inr h) = le-leb leastFactor (x .factor) (omega arith)
 
 abbrev pub AllowedRead : Read → Type 0
 AllowedRead ρ = Allowed (ρ .kind) (ρ .operands)
