@@ -51,8 +51,8 @@ enum {
     LARDERLATE_TEXT_TOO_LONG = 1, /* over 8,192 bytes of program or 193 of schedule (0) */
 
     /* Compile: the program text. */
-    LARDERLATE_PROGRAM_ENDS_EARLY = 2,  /* (the program's length) */
-    LARDERLATE_NO_SUCH_COMMAND = 3,     /* no such command here (its offset) */
+    LARDERLATE_PROGRAM_ENDS_EARLY = 2,  /* also right after a TAG (the program's length) */
+    LARDERLATE_NO_SUCH_COMMAND = 3,     /* also a TAG that is not directly before IN or EQ (its offset) */
     LARDERLATE_OVER_A_BOUND = 4,        /* over 64 signals, 16 chains, 16 links or depth 16 (the command or operator) */
     LARDERLATE_OPERAND_OUT_OF_RANGE = 5, /* also a second CAP or a chain under 2 links (the command or read; LAT for a chain) */
     LARDERLATE_BYTES_AFTER_END = 6,     /* (the first of them) */

@@ -161,8 +161,8 @@ module _ {least : ℕ} {text : List ℕ} where
     omega (arith, more),
     omega arith,
     command-step least text left at label p _ e (rw (keyword-of text at _ e)) ∙
-        accepted-then _ _ tt (true-provided _ 2 (length text) (lt-ltb _ _ more)) ∙
-        accepted-then _ _ tt (true-provided _ 3 at (signal-is _ .1 s)),
+        accepted-then _ _ tt (true-provided _ _ _ (lt-ltb _ _ more)) ∙
+        accepted-then _ _ tt (true-provided _ _ _ (signal-is _ .1 s)),
   )
 
   pub parse-onward : {at label next given : ℕ} {p q : Program} (o : Outcome Program) →

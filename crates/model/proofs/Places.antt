@@ -89,8 +89,8 @@ module _ (text : List ℕ) where
   commands-inside (Stops.links {at = at} room e s) = links-inside (command-sound text at _ e) s
   commands-inside (Stops.short {at = at} room e u lt) = omega (arith, command-sound text at _ e)
   commands-inside (Stops.trailing e lt) = omega arith
-  commands-inside (Stops.tagsEnd e le) = omega arith
-  commands-inside (Stops.tagsOther e lt u) = omega arith
+  commands-inside (Stops.unfollowed e le) = omega arith
+  commands-inside (Stops.stray e lt u) = omega arith
 
   puts-inside : {at x : ℕ} → StopsPuts text at x → x ≤ length text
   puts-inside (StopsPuts.onward e s) = puts-inside s

@@ -252,8 +252,8 @@ module _ (least : ℕ) (text : List ℕ) where
       declares (Command.Cap n) e room = onward (DeclaresOne.caps (room-of p _ (keyword-of text at _ e) room) e)
       declares (Command.Tag given) e room =
           let next = at + inProgram 0x15 in
-          holds-provided (Ended at label p) (ltb next (length text)) 2 (length text) _ (λ t.
-          holds-provided (Ended at label p) (isSignal (byteAt text next)) 3 at _ (λ u.
+          holds-provided (Ended at label p) (ltb next (length text)) _ _ _ (λ t.
+          holds-provided (Ended at label p) (isSignal (byteAt text next)) _ _ _ (λ u.
           onward (DeclaresOne.tags e (ltb-true next (length text) t) (signal-is (byteAt text next) .0 u))))
       declares (Command.Constant w) e room = tt
       declares (Command.Read kind x) e room = tt
@@ -267,8 +267,8 @@ module _ (least : ℕ) (text : List ℕ) where
   declares-commands (suc left) at label p =
       let here = commandHere text at p (keywordAt text at) in
       holds-then (λ u. here ≡ accepted u) (Ended at label p) here _ (value-holds here) (λ u e.
-      declares (λ n l q. parseCommands least left text n l q) (λ a l q. declares-commands left a l q) at label p (commandAt text at) refl
-      (here-room p text at (keywordAt text at) e))
+      declares (λ n l q. parseCommands least left text n l q) (λ a l q. declares-commands left a l q) at label p (commandAt text at)
+      refl (here-room p text at (keywordAt text at) e))
 
   -- An accepted text declares its program.
   pub declared : (p : Program) → parseWith least text ≡ accepted p → (end : ℕ) × Declares least text 0 0 empty end p

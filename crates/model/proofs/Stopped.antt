@@ -556,8 +556,9 @@ module _ (least : ℕ) (text : List ℕ) where
         declare-stops (Command.Equation period initial weight) e r =
             let room = room-of p _ (keyword-of text at _ e) r in
             refuses-then (Stops least text at label p) (parseExpr least 16 text (at + inProgram 0x11)) _
-            (refuses-map (StopsExpr least text 16 (at + inProgram 0x11)) (Stops least text at label p) (parseExpr least 16 text (at + inProgram 0x11)) (λ n x s.
-            Stops.expression room e s) (expr-stops least text 16 (at + inProgram 0x11)))
+            (refuses-map (StopsExpr least text 16 (at + inProgram 0x11)) (Stops least text at label p)
+            (parseExpr least 16 text (at + inProgram 0x11)) (λ n x s. Stops.expression room e s)
+            (expr-stops least text 16 (at + inProgram 0x11)))
             (λ o q.
             let s = spelled least text 16 (at + inProgram 0x11) (o .value) (o .next) q in
             onward (omega (arith, spells-after (s .0))) (DeclaresOne.equations room e (s .0) (s .1)))
@@ -579,11 +580,11 @@ module _ (least : ℕ) (text : List ℕ) where
         declare-stops (Command.Tag given) e r =
             let after = at + inProgram 0x15 in
             refuses-then (Stops least text at label p) (provided (ltb after (length text)) 2 (length text)) _
-            (refuses-provided (Stops least text at label p) _ 2 (length text) (λ t. Stops.tagsEnd e (ltb-false _ _ t)))
+            (refuses-provided (Stops least text at label p) _ 2 (length text) (λ t. Stops.unfollowed e (ltb-false _ _ t)))
             (λ u t.
             let more = ltb-true _ _ (provided-true _ 2 (length text) t) in
             refuses-then (Stops least text at label p) (provided (isSignal (byteAt text after)) 3 at) _
-            (refuses-provided (Stops least text at label p) _ 3 at (λ f. Stops.tagsOther e more (not-signal _ f)))
+            (refuses-provided (Stops least text at label p) _ 3 at (λ f. Stops.stray e more (not-signal _ f)))
             (λ v f. onward (omega arith) (DeclaresOne.tags e more (signal-is _ .0 (provided-true _ 3 at f)))))
         declare-stops (Command.Constant w) e r = never (Command.Constant w) _ (keyword-of text at _ e) (λ h. h) r
         declare-stops (Command.Read kind x) e r = never (Command.Read kind x) _ (keyword-of text at _ e) (λ h. h) r
@@ -639,7 +640,8 @@ module _ (least : ℕ) (text : List ℕ) where
   -- A command that is fit, and refused by its operands or what stands after them.
   declared-refused : (left at label : ℕ) (p : Program) (f : Fault) (c : Command) → commandAt text at ≡ c →
       HasRoom p (keywordAt text at) → length text ≤ at + left →
-      ((next : ℕ → ℕ → Program → Outcome Program) → declare least next text at label p c ≡ refused f) → parseCommands least left text at label p ≡ refused f
+      ((next : ℕ → ℕ → Program → Outcome Program) → declare least next text at label p c ≡ refused f) →
+      parseCommands least left text at label p ≡ refused f
   declared-refused zero at label p f c e r enough g =
       absurd (omega (arith, keyword-inside text at (declaration-present (room-declaration r))))
   declared-refused (suc left) at label p f c e r enough g =
@@ -675,10 +677,10 @@ module _ (least : ℕ) (text : List ℕ) where
   commands-refused (Stops.trailing {at = at} {label = label} {p = p} e lt) left enough =
       declared-refused left at label p _ _ e (rw (keyword-of text at _ e) HasRoom.end) enough (λ next.
       refused-then _ _ _ (false-provided _ 6 (at + 1) (lt-leb _ _ lt)))
-  commands-refused (Stops.tagsEnd {at = at} {label = label} {p = p} e le) left enough =
+  commands-refused (Stops.unfollowed {at = at} {label = label} {p = p} e le) left enough =
       declared-refused left at label p _ _ e (rw (keyword-of text at _ e) HasRoom.tag) enough (λ next.
       refused-then _ _ _ (false-provided _ 2 (length text) (le-ltb _ _ le)))
-  commands-refused (Stops.tagsOther {at = at} {label = label} {p = p} e lt u) left enough =
+  commands-refused (Stops.stray {at = at} {label = label} {p = p} e lt u) left enough =
       declared-refused left at label p _ _ e (rw (keyword-of text at _ e) HasRoom.tag) enough (λ next.
       accepted-then _ _ tt (true-provided _ 2 (length text) (lt-ltb _ _ lt)) ∙
       refused-then _ _ _ (false-provided _ 3 at (no-signal _ u)))

@@ -73,8 +73,9 @@ pub data SpellsLinks (text : List ℕ) : ℕ → List Link → ℕ → Type 0 wh
 abbrev pub IsSignal : ℕ → Type 0
 IsSignal b = (b ≡ 0x10) ⊎ (b ≡ 0x11)
 
--- A legal command from `at` up to `next`, other than END, makes q of p: at most 64 signals, 16 chains of 2 to 16 links, expressions
--- at most 16 deep, one CAP. The number after an offset is the label that a TAG directly before it gives, 0 where there is none.
+-- A legal command from `at` up to `next`, other than END, makes q of p: at most 64 signals, 16 chains of 2 to 16 links,
+-- expressions at most 16 deep, one CAP. The number after an offset is the label that a TAG directly before it gives, 0 where
+-- there is none; IN and EQ take it.
 pub data DeclaresOne (least : ℕ) (text : List ℕ) : ℕ → ℕ → Program → ℕ → ℕ → Program → Type 0 where
   inputs : {at label period : ℕ} {initial : ℤ} {p : Program} → count p < 64 →
       commandAt text at ≡ Command.Input period initial →

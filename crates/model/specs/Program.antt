@@ -162,7 +162,8 @@ parseLinks (suc room) text at links =
 abbrev pub isSignal : ℕ → Bool
 isSignal b = eqb b 0x10 || eqb b 0x11
 
--- A command with its operands, after those of p; `next` reads on. `label` is that of a TAG directly before it, 0 where there is none.
+-- A command with its operands, after those of p; `next` reads on. `label` is that of a TAG directly before it, 0 where there is
+-- none; IN and EQ take it.
 unfoldable pub declare : ℕ → (ℕ → ℕ → Program → Outcome Program) → List ℕ → ℕ → ℕ → Program → Command → Outcome Program
 declare least next text at label p Command.EndsEarly = refuse 2 (length text)
 declare least next text at label p Command.Unknown = refuse 3 at
@@ -214,7 +215,8 @@ commandHere text at p (Keyword.Binary operator) = refuse 3 at
 commandHere text at p Keyword.Negate = refuse 3 at
 commandHere text at p Keyword.If = refuse 3 at
 
--- The commands from `at` on, after those of p and a TAG's label. Each takes a byte at least, so `left` bytes hold no more than `left` of them.
+-- The commands from `at` on, after those of p and a TAG's label. Each takes a byte at least, so `left` bytes hold no more than
+-- `left` of them.
 unfoldable pub parseCommands : ℕ → ℕ → List ℕ → ℕ → ℕ → Program → Outcome Program
 parseCommands least zero text at label p = refuse 2 (length text)
 parseCommands least (suc left) text at label p =

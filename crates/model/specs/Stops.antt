@@ -118,9 +118,9 @@ pub data Stops (least : ℕ) (text : List ℕ) : ℕ → ℕ → Program → ℕ
       length ls < 2 → Stops least text at label p 5 at
   trailing : {at label : ℕ} {p : Program} → commandAt text at ≡ Command.End → at + inProgram 0x00 < length text →
       Stops least text at label p 6 (at + inProgram 0x00)
-  tagsEnd : {at label given : ℕ} {p : Program} → commandAt text at ≡ Command.Tag given →
+  unfollowed : {at label given : ℕ} {p : Program} → commandAt text at ≡ Command.Tag given →
       length text ≤ at + inProgram 0x15 → Stops least text at label p 2 (length text)
-  tagsOther : {at label given : ℕ} {p : Program} → commandAt text at ≡ Command.Tag given →
+  stray : {at label given : ℕ} {p : Program} → commandAt text at ≡ Command.Tag given →
       at + inProgram 0x15 < length text → ¬ IsSignal (byteAt text (at + inProgram 0x15)) → Stops least text at label p 3 at
 
 -- The PUTs from `at` on stop at a place.
