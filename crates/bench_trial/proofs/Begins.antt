@@ -1,18 +1,20 @@
 -- From the image of an accepted pair to its trial. Assumes nothing.
 use Prim.Native.Nat.{ℕ, _+_, _≤_, _<_}
 use mathlib.Core.Bool.{Bool, true, false}
-use mathlib.Core.List.{List, _++_}
+use mathlib.Core.List.{List, _++_, append-assoc}
 use mathlib.Core.Path.{_≡_, refl, sym, ap, ap₂, subst, fun-ext, _∙_}
 use native.Mathlib.Omega.{arith}
 use borrow.Author.Tests.{leb-true, le-leb, lt-ltb}
 use lib.Dec.{leb}
 use lib.IntN.{ℤ, pos}
-use lib.ListN.{length, take, drop, replicate, length-append, length-replicate}
+use lib.ListN.{length, take, drop, replicate, take-append-drop, length-append, length-replicate}
 use lib.Seq.{take-append-seam}
 use Rattle.model.specs.Compile.{Pair, pairOf, verdictOf, compileOf}
-use Rattle.model.specs.Image.{imageOf}
-use Rattle.model.specs.Machine.{Effect, effect, wellFormed, countOf, resetWords, resetOf}
+use Rattle.model.specs.Image.{imageOf, tailOf, writtenOf}
+use Rattle.model.specs.Machine.{Effect, effect, wellFormed, countOf, statedLength, resetWords, resetOf}
 use Rattle.model.specs.Outcome.{Outcome, accepted, refused, _▷_, provided}
+use Rattle.model.specs.Program.{Program}
+use Rattle.model.specs.Schedule.{Schedule}
 use Rattle.model.specs.Script.{isInputOf, scriptOf, inputsOnly, noSamples, checkOf, callsOf, cyclesOf}
 use Rattle.model.specs.Trial.{linesFrom, startOf, trialOf}
 use Rattle.model.specs.declared.Fault.{Fault}
@@ -22,12 +24,13 @@ use Rattle.model.proofs.Formed.{image-well-formed}
 use Rattle.model.proofs.Outcomes.{accepted≢refused, accepted-same, accepted-then, refused-then, then-accepted, provided-true}
 use Rattle.model.proofs.Scripts.{calls-count}
 use Rattle.model.proofs.Stretches.{image-length, image-count}
+use Rattle.model.proofs.Tails.{headed, stated-length, written-bears, written-length}
 use Rattle.model.proofs.TrialLines.{lines-count}
 use Rattle.model.proofs.Verdict.{pair-accepted, pair-multiple, pair-bounded}
 use Rattle.reader.specs.declared.Judged.{Judged}
 use Rattle.reader.specs.declared.Judged.the-variants as Judged
 use Rattle.machine.specs.Runnable.{Runnable}
-use Rattle.machine.proofs.Answers.{reset-done}
+use Rattle.machine.proofs.Answers.{reset-done, lends-itself}
 use Rattle.machine.proofs.Runnable.{reset-runnable}
 use Rattle.script.specs.Inputs.{fetches}
 use Rattle.script.proofs.Marks.{fetches-are}
@@ -44,26 +47,80 @@ refused-inside e = cc
 abbrev pub imageIn : Pair → List ℕ
 imageIn q = imageOf (q .program) (q .schedule) (q .hypercycle)
 
--- A pair that compiles into a buffer with space for every image: its image stands at the buffer's start.
-pub record Compiles (program schedule image : List ℕ) (n : ℕ) : Type 0 where
+-- A pair that compiles into a buffer with space for every image and its tail: n bytes are written at the buffer's start.
+pub record Written (program schedule image : List ℕ) (n : ℕ) : Type 0 where
   pub pair : Pair
   pub accepts : pairOf program schedule ≡ accepted pair
   pub bounded : Bounded (pair .program) (pair .schedule) (pair .hypercycle)
   pub formed : wellFormed (imageIn pair) ≡ true
   pub inside : n ≤ length image
-  pub here : take n image ≡ imageIn pair
+  pub whole : take n image ≡ writtenOf (pair .program) (pair .schedule) (pair .hypercycle)
 
-module _ (program schedule buffer : List ℕ) (bytes : Bytes program) (room : 65535 ≤ length buffer) where
-  short : (q : Pair) → pairOf program schedule ≡ accepted q → length (imageIn q) ≤ length buffer
+-- The first l of them are its image.
+pub record Compiles (program schedule image : List ℕ) (l : ℕ) : Type 0 where
+  pub pair : Pair
+  pub accepts : pairOf program schedule ≡ accepted pair
+  pub bounded : Bounded (pair .program) (pair .schedule) (pair .hypercycle)
+  pub formed : wellFormed (imageIn pair) ≡ true
+  pub inside : l ≤ length image
+  pub here : take l image ≡ imageIn pair
+
+module _ (program schedule image : List ℕ) (n : ℕ) (w : Written program schedule image n) where
+  abbrev p : Program
+  p = w .pair .program
+
+  abbrev s : Schedule
+  s = w .pair .schedule
+
+  abbrev h : ℕ
+  h = w .pair .hypercycle
+
+  image-first : imageOf p s h ++ (tailOf p s ++ drop n image) ≡ image
+  unfolding writtenOf
+  image-first =
+      sym (append-assoc (imageOf p s h) (tailOf p s) (drop n image)) ∙
+      ap (λ (l : List ℕ). l ++ drop n image) (sym (w .whole)) ∙ take-append-drop n image
+
+  -- There is a head, which holds L.
+  pub has-head : 4 ≤ length (take n image)
+  has-head =
+      omega (
+        arith,
+        ap length (w .whole),
+        written-length p s h,
+        image-length p s h,
+        headed (imageOf p s h) (w .formed) .four,
+      )
+
+  pub first-bytes : (l : ℕ) → l ≡ statedLength (take n image) → Compiles program schedule image l
+  first-bytes l e =
+      let size : l ≡ length (imageOf p s h) =
+      e ∙ ap statedLength (w .whole) ∙ stated-length (w .formed) (written-bears p s h) in
+      record {
+        pair = w .pair;
+        accepts = w .accepts;
+        bounded = w .bounded;
+        formed = w .formed;
+        inside = omega (arith, ap length image-first, length-append (imageOf p s h) (tailOf p s ++ drop n image));
+        here =
+            ap₂ (λ (k : ℕ) (z : List ℕ). take k z) size (sym image-first) ∙
+            take-append-seam (imageOf p s h) (tailOf p s ++ drop n image);
+      }
+
+module _ (program schedule buffer : List ℕ) (bytes : Bytes program) (room : 65791 ≤ length buffer) where
+  abbrev both : Pair → List ℕ
+  both q = writtenOf (q .program) (q .schedule) (q .hypercycle)
+
+  short : (q : Pair) → pairOf program schedule ≡ accepted q → length (both q) ≤ length buffer
   short q e =
       let b = pair-bounded program schedule q e bytes in
-      omega (arith, image-length (q .program) (q .schedule) (q .hypercycle), b .size)
+      omega (arith, written-length (q .program) (q .schedule) (q .hypercycle), b .size, b .signals)
 
   written : (q : Pair) → pairOf program schedule ≡ accepted q →
       compileOf program schedule buffer ≡
-      record { answer = accepted (length (imageIn q)); left = imageIn q ++ drop (length (imageIn q)) buffer }
+      record { answer = accepted (length (both q)); left = both q ++ drop (length (both q)) buffer }
   unfolding compileOf verdictOf _▷_ provided
-  written q e = rw (e, le-leb (length (imageIn q)) (length buffer) (short q e))
+  written q e = rw (e, le-leb (length (both q)) (length buffer) (short q e))
 
   unwritten : (f : Fault) → pairOf program schedule ≡ refused f → compileOf program schedule buffer .answer ≡ refused f
   unfolding compileOf verdictOf _▷_
@@ -71,14 +128,14 @@ module _ (program schedule buffer : List ℕ) (bytes : Bytes program) (room : 65
 
   -- What the answer of compile says of the pair.
   pub compiles : (n : ℕ) (image : List ℕ) → compileOf program schedule buffer .answer ≡ accepted n →
-      image ≡ compileOf program schedule buffer .left → Compiles program schedule image n
+      image ≡ compileOf program schedule buffer .left → Written program schedule image n
   compiles n image a l = go (pairOf program schedule) refl
     where
-      go : (o : Outcome Pair) → pairOf program schedule ≡ o → Compiles program schedule image n
+      go : (o : Outcome Pair) → pairOf program schedule ≡ o → Written program schedule image n
       go (accepted q) e =
           let w = written q e in
-          let size : n ≡ length (imageIn q) = accepted-same n (length (imageIn q)) (sym a ∙ ap (λ (x : Effect ℕ). x .answer) w) in
-          let is : image ≡ imageIn q ++ drop (length (imageIn q)) buffer = l ∙ ap (λ (x : Effect ℕ). x .left) w in
+          let size : n ≡ length (both q) = accepted-same n (length (both q)) (sym a ∙ ap (λ (x : Effect ℕ). x .answer) w) in
+          let is : image ≡ both q ++ drop (length (both q)) buffer = l ∙ ap (λ (x : Effect ℕ). x .left) w in
           let b = pair-bounded program schedule q e bytes in
           record {
             pair = q;
@@ -87,9 +144,8 @@ module _ (program schedule buffer : List ℕ) (bytes : Bytes program) (room : 65
             formed =
                 image-well-formed (q .program) (q .schedule) (q .hypercycle) (pair-accepted program schedule q e)
                 (pair-multiple program schedule q e) b;
-            inside = omega (arith, size, ap length is, length-append (imageIn q) (drop (length (imageIn q)) buffer));
-            here =
-                ap₂ (λ (k : ℕ) (z : List ℕ). take k z) size is ∙ take-append-seam (imageIn q) (drop (length (imageIn q)) buffer);
+            inside = omega (arith, size, ap length is, length-append (both q) (drop (length (both q)) buffer));
+            whole = ap₂ (λ (k : ℕ) (z : List ℕ). take k z) size is ∙ take-append-seam (both q) (drop (length (both q)) buffer);
           }
       go (refused f) e = absurd (accepted≢refused _ n f a (unwritten f e))
 
@@ -113,7 +169,7 @@ module _ (image text : List ℕ) (r : Prepared) (formed : wellFormed image ≡ t
   start-is : startOf image ≡ resetWords image zeros
   unfolding zeros
   start-is =
-      ap (λ (e : Effect ℤ). e .left) (reset-done image zeros formed (lt-ltb (countOf image) (length zeros) long))
+      ap (λ (e : Effect ℤ). e .left) (reset-done (lends-itself formed) zeros formed (lt-ltb (countOf image) (length zeros) long))
 
   runnable : Runnable image (startOf image) noSamples
   runnable =

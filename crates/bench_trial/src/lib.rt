@@ -15,10 +15,10 @@ pub struct Prepared {
     pub state: [i32; 65],
 }
 
-// The same, and the image with its length.
+// The same, and the image with its length L. The array has space for every image and its tail.
 pub struct Start {
     pub ready: Prepared,
-    pub image: [u8; 65536],
+    pub image: [u8; 65792],
     pub length: usize,
 }
 
@@ -62,15 +62,16 @@ fn prepare_image(image: &[u8], text: &[u8]) -> Prepared
 pub fn prepare(program: &[u8], schedule: &[u8], text: &[u8]) -> Start
     ensures { λ r. ⌜ Prepares (now (program .entry)) (now (schedule .entry)) (now (text .entry)) r (r .ready .judged) ⌝ }
 {
-    let mut image: [u8; 65536] = [0; 65536];
+    let mut image: [u8; 65792] = [0; 65792];
     let compiled = compiler::compile(program, schedule, &mut image);
     match compiled {
         Compiled::Length(n) => {
-            let ready = prepare_image(&image[..n], text);
+            let length = image_check::stated_length(&image[..n]);
+            let ready = prepare_image(&image[..length], text);
             Start {
                 ready: ready,
                 image: image,
-                length: n,
+                length: length,
             }
         }
         Compiled::Refused(fault) => {

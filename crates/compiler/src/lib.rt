@@ -1,4 +1,4 @@
-// The compiler: a program and a schedule to an image, or the first refusal.
+// The compiler: a program and a schedule to an image with its tail, or the first refusal.
 use model::Compiled;
 use model::Fault;
 use reader::Judged;
@@ -18,7 +18,7 @@ fn refused(judged: Judged) -> Compiled
     }
 }
 
-// Writes the image of an accepted pair and yields its length. A refused call changes nothing.
+// Writes the image of an accepted pair and its tail, and yields how many bytes these are. A refused call changes nothing.
 pub fn compile(program: &[u8], schedule: &[u8], image: &mut [u8]) -> Compiled
     ensures answer { λ r. ⌜ compiledOf r ≡ compileOf (now (program .entry)) (now (schedule .entry)) (now (image .entry)) .answer ⌝ }
     ensures left { λ _. ⌜ now (image .exit) ≡ compileOf (now (program .entry)) (now (schedule .entry)) (now (image .entry)) .left ⌝ }
@@ -35,11 +35,11 @@ pub fn compile(program: &[u8], schedule: &[u8], image: &mut [u8]) -> Compiled
     let phases = slots.phases;
     let h = checked.hypercycle;
     let layout = emitter::lay_out(tables, &periods, &order, &phases, h);
-    let length = layout.end;
-    if image.len() < length {
+    let written = layout.written;
+    if image.len() < written {
         return Compiled::Refused(Fault {
             number: SHORT_BUFFER,
-            place: length,
+            place: written,
         });
     }
     emitter::emit(
@@ -52,5 +52,8 @@ pub fn compile(program: &[u8], schedule: &[u8], image: &mut [u8]) -> Compiled
         layout,
         &mut image[..],
     );
-    Compiled::Length(length)
+    let n = tables.signals;
+    let labels = tables.labels;
+    emitter::emit_tail(&labels, &periods, &phases, n, &mut image[..], layout.end);
+    Compiled::Length(written)
 }

@@ -2,5 +2,6 @@
 pub mod Coded
 pub mod Counted
 pub mod Imaged
+pub mod Tailed
 pub mod Joined
 pub mod Listed

@@ -2,18 +2,19 @@
 use Prim.Native.Nat.{ℕ, _≤_}
 use mathlib.Core.List.{List}
 use mathlib.Core.Path.{_≡_}
-use Rattle.model.specs.Image.{listsAt, codesAt, lengthOf}
+use Rattle.model.specs.Image.{listsAt, codesAt, lengthOf, writtenLength}
 use Rattle.model.specs.Program.{Program, count}
 use Rattle.model.specs.Schedule.{Schedule}
 use Rattle.reader.specs.Prepared.{Prepared}
 use Rattle.reader.specs.declared.Tables.{Tables}
 use Rattle.emitter.specs.declared.Layout.{Layout}
 
--- The layout is that of the image of p and s.
+-- The layout is that of the image of p and s and its tail.
 pub record LaidOut (p : Program) (s : Schedule) (h : ℕ) (r : Layout) : Type 0 where
   pub lists-at : r .lists ≡ listsAt (count p) h
   pub code-at : r .code ≡ codesAt p s h
   pub ends : r .end ≡ lengthOf p s h
+  pub tail-ends : r .written ≡ writtenLength p s h
 
 -- There is such a pair, and the hypercycle is short enough.
 pub record Ready (text : List ℕ) (t : Tables) (periods order phases : List ℕ) (h : ℕ) : Type 0 where

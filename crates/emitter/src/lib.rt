@@ -1,11 +1,12 @@
-// The image of an accepted pair: its layout, and its parts one after another.
+// The image of an accepted pair and its tail: their layout, and their parts one after another.
 use reader::Tables;
 ghost use mathlib.Core.Bool.{cond};
 ghost use mathlib.Core.Path.{_≡_};
 ghost use mathlib.Core.List.{List, _∷_, _++_};
 ghost use Prim.Native.Nat.{ℕ, _+_, _≤_, _<_};
 ghost use lib.ListN.{length, getD, drop};
-ghost use Rattle.model.specs.Image.{joined, offsets, records, lengthOf, imageOf};
+ghost use lib.Seq.{sets};
+ghost use Rattle.model.specs.Image.{joined, offsets, records, lengthOf, imageOf, tailEntry};
 ghost use Rattle.model.specs.Program.{Program};
 ghost use Rattle.model.specs.Reads.{stored};
 ghost use Rattle.model.specs.Schedule.{Schedule};
@@ -15,6 +16,7 @@ ghost use Rattle.emitter.specs.Codes.{signalsOf, codesFrom, Declared, Co
 ghost use Rattle.emitter.specs.Lists.{rateAt, runOf, listBy, listsBy, pairs, Timed, Phased, RunsCounted, Runs};
 ghost use Rattle.reader.specs.Prepared.{Prepared};
 ghost use Rattle.emitter.specs.Prepared.{LaidOut, Tabled, Fits};
+ghost use Rattle.emitter.specs.Tail.{tailBy};
 ghost use Rattle.model.specs.Writing.{Wrote};
 
 fn wide(byte: u8) -> usize
@@ -285,11 +287,12 @@ fn put_head(h: usize, n: usize, size: usize, out: &mut [u8]) -> usize
     put_offset(out, 2, size)
 }
 
-// Where the run lists and the code start, and where the image ends: L.
+// Where the run lists and the code start, where the image ends, L, and where its tail does: L + 4N.
 pub struct Layout {
     pub lists: usize,
     pub code: usize,
     pub end: usize,
+    pub written: usize,
 }
 
 // Lays the image out. The text is not read again: the tables have the length of the code.
@@ -309,10 +312,13 @@ pub fn lay_out(
     let runs = lists_length(periods, order, phases, n, h);
     let code = lists + runs;
     let size = wider(codes[n]);
+    let end = code + size;
+    let written = end + 4 * n;
     Layout {
         lists: lists,
         code: code,
-        end: code + size,
+        end: end,
+        written: written,
     }
 }
 
@@ -338,4 +344,36 @@ pub fn emit(
     let lists = emit_offsets(periods, order, phases, n, h, layout.lists, out, offsets);
     let codes = emit_lists(periods, order, phases, n, h, out, lists);
     emit_codes(text, &places, n, out, codes);
+}
+
+// Writes the entry of a signal in the tail.
+fn put_entry(label: u16, period: u8, phase: u8, out: &mut [u8], to: usize) -> usize
+    requires { ⌜ to + 4 ≤ length (now out) ⌝ }
+    ensures { λ r. ⌜ Wrote (now (out .entry)) to (tailEntry label period phase) (now (out .exit)) r ⌝ }
+{
+    let number = wider(label);
+    let at = put_offset(out, to, number);
+    out[at] = period;
+    out[at + 1] = phase;
+    at + 2
+}
+
+// Writes the tail of n signals after an image that ends at `to`.
+pub fn emit_tail(
+    labels: &[u16; 64],
+    periods: &[u8; 64],
+    phases: &[u8; 64],
+    n: usize,
+    out: &mut [u8],
+    to: usize,
+)
+    requires { ⌜ (n ≤ 64) × (to + length (tailBy (now labels) (now periods) (now phases) n) ≤ length (now out)) ⌝ }
+    ensures { λ _. ⌜ now (out .exit) ≡ sets (now (out .entry)) to (tailBy (now (labels .entry)) (now (periods .entry)) (now (phases .entry)) n) ⌝ }
+{
+    let mut end = to;
+    let mut x: usize = 0;
+    while x < n {
+        end = put_entry(labels[x], periods[x], phases[x], out, end);
+        x = x + 1;
+    }
 }

@@ -3,9 +3,10 @@ ghost use mathlib.Core.Path.{_≡_};
 ghost use mathlib.Core.Bool.{true};
 ghost use Prim.Native.Nat.{ℕ, _+_, _<_, _≤_};
 ghost use lib.Dec.{ltb};
-ghost use lib.ListN.{length};
-ghost use Rattle.model.specs.Machine.{hyperOf, countOf, listOffset, codeOffset};
+ghost use lib.ListN.{length, take};
+ghost use Rattle.model.specs.Machine.{hyperOf, countOf, statedLength, listOffset, codeOffset};
 ghost use Rattle.model.specs.Machine.{headOk, listsOk, entriesOk, codesOk, wellFormed};
+ghost use Rattle.image_check.specs.Lends.{Lends};
 ghost use Rattle.model.specs.Search.{allBelow};
 ghost use Rattle.model.specs.Word.{byteAt, twoAt};
 
@@ -20,6 +21,14 @@ fn offset_at(image: &[u8], at: usize) -> usize
     ensures { λ r. ⌜ r ≡ twoAt (now (image .entry)) at ⌝ }
 {
     word::two_at(image, at) as usize
+}
+
+// L, as bytes 2-3 hold it.
+pub fn stated_length(image: &[u8]) -> usize
+    requires { ⌜ 4 ≤ length (now image) ⌝ }
+    ensures { λ r. ⌜ r ≡ statedLength (now (image .entry)) ⌝ }
+{
+    offset_at(image, 2)
 }
 
 // Offset c of the run lists in an image of n signals.
@@ -49,7 +58,7 @@ fn head_ok(image: &[u8]) -> bool
     if image.len() < 4 {
         return false;
     }
-    if offset_at(image, 2) != image.len() {
+    if stated_length(image) != image.len() {
         return false;
     }
     let h = wide(image[0]);
@@ -162,4 +171,31 @@ pub fn well_formed(image: &[u8]) -> bool
         return false;
     }
     codes_ok(image, n)
+}
+
+// L, where what is lent has exactly L or exactly L + 4N bytes, and else 0.
+fn image_length(lent: &[u8]) -> usize
+    ensures { λ r. ⌜ (r ≤ length (now (lent .entry))) × Lends (now (lent .entry)) (take r (now (lent .entry))) ⌝ }
+{
+    if lent.len() < 4 {
+        return 0;
+    }
+    let length = stated_length(lent);
+    let n = wide(lent[1]);
+    if lent.len() == length {
+        return length;
+    }
+    if lent.len() == length + 4 * n {
+        return length;
+    }
+    0
+}
+
+// The image in what is lent, with its tail or without: its first L bytes. An empty one, which is not well formed, where the length
+// is neither.
+pub fn image_in(lent: &[u8]) -> &[u8]
+    ensures { λ r. ⌜ Lends (now (lent .entry)) (now r) ⌝ }
+{
+    let length = image_length(lent);
+    &lent[..length]
 }

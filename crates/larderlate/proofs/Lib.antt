@@ -1,2 +1,3 @@
 -- The promises of the calls.
+pub mod TailCode
 pub mod Promises

@@ -5,7 +5,7 @@ use Prim.Native.Nat.{ℕ, suc, _+_, _*_, _%_, _^_, _≤_, _<_}
 use mathlib.Core.Bool.{Bool, true, false}
 use mathlib.Core.List.{List, [], _∷_, _++_, map}
 use mathlib.Core.Logic.{_↔_}
-use mathlib.Core.Path.{_≡_, refl, sym, ap, subst, _∙_}
+use mathlib.Core.Path.{_≡_, refl, sym, ap, subst, subst₂, _∙_}
 use native.Mathlib.Nat.{mod-eq-of-lt}
 use native.Mathlib.Omega.{arith}
 use borrow.Author.Tests.{ltb-true, le-leb, lt-leb}
@@ -13,15 +13,15 @@ use lib.Dec.{leb, ltb}
 use lib.IntN.{ℤ, pos}
 use lib.ListN.{length, getD, drop}
 use Rattle.model.specs.Accepted.{All, Accepted, Multiple}
-use Rattle.model.specs.Calls.{Call, callOf, after, Supplied, Holds}
+use Rattle.model.specs.Calls.{Call, callOf, after, logAfter, Supplied, Holds}
 use Rattle.model.specs.Compile.{Pair, pairOf, verdictOf, compileOf}
 use Rattle.model.specs.Conditions.{_among_, LegalPair}
 use Rattle.model.specs.Decimal.{natural, decimal, lineOf, SaysNumber, SaysWord}
 use Rattle.model.specs.Height.{Within}
-use Rattle.model.specs.Image.{lengthOf, imageOf}
+use Rattle.model.specs.Image.{lengthOf, imageOf, tailOf, writtenOf, writtenLength}
 use Rattle.model.specs.Latency.{readsBack, backwards, back, source, latencyOf}
-use Rattle.model.specs.Machine.{Job, effect, isPosition, hyperOf, countOf, listOf, codeOf, wellFormed, countSignals}
-use Rattle.model.specs.Machine.{resetWords, cycleWords, cycleCount, resetOf, cycleOf}
+use Rattle.model.specs.Machine.{Effect, Job, effect, isPosition, hyperOf, countOf, statedLength, listOf, codeOf, wellFormed, countSignals}
+use Rattle.model.specs.Machine.{imagePart, lentOk, resetWords, cycleWords, cycleCount, resetOf, cycleOf}
 use Rattle.model.specs.Outcome.{Outcome, accepted, refused, refuse, fault, _▷_, provided}
 use Rattle.model.specs.Program.{Program, Chain, count, signalAt, bodyReads}
 use Rattle.model.specs.Rates.{hypercycle}
@@ -29,9 +29,10 @@ use Rattle.model.specs.Reads.{rateOf, runCycle, settled}
 use Rattle.model.specs.Report.{highest, countsOf, toldOf, reportOf}
 use Rattle.model.specs.Reach.{WidthsListed}
 use Rattle.model.specs.Refusals.{RefusedAt}
-use Rattle.model.specs.Schedule.{Schedule}
+use Rattle.model.specs.Schedule.{Schedule, phaseOf}
 use Rattle.model.specs.Script.{Action, scriptOf, noSamples, callsFrom, cyclesOf}
 use Rattle.model.specs.Streams.{Satisfies}
+use Rattle.model.specs.Tail.{tailIn, Bears, Tells}
 use Rattle.model.specs.Trial.{trialOf, wordsAfter, inputsOf}
 use Rattle.model.specs.TrialRefusals.{LegalScript, TrialRefusedAt}
 use Rattle.model.specs.Word.{NearestResults}
@@ -52,11 +53,15 @@ use Rattle.model.proofs.Examples as Examples
 use Rattle.model.proofs.Formed.{image-well-formed}
 use Rattle.model.proofs.Heights.{stack-least, stack-31}
 use Rattle.model.proofs.Latency as Latency
+use Rattle.model.proofs.Legal.{signal-label}
 use Rattle.model.proofs.Nearest as Nearest
+use Rattle.model.proofs.Outcomes.{accepted≢refused}
 use Rattle.model.proofs.Offsets.{OffsetsFit, offsets-fit}
 use Rattle.model.proofs.Places.{places-small, places-zero}
 use Rattle.model.proofs.Scripts.{script-actions}
-use Rattle.model.proofs.Stretches.{image-length, image-count}
+use Rattle.model.proofs.Stretches.{image-length, image-count, length-bytes}
+use Rattle.model.proofs.Tails as Tails
+use Rattle.model.proofs.Tails.{lent-formed, part-bytes, tail-length, tail-tells, written-bears, written-length}
 use Rattle.model.proofs.TrialLines.{tried-count, tried-line}
 use Rattle.model.proofs.Trials.{linesOf, Tried, trial-refused, trial-accepts}
 use Rattle.model.proofs.Unique as Unique
@@ -80,17 +85,19 @@ compile-keeps program schedule buffer f e =
     provided (leb (length image) (length buffer)) 17 (length image) ▷ λ _.
     accepted (record { yields = length image; leaves = image ++ drop (length image) buffer })) f e
 
-pub call-keeps : (image : List ℕ) (state : List ℤ) (c : Call) (f : Fault) → callOf image state c .answer ≡ refused f →
-    callOf image state c .left ≡ state
+pub call-keeps : (lent : List ℕ) (state : List ℤ) (c : Call) (f : Fault) → callOf lent state c .answer ≡ refused f →
+    callOf lent state c .left ≡ state
 unfolding callOf resetOf cycleOf
-call-keeps image state Call.reset f e =
+call-keeps lent state Call.reset f e =
+    let image = imagePart lent in
     refused-left state
-    (provided (wellFormed image) 20 0 ▷ λ _.
+    (provided (lentOk lent) 20 0 ▷ λ _.
     provided (ltb (countOf image) (length state)) 21 0 ▷ λ _.
     accepted (record { yields = 0; leaves = resetWords image state })) f e
-call-keeps image state (Call.cycle samples) f e =
+call-keeps lent state (Call.cycle samples) f e =
+    let image = imagePart lent in
     refused-left state
-    (provided (wellFormed image) 20 0 ▷ λ _.
+    (provided (lentOk lent) 20 0 ▷ λ _.
     provided (ltb (countOf image) (length state)) 21 0 ▷ λ _.
     provided (isPosition (hyperOf image) (getD state 0 (pos 0))) 22 0 ▷ λ _.
     provided (leb (countOf image) (length samples)) 23 0 ▷ λ _.
@@ -123,7 +130,7 @@ pub no-zero-bound : (program schedule : List ℕ) (q : Pair) → pairOf program 
     c among q .program .chains → 0 < c .bound
 no-zero-bound = Latency.no-zero-bound
 
-small-code : (f : Fault) → f .place ≤ 65535 → codeNumber (refused f) ≡ f .number * 4294967296 + f .place
+small-code : (f : Fault) → f .place ≤ 65791 → codeNumber (refused f) ≡ f .number * 4294967296 + f .place
 small-code f le = ap (λ n. f .number * 4294967296 + n) (mod-eq-of-lt (omega arith))
 
 -- Every refusal has a place below 2^32, so that number × 2^32 + place, the answer of a C call, tells both.
@@ -131,33 +138,44 @@ pub compile-code : (program schedule buffer : List ℕ) → Texts.Bytes program 
     compileOf program schedule buffer .answer ≡ refused f → codeNumber (refused f) ≡ f .number * 4294967296 + f .place
 compile-code program schedule buffer bytes f e = small-code f (places-small program schedule buffer bytes f e)
 
-pub call-code : (image : List ℕ) (state : List ℤ) (c : Call) (f : Fault) → callOf image state c .answer ≡ refused f →
+pub call-code : (lent : List ℕ) (state : List ℤ) (c : Call) (f : Fault) → callOf lent state c .answer ≡ refused f →
     codeNumber (refused f) ≡ f .number * 4294967296 + f .place
-call-code image state c f e = small-code f (omega (arith, places-zero image state c f e))
+call-code lent state c f e = small-code f (omega (arith, places-zero lent state c f e))
 
--- One image: compile writes it, answers its length and keeps the bytes past it wherever there is space, and else answers 17
--- with that length. It is well formed and at most 65,535 bytes long, all its offsets fit two bytes, and the working stack never
--- passes 31.
-pub record OneImage (program schedule : List ℕ) (p : Program) (s : Schedule) (h : ℕ) (image : List ℕ) : Type 0 where
-  pub verdict : verdictOf program schedule ≡ accepted image
+-- One image: compile writes it and after it its tail, four bytes a signal, answers the length of both and keeps the bytes past that
+-- wherever there is space, and else answers 17 with that length. The image is well formed and at most 65,535 bytes long, bytes 2-3
+-- hold its own length L, all its offsets fit two bytes, and the working stack never passes 31. The tail tells the label, period and
+-- phase of each signal.
+pub record OneImage (program schedule : List ℕ) (p : Program) (s : Schedule) (h : ℕ) (image tail : List ℕ) : Type 0 where
+  pub verdict : verdictOf program schedule ≡ accepted (image ++ tail)
   pub bound : length image ≤ 65535
   pub formed : wellFormed image ≡ true
+  pub stated : statedLength image ≡ length image
+  pub bears : Bears image tail (image ++ tail)
+  pub four : length tail ≡ 4 * count p
+  pub tells : (x : ℕ) → x < count p → Tells tail x (signalAt p x) (phaseOf s x)
   pub offsets : OffsetsFit p s h
   pub stack : (x : ℕ) → x < count p → Within 31 (codeOf image x) 0 0
-  pub written : (buffer : List ℕ) → length image ≤ length buffer →
-      compileOf program schedule buffer ≡ record { answer = accepted (length image); left = image ++ drop (length image) buffer }
-  pub space : (buffer : List ℕ) → length buffer < length image →
-      compileOf program schedule buffer ≡ record { answer = refuse 17 (length image); left = buffer }
+  pub written : (buffer : List ℕ) → length image + 4 * count p ≤ length buffer →
+      compileOf program schedule buffer ≡
+      record {
+        answer = accepted (length image + 4 * count p);
+        left = image ++ tail ++ drop (length image + 4 * count p) buffer;
+      }
+  pub space : (buffer : List ℕ) → length buffer < length image + 4 * count p →
+      compileOf program schedule buffer ≡ record { answer = refuse 17 (length image + 4 * count p); left = buffer }
 
--- Request a. A report refuses exactly as the pair is refused, and then leaves the counts as they were. Otherwise the L that it
--- tells is the length of the image that compile writes.
+-- Request a. A report refuses exactly as the pair is refused, and then leaves the counts as they were. Otherwise the L and
+-- the L + 4N that it tells are the lengths of the pair's image and of what compile writes.
 pub record ReportsExactly (program schedule counts : List ℕ) : Type 0 where
   pub refuses : (f : Fault) → (reportOf program schedule counts .answer ≡ refused f) ↔ (pairOf program schedule ≡ refused f)
   pub tells : (sizes : Sizes) → reportOf program schedule counts .answer ≡ accepted sizes →
-      (image : List ℕ) × (verdictOf program schedule ≡ accepted image) × (sizes .length ≡ length image)
+      (q : Pair) × (pairOf program schedule ≡ accepted q) ×
+      (sizes .length ≡ length (imageOf (q .program) (q .schedule) (q .hypercycle))) ×
+      (sizes .written ≡ length (writtenOf (q .program) (q .schedule) (q .hypercycle)))
 
 pub report-exactly : (program schedule counts : List ℕ) → ReportsExactly program schedule counts
-unfolding reportOf verdictOf _▷_
+unfolding reportOf
 report-exactly program schedule counts =
     record { refuses = refuses (pairOf program schedule); tells = tells (pairOf program schedule) }
   where
@@ -166,13 +184,22 @@ report-exactly program schedule counts =
         ((λ e. let z : _≡_ {A = ℕ} 0 1 = cc in absurd (omega arith)), (λ e. let z : _≡_ {A = ℕ} 0 1 = cc in absurd (omega arith)))
     refuses (refused g) f = ((λ e. let same : g ≡ f = cc in ap refused same), (λ e. let same : g ≡ f = cc in ap refused same))
 
-    tells : (o : Outcome Pair) (sizes : Sizes) → toldOf counts o .answer ≡ accepted sizes → (image : List ℕ) ×
-        ((o ▷ λ q. accepted (imageOf (q .program) (q .schedule) (q .hypercycle))) ≡ accepted image) × (sizes .length ≡ length image)
+    tells : (o : Outcome Pair) (sizes : Sizes) → toldOf counts o .answer ≡ accepted sizes → (q : Pair) × (o ≡ accepted q) ×
+        (sizes .length ≡ length (imageOf (q .program) (q .schedule) (q .hypercycle))) ×
+        (sizes .written ≡ length (writtenOf (q .program) (q .schedule) (q .hypercycle)))
     tells (accepted q) sizes e =
-        let image = imageOf (q .program) (q .schedule) (q .hypercycle) in
-        let told : Sizes = record { length = lengthOf (q .program) (q .schedule) (q .hypercycle); stack = highest (q .program .signals) } in
+        let p = q .program in
+        let s = q .schedule in
+        let h = q .hypercycle in
+        let told : Sizes =
+        record { length = lengthOf p s h; written = writtenLength p s h; stack = highest (p .signals) } in
         let same : told ≡ sizes = cc in
-        (image, refl, ap (λ x. x .length) (sym same) ∙ sym (image-length (q .program) (q .schedule) (q .hypercycle)))
+        (
+          q,
+          refl,
+          ap (λ x. x .length) (sym same) ∙ sym (image-length p s h),
+          ap (λ x. x .written) (sym same) ∙ sym (written-length p s h),
+        )
     tells (refused g) sizes e = let z : _≡_ {A = ℕ} 0 1 = cc in absurd (omega arith)
 
 -- Its places are small, too.
@@ -191,55 +218,99 @@ report-keeps program schedule counts f = go (pairOf program schedule)
     go (accepted q) e = let z : _≡_ {A = ℕ} 0 1 = cc in absurd (omega arith)
     go (refused g) e = refl
 
--- Of an accepted pair it tells L, the length of the image that compile writes; the least number of words that the code of every
+-- Of an accepted pair it tells L, the length of its image, and L + 4N, that with its tail; the least number of words that the code of every
 -- signal keeps within on that image's bytes; and 240 counts, those of the hypercycle being the commands that the image's lists
 -- run and the others 0.
 pub record Reports (program schedule : List ℕ) (p : Program) (s : Schedule) (h : ℕ) (image : List ℕ) : Type 0 where
   pub told : (counts : List ℕ) → reportOf program schedule counts ≡
-      record { answer = accepted (record { length = length image; stack = highest (p .signals) }); left = countsOf p s h }
+      record {
+        answer = accepted (record { length = length image; written = length image + 4 * count p; stack = highest (p .signals) });
+        left = countsOf p s h;
+      }
   pub stack : (m : ℕ) → ((x : ℕ) → x < count p → Within m (codeOf image x) 0 0) ↔ (highest (p .signals) ≤ m)
   pub size : length (countsOf p s h) ≡ 240
   pub counted : (c : ℕ) → c < h → getD (countsOf p s h) c 0 ≡ countSignals image (listOf image c)
   pub past : (c : ℕ) → h ≤ c → c < 240 → getD (countsOf p s h) c 0 ≡ 0
 
--- Whatever well-formed image a cycle is lent, its count has 32 bits.
-pub count-small : (image : List ℕ) (state samples : List ℤ) → Texts.Bytes image → (n : ℕ) →
-    cycleOf image state samples .answer ≡ accepted n → n < 2 ^ 32
+-- Whatever a cycle is lent, its count has 32 bits.
+pub count-small : (lent : List ℕ) (state samples : List ℤ) → Texts.Bytes lent → (n : ℕ) →
+    cycleOf lent state samples .answer ≡ accepted n → n < 2 ^ 32
 unfolding cycleOf _▷_ provided
-count-small image state samples bytes n e =
-    go (wellFormed image) (ltb (countOf image) (length state)) (isPosition (hyperOf image) (getD state 0 (pos 0)))
+count-small lent state samples bytes n e =
+    let image = imagePart lent in
+    go (lentOk lent) (ltb (countOf image) (length state)) (isPosition (hyperOf image) (getD state 0 (pos 0)))
     (leb (countOf image) (length samples)) refl e
   where
-    go : (a b c d : Bool) → wellFormed image ≡ a →
+    go : (a b c d : Bool) → lentOk lent ≡ a →
         effect state
         (provided a 20 0 ▷ λ _.
         provided b 21 0 ▷ λ _.
         provided c 22 0 ▷ λ _.
         provided d 23 0 ▷ λ _.
-        accepted (record { yields = cycleCount image state; leaves = cycleWords image state samples })) .answer ≡ accepted n →
-        n < 2 ^ 32
-    go true true true true w e = let same : cycleCount image state ≡ n = cc in omega (arith, count-fits image state bytes w)
+        accepted (record { yields = cycleCount (imagePart lent) state; leaves = cycleWords (imagePart lent) state samples }))
+        .answer ≡ accepted n → n < 2 ^ 32
+    go true true true true w e =
+        let same : cycleCount (imagePart lent) state ≡ n = cc in
+        omega (arith, count-fits (imagePart lent) state (part-bytes lent bytes) (lent-formed lent w))
     go true true true false w e = let z : _≡_ {A = ℕ} 0 1 = cc in absurd (omega arith)
     go true true false d w e = let z : _≡_ {A = ℕ} 0 1 = cc in absurd (omega arith)
     go true false c d w e = let z : _≡_ {A = ℕ} 0 1 = cc in absurd (omega arith)
     go false b c d w e = let z : _≡_ {A = ℕ} 0 1 = cc in absurd (omega arith)
+
+-- Request f. What is lent is accepted exactly if it is a well-formed image of L bytes, alone or with a tail of 4N bytes, whatever
+-- they are. The tail's reader then returns the bytes after the image, and refuses all else by 20.
+pub lent-exactly : (lent : List ℕ) →
+    (lentOk lent ≡ true) ↔ ((image : List ℕ) × (tail : List ℕ) × (wellFormed image ≡ true) × Bears image tail lent)
+lent-exactly = Tails.lent-exactly
+
+pub record TailExactly (lent : List ℕ) : Type 0 where
+  pub returns : (tail : List ℕ) →
+      (tailIn lent ≡ accepted tail) ↔ ((image : List ℕ) × (wellFormed image ≡ true) × Bears image tail lent)
+  pub refuses : (tailIn lent ≡ refuse 20 0) ↔ ((image tail : List ℕ) → wellFormed image ≡ true → Bears image tail lent → ⊥)
+  pub alone : (f : Fault) → tailIn lent ≡ refused f → f ≡ fault 20 0
+
+pub tail-exactly : (lent : List ℕ) → TailExactly lent
+unfolding tailIn _▷_ provided
+tail-exactly lent =
+    record {
+      returns = Tails.tail-exactly lent;
+      refuses =
+          (λ e image tail f b. accepted≢refused _ tail (fault 20 0) (Tails.tail-exactly lent tail .1 (image, f, b)) e, refuses (lentOk lent) refl);
+      alone = λ f e. alone (lentOk lent) f e;
+    }
+  where
+    refuses : (b : Bool) → lentOk lent ≡ b →
+        ((image tail : List ℕ) → wellFormed image ≡ true → Bears image tail lent → ⊥) →
+        (provided b 20 0 ▷ λ _. accepted (drop (statedLength lent) lent)) ≡ refuse 20 0
+    refuses true q none = absurd (none _ _ (lent-formed lent q) (Tails.lent-bears lent q))
+    refuses false q none = refl
+
+    alone : (b : Bool) (f : Fault) → (provided b 20 0 ▷ λ _. accepted (drop (statedLength lent) lent)) ≡ refused f → f ≡ fault 20 0
+    alone true f e = let z : _≡_ {A = ℕ} 0 1 = cc in absurd (omega arith)
+    alone false f e = cc
+
+-- For one well-formed image every reset and cycle answers and leaves the same, whatever tail it is lent with, or none.
+pub tail-alike : (image tail tail′ lent lent′ : List ℕ) → wellFormed image ≡ true → Bears image tail lent →
+    Bears image tail′ lent′ → (state : List ℤ) (c : Call) → callOf lent state c ≡ callOf lent′ state c
+tail-alike image tail tail′ lent lent′ formed b b′ state c =
+    Tails.call-alike formed b state c ∙ sym (Tails.call-alike formed b′ state c)
 
 -- Request b. Each of the four lists of widths is that of its decoder: over all 256 bytes, a byte has a width exactly if it is
 -- known in its kind of text, and a command that is read whole reaches exactly as far as its width.
 pub widths-listed : WidthsListed
 widths-listed = Widths.widths-listed
 
--- After a reset that is not refused and any list of resets and cycles: no reset is refused, and a cycle exactly when it is lent
+-- After a reset that is not refused and any list of resets and cycles, all lent the pair's image with a tail or without: no reset is refused, and a cycle exactly when it is lent
 -- fewer than N samples (23); a cycle that is not refused answers the report's count of its position. The position, word 0, is the
 -- remainder of c by H, where c is the number of cycles since the latest reset; signal s holds its element floor((c − 1 − p)/P), or
 -- its initial word if c ≤ p, of every stream that satisfies the equations with the inputs that the cycles were lent; words beyond
 -- N are as before the first reset.
-pub record Kept (program schedule : List ℕ) (p : Program) (s : Schedule) (h : ℕ) (image : List ℕ) (old : List ℤ) (cs : List Call) :
+pub record Kept (program schedule : List ℕ) (p : Program) (s : Schedule) (h : ℕ) (lent : List ℕ) (old : List ℤ) (cs : List Call) :
     Type 0 where
-  pub answers : (counts : List ℕ) (c : Call) → callOf image (stateBy image old cs) c .answer ≡
-      answerTo p (reportOf program schedule counts .left) (length (logBy image old cs) % h) c
-  pub holds : (inputs X : ℕ → ℕ → ℤ) → Supplied p s (logBy image old cs) inputs → Satisfies p (settled p s) inputs X →
-      Holds p s h X old (length (logBy image old cs)) (stateBy image old cs)
+  pub answers : (counts : List ℕ) (c : Call) → callOf lent (stateBy lent old cs) c .answer ≡
+      answerTo p (reportOf program schedule counts .left) (length (logBy lent old cs) % h) c
+  pub holds : (inputs X : ℕ → ℕ → ℤ) → Supplied p s (logBy lent old cs) inputs → Satisfies p (settled p s) inputs X →
+      Holds p s h X old (length (logBy lent old cs)) (stateBy lent old cs)
 
 -- An accepted pair.
 module _ (program schedule : List ℕ) (bytes : Texts.Bytes program) (p : Program) (s : Schedule) (h : ℕ)
@@ -253,18 +324,28 @@ module _ (program schedule : List ℕ) (bytes : Texts.Bytes program) (p : Progra
   bounded : Bounded p s h
   bounded = pair-bounded program schedule _ e bytes
 
-  pub one-image : OneImage program schedule p s h (imageOf p s h)
-  unfolding verdictOf compileOf _▷_ provided
+  both-length : length (writtenOf p s h) ≡ length (imageOf p s h) + 4 * count p
+  both-length = written-length p s h ∙ ap (λ (n : ℕ). n + 4 * count p) (sym (image-length p s h))
+
+  image-formed : wellFormed (imageOf p s h) ≡ true
+  image-formed = image-well-formed p s h accepts whole bounded
+
+  pub one-image : OneImage program schedule p s h (imageOf p s h) (tailOf p s)
+  unfolding verdictOf compileOf _▷_ provided writtenOf
   one-image =
-      let image = imageOf p s h in
+      let n = length (imageOf p s h) + 4 * count p in
       record {
         verdict = rw e;
         bound = omega (arith, image-length p s h, bounded .size);
-        formed = image-well-formed p s h accepts whole bounded;
+        formed = image-formed;
+        stated = length-bytes p s h bounded;
+        bears = written-bears p s h;
+        four = tail-length p s;
+        tells = λ x lt. tail-tells p s x lt (signal-label program p (pair-passed program schedule _ e .parses) bytes x lt);
         offsets = offsets-fit p s h bounded;
         stack = stack-31 p s h bounded;
-        written = λ buffer le. rw (e, le-leb (length image) (length buffer) le);
-        space = λ buffer lt. rw (e, lt-leb (length image) (length buffer) lt);
+        written = λ buffer le. rw (e, both-length, le-leb n (length buffer) le);
+        space = λ buffer lt. rw (e, both-length, lt-leb n (length buffer) lt);
       }
 
   pub one-report : Reports program schedule p s h (imageOf p s h)
@@ -290,7 +371,10 @@ module _ (program schedule : List ℕ) (bytes : Texts.Bytes program) (p : Progra
 
   reset-long : (old : List ℤ) → resetOf (imageOf p s h) old .answer ≡ accepted 0 → count p < length old
   unfolding resetOf _▷_ provided
-  reset-long old r = go (ltb (count p) (length old)) refl (rw (one-image .formed, image-count p s h) at r)
+  reset-long old r =
+      let own = Tails.bears-itself (imageOf p s h) in
+      go (ltb (count p) (length old)) refl
+      (rw (Tails.lent-ok image-formed own, Tails.part-is image-formed own, image-count p s h) at r)
     where
       go : (b : Bool) → ltb (count p) (length old) ≡ b →
           effect old (provided b 21 0 ▷ λ _. accepted (record { yields = 0; leaves = resetWords (imageOf p s h) old })) .answer ≡
@@ -298,14 +382,41 @@ module _ (program schedule : List ℕ) (bytes : Texts.Bytes program) (p : Progra
       go true q t = ltb-true (count p) (length old) q
       go false q t = let z : _≡_ {A = ℕ} 0 1 = cc in absurd (omega arith)
 
-  pub calls-hold : (old : List ℤ) → resetOf (imageOf p s h) old .answer ≡ accepted 0 → (cs : List Call) →
-      Kept program schedule p s h (imageOf p s h) old cs
-  unfolding reportOf
-  calls-hold old r cs =
-      record {
-        answers = λ counts c. rw e (Bytes.calls-answer p s h accepts whole bounded old (reset-long old r) cs c);
-        holds = Bytes.calls-hold p s h accepts whole bounded old (reset-long old r) cs;
-      }
+  -- What is lent bears the pair's image.
+  module _ {tail lent : List ℕ} (bears : Bears (imageOf p s h) tail lent) where
+    reset-alike : (old : List ℤ) → resetOf lent old ≡ resetOf (imageOf p s h) old
+    unfolding callOf
+    reset-alike old = Tails.call-alike image-formed bears old Call.reset
+
+    lent-long : (old : List ℤ) → resetOf lent old .answer ≡ accepted 0 → count p < length old
+    lent-long old r = reset-long old (sym (ap (λ (x : Effect ℤ). x .answer) (reset-alike old)) ∙ r)
+
+    state-alike : (old : List ℤ) (cs : List Call) → stateBy lent old cs ≡ stateBy (imageOf p s h) old cs
+    state-alike old cs =
+        Tails.list-alike image-formed bears _ cs ∙
+        ap (λ (x : Effect ℤ). after (imageOf p s h) (x .left) cs) (reset-alike old)
+
+    log-alike : (old : List ℤ) (cs : List Call) → logBy lent old cs ≡ logBy (imageOf p s h) old cs
+    log-alike old cs =
+        Tails.log-alike image-formed bears _ [] cs ∙
+        ap (λ (x : Effect ℤ). logAfter (imageOf p s h) (x .left) [] cs) (reset-alike old)
+
+    pub calls-hold : (old : List ℤ) → resetOf lent old .answer ≡ accepted 0 → (cs : List Call) →
+        Kept program schedule p s h lent old cs
+    unfolding reportOf
+    calls-hold old r cs =
+        let long = lent-long old r in
+        let log = log-alike old cs in
+        let state = state-alike old cs in
+        record {
+          answers = λ counts c.
+              ap (λ (x : Effect ℤ). x .answer) (Tails.call-alike image-formed bears (stateBy lent old cs) c) ∙
+              rw (e, log, state) (Bytes.calls-answer p s h accepts whole bounded old long cs c);
+          holds = λ inputs X sup sat.
+              rw (log, state)
+              (Bytes.calls-hold p s h accepts whole bounded old long cs inputs X
+              (subst (λ (l : List (List ℤ)). Supplied p s l inputs) log sup) sat);
+        }
 
 -- Calls that are lent another image, or a damaged one, between those of the list.
 pub data Lent : Type 0 where
@@ -342,15 +453,14 @@ others-nothing image state (Lent.other image′ c ∷ ls) (r, rs) =
 
 -- So what is promised of the list holds with such calls in between.
 pub calls-among : (program schedule : List ℕ) → Texts.Bytes program → (p : Program) (s : Schedule) (h : ℕ) →
-    pairOf program schedule ≡ accepted (record { program = p; schedule = s; hypercycle = h }) → (old : List ℤ) →
-    resetOf (imageOf p s h) old .answer ≡ accepted 0 → (ls : List Lent) →
-    OthersRefused (imageOf p s h) (resetOf (imageOf p s h) old .left) ls → (inputs X : ℕ → ℕ → ℤ) →
-    Supplied p s (logBy (imageOf p s h) old (owns ls)) inputs → Satisfies p (settled p s) inputs X →
-    Holds p s h X old (length (logBy (imageOf p s h) old (owns ls)))
-    (afterAll (imageOf p s h) (resetOf (imageOf p s h) old .left) ls)
-calls-among program schedule bytes p s h e old r ls others inputs X sup sat =
-    rw (others-nothing (imageOf p s h) (resetOf (imageOf p s h) old .left) ls others)
-    (calls-hold program schedule bytes p s h e old r (owns ls) .holds inputs X sup sat)
+    pairOf program schedule ≡ accepted (record { program = p; schedule = s; hypercycle = h }) → (tail lent : List ℕ) →
+    Bears (imageOf p s h) tail lent → (old : List ℤ) → resetOf lent old .answer ≡ accepted 0 → (ls : List Lent) →
+    OthersRefused lent (resetOf lent old .left) ls → (inputs X : ℕ → ℕ → ℤ) → Supplied p s (logBy lent old (owns ls)) inputs →
+    Satisfies p (settled p s) inputs X →
+    Holds p s h X old (length (logBy lent old (owns ls))) (afterAll lent (resetOf lent old .left) ls)
+calls-among program schedule bytes p s h e tail lent bears old r ls others inputs X sup sat =
+    rw (others-nothing lent (resetOf lent old .left) ls others)
+    (calls-hold program schedule bytes p s h e bears old r (owns ls) .holds inputs X sup sat)
 
 -- Two accepted schedules of one program that settle alike: each open read has the same index under both.
 module _ (program schedule schedule′ : List ℕ) (bytes : Texts.Bytes program) (p : Program) (s s′ : Schedule) (h : ℕ)
@@ -362,18 +472,23 @@ module _ (program schedule schedule′ : List ℕ) (bytes : Texts.Bytes program)
   pub alike-streams : (inputs X : ℕ → ℕ → ℤ) → Satisfies p (settled p s) inputs X → Satisfies p (settled p s′) inputs X
   alike-streams = alike-satisfy p s s′ (open-alike p s s′ alike)
 
-  -- A list of calls on the image of each, with input elements that agree wherever both lists supply them: if both end holding
-  -- element k of signal x, it is the same word.
-  pub alike-words : (old old′ : List ℤ) → resetOf (imageOf p s h) old .answer ≡ accepted 0 →
-      resetOf (imageOf p s′ h) old′ .answer ≡ accepted 0 → (cs cs′ : List Call) →
-      Agree p s s′ (logBy (imageOf p s h) old cs) (logBy (imageOf p s′ h) old′ cs′) → (x k : ℕ) → x < count p →
-      Ends p s (length (logBy (imageOf p s h) old cs)) x k → Ends p s′ (length (logBy (imageOf p s′ h) old′ cs′)) x k →
-      getD (stateBy (imageOf p s h) old cs) (suc x) (pos 0) ≡ getD (stateBy (imageOf p s′ h) old′ cs′) (suc x) (pos 0)
-  alike-words old old′ r r′ cs cs′ agree =
-      element-alike p s s′ h (accepts program schedule bytes p s h e) (accepts program schedule′ bytes p s′ h e′)
+  -- A list of calls on the image of each, lent with a tail or without, with input elements that agree wherever both lists supply
+  -- them: if both end holding element k of signal x, it is the same word.
+  pub alike-words : (tail tail′ lent lent′ : List ℕ) → Bears (imageOf p s h) tail lent → Bears (imageOf p s′ h) tail′ lent′ →
+      (old old′ : List ℤ) → resetOf lent old .answer ≡ accepted 0 → resetOf lent′ old′ .answer ≡ accepted 0 →
+      (cs cs′ : List Call) → Agree p s s′ (logBy lent old cs) (logBy lent′ old′ cs′) → (x k : ℕ) → x < count p →
+      Ends p s (length (logBy lent old cs)) x k → Ends p s′ (length (logBy lent′ old′ cs′)) x k →
+      getD (stateBy lent old cs) (suc x) (pos 0) ≡ getD (stateBy lent′ old′ cs′) (suc x) (pos 0)
+  alike-words tail tail′ lent lent′ b b′ old old′ r r′ cs cs′ agree x k lt ends ends′ =
+      let log = log-alike program schedule bytes p s h e b old cs in
+      let log′ = log-alike program schedule′ bytes p s′ h e′ b′ old′ cs′ in
+      rw (state-alike program schedule bytes p s h e b old cs, state-alike program schedule′ bytes p s′ h e′ b′ old′ cs′)
+      (element-alike p s s′ h (accepts program schedule bytes p s h e) (accepts program schedule′ bytes p s′ h e′)
       (whole program schedule bytes p s h e) (bounded program schedule bytes p s h e) (bounded program schedule′ bytes p s′ h e′)
-      (open-alike p s s′ alike) old old′ (reset-long program schedule bytes p s h e old r)
-      (reset-long program schedule′ bytes p s′ h e′ old′ r′) cs cs′ agree
+      (open-alike p s s′ alike) old old′ (lent-long program schedule bytes p s h e b old r)
+      (lent-long program schedule′ bytes p s′ h e′ b′ old′ r′) cs cs′ (subst₂ (Agree p s s′) log log′ agree) x k lt
+      (subst (λ (l : List (List ℤ)). Ends p s (length l) x k) log ends)
+      (subst (λ (l : List (List ℤ)). Ends p s′ (length l) x k) log′ ends′))
 
 -- Two pairs of one program text are of one program, and have one hypercycle.
 pub same-program : (program schedule schedule′ : List ℕ) (q q′ : Pair) → pairOf program schedule ≡ accepted q →

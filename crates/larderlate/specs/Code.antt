@@ -1,5 +1,8 @@
 -- The answer of a call as one number, for a C caller.
 use Prim.Native.Nat.{ℕ, _+_, _*_, _%_}
+use mathlib.Core.List.{List}
+use lib.ListN.{length}
+use Rattle.model.specs.Machine.{statedLength}
 use Rattle.model.specs.Outcome.{Outcome, accepted, refused}
 use Rattle.model.specs.declared.Sizes.{Sizes}
 
@@ -8,11 +11,24 @@ abbrev pub codeNumber : Outcome ℕ → ℕ
 codeNumber (accepted n) = n
 codeNumber (refused f) = f .number * 4294967296 + f .place % 4294967296
 
--- Of what a report answers: L, and the stack use or what was there before.
+-- Of what a report answers: L, and L + 4N and the stack use, or what was there before.
 abbrev pub lengthIn : Outcome Sizes → Outcome ℕ
 lengthIn (accepted x) = accepted (x .length)
 lengthIn (refused f) = refused f
 
+abbrev pub writtenIn : ℕ → Outcome Sizes → ℕ
+writtenIn old (accepted x) = x .written
+writtenIn old (refused f) = old
+
 abbrev pub stackIn : ℕ → Outcome Sizes → ℕ
 stackIn old (accepted x) = x .stack
 stackIn old (refused f) = old
+
+-- Of what the tail's reader answers: the tail's length, and where it starts, at L, or what was there before.
+abbrev pub lengthOfTail : Outcome (List ℕ) → Outcome ℕ
+lengthOfTail (accepted tail) = accepted (length tail)
+lengthOfTail (refused f) = refused f
+
+abbrev pub startIn : ℕ → List ℕ → Outcome (List ℕ) → ℕ
+startIn old lent (accepted tail) = statedLength lent
+startIn old lent (refused f) = old

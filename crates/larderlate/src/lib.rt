@@ -1,4 +1,4 @@
-// Larderlate: compile, report, reset and cycle. Each call takes any bytes and words, and its answer and what it leaves are the
+// Larderlate: compile, report, reset, cycle and tail. Each call takes any bytes and words, and its answer and what it leaves are the
 // definition's. What they promise together is in proofs/Promises.antt.
 use model::Compiled;
 use model::Cycled;
@@ -10,9 +10,10 @@ ghost use Rattle.model.specs.Compile.{compiledOf, compileOf};
 ghost use Rattle.model.specs.Machine.{ranOf, cycledOf, resetOf, cycleOf};
 ghost use Rattle.model.specs.Outcome.{refused};
 ghost use Rattle.model.specs.Report.{reportedOf, reportOf};
-ghost use Rattle.larderlate.specs.Code.{codeNumber, lengthIn, stackIn};
+ghost use Rattle.model.specs.Tail.{tailIn, ReadsTail};
+ghost use Rattle.larderlate.specs.Code.{codeNumber, lengthIn, writtenIn, stackIn, lengthOfTail, startIn};
 
-// Writes the image of an accepted program and schedule to the start of `image`, and yields its length.
+// Writes the image of an accepted program and schedule and its tail to the start of `image`, and yields how many bytes these are.
 pub fn compile(program: &[u8], schedule: &[u8], image: &mut [u8]) -> Compiled
     ensures answer { λ r. ⌜ compiledOf r ≡ compileOf (now (program .entry)) (now (schedule .entry)) (now (image .entry)) .answer ⌝ }
     ensures left { λ _. ⌜ now (image .exit) ≡ compileOf (now (program .entry)) (now (schedule .entry)) (now (image .entry)) .left ⌝ }
@@ -20,8 +21,8 @@ pub fn compile(program: &[u8], schedule: &[u8], image: &mut [u8]) -> Compiled
     compiler::compile(program, schedule, &mut image[..])
 }
 
-// Tells what an accepted program and schedule need: the length of their image, the highest stack use of any signal, and in
-// `counts` the commands of each cycle.
+// Tells what an accepted program and schedule need: the length of their image, that with its tail, the highest stack use of any
+// signal, and in `counts` the commands of each cycle.
 pub fn report(program: &[u8], schedule: &[u8], counts: &mut [u32; 240]) -> Reported
     ensures answer { λ r. ⌜ reportedOf r ≡ reportOf (now (program .entry)) (now (schedule .entry)) (now (counts .entry)) .answer ⌝ }
     ensures left { λ _. ⌜ now (counts .exit) ≡ reportOf (now (program .entry)) (now (schedule .entry)) (now (counts .entry)) .left ⌝ }
@@ -43,6 +44,13 @@ pub fn cycle(image: &[u8], state: &mut [i32], samples: &[i32]) -> Cycled
     ensures left { λ _. ⌜ now (state .exit) ≡ cycleOf (now (image .entry)) (now (state .entry)) (now (samples .entry)) .left ⌝ }
 {
     machine::cycle(image, &mut state[..], samples)
+}
+
+// The tail of an image: a stretch of what is lent, empty for an image without one. `number` gets 0, or that of the refusal.
+pub fn tail<'a>(image: &'a [u8], number: &mut u8) -> &'a [u8]
+    ensures { λ r. ⌜ ReadsTail (now (image .entry)) (now (number .exit)) (now r) ⌝ }
+{
+    tail::tail(image, number)
 }
 
 // A refusal as one number.
@@ -98,6 +106,16 @@ fn stack_of_reported(reported: Reported, old: usize) -> usize
     }
 }
 
+// The length with the tail, or what is there where it is refused.
+fn written_of_reported(reported: Reported, old: usize) -> usize
+    ensures { λ r. ⌜ r ≡ writtenIn old (reportedOf reported) ⌝ }
+{
+    match reported {
+        Reported::Sizes(sizes) => sizes.written,
+        Reported::Refused(_) => old,
+    }
+}
+
 // The same calls for a C caller (include/larderlate.h).
 #[no_mangle]
 pub extern "C" fn larderlate_compile(program: &[u8], schedule: &[u8], image: &mut [u8]) -> u64
@@ -113,13 +131,16 @@ pub extern "C" fn larderlate_report(
     program: &[u8],
     schedule: &[u8],
     counts: &mut [u32; 240],
+    written: &mut usize,
     stack: &mut usize,
 ) -> u64
     ensures answer { λ r. ⌜ r ≡ codeNumber (lengthIn (reportOf (now (program .entry)) (now (schedule .entry)) (now (counts .entry)) .answer)) ⌝ }
     ensures left { λ _. ⌜ now (counts .exit) ≡ reportOf (now (program .entry)) (now (schedule .entry)) (now (counts .entry)) .left ⌝ }
+    ensures whole { λ _. ⌜ now (written .exit) ≡ writtenIn (now (written .entry)) (reportOf (now (program .entry)) (now (schedule .entry)) (now (counts .entry)) .answer) ⌝ }
     ensures height { λ _. ⌜ now (stack .exit) ≡ stackIn (now (stack .entry)) (reportOf (now (program .entry)) (now (schedule .entry)) (now (counts .entry)) .answer) ⌝ }
 {
     let reported = report(program, schedule, counts);
+    *written = written_of_reported(reported, *written);
     *stack = stack_of_reported(reported, *stack);
     code_of_reported(reported)
 }
@@ -140,4 +161,19 @@ pub extern "C" fn larderlate_cycle(image: &[u8], state: &mut [i32], samples: &[i
 {
     let cycled = cycle(image, &mut state[..], samples);
     code_of_cycled(cycled)
+}
+
+// Where the tail starts, behind a pointer, and how long it is.
+#[no_mangle]
+pub extern "C" fn larderlate_tail(image: &[u8], start: &mut usize) -> u64
+    ensures answer { λ r. ⌜ r ≡ codeNumber (lengthOfTail (tailIn (now (image .entry)))) ⌝ }
+    ensures place { λ _. ⌜ now (start .exit) ≡ startIn (now (start .entry)) (now (image .entry)) (tailIn (now (image .entry))) ⌝ }
+{
+    let mut number: u8 = 0;
+    let bytes = tail(image, &mut number);
+    if number != 0 {
+        return code_of_fault(Fault { number, place: 0 });
+    }
+    *start = image.len() - bytes.len();
+    bytes.len() as u64
 }

@@ -17,7 +17,7 @@ use Rattle.model.proofs.Bytes.{position-is, next-below, run-length, cycle-lengt
 use Rattle.model.proofs.Stretches.{table-length}
 use Rattle.image_check.proofs.Parts.{head, formed}
 use Rattle.machine.specs.Runnable.{Runnable}
-use Rattle.machine.proofs.Answers.{cycle-done}
+use Rattle.machine.proofs.Answers.{cycle-done, lends-itself}
 
 next-inside : (h c : ℕ) → c < h → nextPosition h c < h
 unfolding nextPosition
@@ -50,7 +50,7 @@ module _ {image : List ℕ} {state samples : List ℤ} (r : Runnable image state
   unfolding callOf
   cycle-leaves =
       ap (λ (e : Effect ℤ). e .left)
-      (cycle-done image state samples (r .formed) (lt-ltb (countOf image) (length state) (r .long)) (r .position)
+      (cycle-done (lends-itself (r .formed)) state samples (r .formed) (lt-ltb (countOf image) (length state) (r .long)) (r .position)
       (le-leb (countOf image) (length samples) (r .enough)))
 
 -- A reset of a well-formed image that is not refused: with 64 samples the state that it leaves can be run.

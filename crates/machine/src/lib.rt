@@ -1,4 +1,4 @@
-// Reset and cycle, on any image, state and samples. A refused call changes nothing.
+// Reset and cycle, on any image, with its tail or without, state and samples. A refused call changes nothing.
 use model::Cycled;
 use model::Fault;
 use model::Ran;
@@ -99,10 +99,11 @@ fn initial_words(image: &[u8], n: usize, state: &mut [i32])
 }
 
 // Puts a state into its first cycle.
-pub fn reset(image: &[u8], state: &mut [i32]) -> Ran
-    ensures answer { λ r. ⌜ ranOf r ≡ resetOf (now (image .entry)) (now (state .entry)) .answer ⌝ }
-    ensures left { λ _. ⌜ now (state .exit) ≡ resetOf (now (image .entry)) (now (state .entry)) .left ⌝ }
+pub fn reset(lent: &[u8], state: &mut [i32]) -> Ran
+    ensures answer { λ r. ⌜ ranOf r ≡ resetOf (now (lent .entry)) (now (state .entry)) .answer ⌝ }
+    ensures left { λ _. ⌜ now (state .exit) ≡ resetOf (now (lent .entry)) (now (state .entry)) .left ⌝ }
 {
+    let image = image_check::image_in(lent);
     if !image_check::well_formed(image) {
         return refused(BAD_IMAGE);
     }
@@ -133,10 +134,11 @@ pub fn run_cycle(image: &[u8], state: &mut [i32], samples: &[i32]) -> u32
 
 // Runs one cycle: the list of the state's position, and then the position moves on. Yields how many commands it
 // ran.
-pub fn cycle(image: &[u8], state: &mut [i32], samples: &[i32]) -> Cycled
-    ensures answer { λ r. ⌜ cycledOf r ≡ cycleOf (now (image .entry)) (now (state .entry)) (now (samples .entry)) .answer ⌝ }
-    ensures left { λ _. ⌜ now (state .exit) ≡ cycleOf (now (image .entry)) (now (state .entry)) (now (samples .entry)) .left ⌝ }
+pub fn cycle(lent: &[u8], state: &mut [i32], samples: &[i32]) -> Cycled
+    ensures answer { λ r. ⌜ cycledOf r ≡ cycleOf (now (lent .entry)) (now (state .entry)) (now (samples .entry)) .answer ⌝ }
+    ensures left { λ _. ⌜ now (state .exit) ≡ cycleOf (now (lent .entry)) (now (state .entry)) (now (samples .entry)) .left ⌝ }
 {
+    let image = image_check::image_in(lent);
     if !image_check::well_formed(image) {
         return stopped(BAD_IMAGE);
     }

@@ -43,6 +43,7 @@ use Rattle.model.proofs.Formed.{image-well-formed}
 use Rattle.model.proofs.Lists.{sampleOf, logOf, stateAfter, calls-position, After, machine-holds}
 use Rattle.model.proofs.Runs.{run-signal}
 use Rattle.model.proofs.Stretches.{table-length, table-at, image-hyper, image-count, image-initial, list-stretch, code-stretch}
+use Rattle.model.proofs.Tails.{part-is, lent-ok, bears-itself}
 use Rattle.model.proofs.Turns
 use Rattle.model.proofs.Turns.{State, store, turns}
 
@@ -243,7 +244,8 @@ module _ (p : Program) (s : Schedule) (h : ℕ) (acc : Accepted p s) (whole : Mu
     unfolding cycleOf _▷_ provided
     cycle-call =
         rw (
-          image-well-formed p s h acc whole bounded,
+          lent-ok (image-well-formed p s h acc whole bounded) (bears-itself (imageOf p s h)),
+          part-is (image-well-formed p s h acc whole bounded) (bears-itself (imageOf p s h)),
           image-count p s h,
           image-hyper p s h,
           lt-ltb (count p) (length state) (ready .long),
@@ -268,7 +270,12 @@ module _ (p : Program) (s : Schedule) (h : ℕ) (acc : Accepted p s) (whole : Mu
       resetOf (imageOf p s h) state ≡ record { answer = accepted 0; left = resetWords (imageOf p s h) state }
   unfolding resetOf _▷_ provided
   reset-call state long =
-      rw (image-well-formed p s h acc whole bounded, image-count p s h, lt-ltb (count p) (length state) long)
+      rw (
+        lent-ok (image-well-formed p s h acc whole bounded) (bears-itself (imageOf p s h)),
+        part-is (image-well-formed p s h acc whole bounded) (bears-itself (imageOf p s h)),
+        image-count p s h,
+        lt-ltb (count p) (length state) long,
+      )
 
   reset-ready : (state : List ℤ) → count p < length state → Ready p h (resetWords (imageOf p s h) state)
   reset-ready state long =

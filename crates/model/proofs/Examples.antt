@@ -15,8 +15,8 @@ use Rattle.model.specs.Reads.{due, stored, between, share, ordered, plac
 use Rattle.model.specs.Streams.{value}
 use Rattle.model.specs.Load.{load, loaded}
 use Rattle.model.specs.Latency.{readOf, readsBack, used, back, source, latencyOf, runLatency, fromOf, windowOf, keeps, timely}
-use Rattle.model.specs.Image.{exprCode, codes, runList, runLists, offsets, records, codesAt, lengthOf, head, imageOf}
-use Rattle.model.specs.Machine.{operatorCode, codeAt, listOffset, codeOffset, listOf, codeOf, commandOk, codeOkFrom, codeOk, headOk, listsOk, entriesOk, codesOk, wellFormed, runCommand, runFrom, runCode, runSignals, nextPosition, resetWords, cycleWords, resetOf, cycleOf}
+use Rattle.model.specs.Image.{exprCode, codes, runList, runLists, offsets, records, codesAt, lengthOf, head, imageOf, tailOf, writtenOf}
+use Rattle.model.specs.Machine.{operatorCode, codeAt, listOffset, codeOffset, listOf, codeOf, commandOk, codeOkFrom, codeOk, headOk, listsOk, entriesOk, codesOk, wellFormed, imagePart, lentOk, runCommand, runFrom, runCode, runSignals, nextPosition, resetWords, cycleWords, resetOf, cycleOf}
 use Rattle.model.specs.Compile.{shortEnough, pairOf, verdictOf, compileOf}
 use Rattle.model.specs.Report.{listCommands, cycleCommands, highest, countsOf, Told, reportOf}
 use Rattle.model.specs.Calls.{callOf, after, logAfter, lentAt}
@@ -26,7 +26,7 @@ use Rattle.model.specs.Trial.{linesFrom, trialOf}
 use Rattle.model.specs.Calls.{Call, reset, cycle}
 use Rattle.model.specs.Compile.{Pair}
 use Rattle.model.specs.Outcome.{Outcome, accepted, refused}
-use Rattle.model.specs.Machine.{hyperOf, countOf}
+use Rattle.model.specs.Machine.{hyperOf, countOf, statedLength}
 use Rattle.model.specs.Program.{bodyReads}
 use Rattle.model.specs.Word.{binaryWord}
 use Rattle.model.specs.declared.Binary.{Binary}
@@ -36,6 +36,8 @@ use Rattle.model.specs.declared.Binary.the-variants.{Add, Sub, Mul}
 -- A question about a program and its schedule, or about an operator.
 pub data Question : Type 0 where
   verdict hypercycles indices runs codeOffsets size needs : List ℕ → List ℕ → Question
+  -- what compile answers, given the length of its buffer
+  intoBuffer : List ℕ → List ℕ → ℕ → Question
   -- the words of a signal after each cycle, given the words of input 0
   words : List ℕ → List ℕ → ℕ → List ℤ → Question
   -- what a trial prints, given the script
@@ -59,13 +61,17 @@ abbrev ofImage : (List ℕ → Answer) → Outcome (List ℕ) → Answer
 ofImage f (accepted image) = f image
 ofImage f (refused e) = refuses (e .number) (e .place)
 
+abbrev ofCompile : Outcome ℕ → Answer
+ofCompile (accepted n) = numbers (n ∷ [])
+ofCompile (refused e) = refuses (e .number) (e .place)
+
 abbrev ofTrial : Outcome (List (List ℕ)) → Answer
 ofTrial (accepted ls) = lists ls
 ofTrial (refused e) = refuses (e .number) (e .place)
 
--- The numbers of a report: L, the stack use, and the counts.
+-- The numbers of a report: L, L + 4N, the stack use, and the counts.
 abbrev ofAnswer : List ℕ → Outcome Sizes → Answer
-ofAnswer counts (accepted x) = numbers (x .length ∷ x .stack ∷ counts)
+ofAnswer counts (accepted x) = numbers (x .length ∷ x .written ∷ x .stack ∷ counts)
 ofAnswer counts (refused e) = refuses (e .number) (e .place)
 
 abbrev ofReport : Told → Answer
@@ -93,7 +99,9 @@ answerTo (runs program schedule) =
     ofImage (λ image. lists (table (hyperOf image) (listOf image))) (verdictOf program schedule)
 answerTo (codeOffsets program schedule) =
     ofImage (λ image. numbers (table (countOf image) (codeOffset image))) (verdictOf program schedule)
-answerTo (size program schedule) = ofImage (λ image. numbers (length image ∷ [])) (verdictOf program schedule)
+answerTo (size program schedule) =
+    ofImage (λ image. numbers (statedLength image ∷ length image ∷ [])) (verdictOf program schedule)
+answerTo (intoBuffer program schedule n) = ofCompile (compileOf program schedule (replicate n 7) .answer)
 answerTo (needs program schedule) = ofReport (reportOf program schedule [])
 answerTo (words program schedule x inputs) =
     ofImage (λ image. signals (wordsFrom image (callOf image (replicate 65 (pos 9)) reset .left) x inputs))
@@ -168,9 +176,11 @@ cases =
     (indices A in-order gives numbers (1 ∷ 1 ∷ 0 ∷ [])) ∷
     (runs A in-order gives lists ((0 ∷ 2 ∷ []) ∷ (0 ∷ 1 ∷ 2 ∷ []) ∷ [])) ∷
     (codeOffsets A in-order gives numbers (33 ∷ 37 ∷ 41 ∷ [])) ∷
-    (size A in-order gives numbers (48 ∷ [])) ∷
-    -- the report: L 48, stack 2, and 6, 8 commands in its two cycles (request a)
-    (needs A in-order gives numbers (48 ∷ 2 ∷ 6 ∷ 8 ∷ replicate 238 0)) ∷
+    (size A in-order gives numbers (48 ∷ 60 ∷ [])) ∷
+    -- a buffer of 47: 17, place 60, with the tail (request f)
+    (intoBuffer A in-order 47 gives refuses 17 60) ∷
+    -- the report: L 48, 60 with the tail, stack 2, and 6, 8 commands in its two cycles (requests a, f)
+    (needs A in-order gives numbers (48 ∷ 60 ∷ 2 ∷ 6 ∷ 8 ∷ replicate 238 0)) ∷
     -- inputs 10, 11, 12, 13: signal 2 is 5, 16, 27, 40
     (words A in-order 2 (pos 10 ∷ pos 11 ∷ pos 12 ∷ pos 13 ∷ []) gives signals (pos 5 ∷ pos 16 ∷ pos 27 ∷ pos 40 ∷ [])) ∷
     -- RUN 1 after each SET of 10, 11, 12: `0 10 5 5`, `1 11 11 16`, `2 12 11 27` (request e)
@@ -217,5 +227,5 @@ cases =
 
 -- The definitions answer every question of the table as the paper does.
 pub examples : map (λ c. answerTo (c .question)) cases ≡ map (λ c. c .answer) cases
-unfolding _▷_ provided lowest firstFrom first allBelow tableFrom table chosen joinFrom sum bitsOf wordOf nearest addWord subWord mulWord negWord lessWord sameWord minWord maxWord ifWord twoAt fourAt wordAt twoBytes fourBytes wordBytes operatorOf keywordOf keywordAt plainRead sampledRead commandOf commandAt node parseExpr parseLinks declare parseCommands parseWith readsOf readFaults linkFaults declaredAndRated isMultiple hypercycle countReads isLinked linked scheduleCommandAt scheduleCommand parsePuts parseSchedule isPut putFaults putsFaults putPhase scheduleOf placed due stored between share ordered place settle settled isMet met value load loaded readOf readsBack used back source latencyOf runLatency fromOf windowOf keeps timely exprCode codes runList runLists offsets records codesAt lengthOf head imageOf operatorCode codeAt listOffset codeOffset listOf codeOf commandOk codeOkFrom codeOk headOk listsOk entriesOk codesOk wellFormed runCommand runFrom runCode runSignals nextPosition resetWords cycleWords resetOf cycleOf shortEnough pairOf verdictOf compileOf listCommands cycleCommands highest countsOf reportOf callOf after logAfter lentAt digitsUpTo natural decimal spaced lineOf scriptCommandAt scriptCommand scriptFrom scriptAt isInputOf inputsOnly checkOf callsFrom linesFrom trialOf
+unfolding _▷_ provided lowest firstFrom first allBelow tableFrom table chosen joinFrom sum bitsOf wordOf nearest addWord subWord mulWord negWord lessWord sameWord minWord maxWord ifWord twoAt fourAt wordAt twoBytes fourBytes wordBytes operatorOf keywordOf keywordAt plainRead sampledRead commandOf commandAt node parseExpr parseLinks declare parseCommands parseWith readsOf readFaults linkFaults declaredAndRated isMultiple hypercycle countReads isLinked linked scheduleCommandAt scheduleCommand parsePuts parseSchedule isPut putFaults putsFaults putPhase scheduleOf placed due stored between share ordered place settle settled isMet met value load loaded readOf readsBack used back source latencyOf runLatency fromOf windowOf keeps timely exprCode codes runList runLists offsets records codesAt lengthOf head imageOf tailOf writtenOf operatorCode codeAt listOffset codeOffset listOf codeOf commandOk codeOkFrom codeOk headOk listsOk entriesOk codesOk wellFormed imagePart lentOk runCommand runFrom runCode runSignals nextPosition resetWords cycleWords resetOf cycleOf shortEnough pairOf verdictOf compileOf listCommands cycleCommands highest countsOf reportOf callOf after logAfter lentAt digitsUpTo natural decimal spaced lineOf scriptCommandAt scriptCommand scriptFrom scriptAt isInputOf inputsOnly checkOf callsFrom linesFrom trialOf
 examples = refl

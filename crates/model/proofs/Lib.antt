@@ -15,6 +15,7 @@ pub mod Bounds
 pub mod Stretches
 pub mod Left
 pub mod Runs
+pub mod Tails
 pub mod Counts
 pub mod Formed
 pub mod Offsets

@@ -1,4 +1,4 @@
--- Every refusal has a place that fits two bytes: within the text that is refused, below the hypercycle, or L. Assumes nothing.
+-- Every refusal has a small place: within the text that is refused, below the hypercycle, or L + 4N. Assumes nothing.
 use Prim.Native.Nat.{ℕ, zero, suc, _%_, _≤_, _<_}
 use mathlib.Core.Bool.{Bool}
 use mathlib.Core.List.{List, _++_}
@@ -16,7 +16,8 @@ use Rattle.model.specs.Grammar.{LegalProgram, SpellsPuts}
 use Rattle.model.specs.Machine.{
   hyperOf,
   countOf,
-  wellFormed,
+  imagePart,
+  lentOk,
   isPosition,
   resetWords,
   cycleWords,
@@ -50,7 +51,7 @@ use Rattle.model.proofs.Stopped.{
   room-declaration,
   unknown-inside,
 }
-use Rattle.model.proofs.Stretches.{image-length}
+use Rattle.model.proofs.Tails.{written-length}
 use Rattle.model.proofs.Verdict.{pair-bounded}
 
 operator-present : {k : Keyword} → IsOperator k → Present k
@@ -165,7 +166,7 @@ call-refused R lent (accepted job) f h e = absurd (accepted≢refused _ (job .yi
 call-refused R lent (refused g) f h e = refuses-fault {A = ℕ} R (refused g) f h e
 
 abbrev Small : ℕ → ℕ → Type 0
-Small n x = x ≤ 65535
+Small n x = x ≤ 65791
 
 abbrev Zero : ℕ → ℕ → Type 0
 Zero n x = x ≡ 0
@@ -176,23 +177,20 @@ module _ (program schedule : List ℕ) where
     where
       go : (o : Outcome Pair) → pairOf program schedule ≡ o → Refuses Small o
       go (accepted q) e = tt
-      go (refused f) e = refusal-small (refused-exactly program schedule (f .number) (f .place) .0 e)
+      go (refused f) e = omega (arith, refusal-small (refused-exactly program schedule (f .number) (f .place) .0 e))
 
-  image-small : Bytes program → (image : List ℕ) → verdictOf program schedule ≡ accepted image → length image ≤ 65535
+  image-small : Bytes program → (image : List ℕ) → verdictOf program schedule ≡ accepted image → length image ≤ 65791
   unfolding verdictOf
   image-small bytes image e =
       let h = then-accepted (pairOf program schedule) _ image e in
       let q = h .0 in
       let same = ap length (accepted-same _ image (h .2)) in
-      omega (
-        arith,
-        image-length (q .program) (q .schedule) (q .hypercycle),
-        pair-bounded program schedule q (h .1) bytes .size,
-      )
+      let bounded = pair-bounded program schedule q (h .1) bytes in
+      omega (arith, written-length (q .program) (q .schedule) (q .hypercycle), bounded .size, bounded .signals)
 
--- A compile refuses the texts, or answers 17 with L.
+-- A compile refuses the texts, or answers 17 with L + 4N.
 pub places-small : (program schedule buffer : List ℕ) → Bytes program → (f : Fault) →
-    compileOf program schedule buffer .answer ≡ refused f → f .place ≤ 65535
+    compileOf program schedule buffer .answer ≡ refused f → f .place ≤ 65791
 unfolding compileOf verdictOf
 places-small program schedule buffer bytes f e =
     call-refused Small buffer
@@ -208,18 +206,20 @@ at-zero : {A : Type 0} (t : Bool) (n : ℕ) (o : Outcome A) → Refuses Zero o �
 at-zero t n o h = refuses-then Zero (provided t n 0) _ (refuses-provided Zero t n 0 (λ u. refl)) (λ u v. h)
 
 -- A reset or a cycle refuses at 0.
-pub places-zero : (image : List ℕ) (state : List ℤ) (c : Call) (f : Fault) → callOf image state c .answer ≡ refused f →
+pub places-zero : (lent : List ℕ) (state : List ℤ) (c : Call) (f : Fault) → callOf lent state c .answer ≡ refused f →
     f .place ≡ 0
 unfolding callOf resetOf cycleOf
-places-zero image state Call.reset f e =
+places-zero lent state Call.reset f e =
+    let image = imagePart lent in
     call-refused Zero state
-    (provided (wellFormed image) 20 0 ▷ λ _.
+    (provided (lentOk lent) 20 0 ▷ λ _.
     provided (ltb (countOf image) (length state)) 21 0 ▷ λ _.
     accepted (record { yields = 0; leaves = resetWords image state })) f
     (at-zero _ 20 _ (at-zero _ 21 (accepted _) tt)) e
-places-zero image state (Call.cycle samples) f e =
+places-zero lent state (Call.cycle samples) f e =
+    let image = imagePart lent in
     call-refused Zero state
-    (provided (wellFormed image) 20 0 ▷ λ _.
+    (provided (lentOk lent) 20 0 ▷ λ _.
     provided (ltb (countOf image) (length state)) 21 0 ▷ λ _.
     provided (isPosition (hyperOf image) (getD state 0 (pos 0))) 22 0 ▷ λ _.
     provided (leb (countOf image) (length samples)) 23 0 ▷ λ _.

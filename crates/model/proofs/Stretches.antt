@@ -172,10 +172,10 @@ joined-at (y ∷ ys) (suc x) h =
     rw (joined-cons y ys, joined-cons y (take x ys), length-append)
     (drop-append-add y (joined ys) (length (joined (take x ys))) ∙ joined-at ys x (omega arith))
 
-part-at : (xs : List (List ℕ)) (x : ℕ) → x < length xs → Stands (joined xs) (length (joined (take x xs))) (getD xs x [])
+pub part-at : (xs : List (List ℕ)) (x : ℕ) → x < length xs → Stands (joined xs) (length (joined (take x xs))) (getD xs x [])
 part-at xs x h = record { rest = joined (drop (suc x) xs); is = joined-at xs x h }
 
-parts-next : (xs : List (List ℕ)) (x : ℕ) → x < length xs →
+pub parts-next : (xs : List (List ℕ)) (x : ℕ) → x < length xs →
     length (joined (take (suc x) xs)) ≡ length (joined (take x xs)) + length (getD xs x [])
 unfolding joinFrom
 parts-next [] x h = absurd (omega arith)

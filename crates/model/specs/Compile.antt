@@ -4,7 +4,7 @@ use mathlib.Core.Bool.{Bool, _&&_}
 use mathlib.Core.List.{List, _++_}
 use lib.Dec.{leb}
 use lib.ListN.{length, drop}
-use Rattle.model.specs.Image.{imageOf}
+use Rattle.model.specs.Image.{writtenOf}
 use Rattle.model.specs.Latency.{timely}
 use Rattle.model.specs.Load.{loaded}
 use Rattle.model.specs.Machine.{Effect, effect}
@@ -41,17 +41,17 @@ pairOf program schedule =
     timely p s h ▷ λ _.  -- 16
     accepted (record { program = p; schedule = s; hypercycle = h })
 
--- An accepted pair has one image.
+-- An accepted pair has one image, with its tail.
 unfoldable pub verdictOf : List ℕ → List ℕ → Outcome (List ℕ)
 verdictOf program schedule =
-    pairOf program schedule ▷ λ q. accepted (imageOf (q .program) (q .schedule) (q .hypercycle))
+    pairOf program schedule ▷ λ q. accepted (writtenOf (q .program) (q .schedule) (q .hypercycle))
 
--- What the answer of compile stands for: L, or the refusal's number and place.
+-- What the answer of compile stands for: L + 4N, or the refusal's number and place.
 abbrev pub compiledOf : Compiled → Outcome ℕ
 compiledOf (Compiled.Length n) = accepted n
 compiledOf (Compiled.Refused f) = refused f
 
--- 17 where the buffer is shorter than L; bytes past L stay.
+-- 17 where the buffer is shorter than L + 4N; bytes past that stay.
 unfoldable pub compileOf : List ℕ → List ℕ → List ℕ → Effect ℕ
 compileOf program schedule buffer =
     effect buffer

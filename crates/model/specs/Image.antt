@@ -1,4 +1,4 @@
--- The image of an accepted pair, to the byte.
+-- The image of an accepted pair and its tail, to the byte.
 use Prim.Native.Nat.{ℕ, zero, suc, _+_, _*_}
 use mathlib.Core.List.{List, [], _∷_, _++_}
 use lib.ListN.{length}
@@ -15,9 +15,10 @@ use Rattle.model.specs.Program.{
   negate,
   choose,
   count,
+  signalAt,
 }
 use Rattle.model.specs.Reads.{rateOf, due}
-use Rattle.model.specs.Schedule.{Schedule}
+use Rattle.model.specs.Schedule.{Schedule, phaseOf}
 use Rattle.model.specs.Search.{chosen, table, joinFrom}
 use Rattle.model.specs.Word.{twoBytes, wordBytes}
 use Rattle.model.specs.declared.Binary.{Binary}
@@ -88,6 +89,10 @@ codesAt p s h = listsAt (count p) h + length (joined (runLists p s h))
 unfoldable pub lengthOf : Program → Schedule → ℕ → ℕ
 lengthOf p s h = codesAt p s h + length (joined (codes p))
 
+-- L + 4N, the length of an image of n signals with its tail: four bytes a signal.
+abbrev pub withTail : ℕ → ℕ → ℕ
+withTail length n = length + 4 * n
+
 -- Byte 0 H, byte 1 N, bytes 2-3 length L.
 unfoldable pub head : Program → Schedule → ℕ → List ℕ
 head p s h = h ∷ count p ∷ twoBytes (lengthOf p s h)
@@ -98,3 +103,17 @@ imageOf p s h =
     (records (p .signals) (offsets (codesAt p s h) (codes p)) ++
     (joinFrom 0 (λ i o. twoBytes o) (offsets (listsAt (count p) h) (runLists p s h)) ++
     (joined (runLists p s h) ++ joined (codes p))))
+
+-- The tail, after the L bytes: per signal its label, period and phase (2, 1, 1 bytes).
+abbrev pub tailEntry : ℕ → ℕ → ℕ → List ℕ
+tailEntry label period phase = twoBytes label ++ (period ∷ phase ∷ [])
+
+unfoldable pub tailOf : Program → Schedule → List ℕ
+tailOf p s = joined (table (count p) (λ x. tailEntry (signalAt p x .label) (signalAt p x .period) (phaseOf s x)))
+
+-- What compile writes: the image and its tail, and how many bytes these are.
+unfoldable pub writtenOf : Program → Schedule → ℕ → List ℕ
+writtenOf p s h = imageOf p s h ++ tailOf p s
+
+abbrev pub writtenLength : Program → Schedule → ℕ → ℕ
+writtenLength p s h = withTail (lengthOf p s h) (count p)

@@ -17,6 +17,7 @@ pub mod Load
 pub mod Latency
 pub mod Image
 pub mod Machine
+pub mod Tail
 pub mod Height
 pub mod Reach
 pub mod Compile

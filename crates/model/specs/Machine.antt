@@ -1,11 +1,12 @@
--- Any image: whether it is well formed, and what reset and cycle make of it (20 to 23).
+-- Any image: whether it is well formed, and what reset and cycle make of it (20 to 23). What is called an image here is the first L
+-- bytes of what is lent, with its tail or without (`imagePart`).
 use Prim.Native.Nat.{ℕ, zero, suc, _+_, _-_, _*_}
-use mathlib.Core.Bool.{Bool, true, false, cond, _&&_}
+use mathlib.Core.Bool.{Bool, true, false, cond, _&&_, _||_}
 use mathlib.Core.List.{List, [], _∷_, _++_}
 use lib.Dec.{leb, ltb, eqb}
 use lib.IntN.{ℤ, pos, negsuc}
 use lib.ListN.{length, getD, take, drop, set}
-use Rattle.model.specs.Image.{recordAt, offsetsAt, listsAt}
+use Rattle.model.specs.Image.{recordAt, offsetsAt, listsAt, withTail}
 use Rattle.model.specs.Outcome.{Outcome, accepted, refused, _▷_, provided}
 use Rattle.model.specs.Search.{allBelow, table}
 use Rattle.model.specs.Width.{inCode}
@@ -49,12 +50,15 @@ codeAt code at =
 abbrev pub stretch : List ℕ → ℕ → ℕ → List ℕ
 stretch image from to = take (to - from) (drop from image)
 
--- H, N, and the offsets that an image gives.
+-- H, N, L, and the offsets that an image gives.
 abbrev pub hyperOf : List ℕ → ℕ
 hyperOf image = byteAt image 0
 
 abbrev pub countOf : List ℕ → ℕ
 countOf image = byteAt image 1
+
+abbrev pub statedLength : List ℕ → ℕ
+statedLength image = twoAt image 2
 
 unfoldable pub listOffset : List ℕ → ℕ → ℕ
 listOffset image c = twoAt image (offsetsAt (countOf image) + 2 * c)
@@ -93,10 +97,10 @@ codeOkFrom (suc left) code n own at height =
 unfoldable pub codeOk : List ℕ → ℕ → ℕ → Bool
 codeOk code n own = codeOkFrom (length code) code n own 0 0
 
--- The lent image is L bytes; H 1 to 240; N up to 64; the fixed areas are there.
+-- The image is L bytes; H 1 to 240; N up to 64; the fixed areas are there.
 unfoldable pub headOk : List ℕ → Bool
 headOk image =
-    leb 4 (length image) && eqb (twoAt image 2) (length image) && leb 1 (hyperOf image) && leb (hyperOf image) 240 &&
+    leb 4 (length image) && eqb (statedLength image) (length image) && leb 1 (hyperOf image) && leb (hyperOf image) 240 &&
     leb (countOf image) 64 && leb (listsAt (countOf image) (hyperOf image)) (length image)
 
 -- Every list starts where the one before ended: the first after the offsets, and the code after the last.
@@ -126,6 +130,18 @@ wellFormed image =
       | true ↦ elim (listsOk image) [ true ↦ entriesOk image && codesOk image | false ↦ false ]
       | false ↦ false
     ]
+
+-- The image in what is lent: its first L bytes.
+unfoldable pub imagePart : List ℕ → List ℕ
+imagePart lent = take (statedLength lent) lent
+
+-- What is lent is exactly L bytes, or exactly L + 4N with the tail, whose bytes may be any.
+abbrev pub lengthOk : List ℕ → Bool
+lengthOk lent = eqb (length lent) (statedLength lent) || eqb (length lent) (withTail (statedLength lent) (countOf lent))
+
+-- It is accepted if its image is well formed besides (20).
+unfoldable pub lentOk : List ℕ → Bool
+lentOk lent = lengthOk lent && wellFormed (imagePart lent)
 
 -- The working stack, its top first; one that is short is left empty.
 abbrev pub onOne : (ℤ → ℤ) → List ℤ → List ℤ
@@ -247,17 +263,19 @@ cycledOf (Cycled.Commands n) = accepted n
 cycledOf (Cycled.Refused f) = refused f
 
 unfoldable pub resetOf : List ℕ → List ℤ → Effect ℤ
-resetOf image state =
+resetOf lent state =
+    let image = imagePart lent in
     effect state
-    (provided (wellFormed image) 20 0 ▷ λ _.
+    (provided (lentOk lent) 20 0 ▷ λ _.
     provided (ltb (countOf image) (length state)) 21 0 ▷ λ _.
     accepted (record { yields = 0; leaves = resetWords image state }))
 
 -- A cycle yields the number of commands that it ran.
 unfoldable pub cycleOf : List ℕ → List ℤ → List ℤ → Effect ℤ
-cycleOf image state samples =
+cycleOf lent state samples =
+    let image = imagePart lent in
     effect state
-    (provided (wellFormed image) 20 0 ▷ λ _.
+    (provided (lentOk lent) 20 0 ▷ λ _.
     provided (ltb (countOf image) (length state)) 21 0 ▷ λ _.
     provided (isPosition (hyperOf image) (getD state 0 (pos 0))) 22 0 ▷ λ _.
     provided (leb (countOf image) (length samples)) 23 0 ▷ λ _.

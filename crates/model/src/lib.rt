@@ -144,7 +144,7 @@ pub struct Fault {
     pub place: usize,
 }
 
-// What `compile` answers: the image's length, or the refusal.
+// What `compile` answers: the length of the image with its tail, or the refusal.
 pub enum Compiled {
     Length(usize),
     Refused(Fault),
@@ -162,9 +162,10 @@ pub enum Cycled {
     Refused(Fault),
 }
 
-// What an accepted pair needs: the image's length, and the highest stack use of any signal.
+// What an accepted pair needs: the image's length, that with its tail, and the highest stack use of any signal.
 pub struct Sizes {
     pub length: usize,
+    pub written: usize,
     pub stack: usize,
 }
 

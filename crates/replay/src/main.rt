@@ -152,10 +152,12 @@ fn print_cycled(cycled: Cycled, state: &[i32]) {
     }
 }
 
-fn print_sizes(number: u8, value: usize, stack: usize, hash: u32) {
+fn print_sizes(number: u8, value: usize, written: usize, stack: usize, hash: u32) {
     io::print_decimal(STDOUT_FILENO, number as u64);
     io::write_all(STDOUT_FILENO, b" ");
     io::print_decimal(STDOUT_FILENO, value as u64);
+    io::write_all(STDOUT_FILENO, b" ");
+    io::print_decimal(STDOUT_FILENO, written as u64);
     io::write_all(STDOUT_FILENO, b" ");
     print_rest(stack, hash);
 }
@@ -170,8 +172,8 @@ fn print_rest(stack: usize, hash: u32) {
 fn print_reported(reported: Reported, counts: &[u32; 240]) {
     let hash = hash_counts(counts);
     match reported {
-        Reported::Sizes(sizes) => print_sizes(0, sizes.length, sizes.stack, hash),
-        Reported::Refused(fault) => print_sizes(fault.number, fault.place, 0, hash),
+        Reported::Sizes(sizes) => print_sizes(0, sizes.length, sizes.written, sizes.stack, hash),
+        Reported::Refused(fault) => print_sizes(fault.number, fault.place, 0, 0, hash),
     }
 }
 
@@ -454,6 +456,22 @@ fn trial_next(lent: Lent, p: usize, s: usize, t: usize) -> Lent
     lent
 }
 
+fn tail(image: &[u8]) {
+    let mut number: u8 = 0;
+    let bytes = larderlate::tail(image, &mut number);
+    print_line(number, bytes.len(), hash_bytes(bytes));
+}
+
+// 09: the tail of the image.
+fn call_tail(lent: Lent, image: &[u8]) -> Lent {
+    let bytes = lent.image;
+    if image.len() < bytes {
+        return stop();
+    }
+    tail(&image[..bytes]);
+    lent
+}
+
 // The next call of the stream, or its end.
 fn step(lent: Lent, image: &mut [u8], state: &mut [i32]) -> Lent {
     let mut byte = [0u8; 1];
@@ -470,6 +488,7 @@ fn step(lent: Lent, image: &mut [u8], state: &mut [i32]) -> Lent {
         6 => call_report(lent),
         7 => call_widths(lent),
         8 => call_trial(lent),
+        9 => call_tail(lent, image),
         _ => stop(),
     }
 }

@@ -1,14 +1,20 @@
 -- `compiler::compile` meets its contract. Assumes nothing.
+use mathlib.Core.List.{_++_}
 use mathlib.Core.Path.{_≡_, ap, _∙_}
 use native.Mathlib.Omega.{arith}
+use lib.ListN.{drop}
 use denote.Ref.{now}
 use borrow.Author.Needs.{needs}
 use Rattle.model.specs.Compile.{Pair, pairOf, compiledOf}
+use Rattle.model.specs.Image.{lengthOf, imageOf, tailOf}
 use Rattle.model.specs.Outcome.{accepted}
+use Rattle.emitter.specs.Tail.{tailBy}
+use Rattle.emitter.proofs.Imaged.{declared}
+use Rattle.emitter.proofs.Tailed.{tail-by}
 use Rattle.emitter.specs.Prepared.{LaidOut, Ready}
 use Rattle.checks.specs.Answers.{Checks}
 use Rattle.checks.proofs.Laws.{answers-fine, answers-refused}
-use Rattle.compiler.proofs.Answers.{compile-refused, compile-short, compile-done}
+use Rattle.compiler.proofs.Answers.{compile-refused, compile-short, tail-room, compile-done}
 use Rattle.compiler.proofs.compile.Statement.{statement}
 use Rattle.compiler.proofs.compile.Tie as tie
 
@@ -60,23 +66,56 @@ returns-2 : tie.Need-returns-2
 returns-2 c =
     let l = c .before in
     let k = pair (checked l) in
-    compile-short _ _ _ (k .0) _ _ (k .1) (k .2 .hyper) (laid-out l .ends) (c .if1 .taken)
+    compile-short _ _ _ (k .0) _ _ (k .1) (k .2 .hyper) (laid-out l .tail-ends) (c .if1 .taken)
 
 emit-requires : tie.Need-emit-requires
 emit-requires c κs =
     let e = c .before .before .before .before in
-    record { ready = ready (checked (e .before)); laid-out = laid-out (e .before); room = omega (arith, e .if1 .left) }
+    let l = laid-out (e .before) in
+    record {
+      ready = ready (checked (e .before));
+      laid-out = l;
+      room = omega (arith, e .if1 .left, l .ends, l .tail-ends);
+    }
+
+-- where the image is written
+abbrev emitted : tie.After-slice-known2 → tie.Else1
+emitted k = k .before .before .before .before .before .before .before
+
+-- its tail, by the tables
+tail-is : (k : tie.After-slice-known2) → let r = checked (emitted k .before) .before .before .check-pair .result in
+    let q = pair (checked (emitted k .before)) .0 in
+    tailBy (r .tables .labels) (r .tables .periods) (r .slots .phases) (r .tables .signals) ≡ tailOf (q .program) (q .schedule)
+tail-is k = tail-by (pair (checked (emitted k .before)) .2 .prepared)
+
+image-is : (k : tie.After-slice-known2) → let q = pair (checked (emitted k .before)) .0 in
+    let h = checked (emitted k .before) .before .before .check-pair .result .hypercycle in
+    k .before .before .emit .last .1 .1 .1 .1 .1 .1 .1 .0 ≡
+    imageOf (q .program) (q .schedule) h ++
+    drop (lengthOf (q .program) (q .schedule) h) (start (checked (emitted k .before) .before .before) .args .image .now)
+image-is k = k .before .before .emit .ensures _ _ (pair (checked (emitted k .before)) .2 .prepared)
+
+emit-tail-requires : tie.Need-emit-tail-requires
+emit-tail-requires c κs =
+    let k = c .before .before .before .before .before in
+    let e = emitted k in
+    let l = laid-out (e .before) in
+    let q = pair (checked (e .before)) in (
+      declared (q .2 .prepared) .few,
+      tail-room _ _ _ (q .0) _ _ (q .1) (q .2 .hyper) (l .tail-ends) (e .if1 .left) (image-is k) (l .ends) (tail-is k),
+    )
 
 same-length : tie.Need-same-length
 same-length c = search needs
 
 returns-3 : tie.Need-returns-3
 returns-3 c =
-    let d = c .before .before in
-    let e = d .before .before .before .before .before in
+    let k = c .before .before .before .before .before .before .before .before in
+    let e = emitted k in
     let l = e .before in
-    let k = pair (checked l) in
-    compile-done _ _ _ (k .0) _ _ (k .1) (k .2 .hyper) (laid-out l .ends) _ (omega (arith, e .if1 .left)) (d .emit .ensures _ _ (k .2 .prepared))
+    let q = pair (checked l) in
+    compile-done _ _ _ (q .0) _ _ (q .1) (q .2 .hyper) (laid-out l .tail-ends) (e .if1 .left) (image-is k) (laid-out l .ends)
+    (tail-is k) (c .before .before .emit-tail .ensures)
 
 pub compile-spec : {M : Type 1} → statement M
 compile-spec =
@@ -90,5 +129,6 @@ compile-spec =
     lay-out-requires
     returns-2
     emit-requires
+    emit-tail-requires
     same-length
     returns-3)

@@ -4,7 +4,7 @@ use mathlib.Core.Path.{sym, ap, _∙_}
 use native.Mathlib.Omega.{arith}
 use borrow.Author.Needs.{needs}
 use Rattle.model.specs.Image.{listsAt}
-use Rattle.emitter.proofs.Imaged.{declared, timed, phased, lists-by, code-by, code-size, length-by}
+use Rattle.emitter.proofs.Imaged.{count-is, declared, timed, phased, lists-by, code-by, code-size, length-by}
 use Rattle.emitter.proofs.Joined.{lists-most}
 use Rattle.emitter.proofs.lay_out.Statement.{statement}
 use Rattle.emitter.proofs.lay_out.Tie as tie
@@ -52,8 +52,14 @@ array-read-wider c = omega (arith, few (c .before .before) .0)
 wider-requires : tie.Need-wider-requires
 wider-requires c κs = search needs
 
-add-t15 : tie.Need-add-t15
-add-t15 c = omega (arith, start-most (c .before), c .wider .ensures .1)
+add-end : tie.Need-add-end
+add-end c = omega (arith, start-most (c .before), c .wider .ensures .1)
+
+mul-written : tie.Need-mul-written
+mul-written c = omega (arith, few (c .before .before .before) .0)
+
+add-written : tie.Need-add-written
+add-written c = omega (arith, start-most (c .before), c .wider .ensures .1, few (c .before .before .before) .0)
 
 returns : tie.Need-returns
 returns c =
@@ -64,6 +70,7 @@ returns c =
       lists-at = sym (lists-by r (s .args .h));
       code-at = ap (λ (n : ℕ). listsAt (s .args .tables .signals) (s .args .h) + n) e ∙ sym (code-by r (s .args .h));
       ends = omega (arith, length-by r (s .args .h), e, c .wider .ensures .0, code-size r);
+      tail-ends = omega (arith, length-by r (s .args .h), e, c .wider .ensures .0, code-size r, count-is r);
     }
 
 pub lay-out-spec : {M : Type 1} → statement M
@@ -80,5 +87,7 @@ lay-out-spec =
     mul-wider
     array-read-wider
     wider-requires
-    add-t15
+    add-end
+    mul-written
+    add-written
     returns)

@@ -10,12 +10,12 @@ returns : tie.Need-returns
 unfolding headOk
 returns c = rw (lt-leb 4 _ (c .if1 .taken))
 
-offset-at-requires : tie.Need-offset-at-requires
-offset-at-requires c κs = search needs
+stated-length-requires : tie.Need-stated-length-requires
+stated-length-requires c κs = search needs
 
 returns-2 : tie.Need-returns-2
 unfolding headOk
-returns-2 c = let o = c .before in rw (le-leb 4 _ (o .before .if1 .left), ne-eqb _ _ (λ e. c .if2 .taken (o .offset-at .ensures ∙ e)))
+returns-2 c = let o = c .before in rw (le-leb 4 _ (o .before .if1 .left), ne-eqb _ _ (λ e. c .if2 .taken (o .stated-length .ensures ∙ e)))
 
 shared-slice-read-wide : tie.Need-shared-slice-read-wide
 shared-slice-read-wide c = search needs
@@ -38,7 +38,7 @@ returns-3 c =
     let o = e2 .before in
     rw (
       le-leb 4 _ (o .before .if1 .left),
-      eq-eqb _ _ (sym (o .offset-at .ensures) ∙ e2 .if2 .left),
+      eq-eqb _ _ (sym (o .stated-length .ensures) ∙ e2 .if2 .left),
       ← (w1 .wide .ensures .0),
       lt-leb 1 _ (c .if3 .taken),
     )
@@ -52,7 +52,7 @@ returns-4 c =
     let o = e2 .before in
     rw (
       le-leb 4 _ (o .before .if1 .left),
-      eq-eqb _ _ (sym (o .offset-at .ensures) ∙ e2 .if2 .left),
+      eq-eqb _ _ (sym (o .stated-length .ensures) ∙ e2 .if2 .left),
       ← (w1 .wide .ensures .0),
       le-leb 1 _ (c .before .if3 .left),
       lt-leb _ 240 (c .if4 .taken),
@@ -67,7 +67,7 @@ returns-5 c =
     let o = e2 .before in
     rw (
       le-leb 4 _ (o .before .if1 .left),
-      eq-eqb _ _ (sym (o .offset-at .ensures) ∙ e2 .if2 .left),
+      eq-eqb _ _ (sym (o .stated-length .ensures) ∙ e2 .if2 .left),
       ← (w1 .wide .ensures .0),
       ← (w2 .wide2 .ensures .0),
       le-leb 1 _ (c .before .before .if3 .left),
@@ -99,7 +99,7 @@ returns-6 c =
     let o = e2 .before in
     rw (
       le-leb 4 _ (o .before .if1 .left),
-      eq-eqb _ _ (sym (o .offset-at .ensures) ∙ e2 .if2 .left),
+      eq-eqb _ _ (sym (o .stated-length .ensures) ∙ e2 .if2 .left),
       ← (w1 .wide .ensures .0),
       ← (w2 .wide2 .ensures .0),
       le-leb 1 _ (c .before .before .if3 .left),
@@ -112,7 +112,7 @@ head-ok-spec =
     tie.close
     (tie.spec
     returns
-    offset-at-requires
+    stated-length-requires
     returns-2
     shared-slice-read-wide
     wide-requires

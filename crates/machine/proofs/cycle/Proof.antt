@@ -9,6 +9,7 @@ use lib.Dec.{ltb}
 use lib.IntN.{ℤ, pos}
 use lib.ListN.{length, getD}
 use Rattle.model.specs.Machine.{hyperOf, countOf, wellFormed, isPosition, positionOf, cycleWords, cycleCount, cycleOf}
+use Rattle.image_check.specs.Lends.{Lends}
 use Rattle.image_check.proofs.Parts.{head, formed}
 use Rattle.machine.proofs.Laws.{Position, position, no-position}
 use Rattle.machine.proofs.Answers.{done, gives-refusal, gives-done, cycle-image, cycle-state, cycle-position, cycle-samples, cycle-done}
@@ -16,50 +17,66 @@ use borrow.Author.Needs.{needs}
 use Rattle.machine.proofs.cycle.Statement.{statement}
 use Rattle.machine.proofs.cycle.Tie as tie
 
--- what the tests on the way have shown
-well : (e : tie.Else1) → wellFormed (e .before .before .before .args .image .now) ≡ true
+-- the image in what is lent, and what the tests on the way have shown
+abbrev image : tie.After-image-in → List ℕ
+image i = i .image-in .result .now
+
+abbrev part : tie.Else1 → tie.After-image-in
+part e = e .before .before
+
+well : (e : tie.Else1) → wellFormed (image (part e)) ≡ true
 well e = sym (e .before .well-formed .ensures) ∙ not-false _ (e .if1 .left)
 
-abbrev checked : tie.Else2 → tie.Else1
-checked e = e .before .before .before .before .before
+abbrev checked : tie.After-wide2 → tie.Else1
+checked w = w .before .before .before .before
 
-abbrev start : tie.Else2 → tie.Start
-start e = checked e .before .before .before
+abbrev start : tie.After-wide2 → tie.Start
+start w = part (checked w) .before .before
 
-hyper : (e : tie.Else2) → e .before .before .before .wide .result ≡ hyperOf (start e .args .image .now)
-hyper e = e .before .before .before .wide .ensures .0
+abbrev here : tie.After-wide2 → List ℕ
+here w = image (part (checked w))
 
-room : (e : tie.Else2) → ltb (countOf (start e .args .image .now)) (length (start e .args .state .now)) ≡ true
-room e = lt-ltb (countOf (start e .args .image .now)) (length (start e .args .state .now)) (omega (arith, e .before .wide2 .ensures .0, e .if2 .left))
+lends : (w : tie.After-wide2) → Lends (start w .args .lent .now) (here w)
+lends w = part (checked w) .image-in .ensures
+
+hyper : (w : tie.After-wide2) → w .before .before .wide .result ≡ hyperOf (here w)
+hyper w = w .before .before .wide .ensures .0
+
+room : (e : tie.Else2) → ltb (countOf (here (e .before))) (length (start (e .before) .args .state .now)) ≡ true
+room e =
+    lt-ltb (countOf (here (e .before))) (length (start (e .before) .args .state .now))
+    (omega (arith, e .before .wide2 .ensures .0, e .if2 .left))
+
+-- the position
+abbrev at3 : tie.Else3 → tie.After-wide2
+at3 e = e .before .before .before
 
 abbrev word : tie.Else3 → ℤ
-word e = getD (start (e .before .before) .args .state .now) 0 (pos 0)
+word e = getD (start (at3 e) .args .state .now) 0 (pos 0)
 
-here : (e : tie.Else3) → Position (word e)
-here e = position _ (e .before .position .given) (e .if3 .left)
+stood : (e : tie.Else3) → Position (word e)
+stood e = position _ (e .before .position .given) (e .if3 .left)
 
-below : (e : tie.Else4) → positionOf (word (e .before)) < hyperOf (start (e .before .before .before) .args .image .now)
-below e = omega (arith, hyper (e .before .before .before), rw (here (e .before) .back) at (e .if4 .left))
+below : (e : tie.Else4) → positionOf (word (e .before)) < hyperOf (here (at3 (e .before)))
+below e = omega (arith, hyper (at3 (e .before)), rw (stood (e .before) .back) at (e .if4 .left))
 
-stands : (e : tie.Else4) → isPosition (hyperOf (start (e .before .before .before) .args .image .now)) (word (e .before)) ≡ true
-stands e = here (e .before) .test _ ∙ lt-ltb _ _ (below e)
+stands : (e : tie.Else4) → isPosition (hyperOf (here (at3 (e .before)))) (word (e .before)) ≡ true
+stands e = stood (e .before) .test _ ∙ lt-ltb _ _ (below e)
 
--- at the runs: the position, and the image's parts
-abbrev at2 : tie.Else5 → tie.Else2
-at2 c = c .before .before .before .before
-
-abbrev image : tie.Else5 → List ℕ
-image c = start (at2 c) .args .image .now
-
-count : (c : tie.Else5) → at2 c .before .wide2 .result ≡ countOf (image c)
-count c = at2 c .before .wide2 .ensures .0
+-- at the runs
+abbrev at5 : tie.Else5 → tie.After-wide2
+at5 e = at3 (e .before .before)
 
 -- the cycle has run
-ran : (e : tie.Else5) → let a = start (at2 e) .args in
-    cycleOf (a .image .now) (a .state .now) (a .samples .now) ≡ done (cycleCount (a .image .now) (a .state .now)) (cycleWords (a .image .now) (a .state .now) (a .samples .now))
+ran : (e : tie.Else5) → let a = start (at5 e) .args in
+    cycleOf (a .lent .now) (a .state .now) (a .samples .now) ≡
+    done (cycleCount (here (at5 e)) (a .state .now)) (cycleWords (here (at5 e)) (a .state .now) (a .samples .now))
 ran e =
-    cycle-done _ _ _ (well (checked (at2 e))) (room (at2 e)) (stands (e .before))
-    (le-leb (countOf (image e)) (length (start (at2 e) .args .samples .now)) (omega (arith, count e, e .if5 .left)))
+    cycle-done (lends (at5 e)) _ _ (well (checked (at5 e))) (room (e .before .before .before .before)) (stands (e .before))
+    (le-leb (countOf (here (at5 e))) (length (start (at5 e) .args .samples .now)) (omega (arith, at5 e .wide2 .ensures .0, e .if5 .left)))
+
+image-in-requires : tie.Need-image-in-requires
+image-in-requires c κs = search needs
 
 well-formed-requires : tie.Need-well-formed-requires
 well-formed-requires c κs = search needs
@@ -70,7 +87,7 @@ stopped-requires c κs = search needs
 returns : tie.Need-returns
 returns c =
     let w = c .before .before in
-    gives-refusal (cycle-image _ _ _ (sym (w .well-formed .ensures) ∙ not-true _ (c .before .if1 .taken))) (c .stopped .ensures)
+    gives-refusal (cycle-image (w .before .image-in .ensures) _ _ (sym (w .well-formed .ensures) ∙ not-true _ (c .before .if1 .taken))) (c .stopped .ensures)
 
 shared-slice-read-wide : tie.Need-shared-slice-read-wide
 shared-slice-read-wide c = omega (arith, head _ (formed _ (well (c .before)) .good) .four)
@@ -91,10 +108,9 @@ returns-2 : tie.Need-returns-2
 returns-2 c =
     let t = c .before in
     let w = t .before in
-    let e = w .before .before .before .before in
-    let s = e .before .before .before in
     gives-refusal
-    (cycle-state _ _ _ (well e) (le-ltb (countOf (s .args .image .now)) (length (s .args .state .now)) (omega (arith, w .wide2 .ensures .0, t .if2 .taken))))
+    (cycle-state (lends w) _ _ (well (checked w))
+    (le-ltb (countOf (here w)) (length (start w .args .state .now)) (omega (arith, w .wide2 .ensures .0, t .if2 .taken))))
     (c .stopped2 .ensures)
 
 slice-copy-out-position : tie.Need-slice-copy-out-position
@@ -107,14 +123,14 @@ returns-3 : tie.Need-returns-3
 returns-3 c =
     let t = c .before in
     let e = t .before .before in
-    let s = start e in
+    let w = e .before in
     gives-refusal
-    (cycle-position _ _ _ (well (checked e)) (room e)
-    (no-position (getD (s .args .state .now) 0 (pos 0)) (hyperOf (s .args .image .now)) (t .before .position .given) (t .if3 .taken)))
+    (cycle-position (lends w) _ _ (well (checked w)) (room e)
+    (no-position (getD (start w .args .state .now) 0 (pos 0)) (hyperOf (here w)) (t .before .position .given) (t .if3 .taken)))
     (c .stopped3 .ensures)
 
 cast-c : tie.Need-cast-c
-cast-c c = rw (here c .back) (tt, record { fits = omega (arith, here c .small) })
+cast-c c = rw (stood c .back) (tt, record { fits = omega (arith, stood c .small) })
 
 stopped-requires-4 : tie.Need-stopped-requires-4
 stopped-requires-4 c κs = search needs
@@ -123,10 +139,10 @@ returns-4 : tie.Need-returns-4
 returns-4 c =
     let t = c .before in
     let q = t .before in
-    let e = q .before .before in
+    let w = at3 q in
     gives-refusal
-    (cycle-position _ _ _ (well (checked e)) (room e)
-    (here q .test _ ∙ le-ltb (positionOf (word q)) (hyperOf (start e .args .image .now)) (omega (arith, hyper e, rw (here q .back) at (t .if4 .taken)))))
+    (cycle-position (lends w) _ _ (well (checked w)) (room (q .before .before))
+    (stood q .test _ ∙ le-ltb (positionOf (word q)) (hyperOf (here w)) (omega (arith, hyper w, rw (stood q .back) at (t .if4 .taken)))))
     (c .stopped4 .ensures)
 
 stopped-requires-5 : tie.Need-stopped-requires-5
@@ -136,20 +152,21 @@ returns-5 : tie.Need-returns-5
 returns-5 c =
     let t = c .before in
     let q = t .before in
-    let e = q .before .before .before in
+    let w = at3 (q .before) in
     gives-refusal
-    (cycle-samples _ _ _ (well (checked e)) (room e) (stands q)
-    (lt-leb (countOf (start e .args .image .now)) (length (start e .args .samples .now)) (omega (arith, e .before .wide2 .ensures .0, t .if5 .taken))))
+    (cycle-samples (lends w) _ _ (well (checked w)) (room (q .before .before .before)) (stands q)
+    (lt-leb (countOf (here w)) (length (start w .args .samples .now)) (omega (arith, w .wide2 .ensures .0, t .if5 .taken))))
     (c .stopped5 .ensures)
 
 run-cycle-requires : tie.Need-run-cycle-requires
 run-cycle-requires c κs =
     let e = c .before in
+    let w = at5 e in
     record {
-      formed = well (checked (at2 e));
-      long = omega (arith, count e, at2 e .if2 .left);
+      formed = well (checked w);
+      long = omega (arith, w .wide2 .ensures .0, e .before .before .before .before .if2 .left);
       position = stands (e .before);
-      enough = omega (arith, count e, e .if5 .left);
+      enough = omega (arith, w .wide2 .ensures .0, e .if5 .left);
     }
 
 same-length : tie.Need-same-length
@@ -164,6 +181,7 @@ pub cycle-spec : {M : Type 1} → statement M
 cycle-spec =
     tie.close
     (tie.spec
+    image-in-requires
     well-formed-requires
     stopped-requires
     returns

@@ -3,6 +3,9 @@ use mathlib.Core.Path.{_≡_, refl, sym, _∙_}
 use mathlib.Core.Bool.{true}
 use native.Mathlib.Omega.{arith}
 use borrow.Author.Tests.{not-true, not-false, lt-ltb, le-ltb}
+use Prim.Native.Nat.{ℕ}
+use mathlib.Core.List.{List}
+use lib.IntN.{ℤ}
 use lib.ListN.{length}
 use Rattle.model.specs.Machine.{countOf, wellFormed}
 use Rattle.image_check.proofs.Parts.{head, formed}
@@ -11,11 +14,24 @@ use borrow.Author.Needs.{needs}
 use Rattle.machine.proofs.reset.Statement.{statement}
 use Rattle.machine.proofs.reset.Tie as tie
 
-well : (e : tie.Else1) → wellFormed (e .before .before .before .args .image .now) ≡ true
+-- the image in what is lent, and what the tests on the way have shown
+abbrev image : tie.After-image-in → List ℕ
+image i = i .image-in .result .now
+
+abbrev part : tie.Else1 → tie.After-image-in
+part e = e .before .before
+
+well : (e : tie.Else1) → wellFormed (image (part e)) ≡ true
 well e = sym (e .before .well-formed .ensures) ∙ not-false _ (e .if1 .left)
 
-abbrev start : tie.After-wide → tie.Start
-start w = w .before .before .before .before .before
+abbrev checked : tie.After-wide → tie.Else1
+checked w = w .before .before
+
+abbrev state : tie.After-wide → List ℤ
+state w = part (checked w) .before .before .args .state .now
+
+image-in-requires : tie.Need-image-in-requires
+image-in-requires c κs = search needs
 
 well-formed-requires : tie.Need-well-formed-requires
 well-formed-requires c κs = search needs
@@ -26,7 +42,7 @@ refused-requires c κs = search needs
 returns : tie.Need-returns
 returns c =
     let w = c .before .before in
-    gives-refusal (reset-image _ _ (sym (w .well-formed .ensures) ∙ not-true _ (c .before .if1 .taken))) (c .refused .ensures)
+    gives-refusal (reset-image (w .before .image-in .ensures) _ (sym (w .well-formed .ensures) ∙ not-true _ (c .before .if1 .taken))) (c .refused .ensures)
 
 shared-slice-read-wide : tie.Need-shared-slice-read-wide
 shared-slice-read-wide c = omega (arith, head _ (formed _ (well (c .before)) .good) .four)
@@ -41,13 +57,13 @@ returns-2 : tie.Need-returns-2
 returns-2 c =
     let t = c .before in
     let w = t .before in
-    let s = start w in
     gives-refusal
-    (reset-state _ _ (well (w .before .before)) (le-ltb (countOf (s .args .image .now)) (length (s .args .state .now)) (omega (arith, w .wide .ensures .0, t .if2 .taken))))
+    (reset-state (part (checked w) .image-in .ensures) _ (well (checked w))
+    (le-ltb (countOf (image (part (checked w)))) (length (state w)) (omega (arith, w .wide .ensures .0, t .if2 .taken))))
     (c .refused2 .ensures)
 
 initial-words-requires : tie.Need-initial-words-requires
-initial-words-requires c κs = let e = c .before in let w = e .before in (well (w .before .before), w .wide .ensures .0, e .if2 .left)
+initial-words-requires c κs = let e = c .before in let w = e .before in (well (checked w), w .wide .ensures .0, e .if2 .left)
 
 same-length : tie.Need-same-length
 same-length c = search needs
@@ -56,15 +72,16 @@ returns-3 : tie.Need-returns-3
 returns-3 c =
     let e = c .before .before .before in
     let w = e .before in
-    let s = start w in
     gives-done
-    (reset-done _ _ (well (w .before .before)) (lt-ltb (countOf (s .args .image .now)) (length (s .args .state .now)) (omega (arith, w .wide .ensures .0, e .if2 .left))))
+    (reset-done (part (checked w) .image-in .ensures) _ (well (checked w))
+    (lt-ltb (countOf (image (part (checked w)))) (length (state w)) (omega (arith, w .wide .ensures .0, e .if2 .left))))
     refl (c .before .initial-words .ensures)
 
 pub reset-spec : {M : Type 1} → statement M
 reset-spec =
     tie.close
     (tie.spec
+    image-in-requires
     well-formed-requires
     refused-requires
     returns

@@ -1,0 +1,2 @@
+-- The definitions that the contracts of `image_check` cite.
+pub mod Lends
