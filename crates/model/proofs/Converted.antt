@@ -38,12 +38,16 @@ use Rattle.model.specs.Image.{
   signalCode,
   codes,
   runList,
+  joined,
   runLists,
   records,
   codesAt,
   lengthOf,
   head,
   imageOf,
+  tailEntry,
+  tailOf,
+  writtenOf,
 }
 use Rattle.model.specs.Latency.{
   readOf,
@@ -297,6 +301,9 @@ count-bare p = length-map (p .signals) (mapSignal bareRead (λ at. 0))
 
 period-bare : (p : Program) (x : ℕ) → signalAt (bare p) x .period ≡ signalAt p x .period
 period-bare p x = ap (λ z. z .period) (signal-bare p x)
+
+label-bare : (p : Program) (x : ℕ) → signalAt (bare p) x .label ≡ signalAt p x .label
+label-bare p x = ap (λ z. z .label) (signal-bare p x)
 
 reads-bare : (p : Program) (x : ℕ) → bodyReads (signalAt (bare p) x .body) ≡ map bareRead (bodyReads (signalAt p x .body))
 reads-bare p x = ap (λ z. bodyReads (z .body)) (signal-bare p x) ∙ map-body-reads bareRead (signalAt p x .body)
@@ -618,6 +625,17 @@ module _ (p : Program) (s : Schedule) where
   unfolding imageOf head lengthOf codesAt
   image-bare h = rw (lists-bare h, codes-bare, count-bare p, records-bare (p .signals))
 
+  tail-bare : tailOf (bare p) s ≡ tailOf p s
+  unfolding tailOf
+  tail-bare =
+      ap (λ (n : ℕ). joined (table n (λ x. tailEntry (signalAt (bare p) x .label) (signalAt (bare p) x .period) (phaseOf s x))))
+      (count-bare p) ∙
+      ap (λ f. joined (table (count p) f)) (fun-ext (λ x. rw (label-bare p x, period-bare p x)))
+
+  written-bare : (h : ℕ) → writtenOf (bare p) s h ≡ writtenOf p s h
+  unfolding writtenOf
+  written-bare h = ap₂ (λ a b. a ++ b) (image-bare h) tail-bare
+
   -- All conditions.
   keeps-bare : (puts : List Put) (h : ℕ) → Keeps p puts s h ↔ Keeps (bare p) puts s h
   keeps-bare puts h = (
@@ -720,7 +738,7 @@ converted-renamed p =
 pub record Common (p q : Program) (s : Schedule) : Type 0 where
   pub keeps : (puts : List Put) (h : ℕ) → Keeps p puts s h ↔ Keeps q puts s h
   pub streams : (inputs X : ℕ → ℕ → ℤ) → Satisfies p (settled p s) inputs X ↔ Satisfies q (settled q s) inputs X
-  pub image : (h : ℕ) → imageOf p s h ≡ imageOf q s h
+  pub image : (h : ℕ) → writtenOf p s h ≡ writtenOf q s h
 
 through : {P Q : Type 0} (R : Program → Type 0) {a b : Program} → a ≡ b → P ↔ R a → Q ↔ R b → P ↔ Q
 through R e f g = (λ x. g .1 (subst R e (f .0 x)), λ y. f .1 (subst R (sym e) (g .0 y)))
@@ -732,7 +750,7 @@ renamed-common {p} {q} c s =
           through (λ r. Keeps r puts s h) (c .same) (keeps-bare p s puts h) (keeps-bare q s puts h);
       streams = λ inputs X.
           through (λ r. Satisfies r (settled r s) inputs X) (c .same) (satisfies-bare p s inputs X) (satisfies-bare q s inputs X);
-      image = λ h. sym (image-bare p s h) ∙ ap (λ r. imageOf r s h) (c .same) ∙ image-bare q s h;
+      image = λ h. sym (written-bare p s h) ∙ ap (λ r. writtenOf r s h) (c .same) ∙ written-bare q s h;
     }
 
 -- Two texts that declare renamed programs: with every schedule with which the one is accepted the other is, with the same

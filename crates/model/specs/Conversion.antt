@@ -7,7 +7,7 @@ use lib.IntN.{ℤ}
 use lib.ListN.{length, drop}
 use Rattle.model.specs.Compile.{Pair, pairOf}
 use Rattle.model.specs.Grammar.{LegalWith}
-use Rattle.model.specs.Image.{imageOf}
+use Rattle.model.specs.Image.{writtenOf}
 use Rattle.model.specs.Machine.{Effect}
 use Rattle.model.specs.Outcome.{accepted, refused, fault}
 use Rattle.model.specs.Program.{Program, empty}
@@ -44,7 +44,7 @@ module _ (program buffer : List ℕ) where
     pub kept : (n x : ℕ) → call .answer ≡ refused (fault n x) → call .left ≡ buffer
 
 -- What the conversion of a program keeps of a pair u that it is accepted in by the earlier rule: with the same schedule text the new
--- text is accepted, with the same schedule and hypercycle; it has the same streams, and the same image.
+-- text is accepted, with the same schedule and hypercycle; it has the same streams, and the same image with its tail.
 pub record ConversionKeeps (old schedule : List ℕ) (u : Pair) : Type 0 where
   pub program : Program
   pub accepts : pairOf (rewrite old) schedule ≡
@@ -52,4 +52,4 @@ pub record ConversionKeeps (old schedule : List ℕ) (u : Pair) : Type 0 where
   pub streams : (inputs X : ℕ → ℕ → ℤ) →
       Satisfies (u .program) (settled (u .program) (u .schedule)) inputs X ↔
       Satisfies program (settled program (u .schedule)) inputs X
-  pub image : imageOf program (u .schedule) (u .hypercycle) ≡ imageOf (u .program) (u .schedule) (u .hypercycle)
+  pub image : writtenOf program (u .schedule) (u .hypercycle) ≡ writtenOf (u .program) (u .schedule) (u .hypercycle)
