@@ -35,14 +35,14 @@ fn compile_row(name: &str, pair: &Pair) -> Row {
 }
 
 fn report_row(name: &str, pair: &Pair) -> Row {
-    let length = image_of(pair).len();
     let [(program, schedule), (other_program, other_schedule)] = [0; 2].map(|_| (pair.program.clone(), pair.schedule.clone()));
-    let (mut counts, mut other, mut stack) = ([0; 240], [0; 240], 0);
+    let (mut counts, mut other, mut told) = ([0; 240], [0; 240], [0; 2]);
     let sizes = reference::report(&program, &schedule, &mut other).expect("a legal pair");
-    assert_eq!(library::report(&program, &schedule, &mut counts, &mut stack), length as u64);
-    assert_eq!((counts, stack), (other, sizes.stack));
+    let length = sizes.length;
+    assert_eq!(library::report(&program, &schedule, &mut counts, &mut told), length as u64);
+    assert_eq!((counts, told), (other, [sizes.written, sizes.stack]));
     let library = move || {
-        let answer = library::report(black_box(&program), black_box(&schedule), &mut counts, &mut stack);
+        let answer = library::report(black_box(&program), black_box(&schedule), &mut counts, &mut told);
         assert_eq!(answer, length as u64);
     };
     let reference = move || {

@@ -2,7 +2,7 @@
 //!
 //!     differential [COUNT [SEED]]
 //!
-//! Each of COUNT rounds lends one pair to compile and to report, and then images, states and samples to reset and cycle. After each
+//! Each of COUNT rounds lends one pair to compile and to report, and then images, states and samples to reset, cycle and tail. After each
 //! call the answers and all that was lent must be equal. It stops at the first difference with the bytes lent. Round r depends on the seed
 //! and on r alone.
 mod generate;
@@ -19,8 +19,8 @@ use std::process::exit;
 
 const COUNT: u64 = 200_000;
 const SEED: u64 = 20_260_101;
-/// Every image fits.
-const IMAGE_BYTES: usize = 24_422;
+/// Every image fits, with its tail.
+const IMAGE_BYTES: usize = 24_678;
 /// The refusals of the paper.
 const NUMBERS: [usize; 21] = [1, 2, 3, 4, 5, 6, 7, 8, 9, 10, 11, 12, 13, 14, 15, 16, 17, 20, 21, 22, 23];
 
@@ -31,11 +31,12 @@ struct Seen {
     report: [u64; 24],
     reset: [u64; 24],
     cycle: [u64; 24],
+    tail: [u64; 24],
 }
 
 impl Seen {
-    fn calls(&self) -> [&[u64; 24]; 4] {
-        [&self.compile, &self.report, &self.reset, &self.cycle]
+    fn calls(&self) -> [&[u64; 24]; 5] {
+        [&self.compile, &self.report, &self.reset, &self.cycle, &self.tail]
     }
 }
 
@@ -145,16 +146,16 @@ impl Round<'_> {
 
     /// Reports on the pair by both into equal counts.
     fn report(&mut self, pair: &Pair) {
-        let (fill, old) = (self.random.next() as u32, self.random.next() as usize);
-        let (mut ours, mut other, mut stack) = ([fill; 240], [fill; 240], old);
-        let library = library::report(&pair.program, &pair.schedule, &mut ours, &mut stack);
+        let (fill, old) = (self.random.next() as u32, [0; 2].map(|_| self.random.next() as usize));
+        let (mut ours, mut other, mut told) = ([fill; 240], [fill; 240], old);
+        let library = library::report(&pair.program, &pair.schedule, &mut ours, &mut told);
         let sizes = reference::report(&pair.program, &pair.schedule, &mut other);
         let reference = reference::answer(sizes.map(|sizes| sizes.length));
-        let kept = ours == other && stack == sizes.map_or(old, |sizes| sizes.stack);
+        let kept = ours == other && told == sizes.map_or(old, |sizes| [sizes.written, sizes.stack]);
         if library != reference || !kept {
             let program = format!("program: {}", hexadecimal(&pair.program));
             let schedule = format!("schedule: {}", hexadecimal(&pair.schedule));
-            differ(self.number, "report", &[program, schedule, format!("counts of {fill}, stack {old}")], library, reference, kept);
+            differ(self.number, "report", &[program, schedule, format!("counts of {fill}, sizes {old:?}")], library, reference, kept);
         }
         count(&mut self.seen.report, library);
     }
@@ -198,6 +199,19 @@ impl Round<'_> {
         count(&mut self.seen.reset, library);
     }
 
+    fn tail(&mut self, image: &[u8]) {
+        let old = self.random.next() as usize;
+        let mut start = old;
+        let library = library::tail(image, &mut start);
+        let tail = reference::tail(image);
+        let reference = reference::answer(tail.map(<[u8]>::len));
+        let kept = start == tail.map_or(old, |tail| image.len() - tail.len());
+        if library != reference || !kept {
+            differ(self.number, "tail", &[format!("image: {}", hexadecimal(image))], library, reference, kept);
+        }
+        count(&mut self.seen.tail, library);
+    }
+
     fn cycle(&mut self, image: &[u8], state: &mut Vec<i32>) {
         let samples = self.samples(image);
         let before = state.clone();
@@ -214,6 +228,7 @@ impl Round<'_> {
 
     /// Cycles from any state, then a reset and a list of cycles: now and then through more than two hypercycles.
     fn calls(&mut self, image: &[u8]) {
+        self.tail(image);
         let mut state = self.state(image);
         self.cycle(image, &mut state);
         self.reset(image, &mut state);
@@ -224,12 +239,27 @@ impl Round<'_> {
         }
     }
 
+    /// Puts another tail after the image, or none, or one a byte too long or short; or leaves it.
+    fn retail(&mut self, image: &mut Vec<u8>) {
+        let tail = 4 * usize::from(image[1]);
+        let bytes = match self.random.below(8) {
+            0..=2 => return,
+            3 | 4 => 0,
+            5 => tail + 1,
+            6 => tail.saturating_sub(1),
+            _ => tail,
+        };
+        image.truncate(usize::from(u16::from_le_bytes([image[2], image[3]])));
+        image.extend((0..bytes).map(|_| self.random.byte()));
+    }
+
     /// One pair, then its image or one from elsewhere, whole and damaged.
     fn run(&mut self) {
         let pair = self.pair();
         let own = self.compile(&pair);
         self.report(&pair);
         let mut image = own.unwrap_or_else(|| images::foreign_image(&mut self.random));
+        self.retail(&mut image);
         self.calls(&image);
         for _ in 0..1 + self.random.below(2) {
             self.random.damage(&mut image);
@@ -242,7 +272,7 @@ impl Round<'_> {
 }
 
 fn print_seen(seen: &Seen) -> bool {
-    println!("number    compile     report      reset      cycle");
+    println!("number    compile     report      reset      cycle       tail");
     let mut all = true;
     for number in [0].into_iter().chain(NUMBERS) {
         let row = seen.calls().map(|counts| counts[number]);

@@ -32,12 +32,17 @@ int main(void)
     static int32_t state[LARDERLATE_STATE_WORDS];
     static uint32_t counts[LARDERLATE_COUNTS];
     static uint32_t commands[8];
-    size_t stack = 0;
+    size_t start = 0, written = 0, stack = 0;
     uint64_t answer = larderlate_compile(program, sizeof program, schedule, sizeof schedule, image, sizeof image);
     if (refused("compile", answer))
         return 1;
     size_t length = larderlate_value(answer);
-    printf("image of %zu bytes, hypercycle %u\n", length, image[0]);
+    printf("image and tail of %zu bytes, hypercycle %u\n", length, image[0]);
+    answer = larderlate_tail(image, length, &start);
+    if (refused("tail", answer))
+        return 1;
+    for (size_t at = start; at < start + larderlate_value(answer); at += 4)
+        printf("label %u, period %u, phase %u\n", image[at] + 256u * image[at + 1], image[at + 2], image[at + 3]);
     if (refused("reset", larderlate_reset(image, length, state, LARDERLATE_STATE_WORDS)))
         return 1;
     print_state(state);
@@ -49,11 +54,11 @@ int main(void)
         commands[input - 10] = larderlate_value(answer);
         print_state(state);
     }
-    answer = larderlate_report(program, sizeof program, schedule, sizeof schedule, counts, &stack);
+    answer = larderlate_report(program, sizeof program, schedule, sizeof schedule, counts, &written, &stack);
     if (refused("report", answer))
         return 1;
-    printf("report: %" PRIu32 " bytes, stack %zu, commands %" PRIu32 " %" PRIu32 " %" PRIu32 " and so on\n", larderlate_value(answer),
-           stack, counts[0], counts[1], counts[2]);
+    printf("report: %" PRIu32 " bytes, %zu with the tail, stack %zu, commands %" PRIu32 " %" PRIu32 " %" PRIu32 " and so on\n",
+           larderlate_value(answer), written, stack, counts[0], counts[1], counts[2]);
     for (int i = 0; i < 8; i++)
         if (commands[i] != counts[i % 2])
             return 1;

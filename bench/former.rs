@@ -84,7 +84,9 @@ fn cycle_row(name: &str, image: &[u8]) -> Row {
 fn main() {
     let (small, large) = (program_a(), program_of(64, &[1, 2, 8, 24, 240], 240));
     let mut rows = vec![compile_row("program A", &small), compile_row("64 signals", &large)];
-    let images = images_of(&small, &large);
+    // Both libraries take an image without its tail.
+    let cut = |(name, image): (_, Vec<u8>)| (name, image[..usize::from(u16::from_le_bytes([image[2], image[3]]))].to_vec());
+    let images = images_of(&small, &large).map(cut);
     rows.extend(images.iter().map(|(name, image)| reset_row(name, image)));
     rows.extend(images.iter().map(|(name, image)| cycle_row(name, image)));
     measure(&mut rows);

@@ -14,8 +14,10 @@ extern "C" {
         schedule: *const u8,
         schedule_length: usize,
         counts: *mut u32,
+        written: *mut usize,
         stack: *mut usize,
     ) -> u64;
+    fn larderlate_tail(image: *const u8, image_length: usize, start: *mut usize) -> u64;
     fn larderlate_reset(image: *const u8, image_length: usize, state: *mut i32, state_words: usize) -> u64;
     fn larderlate_cycle(
         image: *const u8,
@@ -34,9 +36,14 @@ pub fn compile(program: &[u8], schedule: &[u8], image: &mut [u8]) -> u64 {
     unsafe { larderlate_compile(program.as_ptr(), program.len(), schedule.as_ptr(), schedule.len(), image, length) }
 }
 
-pub fn report(program: &[u8], schedule: &[u8], counts: &mut [u32; 240], stack: &mut usize) -> u64 {
-    let counts = counts.as_mut_ptr();
-    unsafe { larderlate_report(program.as_ptr(), program.len(), schedule.as_ptr(), schedule.len(), counts, stack) }
+/// Of the sizes, the first is the length with the tail and the second the stack use.
+pub fn report(program: &[u8], schedule: &[u8], counts: &mut [u32; 240], sizes: &mut [usize; 2]) -> u64 {
+    let (counts, [written, stack]) = (counts.as_mut_ptr(), sizes);
+    unsafe { larderlate_report(program.as_ptr(), program.len(), schedule.as_ptr(), schedule.len(), counts, written, stack) }
+}
+
+pub fn tail(image: &[u8], start: &mut usize) -> u64 {
+    unsafe { larderlate_tail(image.as_ptr(), image.len(), start) }
 }
 
 pub fn reset(image: &[u8], state: &mut [i32]) -> u64 {

@@ -1,4 +1,4 @@
-//! Paper 01 in plain Rust: compile, report, reset, cycle and trial.
+//! Paper 01 in plain Rust: compile, report, reset, cycle, tail and trial.
 //!
 //! Written from the paper alone and sharing nothing with the crates, so that a misreading on one side shows as a difference.
 //! It is also the baseline of the benchmark: what one would write without a prover, with the same checks.
@@ -14,7 +14,7 @@ mod trial;
 // No program here uses all calls.
 #[allow(unused_imports)]
 pub use {
-    machine::{cycle, reset},
+    machine::{cycle, reset, tail},
     report::report,
     trial::trial,
 };
@@ -43,15 +43,17 @@ fn check(program: &[u8], schedule: &[u8]) -> Result<(Program, Schedule, u32), Re
     Ok((program, schedule, hypercycle))
 }
 
-/// Writes the image of an accepted pair to the start of `image` and yields its length L.
+/// Writes the image of an accepted pair and its tail to the start of `image` and yields how many bytes these are.
 pub fn compile(program: &[u8], schedule: &[u8], image: &mut [u8]) -> Result<usize, Refusal> {
     let (program, schedule, hypercycle) = check(program, schedule)?;
     let length = image::length(&program, hypercycle);
-    if image.len() < length {
-        return Err((17, length));
+    let written = length + 4 * program.signals.len();
+    if image.len() < written {
+        return Err((17, written));
     }
     image::write(&program, &schedule, hypercycle, &mut image[..length]);
-    Ok(length)
+    image::write_tail(&program, &schedule, &mut image[length..written]);
+    Ok(written)
 }
 
 /// The answer as the library's C calls give it: number × 2^32 + value.

@@ -48,9 +48,14 @@ fn report(cases: &mut Cases) -> String {
     let (program, schedule) = (cases.take(program), cases.take(schedule));
     let sizes = reference::report(program, schedule, &mut counts);
     let answer = reference::answer(sizes.map(|sizes| sizes.length));
-    let stack = sizes.map_or(0, |sizes| sizes.stack);
+    let (written, stack) = sizes.map_or((0, 0), |sizes| (sizes.written, sizes.stack));
     let hash = hash(counts.iter().flat_map(|count| count.to_le_bytes()));
-    format!("{} {} {stack} {hash}", answer >> 32, answer as u32)
+    format!("{} {} {written} {stack} {hash}", answer >> 32, answer as u32)
+}
+
+fn tail(image: &[u8]) -> String {
+    let tail = reference::tail(image);
+    line(reference::answer(tail.map(<[u8]>::len)), hash(tail.unwrap_or(&[]).iter().copied()))
 }
 
 fn listed(cases: &mut Cases) -> String {
@@ -101,6 +106,10 @@ fn replay(cases: &[u8]) -> Vec<String> {
             }
             8 => {
                 lines.push(trial(&mut cases));
+                continue;
+            }
+            9 => {
+                lines.push(tail(image));
                 continue;
             }
             command => panic!("no such case: {command}"),

@@ -63,7 +63,7 @@ pub fn program_of(signals: usize, periods: &[usize], hypercycle: usize) -> Pair 
 }
 
 pub fn image_of(pair: &Pair) -> Vec<u8> {
-    let mut image = vec![0; 24_422];
+    let mut image = vec![0; 24_678];
     let length = reference::compile(&pair.program, &pair.schedule, &mut image).expect("a legal pair");
     image.truncate(length);
     image

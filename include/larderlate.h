@@ -4,19 +4,25 @@
  *     larderlate_report    checks both and tells what they need, with no image
  *     larderlate_reset     puts a state to its start
  *     larderlate_cycle     runs one cycle on a state
+ *     larderlate_tail      finds the labels, periods and phases that stand after an image
  *
  * Every call takes any bytes and words, ends, and does its job or refuses. A refused call changes nothing that was lent to it.
  * The calls keep nothing between them and need no memory but their stack, so any number may run at once on different state.
  *
- * THE ANSWER is one number of 64 bits: number x 2^32 + value. Number 0 says done; the value is then the image's length L for a
- * compile or a report, 0 for a reset, and the number of commands run for a cycle. Any other number is that of the refusal, and the
- * value is its place.
+ * AN IMAGE has L bytes, and bytes 2-3 hold L, low byte first. After them stands its tail, four bytes for each of its N signals: label
+ * (2 bytes, low byte first), period, phase. Compile always writes both. Reset, cycle and tail take an image at exactly L bytes,
+ * without its tail, or at exactly L + 4N, with a tail of any bytes, and run both alike.
+ *
+ * THE ANSWER is one number of 64 bits: number x 2^32 + value. Number 0 says done; the value is then L + 4N for a compile, L for a
+ * report, 0 for a reset, the number of commands run for a cycle, and the tail's length for a tail. Any other number is that of the
+ * refusal, and the value is its place.
  *
  * WHAT IS LENT is a pointer and a length: bytes for uint8_t, words (not bytes) for int32_t. The caller keeps these rules, which no
  * call can test:
  *   - the pointer is to that many bytes or words, all of them set, and is not null, also where the length is 0;
  *   - int32_t and uint32_t pointers are aligned to 4 bytes, a size_t pointer to 8; uint8_t pointers need no alignment;
- *   - what a call may change (the image of a compile, the counts and the stack use of a report, the state of a reset or cycle)
+ *   - what a call may change (the image of a compile, the counts and sizes of a report, the state of a reset or cycle, the start of
+ *     a tail)
  *     overlaps nothing else that is lent to the same call; what it only reads may overlap;
  *   - until the call returns nobody else writes what is lent, nor reads what the call may change;
  *   - nothing lent spans more than PTRDIFF_MAX bytes.
@@ -38,8 +44,8 @@ enum {
     LARDERLATE_SIGNALS = 64,
     LARDERLATE_STATE_WORDS = 65,
     LARDERLATE_COUNTS = 240,
-    /* 4 + 64 x 6 + 241 x 2 + 240 x 64 bytes before the code, which is no longer than the program. */
-    LARDERLATE_IMAGE_BYTES = 24422
+    /* 4 + 64 x 6 + 241 x 2 + 240 x 64 bytes before the code, which is no longer than the program, and 64 x 4 of tail. */
+    LARDERLATE_IMAGE_BYTES = 24678
 };
 
 /* The numbers of an answer, in the order in which a call judges, with the place of each in parentheses. Of the faults under one
@@ -71,11 +77,11 @@ enum {
     LARDERLATE_OVER_CAP = 15,   /* (the cycle) */
     LARDERLATE_LATENCY = 16,    /* a chain over its bound (the LAT) */
 
-    /* Compile: the pair is accepted but the image buffer is shorter than L. */
-    LARDERLATE_IMAGE_BUFFER_SHORT = 17, /* (L) */
+    /* Compile: the pair is accepted but the image buffer is shorter than L + 4N. */
+    LARDERLATE_IMAGE_BUFFER_SHORT = 17, /* (L + 4N) */
 
-    /* Reset gives 20 and 21, cycle all four. */
-    LARDERLATE_IMAGE_NOT_WELL_FORMED = 20, /* (0) */
+    /* Tail gives 20, reset 20 and 21, cycle all four. */
+    LARDERLATE_IMAGE_NOT_WELL_FORMED = 20, /* also neither L nor L + 4N bytes long (0) */
     LARDERLATE_STATE_SHORT = 21,           /* fewer than N + 1 words (0) */
     LARDERLATE_POSITION = 22,              /* word 0 of the state not from 0 to H - 1 (0) */
     LARDERLATE_SAMPLES_SHORT = 23          /* fewer than N words (0) */
@@ -91,31 +97,36 @@ static inline uint32_t larderlate_value(uint64_t answer)
     return (uint32_t)answer;
 }
 
-/* Checks the program and the schedule and writes their image to the start of the buffer `image`. The answer's value is the image's
- * length L; bytes of the buffer past L stay. Gives 1 to 17. A buffer of length 0 is a way to ask for L: 17 has it as its place. */
+/* Checks the program and the schedule and writes their image and its tail to the start of the buffer `image`. The answer's value is
+ * how many bytes these are, L + 4N; bytes of the buffer past that stay. Gives 1 to 17. A buffer of length 0 is a way to ask for
+ * L + 4N: 17 has it as its place. */
 uint64_t larderlate_compile(const uint8_t *program, size_t program_length,
                             const uint8_t *schedule, size_t schedule_length,
                             uint8_t *image, size_t image_length);
 
 /* Checks the program and the schedule and tells what they need, without an image. The answer's value is the image's length L;
- * `counts` gets the commands of each cycle of the hypercycle H, those from H on being 0, and `stack` the most words that the code
- * of any signal has on the working stack. Gives 1 to 16, and then leaves both as they were. */
+ * `counts` gets the commands of each cycle of the hypercycle H, those from H on being 0, `written` the length with the tail, L + 4N,
+ * and `stack` the most words that the code of any signal has on the working stack. Gives 1 to 16, and then leaves all three as they
+ * were. */
 uint64_t larderlate_report(const uint8_t *program, size_t program_length,
                            const uint8_t *schedule, size_t schedule_length,
-                           uint32_t counts[LARDERLATE_COUNTS], size_t *stack);
+                           uint32_t counts[LARDERLATE_COUNTS], size_t *written, size_t *stack);
 
 /* Puts 0 into word 0 of the state, the position, and each signal's initial word into word 1 + its number. Words beyond the signals
- * stay. The image is lent at its exact length L. Gives 20 and 21. */
+ * stay. Gives 20 and 21. */
 uint64_t larderlate_reset(const uint8_t *image, size_t image_length,
                           int32_t *state, size_t state_words);
 
 /* Runs the signals due at the state's position, in order, and moves the position on by one, from H - 1 to 0. Word s of the samples
- * is the sample of input s; the other words are not used, but there are at least as many as signals. The image is lent at its
- * exact length L. The answer's value is the number of commands that it ran; for the image of a pair, the count of the pair's report
- * for the position. Gives 20 to 23. */
+ * is the sample of input s; the other words are not used, but there are at least as many as signals. The answer's value is
+ * the number of commands that it ran; for the image of a pair, the count of the pair's report for the position. Gives 20 to 23. */
 uint64_t larderlate_cycle(const uint8_t *image, size_t image_length,
                           int32_t *state, size_t state_words,
                           const int32_t *samples, size_t samples_words);
+
+/* Tells where the tail of an image stands: `start` gets its offset, which is L, and the answer's value is its length, 0 for an image
+ * without one. Signal s has the four bytes from start + 4 x s on. Gives 20, and then leaves `start` as it was. */
+uint64_t larderlate_tail(const uint8_t *image, size_t image_length, size_t *start);
 
 #ifdef __cplusplus
 }

@@ -1,4 +1,4 @@
-//! The image of an accepted pair.
+//! The image of an accepted pair and its tail.
 use super::program::Program;
 use super::schedule::Schedule;
 
@@ -13,6 +13,14 @@ fn lists(program: &Program, hypercycle: u32) -> usize {
 pub fn length(program: &Program, hypercycle: u32) -> usize {
     let runs: u32 = program.signals.iter().map(|signal| hypercycle / signal.period).sum();
     lists(program, hypercycle) + runs as usize + program.code.len()
+}
+
+/// Writes four bytes a signal after an image: label, period and phase.
+pub fn write_tail(program: &Program, schedule: &Schedule, tail: &mut [u8]) {
+    for ((entry, signal), phase) in tail.chunks_exact_mut(4).zip(&program.signals).zip(schedule.phase) {
+        entry[..2].copy_from_slice(&signal.label.to_le_bytes());
+        entry[2..].copy_from_slice(&[signal.period as u8, phase as u8]);
+    }
 }
 
 /// Writes the image into the L bytes that are its own.

@@ -42,13 +42,17 @@ impl<'a> Image<'a> {
         &self.bytes[self.two(at)..self.two(at + 2)]
     }
 
-    /// The image if it is well formed, else 20.
-    pub(super) fn check(bytes: &'a [u8]) -> Result<Self, Refusal> {
-        let &[hypercycle, signals, low, high, ..] = bytes else {
+    /// The image, without its tail, if it is well formed, else 20.
+    pub(super) fn check(lent: &'a [u8]) -> Result<Self, Refusal> {
+        let &[hypercycle, signals, low, high, ..] = lent else {
             return Err((20, 0));
         };
-        let image = Image { bytes, hypercycle: hypercycle.into(), signals: signals.into() };
-        let formed = bytes.len() == u16::from_le_bytes([low, high]).into()
+        let length = usize::from(u16::from_le_bytes([low, high]));
+        if lent.len() != length && lent.len() != length + 4 * usize::from(signals) {
+            return Err((20, 0));
+        }
+        let image = Image { bytes: &lent[..length], hypercycle: hypercycle.into(), signals: signals.into() };
+        let formed = length >= 4
             && (1..=240).contains(&hypercycle)
             && signals <= 64
             && image.lists_formed()
@@ -133,6 +137,12 @@ fn code_formed(mut code: &[u8], own: u8, signals: usize) -> bool {
         }
     }
     false
+}
+
+/// The bytes after the image, none where it has no tail.
+pub fn tail(lent: &[u8]) -> Result<&[u8], Refusal> {
+    let image = Image::check(lent)?;
+    Ok(&lent[image.bytes.len()..])
 }
 
 pub fn reset(image: &[u8], state: &mut [i32]) -> Result<(), Refusal> {

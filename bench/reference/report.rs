@@ -1,14 +1,15 @@
-//! What a pair needs, without an image: L, the stack and the commands of each cycle.
+//! What a pair needs, without an image: L, L + 4N, the stack and the commands of each cycle.
 //!
 //! Commands and stack are taken from the code that parsing has written, by walking it as the machine would.
 use super::{check, image, Refusal};
 
 const COUNTS: usize = 240;
 
-/// L, and the highest stack use of any signal.
+/// L, the length with the tail, and the highest stack use of any signal.
 #[derive(Clone, Copy, Debug, PartialEq)]
 pub struct Sizes {
     pub length: usize,
+    pub written: usize,
     pub stack: usize,
 }
 
@@ -26,7 +27,8 @@ pub fn report(program: &[u8], schedule: &[u8], counts: &mut [u32; COUNTS]) -> Re
             *count += commands;
         }
     }
-    Ok(Sizes { length: image::length(&program, hypercycle), stack })
+    let length = image::length(&program, hypercycle);
+    Ok(Sizes { length, written: length + 4 * program.signals.len(), stack })
 }
 
 /// The commands up to STORE, the most words on the stack, and the code after STORE.

@@ -49,7 +49,7 @@ pub fn trial(program: &[u8], schedule: &[u8], script: &[u8], mut print: impl FnM
             }
         }
     }
-    let mut image = vec![0; 65_535];
+    let mut image = vec![0; 65_791];
     let length = compile(program, schedule, &mut image)?;
     let (mut state, mut samples) = ([0; 65], [0; 64]);
     machine::reset(&image[..length], &mut state)?;
