@@ -1,5 +1,5 @@
 -- The image in what is lent. Assumes nothing.
-use Prim.Native.Nat.{ℕ, _+_, _*_, _≤_, _<_}
+use Prim.Native.Nat.{ℕ, _+_, _*_, _<_}
 use mathlib.Core.Bool.{Bool, true, false, _&&_, _||_}
 use mathlib.Core.List.{List, []}
 use mathlib.Core.Path.{_≡_, refl, sym, ap, _∙_}
@@ -28,7 +28,9 @@ module _ (lent : List ℕ) where
   unfolding imagePart
   lends-short lt =
       lends-none (by (lentOk lent)
-      (λ t. let none : ⊥ = omega (arith, headed (imagePart lent) (lent-formed lent t) .four, length-take (statedLength lent) lent) in absurd none)
+      (λ t.
+      let four = headed (imagePart lent) (lent-formed lent t) .four in
+      let none : ⊥ = omega (arith, length-take (statedLength lent) lent) in absurd none)
       (λ f. f))
 
   -- Its length is L, or L + 4N, or neither.

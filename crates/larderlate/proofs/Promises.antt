@@ -15,20 +15,22 @@ use lib.ListN.{length, getD, drop}
 use Rattle.model.specs.Accepted.{All, Accepted, Multiple}
 use Rattle.model.specs.Calls.{Call, callOf, after, logAfter, Supplied, Holds}
 use Rattle.model.specs.Compile.{Pair, pairOf, verdictOf, compileOf}
-use Rattle.model.specs.Conditions.{_among_, LegalPair}
+use Rattle.model.specs.Conditions.{_among_, LegalPairWith, LegalPair}
+use Rattle.model.specs.Conversion.{earlierFactor, ConvertsExactly, ConversionKeeps}
 use Rattle.model.specs.Decimal.{natural, decimal, lineOf, SaysNumber, SaysWord}
 use Rattle.model.specs.Height.{Within}
 use Rattle.model.specs.Image.{lengthOf, imageOf, tailOf, writtenOf, writtenLength}
 use Rattle.model.specs.Latency.{readsBack, backwards, back, source, latencyOf}
-use Rattle.model.specs.Machine.{Effect, Job, effect, isPosition, hyperOf, countOf, statedLength, listOf, codeOf, wellFormed, countSignals}
-use Rattle.model.specs.Machine.{imagePart, lentOk, resetWords, cycleWords, cycleCount, resetOf, cycleOf}
+use Rattle.model.specs.Machine.{Effect, Job, effect, isPosition, hyperOf, countOf, statedLength, listOf, codeOf, countSignals}
+use Rattle.model.specs.Machine.{wellFormed, imagePart, lentOk, resetWords, cycleWords, cycleCount, resetOf, cycleOf}
 use Rattle.model.specs.Outcome.{Outcome, accepted, refused, refuse, fault, _▷_, provided}
-use Rattle.model.specs.Program.{Program, Chain, count, signalAt, bodyReads}
+use Rattle.model.specs.Program.{Program, Chain, count, signalAt, bodyReads, parseWith, parseProgram}
 use Rattle.model.specs.Rates.{hypercycle}
 use Rattle.model.specs.Reads.{rateOf, runCycle, settled}
 use Rattle.model.specs.Report.{highest, countsOf, toldOf, reportOf}
 use Rattle.model.specs.Reach.{WidthsListed}
 use Rattle.model.specs.Refusals.{RefusedAt}
+use Rattle.model.specs.Rewrite.{rewrite, convertOf}
 use Rattle.model.specs.Schedule.{Schedule, phaseOf}
 use Rattle.model.specs.Script.{Action, scriptOf, noSamples, callsFrom, cyclesOf}
 use Rattle.model.specs.Streams.{Satisfies}
@@ -47,6 +49,7 @@ use Rattle.model.proofs.Bytes as Bytes
 use Rattle.model.proofs.Bytes.{answerTo, stateBy, logBy}
 use Rattle.model.proofs.Commands as Texts
 use Rattle.model.proofs.Counts.{cycle-count, counts-length, counts-at, counts-past, count-fits}
+use Rattle.model.proofs.Conversions as Conversions
 use Rattle.model.proofs.Decimals as Decimals
 use Rattle.model.proofs.Exact as Exact
 use Rattle.model.proofs.Examples as Examples
@@ -142,10 +145,10 @@ pub call-code : (lent : List ℕ) (state : List ℤ) (c : Call) (f : Fault) → 
     codeNumber (refused f) ≡ f .number * 4294967296 + f .place
 call-code lent state c f e = small-code f (omega (arith, places-zero lent state c f e))
 
--- One image: compile writes it and after it its tail, four bytes a signal, answers the length of both and keeps the bytes past that
--- wherever there is space, and else answers 17 with that length. The image is well formed and at most 65,535 bytes long, bytes 2-3
--- hold its own length L, all its offsets fit two bytes, and the working stack never passes 31. The tail tells the label, period and
--- phase of each signal.
+-- One image: compile writes it and after it its tail, four bytes a signal, answers the length of both and keeps the bytes past
+-- that wherever there is space, and else answers 17 with that length. The image is well formed and at most 65,535 bytes long,
+-- bytes 2-3 hold its own length L, all its offsets fit two bytes, and the working stack never passes 31. The tail tells the
+-- label, period and phase of each signal.
 pub record OneImage (program schedule : List ℕ) (p : Program) (s : Schedule) (h : ℕ) (image tail : List ℕ) : Type 0 where
   pub verdict : verdictOf program schedule ≡ accepted (image ++ tail)
   pub bound : length image ≤ 65535
@@ -167,6 +170,60 @@ pub record OneImage (program schedule : List ℕ) (p : Program) (s : Schedule) (
 
 -- Request a. A report refuses exactly as the pair is refused, and then leaves the counts as they were. Otherwise the L and
 -- the L + 4N that it tells are the lengths of the pair's image and of what compile writes.
+pub record ReportsExactly (program schedule counts : List ℕ) : Type 0 where
+  pub refuses : (f : Fault) → (reportOf program schedule counts .answer ≡ refused f) ↔ (pairOf program schedule ≡ refused f)
+  pub tells : (sizes : Sizes) → reportOf program schedule counts .answer ≡ accepted sizes →
+      (q : Pair) × (pairOf program schedule ≡ accepted q) ×
+      (sizes .length ≡ length (imageOf (q .program) (q .schedule) (q .hypercycle))) ×
+      (sizes .written ≡ length (writtenOf (q .program) (q .schedule) (q .hypercycle)))
+
+pub report-exactly : (program schedule counts : List ℕ) → ReportsExactly program schedule counts
+unfolding reportOf
+report-exactly program schedule counts =
+    record { refuses = refuses (pairOf program schedule); tells = tells (pairOf program schedule) }
+  where
+    refuses : (o : Outcome Pair) (f : Fault) → (toldOf counts o .answer ≡ refused f) ↔ (o ≡ refused f)
+    refuses (accepted q) f =
+        ((λ e. let z : _≡_ {A = ℕ} 0 1 = cc in absurd (omega arith)), (λ e. let z : _≡_ {A = ℕ} 0 1 = cc in absurd (omega arith)))
+    refuses (refused g) f = ((λ e. let same : g ≡ f = cc in ap refused same), (λ e. let same : g ≡ f = cc in ap refused same))
+
+    tells : (o : Outcome Pair) (sizes : Sizes) → toldOf counts o .answer ≡ accepted sizes → (q : Pair) × (o ≡ accepted q) ×
+        (sizes .length ≡ length (imageOf (q .program) (q .schedule) (q .hypercycle))) ×
+        (sizes .written ≡ length (writtenOf (q .program) (q .schedule) (q .hypercycle)))
+    tells (accepted q) sizes e =
+        let p = q .program in
+        let s = q .schedule in
+        let h = q .hypercycle in
+        let told : Sizes =
+        record { length = lengthOf p s h; written = writtenLength p s h; stack = highest (p .signals) } in
+        let same : told ≡ sizes = cc in
+        (
+          q,
+          refl,
+          ap (λ x. x .length) (sym same) ∙ sym (image-length p s h),
+          ap (λ x. x .written) (sym same) ∙ sym (written-length p s h),
+        )
+    tells (refused g) sizes e = let z : _≡_ {A = ℕ} 0 1 = cc in absurd (omega arith)
+
+-- Its places are small, too.
+pub report-code : (program schedule counts : List ℕ) → Texts.Bytes program → (f : Fault) →
+    reportOf program schedule counts .answer ≡ refused f → codeNumber (refused f) ≡ f .number * 4294967296 + f .place
+unfolding compileOf verdictOf _▷_
+report-code program schedule counts bytes f e =
+    small-code f (places-small program schedule [] bytes f (rw (report-exactly program schedule counts .refuses f .0 e) refl))
+
+pub report-keeps : (program schedule counts : List ℕ) (f : Fault) → reportOf program schedule counts .answer ≡ refused f →
+    reportOf program schedule counts .left ≡ counts
+unfolding reportOf
+report-keeps program schedule counts f = go (pairOf program schedule)
+  where
+    go : (o : Outcome Pair) → toldOf counts o .answer ≡ refused f → toldOf counts o .left ≡ counts
+    go (accepted q) e = let z : _≡_ {A = ℕ} 0 1 = cc in absurd (omega arith)
+    go (refused g) e = refl
+
+-- Of an accepted pair it tells L, the length of its image, and L + 4N, that with its tail; the least number of words that the code
+-- of every signal keeps within on the image's bytes; and 240 counts, those of the hypercycle being the commands that the image's
+-- lists run and the others 0.
 pub record ReportsExactly (program schedule counts : List ℕ) : Type 0 where
   pub refuses : (f : Fault) → (reportOf program schedule counts .answer ≡ refused f) ↔ (pairOf program schedule ≡ refused f)
   pub tells : (sizes : Sizes) → reportOf program schedule counts .answer ≡ accepted sizes →
@@ -274,8 +331,10 @@ unfolding tailIn _▷_ provided
 tail-exactly lent =
     record {
       returns = Tails.tail-exactly lent;
-      refuses =
-          (λ e image tail f b. accepted≢refused _ tail (fault 20 0) (Tails.tail-exactly lent tail .1 (image, f, b)) e, refuses (lentOk lent) refl);
+      refuses = (
+        λ e image tail f b. accepted≢refused _ tail (fault 20 0) (Tails.tail-exactly lent tail .1 (image, f, b)) e,
+        refuses (lentOk lent) refl,
+      );
       alone = λ f e. alone (lentOk lent) f e;
     }
   where
@@ -285,7 +344,8 @@ tail-exactly lent =
     refuses true q none = absurd (none _ _ (lent-formed lent q) (Tails.lent-bears lent q))
     refuses false q none = refl
 
-    alone : (b : Bool) (f : Fault) → (provided b 20 0 ▷ λ _. accepted (drop (statedLength lent) lent)) ≡ refused f → f ≡ fault 20 0
+    alone : (b : Bool) (f : Fault) → (provided b 20 0 ▷ λ _. accepted (drop (statedLength lent) lent)) ≡ refused f →
+        f ≡ fault 20 0
     alone true f e = let z : _≡_ {A = ℕ} 0 1 = cc in absurd (omega arith)
     alone false f e = cc
 
@@ -300,11 +360,11 @@ tail-alike image tail tail′ lent lent′ formed b b′ state c =
 pub widths-listed : WidthsListed
 widths-listed = Widths.widths-listed
 
--- After a reset that is not refused and any list of resets and cycles, all lent the pair's image with a tail or without: no reset is refused, and a cycle exactly when it is lent
--- fewer than N samples (23); a cycle that is not refused answers the report's count of its position. The position, word 0, is the
--- remainder of c by H, where c is the number of cycles since the latest reset; signal s holds its element floor((c − 1 − p)/P), or
--- its initial word if c ≤ p, of every stream that satisfies the equations with the inputs that the cycles were lent; words beyond
--- N are as before the first reset.
+-- After a reset that is not refused and any list of resets and cycles, all lent the pair's image with a tail or without: no reset
+-- is refused, and a cycle exactly when it is lent fewer than N samples (23); a cycle that is not refused answers the report's count
+-- of its position. The position, word 0, is the remainder of c by H, where c is the number of cycles since the latest reset; signal
+-- s holds its element floor((c − 1 − p)/P), or its initial word if c ≤ p, of every stream that satisfies the equations with the
+-- inputs that the cycles were lent; words beyond N are as before the first reset.
 pub record Kept (program schedule : List ℕ) (p : Program) (s : Schedule) (h : ℕ) (lent : List ℕ) (old : List ℤ) (cs : List Call) :
     Type 0 where
   pub answers : (counts : List ℕ) (c : Call) → callOf lent (stateBy lent old cs) c .answer ≡
@@ -536,6 +596,20 @@ trial-lines program schedule text bytes q actions legal script =
       line = λ X sat j lt. tried-line program schedule text bytes lines tried X
           (subst (λ (acts : List Action). Satisfies p (settled p s) (inputsOf p s (callsFrom noSamples acts)) X) (sym same) sat) j lt;
     }
+
+-- Request g. A conversion is done, or refused with each number at its place, exactly under its condition.
+pub convert-exactly : (program buffer : List ℕ) → ConvertsExactly program buffer (convertOf program buffer)
+convert-exactly = Conversions.convert-exactly
+
+-- With every schedule that the old program was legal with by the earlier rule, the converted one is accepted with the same schedule
+-- and hypercycle, and has the same streams and the same image.
+pub convert-keeps : (old schedule : List ℕ) (u : Pair) → LegalPairWith earlierFactor old schedule u → ConversionKeeps old schedule u
+convert-keeps = Conversions.convert-keeps
+
+-- What is converted is read by the rule of today, and converting it again changes nothing.
+pub convert-new : (old : List ℕ) (p : Program) → parseWith earlierFactor old ≡ accepted p →
+    (q : Program) × (parseProgram (rewrite old) ≡ accepted q) × (rewrite (rewrite old) ≡ rewrite old)
+convert-new = Conversions.convert-new
 
 -- A decimal by its value: digits, the fewest, that read back give the number; a word's have one minus sign before them exactly if
 -- it is negative.

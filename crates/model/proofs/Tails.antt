@@ -8,10 +8,21 @@ use native.Mathlib.Omega.{arith}
 use borrow.Author.Tests.{leb-true, ltb-true, ltb-false, eqb-true, eq-eqb}
 use lib.Dec.{leb, ltb, eqb}
 use lib.IntN.{ℤ}
-use lib.ListN.{length, getD, take, drop, length-append, length-take, length-drop, take-append-drop, List·getD-append, List·getD-eq-default}
+use lib.ListN.{
+  length,
+  getD,
+  take,
+  drop,
+  length-append,
+  length-take,
+  length-drop,
+  take-append-drop,
+  List·getD-append,
+  List·getD-eq-default,
+}
 use lib.Seq.{getD-take, take-all, take-append-seam, drop-append-seam}
 use Rattle.model.specs.Calls.{Call, reset, cycle, callOf, logged, after, logAfter}
-use Rattle.model.specs.Image.{joined, listsAt, lengthOf, withTail, imageOf, tailEntry, tailOf, writtenOf, writtenLength}
+use Rattle.model.specs.Image.{joined, listsAt, withTail, imageOf, tailEntry, tailOf, writtenOf, writtenLength}
 use Rattle.model.specs.Machine.{
   hyperOf,
   countOf,
@@ -28,7 +39,7 @@ use Rattle.model.specs.Machine.{
   resetOf,
   cycleOf,
 }
-use Rattle.model.specs.Outcome.{Outcome, accepted, refused, refuse, _▷_, provided}
+use Rattle.model.specs.Outcome.{accepted, _▷_, provided}
 use Rattle.model.specs.Program.{Program, count, signalAt}
 use Rattle.model.specs.Schedule.{Schedule, phaseOf}
 use Rattle.model.specs.Search.{table, joinFrom}
@@ -69,7 +80,9 @@ head-headed image h =
     let d = leb (hyperOf image) 240 in
     let e = leb (countOf image) 64 in
     let f = leb (listsAt (countOf image) (hyperOf image)) (length image) in
-    let first = both a b (both (a && b) c (both (a && b && c) d (both (a && b && c && d) e (both (a && b && c && d && e) f h .0) .0) .0) .0) in
+    let upTo-e = both (a && b && c && d && e) f h .0 in
+    let upTo-c = both (a && b && c) d (both (a && b && c && d) e upTo-e .0) .0 in
+    let first = both a b (both (a && b) c upTo-c .0) in
     record { four = leb-true 4 (length image) (first .0); stated = eqb-true _ _ (first .1) }
 
 pub headed : (image : List ℕ) → wellFormed image ≡ true → Headed image
@@ -77,8 +90,8 @@ unfolding wellFormed
 headed image h = go (headOk image) refl h
   where
     go : (b : Bool) → headOk image ≡ b →
-        elim b [ true ↦ elim (listsOk image) [ true ↦ entriesOk image && codesOk image | false ↦ false ] | false ↦ false ] ≡ true →
-        Headed image
+        elim b [ true ↦ elim (listsOk image) [ true ↦ entriesOk image && codesOk image | false ↦ false ] | false ↦ false ] ≡
+        true → Headed image
     go true e t = head-headed image e
     go false e t = never t
 
@@ -91,7 +104,8 @@ module _ {image tail lent : List ℕ} (formed : wellFormed image ≡ true) (bear
 
   pub stated-length : statedLength lent ≡ length image
   unfolding twoAt
-  stated-length = ap₂ (λ (a b : ℕ). a + 256 * b) (first-bytes 2 (omega arith)) (first-bytes 3 (omega arith)) ∙ headed image formed .stated
+  stated-length =
+      ap₂ (λ (a b : ℕ). a + 256 * b) (first-bytes 2 (omega arith)) (first-bytes 3 (omega arith)) ∙ headed image formed .stated
 
   lent-length : length lent ≡ length image + length tail
   lent-length = ap length (bears .whole) ∙ length-append image tail
@@ -138,7 +152,9 @@ lent-bears lent h =
     let four : 4 ≤ l = omega (arith, headed (take l lent) (p .1) .four, length-take l lent) in
     record {
       whole = sym (take-append-drop l lent);
-      size = go (getD-take l lent 1 0 (omega arith)) (eqb (length lent) l) (eqb (length lent) (withTail l (countOf lent))) refl refl (p .0);
+      size =
+          go (getD-take l lent 1 0 (omega arith)) (eqb (length lent) l) (eqb (length lent) (withTail l (countOf lent))) refl refl
+          (p .0);
     }
   where
     go : countOf (take (statedLength lent) lent) ≡ countOf lent → (a b : Bool) → eqb (length lent) (statedLength lent) ≡ a →
@@ -148,7 +164,8 @@ lent-bears lent h =
     go c true b e f t =
         inl (omega (arith, length-drop (statedLength lent) lent, eqb-true (length lent) (statedLength lent) e))
     go c false true e f t =
-        inr (omega (arith, length-drop (statedLength lent) lent, eqb-true (length lent) (withTail (statedLength lent) (countOf lent)) f, c))
+        let whole = eqb-true (length lent) (withTail (statedLength lent) (countOf lent)) f in
+        inr (omega (arith, length-drop (statedLength lent) lent, c))
     go c false false e f t = never t
 
 -- The bytes of the image are bytes.
@@ -161,7 +178,8 @@ part-bytes lent bytes i = go (statedLength lent) lent bytes i
       where
         cut : (t : Bool) → ltb i n ≡ t → getD (take n l) i 0 < 256
         cut true e = rw (getD-take n l i 0 (ltb-true i n e)) (b i)
-        cut false e = rw (List·getD-eq-default (take n l) 0 {n = i} (omega (arith, length-take n l, ltb-false i n e))) (omega arith)
+        cut false e =
+            rw (List·getD-eq-default (take n l) 0 {n = i} (omega (arith, length-take n l, ltb-false i n e))) (omega arith)
 
 -- What is accepted: exactly a well-formed image, with a tail of 4N bytes, whatever they are, or without.
 pub lent-exactly : (lent : List ℕ) →
@@ -197,8 +215,8 @@ call-alike {image} f b state (cycle samples) =
     rw (lent-ok f b, lent-ok f own, part-is f b, part-is f own)
 
 -- So do lists of calls.
-pub list-alike : {image tail lent : List ℕ} → wellFormed image ≡ true → Bears image tail lent → (state : List ℤ) (cs : List Call) →
-    after lent state cs ≡ after image state cs
+pub list-alike : {image tail lent : List ℕ} → wellFormed image ≡ true → Bears image tail lent → (state : List ℤ)
+    (cs : List Call) → after lent state cs ≡ after image state cs
 unfolding after
 list-alike f b state [] = refl
 list-alike {image} f b state (c ∷ cs) =
@@ -265,4 +283,6 @@ module _ (p : Program) (s : Schedule) where
     written-bears = record { whole = refl; size = inr (tail-length ∙ ap (λ (n : ℕ). 4 * n) (sym (image-count p s h))) }
 
     pub written-length : length (writtenOf p s h) ≡ writtenLength p s h
-    written-length = ap length (written-bears .whole) ∙ length-append (imageOf p s h) (tailOf p s) ∙ omega (arith, tail-length, image-length p s h)
+    written-length =
+        ap length (written-bears .whole) ∙ length-append (imageOf p s h) (tailOf p s) ∙
+        omega (arith, tail-length, image-length p s h)

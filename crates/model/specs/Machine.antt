@@ -1,5 +1,5 @@
--- Any image: whether it is well formed, and what reset and cycle make of it (20 to 23). What is called an image here is the first L
--- bytes of what is lent, with its tail or without (`imagePart`).
+-- Any image: whether it is well formed, and what reset and cycle make of it (20 to 23). What is called an image here is the first
+-- L bytes of what is lent, with its tail or without (`imagePart`).
 use Prim.Native.Nat.{ℕ, zero, suc, _+_, _-_, _*_}
 use mathlib.Core.Bool.{Bool, true, false, cond, _&&_, _||_}
 use mathlib.Core.List.{List, [], _∷_, _++_}

@@ -1,12 +1,12 @@
 -- What the tail's reader answers, by its test. Assumes nothing.
-use Prim.Native.Nat.{ℕ, _+_, _-_, _≤_}
+use Prim.Native.Nat.{ℕ, _-_, _≤_}
 use mathlib.Core.Bool.{true, false}
 use mathlib.Core.List.{List, []}
 use mathlib.Core.Path.{_≡_, refl, sym, ap, _∙_}
 use native.Mathlib.Omega.{arith}
 use lib.ListN.{length, take, drop, length-take, length-drop}
 use lib.Seq.{take-all}
-use Rattle.model.specs.Machine.{statedLength, wellFormed, imagePart, lentOk}
+use Rattle.model.specs.Machine.{statedLength, wellFormed, imagePart}
 use Rattle.model.specs.Outcome.{Outcome, accepted, refuse, _▷_, provided}
 use Rattle.model.specs.Tail.{tailIn, numberIn, stretchIn, ReadsTail}
 use Rattle.model.proofs.Tails.{lent-formed, lent-bears, stated-length}

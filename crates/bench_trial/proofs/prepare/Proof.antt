@@ -7,7 +7,8 @@ use borrow.Author.Needs.{needs}
 use lib.ListN.{length, length-take}
 use Rattle.model.specs.Compile.{compiledOf}
 use Rattle.bench_trial.specs.Prepares.{Prepares}
-use Rattle.bench_trial.proofs.Begins.{Written, Compiles, has-head, first-bytes, compiles, compile-refuses, prepared, uncompiled}
+use Rattle.bench_trial.proofs.Begins.{Written, Compiles, has-head, first-bytes, compiles, compile-refuses}
+use Rattle.bench_trial.proofs.Begins.{prepared, uncompiled}
 use Rattle.bench_trial.proofs.prepare.Statement.{statement}
 use Rattle.bench_trial.proofs.prepare.Tie as tie
 

@@ -1,5 +1,5 @@
 -- `emitter::emit_tail` meets its contract. Assumes nothing.
-use Prim.Native.Nat.{ℕ, _+_, _-_, _≤_}
+use Prim.Native.Nat.{ℕ, _-_, _≤_}
 use mathlib.Core.List.{List}
 use native.Mathlib.Omega.{arith}
 use lib.ListN.{length}
@@ -64,7 +64,8 @@ loop-again c =
     let l = t .before in
     let s = start l in (
       omega (arith, t .loop-test .taken),
-      turn (joined-step (entry s) (s .args .n) (l .loop .x) (t .loop-test .taken)) (l .loop .inv .1) (c .before .before .put-entry .ensures),
+      turn (joined-step (entry s) (s .args .n) (l .loop .x) (t .loop-test .taken)) (l .loop .inv .1)
+          (c .before .before .put-entry .ensures),
     )
 
 same-length : tie.Need-same-length Inv-loop μ-loop

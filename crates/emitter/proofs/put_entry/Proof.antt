@@ -1,11 +1,10 @@
 -- `emitter::put_entry` meets its contract. Assumes nothing.
 use Prim.Native.Nat.{ℕ, _+_}
 use mathlib.Core.List.{List, [], _∷_}
-use mathlib.Core.Path.{_≡_, refl, ap, _∙_}
+use mathlib.Core.Path.{_≡_, refl, ap}
 use native.Mathlib.Numerals.{add-one}
 use native.Mathlib.Omega.{arith}
 use lib.ListN.{length, set, length-set}
-use lib.Seq.{sets}
 use Rattle.model.specs.Word.{twoBytes}
 use Rattle.model.specs.Writing.{Wrote}
 use Rattle.model.proofs.Left.{after, wrote-size}
@@ -26,8 +25,8 @@ module _ (c : tie.After-slice-known2) where
   abbrev start : tie.Start
   start = c .before .before .before .before .before .before
 
-  labelled : Wrote (start .args .out .now) (start .args .to) (twoBytes (start .args .label)) (c .before .before .put-offset .last .0)
-      (c .before .before .put-offset .result)
+  labelled : Wrote (start .args .out .now) (start .args .to) (twoBytes (start .args .label))
+      (c .before .before .put-offset .last .0) (c .before .before .put-offset .result)
   labelled = rw (c .before .before .before .before .wider .ensures .0) at (c .before .before .put-offset .ensures)
 
   here : c .before .before .put-offset .result ≡ start .args .to + 2

@@ -49,7 +49,8 @@ returns-4 : tie.Need-returns-4
 returns-4 c =
     let w = c .before .before in
     let o = w .before .before in
-    (omega arith, lends-neither (lent w) _ _ (o .stated-length .ensures) (w .wide .ensures .0) (c .before .if2 .left) (c .if3 .left))
+    let neither = lends-neither (lent w) _ _ (o .stated-length .ensures) (w .wide .ensures .0) in
+    (omega arith, neither (c .before .if2 .left) (c .if3 .left))
 
 pub image-length-spec : {M : Type 1} → statement M
 image-length-spec =

@@ -1,8 +1,7 @@
 -- `larderlate::larderlate_tail` meets its contract. Assumes nothing.
 use Prim.Native.Nat.{_-_}
-use mathlib.Core.Path.{_≡_, refl, ap, _∙_}
+use mathlib.Core.Path.{refl}
 use native.Mathlib.Omega.{arith}
-use Rattle.larderlate.specs.Code.{codeNumber, lengthOfTail, startIn}
 use Rattle.larderlate.proofs.TailCode.{Read, number-refused, none-refused}
 use borrow.Author.Needs.{needs}
 use Rattle.larderlate.proofs.larderlate_tail.Statement.{statement}

@@ -12,7 +12,8 @@ use Rattle.model.specs.Machine.{hyperOf, countOf, wellFormed, isPosition, posit
 use Rattle.image_check.specs.Lends.{Lends}
 use Rattle.image_check.proofs.Parts.{head, formed}
 use Rattle.machine.proofs.Laws.{Position, position, no-position}
-use Rattle.machine.proofs.Answers.{done, gives-refusal, gives-done, cycle-image, cycle-state, cycle-position, cycle-samples, cycle-done}
+use Rattle.machine.proofs.Answers.{done, gives-refusal, gives-done}
+use Rattle.machine.proofs.Answers.{cycle-image, cycle-state, cycle-position, cycle-samples, cycle-done}
 use borrow.Author.Needs.{needs}
 use Rattle.machine.proofs.cycle.Statement.{statement}
 use Rattle.machine.proofs.cycle.Tie as tie
@@ -73,7 +74,8 @@ ran : (e : tie.Else5) → let a = start (at5 e) .args in
     done (cycleCount (here (at5 e)) (a .state .now)) (cycleWords (here (at5 e)) (a .state .now) (a .samples .now))
 ran e =
     cycle-done (lends (at5 e)) _ _ (well (checked (at5 e))) (room (e .before .before .before .before)) (stands (e .before))
-    (le-leb (countOf (here (at5 e))) (length (start (at5 e) .args .samples .now)) (omega (arith, at5 e .wide2 .ensures .0, e .if5 .left)))
+    (le-leb (countOf (here (at5 e))) (length (start (at5 e) .args .samples .now))
+    (omega (arith, at5 e .wide2 .ensures .0, e .if5 .left)))
 
 image-in-requires : tie.Need-image-in-requires
 image-in-requires c κs = search needs
@@ -87,7 +89,9 @@ stopped-requires c κs = search needs
 returns : tie.Need-returns
 returns c =
     let w = c .before .before in
-    gives-refusal (cycle-image (w .before .image-in .ensures) _ _ (sym (w .well-formed .ensures) ∙ not-true _ (c .before .if1 .taken))) (c .stopped .ensures)
+    gives-refusal
+    (cycle-image (w .before .image-in .ensures) _ _ (sym (w .well-formed .ensures) ∙ not-true _ (c .before .if1 .taken)))
+    (c .stopped .ensures)
 
 shared-slice-read-wide : tie.Need-shared-slice-read-wide
 shared-slice-read-wide c = omega (arith, head _ (formed _ (well (c .before)) .good) .four)
@@ -142,7 +146,8 @@ returns-4 c =
     let w = at3 q in
     gives-refusal
     (cycle-position (lends w) _ _ (well (checked w)) (room (q .before .before))
-    (stood q .test _ ∙ le-ltb (positionOf (word q)) (hyperOf (here w)) (omega (arith, hyper w, rw (stood q .back) at (t .if4 .taken)))))
+    (stood q .test _ ∙
+    le-ltb (positionOf (word q)) (hyperOf (here w)) (omega (arith, hyper w, rw (stood q .back) at (t .if4 .taken)))))
     (c .stopped4 .ensures)
 
 stopped-requires-5 : tie.Need-stopped-requires-5

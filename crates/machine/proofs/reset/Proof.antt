@@ -42,7 +42,9 @@ refused-requires c κs = search needs
 returns : tie.Need-returns
 returns c =
     let w = c .before .before in
-    gives-refusal (reset-image (w .before .image-in .ensures) _ (sym (w .well-formed .ensures) ∙ not-true _ (c .before .if1 .taken))) (c .refused .ensures)
+    gives-refusal
+    (reset-image (w .before .image-in .ensures) _ (sym (w .well-formed .ensures) ∙ not-true _ (c .before .if1 .taken)))
+    (c .refused .ensures)
 
 shared-slice-read-wide : tie.Need-shared-slice-read-wide
 shared-slice-read-wide c = omega (arith, head _ (formed _ (well (c .before)) .good) .four)
