@@ -165,7 +165,8 @@ impl Round<'_> {
     fn convert(&mut self) {
         let random = &mut self.random;
         let shape = Shape { least: 1, ..Shape::any(random) };
-        let mut pair = generate::pair(random, &shape, Twist::any(random));
+        let twist = Twist::any(random);
+        let mut pair = generate::pair(random, &shape, twist);
         if random.one_in(3) {
             (0..1 + random.below(3)).for_each(|_| generate::mistake(random, &mut pair.program));
         }
