@@ -60,6 +60,11 @@ fn differ(round: u64, call: &str, lent: &[String], library: u64, reference: u64,
     exit(1);
 }
 
+/// L, by bytes 2-3.
+fn stated(image: &[u8]) -> usize {
+    u16::from_le_bytes([image[2], image[3]]).into()
+}
+
 struct Round<'a> {
     number: u64,
     random: Random,
@@ -282,7 +287,7 @@ impl Round<'_> {
             6 => tail.saturating_sub(1),
             _ => tail,
         };
-        image.truncate(usize::from(u16::from_le_bytes([image[2], image[3]])));
+        image.truncate(stated(image));
         image.extend((0..bytes).map(|_| self.random.byte()));
     }
 
@@ -295,6 +300,9 @@ impl Round<'_> {
         let mut image = own.unwrap_or_else(|| images::foreign_image(&mut self.random));
         self.retail(&mut image);
         self.calls(&image);
+        if self.random.one_in(2) {
+            image.truncate(stated(&image));
+        }
         for _ in 0..1 + self.random.below(2) {
             self.random.damage(&mut image);
         }
