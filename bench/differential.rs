@@ -2,9 +2,9 @@
 //!
 //!     differential [COUNT [SEED]]
 //!
-//! Each of COUNT rounds lends one pair to compile and to report, and then images, states and samples to reset, cycle and tail. After each
-//! call the answers and all that was lent must be equal. It stops at the first difference with the bytes lent. Round r depends on the seed
-//! and on r alone.
+//! Each of COUNT rounds lends one pair to compile and to report, a program text of the earlier rule to convert, and then images, states
+//! and samples to reset, cycle and tail. After each call the answers and all that was lent must be equal. It stops at the first
+//! difference with the bytes lent. Round r depends on the seed and on r alone.
 mod generate;
 // The benchmark uses the rest of these.
 #[allow(dead_code)]
@@ -32,11 +32,12 @@ struct Seen {
     reset: [u64; 24],
     cycle: [u64; 24],
     tail: [u64; 24],
+    convert: [u64; 24],
 }
 
 impl Seen {
-    fn calls(&self) -> [&[u64; 24]; 5] {
-        [&self.compile, &self.report, &self.reset, &self.cycle, &self.tail]
+    fn calls(&self) -> [&[u64; 24]; 6] {
+        [&self.compile, &self.report, &self.reset, &self.cycle, &self.tail, &self.convert]
     }
 }
 
@@ -165,6 +166,38 @@ impl Round<'_> {
         count(&mut self.seen.report, library);
     }
 
+    /// Converts a text of the earlier rule by both into equal buffers, and compiles what comes of an accepted one.
+    fn convert(&mut self) {
+        let random = &mut self.random;
+        let shape = Shape { least: 1, ..Shape::any(random) };
+        let twist = Twist::any(random);
+        let mut pair = generate::pair(random, &shape, twist);
+        if random.one_in(3) {
+            (0..1 + random.below(3)).for_each(|_| generate::mistake(random, &mut pair.program));
+        }
+        let [ours, other] = &mut *self.buffers;
+        let length = match reference::convert(&pair.program, other) {
+            Ok(length) => length + random.below(8) - random.below(4).min(length),
+            Err(_) => random.below(100),
+        };
+        let fill = random.next() as u8;
+        ours[..length].fill(fill);
+        other[..length].fill(fill);
+        let library = library::convert(&pair.program, &mut ours[..length]);
+        let result = reference::convert(&pair.program, &mut other[..length]);
+        let reference = reference::answer(result);
+        let kept = ours[..length] == other[..length];
+        if library != reference || !kept {
+            let program = format!("program: {}", hexadecimal(&pair.program));
+            differ(self.number, "convert", &[program, format!("result: {length} bytes of {fill:02X}")], library, reference, kept);
+        }
+        count(&mut self.seen.convert, library);
+        if let Ok(length) = result {
+            pair.program = ours[..length].to_vec();
+            self.compile(&pair);
+        }
+    }
+
     /// A state for the image: mostly long enough and at a position of the hypercycle.
     fn state(&mut self, image: &[u8]) -> Vec<i32> {
         let random = &mut self.random;
@@ -263,6 +296,7 @@ impl Round<'_> {
         let pair = self.pair();
         let own = self.compile(&pair);
         self.report(&pair);
+        self.convert();
         let mut image = own.unwrap_or_else(|| images::foreign_image(&mut self.random));
         self.retail(&mut image);
         self.calls(&image);
@@ -280,7 +314,7 @@ impl Round<'_> {
 }
 
 fn print_seen(seen: &Seen) -> bool {
-    println!("number    compile     report      reset      cycle       tail");
+    println!("number    compile     report      reset      cycle       tail    convert");
     let mut all = true;
     for number in [0].into_iter().chain(NUMBERS) {
         let row = seen.calls().map(|counts| counts[number]);

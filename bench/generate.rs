@@ -32,6 +32,8 @@ pub struct Shape {
     pub capped: bool,
     /// Whether some signals have labels.
     pub tagged: bool,
+    /// The least factor of a sampled read: 2, or 1 in a text of the earlier rule.
+    pub least: i64,
     /// About how many bytes all expressions have at most.
     pub bytes: usize,
 }
@@ -60,6 +62,7 @@ impl Shape {
             chains: if random.one_in(2) { random.below(if large { 17 } else { 4 }) } else { 0 },
             capped: random.one_in(3),
             tagged: random.one_in(2),
+            least: 2,
             bytes: if large { 7300 } else { 40 + random.below(600) },
         }
     }
@@ -163,7 +166,7 @@ fn declaration(random: &mut Random, shape: &Shape, signals: &[Signal], own: usiz
         return (text, vec![]);
     }
     text.extend(signal.weight.to_le_bytes());
-    let mut equation = Equation { signals, own, room, text, reads: vec![] };
+    let mut equation = Equation { signals, own, least: shape.least, room, text, reads: vec![] };
     equation.expression(random, shape.depth, shape.bushy);
     (equation.text, equation.reads)
 }
@@ -178,6 +181,7 @@ fn tag(random: &mut Random) -> Vec<u8> {
 struct Equation<'a> {
     signals: &'a [Signal],
     own: usize,
+    least: i64,
     room: usize,
     text: Vec<u8>,
     reads: Vec<Read>,
@@ -221,7 +225,7 @@ impl Equation<'_> {
     fn read(&self, random: &mut Random) -> Read {
         for _ in 0..6 {
             let signal = random.below(self.signals.len());
-            let met = reads_met(self.signals, self.own, signal);
+            let met = reads_met(self.signals, self.own, signal, self.least);
             if !met.is_empty() {
                 return random.pick(&met);
             }
@@ -231,14 +235,15 @@ impl Equation<'_> {
 }
 
 /// Every read of `signal` by `own` that keeps the period rule and is met.
-fn reads_met(signals: &[Signal], own: usize, signal: usize) -> Vec<Read> {
+fn reads_met(signals: &[Signal], own: usize, signal: usize, least: i64) -> Vec<Read> {
     let (reader, written) = (&signals[own], &signals[signal]);
     let shared = (0..480).any(|cycle| runs(reader, cycle) && runs(written, cycle));
     let mut met = vec![];
     for kind in NOW..=CURRENT {
         let (longer, shorter) = if kind == CURRENT { (written, reader) } else { (reader, written) };
         let factor = longer.period / shorter.period;
-        let fits = longer.period == factor * shorter.period && (kind >= WHEN || factor == 1);
+        let allowed = if kind >= WHEN { factor >= least } else { factor == 1 };
+        let fits = allowed && longer.period == factor * shorter.period;
         let ordered = match kind {
             LAST | LASTWHEN => reader.rank <= written.rank,
             _ => written.rank < reader.rank,

@@ -18,6 +18,7 @@ extern "C" {
         stack: *mut usize,
     ) -> u64;
     fn larderlate_tail(image: *const u8, image_length: usize, start: *mut usize) -> u64;
+    fn larderlate_convert(program: *const u8, program_length: usize, result: *mut u8, result_length: usize) -> u64;
     fn larderlate_reset(image: *const u8, image_length: usize, state: *mut i32, state_words: usize) -> u64;
     fn larderlate_cycle(
         image: *const u8,
@@ -44,6 +45,12 @@ pub fn report(program: &[u8], schedule: &[u8], counts: &mut [u32; 240], sizes: &
 
 pub fn tail(image: &[u8], start: &mut usize) -> u64 {
     unsafe { larderlate_tail(image.as_ptr(), image.len(), start) }
+}
+
+// The benchmark makes no conversion.
+#[allow(dead_code)]
+pub fn convert(program: &[u8], result: &mut [u8]) -> u64 {
+    unsafe { larderlate_convert(program.as_ptr(), program.len(), result.as_mut_ptr(), result.len()) }
 }
 
 pub fn reset(image: &[u8], state: &mut [i32]) -> u64 {

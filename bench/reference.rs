@@ -1,8 +1,9 @@
-//! Paper 01 in plain Rust: compile, report, reset, cycle, tail and trial.
+//! Paper 01 in plain Rust: compile, report, reset, cycle, tail, trial and convert.
 //!
 //! Written from the paper alone and sharing nothing with the crates, so that a misreading on one side shows as a difference.
 //! It is also the baseline of the benchmark: what one would write without a prover, with the same checks.
 mod checks;
+mod convert;
 mod image;
 mod latency;
 mod machine;
@@ -14,6 +15,7 @@ mod trial;
 // No program here uses all calls.
 #[allow(unused_imports)]
 pub use {
+    convert::convert,
     machine::{cycle, reset, tail},
     report::report,
     trial::trial,
@@ -32,7 +34,7 @@ fn check(program: &[u8], schedule: &[u8]) -> Result<(Program, Schedule, u32), Re
     if program.len() > PROGRAM_BYTES || schedule.len() > SCHEDULE_BYTES {
         return Err((1, 0));
     }
-    let program = program::parse(program)?;
+    let program = program::parse(program, 2)?;
     checks::mentions(&program)?;
     let hypercycle = checks::hypercycle(&program)?;
     checks::links(&program)?;

@@ -58,6 +58,13 @@ fn tail(image: &[u8]) -> String {
     line(reference::answer(tail.map(<[u8]>::len)), hash(tail.unwrap_or(&[]).iter().copied()))
 }
 
+fn convert(cases: &mut Cases) -> String {
+    let (program, buffer) = (cases.number(2), cases.number(4));
+    let mut buffer = vec![cases.number(1) as u8; buffer];
+    let result = reference::convert(cases.take(program), &mut buffer);
+    line(reference::answer(result), hash(buffer.into_iter()))
+}
+
 fn listed(cases: &mut Cases) -> String {
     let kind = cases.number(1);
     let widths: Vec<String> = (0..=255).map(|byte| widths::width(kind, byte).unwrap_or(0).to_string()).collect();
@@ -110,6 +117,10 @@ fn replay(cases: &[u8]) -> Vec<String> {
             }
             9 => {
                 lines.push(tail(image));
+                continue;
+            }
+            10 => {
+                lines.push(convert(&mut cases));
                 continue;
             }
             command => panic!("no such case: {command}"),

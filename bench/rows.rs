@@ -52,7 +52,7 @@ pub fn program_a() -> Pair {
 pub fn program_of(signals: usize, periods: &[usize], hypercycle: usize) -> Pair {
     let bytes = signals * 124;
     let chains = signals / 4;
-    let shape = Shape { signals, periods: periods.to_vec(), hypercycle, depth: 16, bushy: true, chains, capped: true, tagged: false, bytes };
+    let shape = Shape { signals, periods: periods.to_vec(), hypercycle, depth: 16, bushy: true, chains, capped: true, tagged: false, least: 2, bytes };
     let mut random = Random(SEED);
     loop {
         let pair = generate::pair(&mut random, &shape, Twist::None);

@@ -5,6 +5,7 @@
  *     larderlate_reset     puts a state to its start
  *     larderlate_cycle     runs one cycle on a state
  *     larderlate_tail      finds the labels, periods and phases that stand after an image
+ *     larderlate_convert   rewrites a program text that has sampling factors of 1
  *
  * Every call takes any bytes and words, ends, and does its job or refuses. A refused call changes nothing that was lent to it.
  * The calls keep nothing between them and need no memory but their stack, so any number may run at once on different state.
@@ -14,16 +15,15 @@
  * without its tail, or at exactly L + 4N, with a tail of any bytes, and run both alike.
  *
  * THE ANSWER is one number of 64 bits: number x 2^32 + value. Number 0 says done; the value is then L + 4N for a compile, L for a
- * report, 0 for a reset, the number of commands run for a cycle, and the tail's length for a tail. Any other number is that of the
- * refusal, and the value is its place.
+ * report, 0 for a reset, the number of commands run for a cycle, the tail's length for a tail, and the new text's for a conversion.
+ * Any other number is that of the refusal, and the value is its place.
  *
  * WHAT IS LENT is a pointer and a length: bytes for uint8_t, words (not bytes) for int32_t. The caller keeps these rules, which no
  * call can test:
  *   - the pointer is to that many bytes or words, all of them set, and is not null, also where the length is 0;
  *   - int32_t and uint32_t pointers are aligned to 4 bytes, a size_t pointer to 8; uint8_t pointers need no alignment;
  *   - what a call may change (the image of a compile, the counts and sizes of a report, the state of a reset or cycle, the start of
- *     a tail)
- *     overlaps nothing else that is lent to the same call; what it only reads may overlap;
+ *     a tail, the result of a conversion) overlaps nothing else that is lent to the same call; what it only reads may overlap;
  *   - until the call returns nobody else writes what is lent, nor reads what the call may change;
  *   - nothing lent spans more than PTRDIFF_MAX bytes.
  */
@@ -60,7 +60,7 @@ enum {
     LARDERLATE_PROGRAM_ENDS_EARLY = 2,  /* also right after a TAG (the program's length) */
     LARDERLATE_NO_SUCH_COMMAND = 3,     /* also a TAG that is not directly before IN or EQ (its offset) */
     LARDERLATE_OVER_A_BOUND = 4,        /* over 64 signals, 16 chains, 16 links or depth 16 (the command or operator) */
-    LARDERLATE_OPERAND_OUT_OF_RANGE = 5, /* also a second CAP or a chain under 2 links (the command or read; LAT for a chain) */
+    LARDERLATE_OPERAND_OUT_OF_RANGE = 5, /* also a factor of 1, a second CAP or a chain under 2 links (the command or read; LAT for a chain) */
     LARDERLATE_BYTES_AFTER_END = 6,     /* (the first of them) */
     LARDERLATE_UNDECLARED_SIGNAL = 7,   /* (the read or LINK) */
     LARDERLATE_PERIOD_RULE_BROKEN = 8,  /* (the read) */
@@ -77,8 +77,8 @@ enum {
     LARDERLATE_OVER_CAP = 15,   /* (the cycle) */
     LARDERLATE_LATENCY = 16,    /* a chain over its bound (the LAT) */
 
-    /* Compile: the pair is accepted but the image buffer is shorter than L + 4N. */
-    LARDERLATE_IMAGE_BUFFER_SHORT = 17, /* (L + 4N) */
+    /* Compile: the pair is accepted but the image buffer is shorter than L + 4N. Convert: the buffer is shorter than the result. */
+    LARDERLATE_IMAGE_BUFFER_SHORT = 17, /* (L + 4N; the result's length) */
 
     /* Tail gives 20, reset 20 and 21, cycle all four. */
     LARDERLATE_IMAGE_NOT_WELL_FORMED = 20, /* also neither L nor L + 4N bytes long (0) */
@@ -127,6 +127,13 @@ uint64_t larderlate_cycle(const uint8_t *image, size_t image_length,
 /* Tells where the tail of an image stands: `start` gets its offset, which is L, and the answer's value is its length, 0 for an image
  * without one. Signal s has the four bytes from start + 4 x s on. Gives 20, and then leaves `start` as it was. */
 uint64_t larderlate_tail(const uint8_t *image, size_t image_length, size_t *start);
+
+/* Rewrites a program text in which a sampling factor of 1 was allowed: each WHEN and CURRENT by 1 as NOW, each LASTWHEN by 1 as LAST,
+ * of the same signal; every other byte is kept. The new text goes to the start of the buffer `result`, the answer's value is its
+ * length, which is no more than the program's; bytes of the buffer past it stay. Gives 1 to 6 as a compile that allows 1 would, and
+ * 17. Every schedule that the old text was accepted with is accepted with the new one, which has the same streams and image. */
+uint64_t larderlate_convert(const uint8_t *program, size_t program_length,
+                            uint8_t *result, size_t result_length);
 
 #ifdef __cplusplus
 }

@@ -63,11 +63,13 @@ pub struct Program {
     pub code: Vec<u8>,
 }
 
-pub fn parse(text: &[u8]) -> Result<Program, Refusal> {
+/// Factors go from `least` on: 2, or 1 by the earlier rule.
+pub fn parse(text: &[u8], least: u8) -> Result<Program, Refusal> {
     let mut parser = Parser {
         text,
         at: 0,
         label: 0,
+        least,
         program: Program {
             signals: Vec::with_capacity(SIGNALS.min(text.len() / 6)),
             reads: Vec::with_capacity(text.len() / 4),
@@ -87,6 +89,7 @@ struct Parser<'a> {
     at: usize,
     /// For the signal that comes next.
     label: u16,
+    least: u8,
     program: Program,
 }
 
@@ -194,11 +197,11 @@ impl Parser<'_> {
 
     fn read(&mut self, at: usize, kind: Kind, reader: u8) -> Result<(), Refusal> {
         let signal = self.byte()?;
-        let (index, factor) = match kind {
-            Kind::Now | Kind::Last => (0, 1),
-            _ => (self.byte()?, self.byte()?),
+        let (index, factor, least) = match kind {
+            Kind::Now | Kind::Last => (0, 1, 1),
+            _ => (self.byte()?, self.byte()?, self.least),
         };
-        if !PERIODS.contains(&factor) || (index >= factor && index != OPEN) {
+        if !(least..=240).contains(&factor) || (index >= factor && index != OPEN) {
             return Err((5, at));
         }
         self.program.code.extend([0x51, signal]);

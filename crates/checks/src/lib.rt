@@ -176,7 +176,7 @@ fn check_with(program: &[u8], schedule: &[u8], reads: &mut [u16]) -> Checked
     let Judged::Fine = lengths else {
         return refused(lengths);
     };
-    let read = reader::read_program(program, reads);
+    let read = reader::read_program(2, program, reads);
     let parsed = read.judged;
     let Judged::Fine = parsed else {
         return refused(parsed);

@@ -13,7 +13,7 @@ use denote.Enum.Declared.{tagOf, declared}
 use Rattle.model.specs.Accepted.{All}
 use Rattle.model.specs.Command.{commandAt}
 use Rattle.model.specs.Image.{exprCode}
-use Rattle.model.specs.Program.{Expr}
+use Rattle.model.specs.Program.{leastFactor, Expr}
 use Rattle.model.specs.Report.{exprCommands, exprHeight}
 use Rattle.model.specs.Width.{readWidth}
 use Rattle.model.specs.Word.{wordBytes, fourBytes}
@@ -34,7 +34,7 @@ use Rattle.emit_code.specs.Shape.{Lead, noLead, leadOf}
 -- Expressions that stand one after another, and their code.
 pub data SpellsAll (text : List ℕ) : ℕ → List Expr → ℕ → Type 0 where
   none : {at : ℕ} → SpellsAll text at [] at
-  more : {at m n : ℕ} {x : Expr} {xs : List Expr} → Spells text at x m → SpellsAll text m xs n → SpellsAll text at (x ∷ xs) n
+  more : {at m n : ℕ} {x : Expr} {xs : List Expr} → Spells leastFactor text at x m → SpellsAll text m xs n → SpellsAll text at (x ∷ xs) n
 
 unfoldable pub codeOfAll : List Expr → List ℕ
 codeOfAll [] = []
@@ -64,14 +64,14 @@ pub record Opened (text : List ℕ) (at : ℕ) (e : Expr) (n : ℕ) (c : Command
   pub deep : (d : ℕ) → depth e ≤ suc d → All (Below d) operands
 
 module _ {text : List ℕ} where
-  opens : {at n : ℕ} {e : Expr} → Spells text at e n → (c : Command) × (commandAt text at ≡ c) × Opened text at e n c
+  opens : {at n : ℕ} {e : Expr} → Spells leastFactor text at e n → (c : Command) × (commandAt text at ≡ c) × Opened text at e n c
   unfolding exprCode codeOfAll commandsOfAll heightOfAll
   opens (Spells.constants {w = w} e) = (
     Command.Constant w,
     e,
     record { operator = refl; operands = []; spelled = none; arity = refl; code = refl; commands = refl; height = refl; deep = λ d h. tt },
   )
-  opens (Spells.reads {kind = kind} {x = x} e) = (
+  opens (Spells.reads {kind = kind} {x = x} e a) = (
     Command.Read kind x,
     e,
     record { operator = refl; operands = []; spelled = none; arity = refl; code = refl; commands = refl; height = refl; deep = λ d h. tt },
@@ -119,7 +119,7 @@ module _ {text : List ℕ} where
     },
   )
 
-  pub opened : {at n : ℕ} {e : Expr} (c : Command) → commandAt text at ≡ c → Spells text at e n → Opened text at e n c
+  pub opened : {at n : ℕ} {e : Expr} (c : Command) → commandAt text at ≡ c → Spells leastFactor text at e n → Opened text at e n c
   opened {at} {n} {e} c q u = let o = opens u in subst (Opened text at e n) (sym (o .1) ∙ q) (o .2)
 
 pub puts-length : {l l′ xs : List ℕ} {to m next end : ℕ} → Puts l to xs m l′ next end → length l′ ≡ length l

@@ -9,7 +9,7 @@ use lib.IntN.{ℤ}
 use lib.ListN.{length, length-append}
 use Rattle.model.specs.Command.{commandAt}
 use Rattle.model.specs.Image.{exprCode, signalCode}
-use Rattle.model.specs.Program.{Expr, Signal, Body, input, equation}
+use Rattle.model.specs.Program.{leastFactor, Expr, Signal, Body, input, equation}
 use Rattle.model.specs.declared.Command.{Command}
 use Rattle.model.specs.declared.Command.the-variants as Command
 use Rattle.model.specs.Grammar.{depth}
@@ -24,7 +24,7 @@ pub record Equated (text : List ℕ) (place : ℕ) (σ : Signal) : Type 0 where
   pub weight : ℕ
   pub expr : Expr
   pub next : ℕ
-  pub spelled : Spells text (place + 8) expr next
+  pub spelled : Spells leastFactor text (place + 8) expr next
   pub deep : depth expr ≤ 16
   pub body : σ .body ≡ equation weight expr
 
@@ -46,7 +46,7 @@ module _ (text : List ℕ) (place : ℕ) (σ : Signal) (at : σ .place ≡ place
             weight = w;
             expr = x;
             next = g .1;
-            spelled = subst (λ (a : ℕ). Spells text (a + 8) x (g .1)) at (g .2);
+            spelled = subst (λ (a : ℕ). Spells leastFactor text (a + 8) x (g .1)) at (g .2);
             deep = g .3;
             body = e;
           }

@@ -7,7 +7,7 @@ use native.Mathlib.Omega.{arith}
 use lib.ListN.{length}
 use Rattle.model.specs.Command.{commandAt}
 use Rattle.model.specs.Image.{binaryByte}
-use Rattle.model.specs.Program.{Expr}
+use Rattle.model.specs.Program.{leastFactor, Expr}
 use Rattle.model.specs.Word.{byteAt}
 use Rattle.model.specs.Written.{Written, readByte}
 use Rattle.model.specs.declared.Binary.{Binary}
@@ -24,9 +24,9 @@ use Rattle.emit_code.specs.Shape.{leadOf}
 
 -- What spells an expression lies within the text.
 module _ {text : List ℕ} where
-  pub inside : {at n : ℕ} {e : Expr} → Spells text at e n → n ≤ length text
+  pub inside : {at n : ℕ} {e : Expr} → Spells leastFactor text at e n → n ≤ length text
   inside (Spells.constants {at = at} e) = command-sound text at _ e .1
-  inside (Spells.reads {at = at} e) = command-sound text at _ e .1
+  inside (Spells.reads {at = at} e a) = command-sound text at _ e .1
   inside (Spells.two e u v) = inside v
   inside (Spells.one e u) = inside u
   inside (Spells.three e u v w) = inside w
@@ -65,12 +65,12 @@ module _ {text : List ℕ} {at : ℕ} where
   high (Written.choose h b) o = omega (arith, b)
 
 -- So the operator at the start of an expression is its command.
-pub operator-is : {text : List ℕ} {at n : ℕ} {e : Expr} → Spells text at e n → operatorAt text at ≡ commandAt text at
+pub operator-is : {text : List ℕ} {at n : ℕ} {e : Expr} → Spells leastFactor text at e n → operatorAt text at ≡ commandAt text at
 operator-is {text} {at} u = command-is text at (go u)
   where
-    go : {n : ℕ} {e : Expr} → Spells text at e n → 0x20 ≤ byteAt text at
+    go : {n : ℕ} {e : Expr} → Spells leastFactor text at e n → 0x20 ≤ byteAt text at
     go (Spells.constants e) = high (command-written text at _ .0 (e, tt)) refl
-    go (Spells.reads e) = high (command-written text at _ .0 (e, tt)) refl
+    go (Spells.reads e a) = high (command-written text at _ .0 (e, tt)) refl
     go (Spells.two e u v) = high (command-written text at _ .0 (e, tt)) refl
     go (Spells.one e u) = high (command-written text at _ .0 (e, tt)) refl
     go (Spells.three e u v w) = high (command-written text at _ .0 (e, tt)) refl

@@ -5,7 +5,7 @@ use mathlib.Core.Path.{_≡_}
 use lib.ListN.{length}
 use lib.Seq.{sets}
 use Rattle.model.specs.Image.{exprCode, signalCode}
-use Rattle.model.specs.Program.{Expr, Signal}
+use Rattle.model.specs.Program.{leastFactor, Expr, Signal}
 use Rattle.model.specs.Grammar.{depth}
 use Rattle.model.proofs.Legal.{SpellsSignal}
 use Rattle.model.specs.Grammar.{Spells}
@@ -20,13 +20,13 @@ pub record Puts (l : List ℕ) (to : ℕ) (bytes : List ℕ) (n : ℕ) (l′ : L
 pub record Room (d : ℕ) (text : List ℕ) (at n to : ℕ) : Type 0 where
   pub expr : Expr
   pub next : ℕ
-  pub spelled : Spells text at expr next
+  pub spelled : Spells leastFactor text at expr next
   pub deep : depth expr ≤ d
   pub fits : to + length (exprCode expr) ≤ n
 
 -- l′ is l with the code of the expression that stands at `at`.
 pub record Emits (text : List ℕ) (at : ℕ) (l : List ℕ) (to : ℕ) (l′ : List ℕ) (next end : ℕ) : Type 0 where
-  pub puts : (e : Expr) (n : ℕ) → Spells text at e n → Puts l to (exprCode e) n l′ next end
+  pub puts : (e : Expr) (n : ℕ) → Spells leastFactor text at e n → Puts l to (exprCode e) n l′ next end
 
 -- A signal is declared at `place`.
 pub record SignalStands (text : List ℕ) (place : ℕ) : Type 0 where

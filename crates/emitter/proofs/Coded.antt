@@ -16,7 +16,7 @@ use Rattle.model.proofs.Legal.{SpellsBody, SpellsSignal}
 use Rattle.reader.specs.Tables.{Sums, codeIn}
 use Rattle.emitter.specs.Codes.{codesFrom, CodesAt}
 use Rattle.emitter.proofs.Joined.{joined-cons}
-use Rattle.emitter.proofs.Left.{Parts, parts-length}
+use Rattle.model.proofs.Left.{Parts, parts-length}
 
 dropped : {A : Type 0} (l : List A) (x : ℕ) (d : A) → x < length l → drop x l ≡ getD l x d ∷ drop (x + 1) l
 dropped l x d lt = drop-cons l x d lt ∙ ap (λ (k : ℕ). getD l x d ∷ drop k l) (sym (add-one x))

@@ -13,7 +13,7 @@ use Rattle.model.proofs.Turns.{due-run, run-due}
 use Rattle.emitter.specs.Lists.{rateAt, runOf, listBy, listsBy}
 use Rattle.emitter.proofs.Joined.{joined-cons}
 use Rattle.emitter.proofs.Listed.{table-same, listFrom, list-starts, list-step, list-ends}
-use Rattle.emitter.proofs.Left.{parts-length}
+use Rattle.model.proofs.Left.{parts-length}
 
 -- A run stores one element.
 module _ (a : Rate) (x : ℕ) (v : a .phase < a .period) where

@@ -19,9 +19,9 @@ use Rattle.reader.specs.declared.Tables.{Tables}
 use Rattle.emitter.specs.Codes.{signalsIn, signalsOf, codesFrom, Declared, CodesAt}
 use Rattle.emitter.specs.Lists.{isDue, listBy, listsBy, pairs, Timed, Phased}
 use Rattle.reader.specs.Prepared.{Prepared}
-use Rattle.emitter.specs.Writing.{Wrote}
+use Rattle.model.specs.Writing.{Wrote}
 use Rattle.emitter.proofs.Coded.{code-sum, codes-by, codes-end}
-use Rattle.emitter.proofs.Left.{Parts}
+use Rattle.model.proofs.Left.{Parts}
 use Rattle.emitter.proofs.Listed.{table-same}
 
 -- Where the code starts, and where it ends.

@@ -10,7 +10,7 @@ use Rattle.model.specs.Search.{table, tableFrom, chosen, joinFrom}
 use Rattle.model.specs.Word.{twoBytes}
 use Rattle.model.proofs.Stretches.{table-length}
 use Rattle.emitter.specs.Lists.{isDue, listBy, listsBy, pairs}
-use Rattle.emitter.proofs.Left.{Parts}
+use Rattle.model.proofs.Left.{Parts}
 use Rattle.emitter.proofs.Listed.{table-starts, table-step, table-ends}
 
 -- Where the number is not looked at, it does not matter where the count starts.

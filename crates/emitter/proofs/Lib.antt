@@ -4,5 +4,4 @@ pub mod Counted
 pub mod Imaged
 pub mod Tailed
 pub mod Joined
-pub mod Left
 pub mod Listed

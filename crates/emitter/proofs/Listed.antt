@@ -12,7 +12,7 @@ use lib.Dec.{eqb}
 use Rattle.load.proofs.Runs.{due-first, due-next, due-between}
 use Rattle.model.specs.Reads.{Rate, due}
 use Rattle.model.specs.Search.{table, tableFrom, chosen}
-use Rattle.emitter.proofs.Left.{Parts}
+use Rattle.model.proofs.Left.{Parts}
 use Rattle.emitter.specs.Lists.{rateAt, isDue, runOf, listBy, NextRun}
 
 chosen-step : (test : ℕ → Bool) (x : ℕ) (xs : List ℕ) → chosen test (x ∷ xs) ≡ runOf (test x) x ++ chosen test xs

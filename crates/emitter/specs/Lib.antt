@@ -2,5 +2,4 @@
 pub mod Codes
 pub mod Lists
 pub mod Prepared
-pub mod Writing
 pub mod Tail

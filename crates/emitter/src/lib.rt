@@ -17,7 +17,7 @@ ghost use Rattle.emitter.specs.Lists.{rateAt, runOf, listBy, listsBy, pa
 ghost use Rattle.reader.specs.Prepared.{Prepared};
 ghost use Rattle.emitter.specs.Prepared.{LaidOut, Tabled, Fits};
 ghost use Rattle.emitter.specs.Tail.{tailBy};
-ghost use Rattle.emitter.specs.Writing.{Wrote};
+ghost use Rattle.model.specs.Writing.{Wrote};
 
 fn wide(byte: u8) -> usize
     ensures { λ r. ⌜ (r ≡ byte) × (r < 256) ⌝ }

@@ -15,7 +15,8 @@ use lib.ListN.{length, getD, drop}
 use Rattle.model.specs.Accepted.{All, Accepted, Multiple}
 use Rattle.model.specs.Calls.{Call, callOf, after, logAfter, Supplied, Holds}
 use Rattle.model.specs.Compile.{Pair, pairOf, verdictOf, compileOf}
-use Rattle.model.specs.Conditions.{_among_, LegalPair}
+use Rattle.model.specs.Conditions.{_among_, LegalPairWith, LegalPair}
+use Rattle.model.specs.Conversion.{earlierFactor, ConvertsExactly, ConversionKeeps}
 use Rattle.model.specs.Decimal.{natural, decimal, lineOf, SaysNumber, SaysWord}
 use Rattle.model.specs.Height.{Within}
 use Rattle.model.specs.Image.{lengthOf, imageOf, tailOf, writtenOf, writtenLength}
@@ -23,12 +24,13 @@ use Rattle.model.specs.Latency.{readsBack, backwards, back, source, latencyOf}
 use Rattle.model.specs.Machine.{Effect, Job, effect, isPosition, hyperOf, countOf, statedLength, listOf, codeOf, countSignals}
 use Rattle.model.specs.Machine.{wellFormed, imagePart, lentOk, resetWords, cycleWords, cycleCount, resetOf, cycleOf}
 use Rattle.model.specs.Outcome.{Outcome, accepted, refused, refuse, fault, _▷_, provided}
-use Rattle.model.specs.Program.{Program, Chain, count, signalAt, bodyReads}
+use Rattle.model.specs.Program.{Program, Chain, count, signalAt, bodyReads, parseWith, parseProgram}
 use Rattle.model.specs.Rates.{hypercycle}
 use Rattle.model.specs.Reads.{rateOf, runCycle, settled}
 use Rattle.model.specs.Report.{highest, countsOf, toldOf, reportOf}
 use Rattle.model.specs.Reach.{WidthsListed}
 use Rattle.model.specs.Refusals.{RefusedAt}
+use Rattle.model.specs.Rewrite.{rewrite, convertOf}
 use Rattle.model.specs.Schedule.{Schedule, phaseOf}
 use Rattle.model.specs.Script.{Action, scriptOf, noSamples, callsFrom, cyclesOf}
 use Rattle.model.specs.Streams.{Satisfies}
@@ -47,6 +49,7 @@ use Rattle.model.proofs.Bytes as Bytes
 use Rattle.model.proofs.Bytes.{answerTo, stateBy, logBy}
 use Rattle.model.proofs.Commands as Texts
 use Rattle.model.proofs.Counts.{cycle-count, counts-length, counts-at, counts-past, count-fits}
+use Rattle.model.proofs.Conversions as Conversions
 use Rattle.model.proofs.Decimals as Decimals
 use Rattle.model.proofs.Exact as Exact
 use Rattle.model.proofs.Examples as Examples
@@ -538,6 +541,20 @@ trial-lines program schedule text bytes q actions legal script =
       line = λ X sat j lt. tried-line program schedule text bytes lines tried X
           (subst (λ (acts : List Action). Satisfies p (settled p s) (inputsOf p s (callsFrom noSamples acts)) X) (sym same) sat) j lt;
     }
+
+-- Request g. A conversion is done, or refused with each number at its place, exactly under its condition.
+pub convert-exactly : (program buffer : List ℕ) → ConvertsExactly program buffer (convertOf program buffer)
+convert-exactly = Conversions.convert-exactly
+
+-- With every schedule that the old program was legal with by the earlier rule, the converted one is accepted with the same schedule
+-- and hypercycle, and has the same streams and the same image.
+pub convert-keeps : (old schedule : List ℕ) (u : Pair) → LegalPairWith earlierFactor old schedule u → ConversionKeeps old schedule u
+convert-keeps = Conversions.convert-keeps
+
+-- What is converted is read by the rule of today, and converting it again changes nothing.
+pub convert-new : (old : List ℕ) (p : Program) → parseWith earlierFactor old ≡ accepted p →
+    (q : Program) × (parseProgram (rewrite old) ≡ accepted q) × (rewrite (rewrite old) ≡ rewrite old)
+convert-new = Conversions.convert-new
 
 -- A decimal by its value: digits, the fewest, that read back give the number; a word's have one minus sign before them exactly if
 -- it is negative.

@@ -1,4 +1,4 @@
-// Larderlate: compile, report, reset, cycle and tail. Each call takes any bytes and words, and its answer and what it leaves are the
+// Larderlate: compile, report, reset, cycle, tail and convert. Each call takes any bytes and words, and its answer and what it leaves are the
 // definition's. What they promise together is in proofs/Promises.antt.
 use model::Compiled;
 use model::Cycled;
@@ -10,6 +10,7 @@ ghost use Rattle.model.specs.Compile.{compiledOf, compileOf};
 ghost use Rattle.model.specs.Machine.{ranOf, cycledOf, resetOf, cycleOf};
 ghost use Rattle.model.specs.Outcome.{refused};
 ghost use Rattle.model.specs.Report.{reportedOf, reportOf};
+ghost use Rattle.model.specs.Rewrite.{convertOf};
 ghost use Rattle.model.specs.Tail.{tailIn, ReadsTail};
 ghost use Rattle.larderlate.specs.Code.{codeNumber, lengthIn, writtenIn, stackIn, lengthOfTail, startIn};
 
@@ -51,6 +52,14 @@ pub fn tail<'a>(image: &'a [u8], number: &mut u8) -> &'a [u8]
     ensures { λ r. ⌜ ReadsTail (now (image .entry)) (now (number .exit)) (now r) ⌝ }
 {
     tail::tail(image, number)
+}
+
+// Rewrites a program text of the earlier rule, with a sampling factor of 1, to the start of `result`, and yields its new length.
+pub fn convert(program: &[u8], result: &mut [u8]) -> Compiled
+    ensures answer { λ r. ⌜ compiledOf r ≡ convertOf (now (program .entry)) (now (result .entry)) .answer ⌝ }
+    ensures left { λ _. ⌜ now (result .exit) ≡ convertOf (now (program .entry)) (now (result .entry)) .left ⌝ }
+{
+    converter::convert(program, &mut result[..])
 }
 
 // A refusal as one number.
@@ -176,4 +185,13 @@ pub extern "C" fn larderlate_tail(image: &[u8], start: &mut usize) -> u64
     }
     *start = image.len() - bytes.len();
     bytes.len() as u64
+}
+
+#[no_mangle]
+pub extern "C" fn larderlate_convert(program: &[u8], result: &mut [u8]) -> u64
+    ensures answer { λ r. ⌜ r ≡ codeNumber (convertOf (now (program .entry)) (now (result .entry)) .answer) ⌝ }
+    ensures left { λ _. ⌜ now (result .exit) ≡ convertOf (now (program .entry)) (now (result .entry)) .left ⌝ }
+{
+    let converted = convert(program, &mut result[..]);
+    code_of_compiled(converted)
 }

@@ -7,11 +7,11 @@ use mathlib.Core.Path.{_≡_, refl, _∙_}
 use Rattle.model.specs.Accepted.{Multiple}
 use Rattle.model.specs.Compile.{shortEnough, Pair, pairOf}
 use Rattle.model.specs.Conditions.{ShortEnough, DeclaredAndRated, LegalRates, LegalPlaces, LegalPair}
-use Rattle.model.specs.Grammar.{LegalProgram, LegalSchedule}
+use Rattle.model.specs.Grammar.{LegalWith, LegalProgram, LegalSchedule}
 use Rattle.model.specs.Latency.{timely}
 use Rattle.model.specs.Load.{loaded}
 use Rattle.model.specs.Outcome.{Outcome, accepted, refused, fault, _▷_, Parsed}
-use Rattle.model.specs.Program.{Program, empty, parseProgram}
+use Rattle.model.specs.Program.{leastFactor, Program, empty, parseWith, parseProgram}
 use Rattle.model.specs.Rates.{declaredAndRated, hypercycle, linked}
 use Rattle.model.specs.Reads.{met}
 use Rattle.model.specs.Refusals.{RefusedAt}
@@ -32,12 +32,15 @@ use Rattle.model.proofs.Judged.{
 use Rattle.model.proofs.JudgedPuts.{PlacedFault, placed-judged}
 use Rattle.model.proofs.JudgedRuns.{met-judged, loaded-judged, timely-judged}
 use Rattle.model.proofs.Outcomes.{accepted-then, refused-then}
-use Rattle.model.proofs.Parses.{program-legal, schedule-legal}
-use Rattle.model.proofs.Stopped.{program-stops, schedule-stops}
+use Rattle.model.proofs.Parses.{with-legal, schedule-legal}
+use Rattle.model.proofs.Stopped.{with-stops, schedule-stops}
 
 -- 2 to 6.
-program-judged : (text : List ℕ) → Judged (LegalProgram text) (Stops text 0 0 empty) (parseProgram text)
-program-judged text = record { accepts = program-legal text; refuses = program-stops text }
+pub text-judged : (least : ℕ) (text : List ℕ) → Judged (LegalWith least text) (Stops least text 0 0 empty) (parseWith least text)
+text-judged least text = record { accepts = with-legal least text; refuses = with-stops least text }
+
+program-judged : (text : List ℕ) → Judged (LegalProgram text) (Stops leastFactor text 0 0 empty) (parseProgram text)
+program-judged text = text-judged leastFactor text
 
 -- 11.
 schedule-judged : (text : List ℕ) →

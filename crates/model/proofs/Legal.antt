@@ -11,6 +11,7 @@ use Rattle.model.specs.Command.{commandAt}
 use Rattle.model.specs.Image.{exprCode, signalCode, codes, joined}
 use Rattle.model.specs.Outcome.{accepted}
 use Rattle.model.specs.Program.{
+  leastFactor,
   Read,
   Expr,
   Body,
@@ -48,7 +49,7 @@ abbrev pub SpellsBody : List ℕ → Signal → Body → Type 0
 SpellsBody text x input = commandAt text (x .place) ≡ Command.Input (x .period) (x .initial)
 SpellsBody text x (equation weight e) =
     (commandAt text (x .place) ≡ Command.Equation (x .period) (x .initial) weight) × (next : ℕ) ×
-    Spells text (x .place + inProgram 0x11) e next × (depth e ≤ 16)
+    Spells leastFactor text (x .place + inProgram 0x11) e next × (depth e ≤ 16)
 
 abbrev pub SpellsSignal : List ℕ → Signal → Type 0
 SpellsSignal text x = SpellsBody text x (x .body)
@@ -82,19 +83,19 @@ read-width LastWhen = omega arith
 read-width Current = omega arith
 
 module _ {text : List ℕ} where
-  pub expr-code : {at n : ℕ} {e : Expr} → Spells text at e n → at + length (exprCode e) ≤ n
+  pub expr-code : {at n : ℕ} {e : Expr} → Spells leastFactor text at e n → at + length (exprCode e) ≤ n
   unfolding exprCode wordBytes fourBytes
   expr-code (Spells.constants e) = omega arith
-  expr-code (Spells.reads {kind = kind} e) = omega (arith, read-width kind)
+  expr-code (Spells.reads {kind = kind} e t) = omega (arith, read-width kind)
   expr-code (Spells.two e u v) = simp length-append (omega (arith, expr-code u, expr-code v))
   expr-code (Spells.one e u) = simp length-append (omega (arith, expr-code u))
   expr-code (Spells.three e u v w) = simp length-append (omega (arith, expr-code u, expr-code v, expr-code w))
 
   -- The reads of an expression stand where they say.
-  expr-reads : {at n : ℕ} {e : Expr} → Spells text at e n → All (SpellsRead text) (readsOf e)
+  expr-reads : {at n : ℕ} {e : Expr} → Spells leastFactor text at e n → All (SpellsRead text) (readsOf e)
   unfolding readsOf
   expr-reads (Spells.constants e) = tt
-  expr-reads (Spells.reads e) = (e, tt)
+  expr-reads (Spells.reads e t) = (e, tt)
   expr-reads (Spells.two {x = x} {y = y} e u v) =
       all-append (SpellsRead text) (readsOf x) (readsOf y) (expr-reads u) (expr-reads v)
   expr-reads (Spells.one e u) = expr-reads u
@@ -103,9 +104,9 @@ module _ {text : List ℕ} where
       (all-append (SpellsRead text) (readsOf y) (readsOf z) (expr-reads v) (expr-reads w))
 
   -- Constants are words.
-  expr-words : Bytes text → {at n : ℕ} {e : Expr} → Spells text at e n → Words e
+  expr-words : Bytes text → {at n : ℕ} {e : Expr} → Spells leastFactor text at e n → Words e
   expr-words b (Spells.constants {at = at} e) = rw (command-sound text at _ e .0) (word-fits text (at + 1) b)
-  expr-words b (Spells.reads e) = tt
+  expr-words b (Spells.reads e t) = tt
   expr-words b (Spells.two e u v) = (expr-words b u, expr-words b v)
   expr-words b (Spells.one e u) = expr-words b u
   expr-words b (Spells.three e u v w) = (expr-words b u, expr-words b v, expr-words b w)
@@ -156,7 +157,7 @@ module _ {text : List ℕ} where
   links-after (SpellsLinks.ends e) = omega arith
   links-after (SpellsLinks.link e le r) = omega (arith, links-after r)
 
-  one-legal : {at label next given : ℕ} {p q : Program} → DeclaresOne text at label p next given q → Legal text at p →
+  one-legal : {at label next given : ℕ} {p q : Program} → DeclaresOne leastFactor text at label p next given q → Legal text at p →
       Legal text next q
   one-legal (DeclaresOne.inputs room e) l = more-signals _ l room e (omega arith)
   one-legal (DeclaresOne.equations room e u d) l =
@@ -174,7 +175,7 @@ module _ {text : List ℕ} where
         code = omega (arith, l .code);
       }
 
-  declares-legal : {at label end : ℕ} {p q : Program} → Declares text at label p end q → Legal text at p →
+  declares-legal : {at label end : ℕ} {p q : Program} → Declares leastFactor text at label p end q → Legal text at p →
       Legal text end q × (length text ≡ end + 1)
   declares-legal (Declares.ends {at = at} e le) l = (l, omega (arith, command-sound text at _ e))
   declares-legal (Declares.onward d r) l = declares-legal r (one-legal d l)
@@ -194,7 +195,7 @@ module _ {text : List ℕ} where
 pub legal : (text : List ℕ) (p : Program) → parseProgram text ≡ accepted p →
     (end : ℕ) × Legal text end p × (length text ≡ end + 1)
 legal text p e =
-    let d = declared text p e in
+    let d = declared leastFactor text p e in
     let l = declares-legal (d .1) none in
     (d .0, l .0, l .1)
 
@@ -203,7 +204,7 @@ abbrev Labelled : Signal → Type 0
 Labelled x = x .label < 65536
 
 module _ {text : List ℕ} (bytes : Bytes text) where
-  one-labelled : {at label next given : ℕ} {p q : Program} → DeclaresOne text at label p next given q → label < 65536 →
+  one-labelled : {at label next given : ℕ} {p q : Program} → DeclaresOne leastFactor text at label p next given q → label < 65536 →
       All Labelled (p .signals) → (given < 65536) × All Labelled (q .signals)
   one-labelled (DeclaresOne.inputs {p = p} room e) lt l = (omega arith, all-append Labelled (p .signals) (_ ∷ []) l (lt, tt))
   one-labelled (DeclaresOne.equations {p = p} room e u d) lt l =
@@ -213,7 +214,7 @@ module _ {text : List ℕ} (bytes : Bytes text) where
   one-labelled (DeclaresOne.tags {at = at} e more s) lt l =
       (rw (command-sound text at _ e .0) (two-fits text (at + 1) bytes), l)
 
-  declares-labelled : {at label end : ℕ} {p q : Program} → Declares text at label p end q → label < 65536 →
+  declares-labelled : {at label end : ℕ} {p q : Program} → Declares leastFactor text at label p end q → label < 65536 →
       All Labelled (p .signals) → All Labelled (q .signals)
   declares-labelled (Declares.ends e le) lt l = l
   declares-labelled (Declares.onward d r) lt l = let h = one-labelled d lt l in declares-labelled r (h .0) (h .1)
@@ -221,7 +222,7 @@ module _ {text : List ℕ} (bytes : Bytes text) where
 pub signal-label : (text : List ℕ) (p : Program) → parseProgram text ≡ accepted p → Bytes text → (x : ℕ) → x < count p →
     signalAt p x .label < 65536
 signal-label text p e bytes x lt =
-    all-at Labelled (p .signals) noSignal (declares-labelled bytes (declared text p e .1) (omega arith) tt) x lt
+    all-at Labelled (p .signals) noSignal (declares-labelled bytes (declared leastFactor text p e .1) (omega arith) tt) x lt
 
 -- The links of a chain stand one after another.
 module _ {text : List ℕ} where

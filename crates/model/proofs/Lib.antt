@@ -13,6 +13,7 @@ pub mod Alike
 pub mod Window
 pub mod Bounds
 pub mod Stretches
+pub mod Left
 pub mod Runs
 pub mod Tails
 pub mod Counts
@@ -39,6 +40,10 @@ pub mod Judged
 pub mod JudgedPuts
 pub mod JudgedRuns
 pub mod Exact
+pub mod Converted
+pub mod Rewritten
+pub mod Unchanged
+pub mod Conversions
 pub mod Places
 pub mod Decimals
 pub mod Scripts

@@ -15,12 +15,14 @@ use Rattle.model.specs.Grammar.{
   SpellsLinks,
   DeclaresOne,
   Declares,
+  LegalWith,
   LegalProgram,
   SpellsPuts,
   LegalSchedule,
 }
 use Rattle.model.specs.Outcome.{Outcome, accepted, Parsed, parsed}
 use Rattle.model.specs.Program.{
+  leastFactor,
   Expr,
   Link,
   Program,
@@ -31,6 +33,7 @@ use Rattle.model.specs.Program.{
   declare,
   commandHere,
   parseCommands,
+  parseWith,
   parseProgram,
 }
 use Rattle.model.specs.Schedule.{Put, scheduleCommand, parsePuts, parseSchedule}
@@ -51,25 +54,25 @@ pub one-below : (m d : ℕ) → suc m ≤ d → (e : ℕ) × (d ≡ suc e) × (m
 one-below m zero le = absurd (omega arith)
 one-below m (suc e) le = (e, refl, omega arith)
 
-module _ (text : List ℕ) where
+module _ (least : ℕ) (text : List ℕ) where
   -- The operator of an expression is judged fit before its operands are read.
   pub expr-step : (d at : ℕ) (c : Command) → commandAt text at ≡ c → operatorHere text at (keywordAt text at) ≡ accepted tt →
-      parseExpr (suc d) text at ≡ node (λ n. parseExpr d text n) text at c
+      parseExpr least (suc d) text at ≡ node least (λ n. parseExpr least d text n) text at c
   unfolding parseExpr
-  expr-step d at c e here = accepted-then _ _ tt here ∙ ap (node (λ n. parseExpr d text n) text at) e
+  expr-step d at c e here = accepted-then _ _ tt here ∙ ap (node least (λ n. parseExpr least d text n) text at) e
 
   -- A command is judged before its operands are read.
   pub command-step : (left at label : ℕ) (p : Program) (c : Command) → commandAt text at ≡ c →
       commandHere text at p (keywordAt text at) ≡ accepted tt →
-      parseCommands (suc left) text at label p ≡ declare (λ n l q. parseCommands left text n l q) text at label p c
+      parseCommands least (suc left) text at label p ≡ declare least (λ n l q. parseCommands least left text n l q) text at label p c
   unfolding parseCommands
   command-step left at label p c e here =
-      accepted-then _ _ tt here ∙ ap (declare (λ n l q. parseCommands left text n l q) text at label p) e
+      accepted-then _ _ tt here ∙ ap (declare least (λ n l q. parseCommands least left text n l q) text at label p) e
 
-module _ {text : List ℕ} where
-  pub spells-after : {at n : ℕ} {e : Expr} → Spells text at e n → at < n
+module _ {least : ℕ} {text : List ℕ} where
+  pub spells-after : {at n : ℕ} {e : Expr} → Spells least text at e n → at < n
   spells-after (Spells.constants e) = omega arith
-  spells-after (Spells.reads {kind = kind} e) = width kind
+  spells-after (Spells.reads {kind = kind} e t) = width kind
     where
       width : {a : ℕ} (k : Kind) → a < a + readWidth k
       width Now = omega arith
@@ -82,33 +85,35 @@ module _ {text : List ℕ} where
   spells-after (Spells.three e u v w) = omega (arith, spells-after u, spells-after v, spells-after w)
 
   -- An expression that is spelled, and nests at most d deep, is read.
-  pub parse-expr : {at n : ℕ} {e : Expr} (d : ℕ) → Spells text at e n → depth e ≤ d → parseExpr d text at ≡ parsed e n
+  pub parse-expr : {at n : ℕ} {e : Expr} (d : ℕ) → Spells least text at e n → depth e ≤ d → parseExpr least d text at ≡ parsed e n
   unfolding node
   parse-expr d (Spells.constants {at = at} {w = w} e) le =
       let q = one-below 0 d le in
-      rw (q .1) (expr-step text (q .0) at _ e (rw (keyword-of text at _ e)))
-  parse-expr d (Spells.reads {at = at} e) le =
+      rw (q .1) (expr-step least text (q .0) at _ e (rw (keyword-of text at _ e)))
+  parse-expr d (Spells.reads {at = at} e t) le =
       let q = one-below 0 d le in
-      rw (q .1) (expr-step text (q .0) at _ e (rw (keyword-of text at _ e)))
+      rw (q .1)
+      (expr-step least text (q .0) at _ e (rw (keyword-of text at _ e)) ∙ accepted-then _ _ tt (true-provided _ 5 at t))
   parse-expr d (Spells.two {at = at} {x = x} {y = y} e u v) le =
       let q = one-below _ d le in
       rw (q .1)
-      (expr-step text (q .0) at _ e (rw (keyword-of text at _ e)) ∙
+      (expr-step least text (q .0) at _ e (rw (keyword-of text at _ e)) ∙
       accepted-then _ _ _ (parse-expr (q .0) u (omega (arith, q .2))) ∙
       accepted-then _ _ _ (parse-expr (q .0) v (omega (arith, q .2))))
   parse-expr d (Spells.one {at = at} e u) le =
       let q = one-below _ d le in
       rw (q .1)
-      (expr-step text (q .0) at _ e (rw (keyword-of text at _ e)) ∙
+      (expr-step least text (q .0) at _ e (rw (keyword-of text at _ e)) ∙
       accepted-then _ _ _ (parse-expr (q .0) u (omega (arith, q .2))))
   parse-expr d (Spells.three {at = at} e u v w) le =
       let q = one-below _ d le in
       rw (q .1)
-      (expr-step text (q .0) at _ e (rw (keyword-of text at _ e)) ∙
+      (expr-step least text (q .0) at _ e (rw (keyword-of text at _ e)) ∙
       accepted-then _ _ _ (parse-expr (q .0) u (omega (arith, q .2))) ∙
       accepted-then _ _ _ (parse-expr (q .0) v (omega (arith, q .2))) ∙
       accepted-then _ _ _ (parse-expr (q .0) w (omega (arith, q .2))))
 
+module _ {text : List ℕ} where
   -- LINKs that are spelled are read.
   pub parse-links : {at n : ℕ} {ls : List Link} (room : ℕ) (links : List Link) → SpellsLinks text at ls n → length ls ≤ room →
       parseLinks room text at links ≡ parsed (links ++ ls) n
@@ -123,61 +128,63 @@ module _ {text : List ℕ} where
       parse-links room (links ++ (here ∷ [])) r (omega arith) ∙
       rw (append-assoc links (here ∷ []) ls))
 
+module _ {least : ℕ} {text : List ℕ} where
   -- A legal command is read, and reading goes on after it: `left` is enough for the bytes that are left.
-  command-onward : {at label next given : ℕ} {p q : Program} → DeclaresOne text at label p next given q → (left : ℕ) →
+  command-onward : {at label next given : ℕ} {p q : Program} → DeclaresOne least text at label p next given q → (left : ℕ) →
       (at < length text) × (at < next) ×
-      (parseCommands (suc left) text at label p ≡ parseCommands left text next given q)
+      (parseCommands least (suc left) text at label p ≡ parseCommands least left text next given q)
   unfolding declare
   command-onward (DeclaresOne.inputs {at = at} {label = label} {p = p} room e) left = (
     omega (arith, command-sound text at _ e .3),
     omega arith,
-    command-step text left at label p _ e (rw (keyword-of text at _ e) (true-provided _ 4 at (lt-ltb _ _ room))),
+    command-step least text left at label p _ e (rw (keyword-of text at _ e) (true-provided _ 4 at (lt-ltb _ _ room))),
   )
   command-onward (DeclaresOne.equations {at = at} {label = label} {p = p} room e u d) left = (
     omega (arith, command-sound text at _ e .3),
     omega (arith, spells-after u),
-    command-step text left at label p _ e (rw (keyword-of text at _ e) (true-provided _ 4 at (lt-ltb _ _ room))) ∙
+    command-step least text left at label p _ e (rw (keyword-of text at _ e) (true-provided _ 4 at (lt-ltb _ _ room))) ∙
         accepted-then _ _ _ (parse-expr 16 u d),
   )
   command-onward (DeclaresOne.chains {at = at} {label = label} {p = p} room e u several few) left = (
     omega (arith, command-sound text at _ e),
     omega (arith, links-end u),
-    command-step text left at label p _ e (rw (keyword-of text at _ e) (true-provided _ 4 at (lt-ltb _ _ room))) ∙
+    command-step least text left at label p _ e (rw (keyword-of text at _ e) (true-provided _ 4 at (lt-ltb _ _ room))) ∙
         accepted-then _ _ _ (parse-links 16 [] u few) ∙
         accepted-then _ _ tt (true-provided _ 5 at (le-leb _ _ several)),
   )
   command-onward (DeclaresOne.caps {at = at} {label = label} {p = p} room e) left = (
     omega (arith, command-sound text at _ e),
     omega arith,
-    command-step text left at label p _ e (rw (keyword-of text at _ e, room) (true-provided true 5 at refl)),
+    command-step least text left at label p _ e (rw (keyword-of text at _ e, room) (true-provided true 5 at refl)),
   )
   command-onward (DeclaresOne.tags {at = at} {label = label} {p = p} e more s) left = (
     omega (arith, more),
     omega arith,
-    command-step text left at label p _ e (rw (keyword-of text at _ e)) ∙
+    command-step least text left at label p _ e (rw (keyword-of text at _ e)) ∙
         accepted-then _ _ tt (true-provided _ _ _ (lt-ltb _ _ more)) ∙
         accepted-then _ _ tt (true-provided _ _ _ (signal-is _ .1 s)),
   )
 
   pub parse-onward : {at label next given : ℕ} {p q : Program} (o : Outcome Program) →
-      DeclaresOne text at label p next given q →
-      ((k : ℕ) → length text ≤ next + k → parseCommands k text next given q ≡ o) → (left : ℕ) → length text ≤ at + left →
-      parseCommands left text at label p ≡ o
+      DeclaresOne least text at label p next given q →
+      ((k : ℕ) → length text ≤ next + k → parseCommands least k text next given q ≡ o) → (left : ℕ) → length text ≤ at + left →
+      parseCommands least left text at label p ≡ o
   parse-onward o d rest zero enough = let h = command-onward d zero in absurd (omega (arith, h .0))
   parse-onward o d rest (suc left) enough =
       let h = command-onward d left in h .2 ∙ rest left (omega (arith, h .1))
 
   -- Commands that declare a program are read.
-  parse-commands : {at label end : ℕ} {p q : Program} → Declares text at label p end q → (left : ℕ) →
-      length text ≤ at + left → parseCommands left text at label p ≡ accepted q
+  parse-commands : {at label end : ℕ} {p q : Program} → Declares least text at label p end q → (left : ℕ) →
+      length text ≤ at + left → parseCommands least left text at label p ≡ accepted q
   unfolding declare
   parse-commands (Declares.ends {at = at} {label = label} {p = p} e le) left enough =
       let q = one-below 0 left (omega (arith, command-sound text at _ e)) in
       rw (q .1)
-      (command-step text (q .0) at label p _ e (rw (keyword-of text at _ e)) ∙
+      (command-step least text (q .0) at label p _ e (rw (keyword-of text at _ e)) ∙
       accepted-then _ _ tt (true-provided _ 6 (at + 1) (le-leb _ _ le)))
   parse-commands (Declares.onward d r) left enough = parse-onward _ d (λ k l. parse-commands r k l) left enough
 
+module _ {text : List ℕ} where
   -- PUTs that are spelled are read.
   parse-puts : {at end : ℕ} {qs : List Put} (left : ℕ) (puts : List Put) → SpellsPuts text at qs end →
       length text ≤ at + left → parsePuts left text at puts ≡ parsed (puts ++ qs) end
@@ -197,9 +204,12 @@ module _ {text : List ℕ} where
       rw (append-assoc puts (here ∷ []) qs))
 
 -- Reading accepts the legal program texts and no others.
+pub with-legal : (least : ℕ) (text : List ℕ) (p : Program) → (parseWith least text ≡ accepted p) ↔ LegalWith least text p
+unfolding parseWith
+with-legal least text p = (declared least text p, λ l. parse-commands (l .1) (length text) (omega arith))
+
 pub program-legal : (text : List ℕ) (p : Program) → (parseProgram text ≡ accepted p) ↔ LegalProgram text p
-unfolding parseProgram
-program-legal text p = (declared text p, λ l. parse-commands (l .1) (length text) (omega arith))
+program-legal = with-legal leastFactor
 
 -- Reading accepts the legal schedule texts and no others.
 pub schedule-legal : (text : List ℕ) (puts : Parsed (List Put)) → (parseSchedule text ≡ accepted puts) ↔ LegalSchedule text puts

@@ -28,7 +28,7 @@ use Rattle.model.specs.Machine.{
   cycleOf,
 }
 use Rattle.model.specs.Outcome.{Outcome, accepted, refused, _▷_, provided}
-use Rattle.model.specs.Program.{Program, Read, Chain}
+use Rattle.model.specs.Program.{leastFactor, Program, Read, Chain}
 use Rattle.model.specs.Refusals.{RateFault, ChainFault, PutFault, MetFault, LoadFault, RefusedAt}
 use Rattle.model.specs.Schedule.{Schedule, Put}
 use Rattle.model.specs.Stops.{IsOperator, StopsExpr, StopsLinks, Stops, StopsPuts}
@@ -63,12 +63,13 @@ operator-present IsOperator.choose = tt
 
 -- 2 to 6 and 11: a text stops within it or at its end.
 module _ (text : List ℕ) where
-  expr-inside : {d at n x : ℕ} → StopsExpr text d at n x → x ≤ length text
+  expr-inside : {d at n x : ℕ} → StopsExpr leastFactor text d at n x → x ≤ length text
   expr-inside (StopsExpr.early le) = omega arith
   expr-inside (StopsExpr.unknown lt u) = omega arith
   expr-inside (StopsExpr.deep {at = at} i) = omega (arith, keyword-inside text at (operator-present i))
   expr-inside (StopsExpr.cut i e) = omega arith
   expr-inside (StopsExpr.outside {at = at} i e) = omega (arith, keyword-inside text at (operator-present i))
+  expr-inside (StopsExpr.single {at = at} e t) = omega (arith, command-sound text at _ e .1)
   expr-inside (StopsExpr.operand h lt u s) = expr-inside s
 
   links-inside : {room at n x : ℕ} → at ≤ length text → StopsLinks text room at n x → x ≤ length text
@@ -76,7 +77,7 @@ module _ (text : List ℕ) where
   links-inside le (StopsLinks.cut e lt) = omega arith
   links-inside le (StopsLinks.link e next s) = links-inside next s
 
-  commands-inside : {at label n x : ℕ} {p : Program} → Stops text at label p n x → x ≤ length text
+  commands-inside : {at label n x : ℕ} {p : Program} → Stops leastFactor text at label p n x → x ≤ length text
   commands-inside (Stops.onward d s) = commands-inside s
   commands-inside (Stops.early le) = omega arith
   commands-inside (Stops.unknown lt u) = omega arith
@@ -95,7 +96,7 @@ module _ (text : List ℕ) where
   puts-inside : {at x : ℕ} → StopsPuts text at x → x ≤ length text
   puts-inside (StopsPuts.onward e s) = puts-inside s
   puts-inside (StopsPuts.early e) = omega arith
-  puts-inside (StopsPuts.unknown {at = at} e) = omega (arith, unknown-inside text at e)
+  puts-inside (StopsPuts.unknown {at = at} e) = omega (arith, unknown-inside leastFactor text at e)
   puts-inside (StopsPuts.trailing e lt) = omega arith
 
   -- 12, 13: the PUTs of a legal text stand in it.

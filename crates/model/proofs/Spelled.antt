@@ -31,7 +31,8 @@ use Rattle.model.specs.Program.{
   isUnlimited,
   commandHere,
   parseCommands,
-  parseProgram,
+  parseWith,
+  isAllowed,
 }
 use Rattle.model.specs.Stops.{HasRoom}
 use Rattle.model.specs.Width.{inProgram}
@@ -117,13 +118,13 @@ module _ (p : Program) where
   here-room text at Keyword.Negate e = absurd (accepted≢refused _ tt _ e refl)
   here-room text at Keyword.If e = absurd (accepted≢refused _ tt _ e refl)
 
-module _ (text : List ℕ) where
+module _ (least : ℕ) (text : List ℕ) where
   -- An expression read at `at`, at most d deep.
   abbrev Reads : ℕ → ℕ → Parsed Expr → Type 0
-  Reads d at e = Spells text at (e .value) (e .next) × (depth (e .value) ≤ d)
+  Reads d at e = Spells least text at (e .value) (e .next) × (depth (e .value) ≤ d)
 
   reads-node : (d : ℕ) (sub : ℕ → Outcome (Parsed Expr)) → ((a : ℕ) → Holds (Reads d a) (sub a)) → (at : ℕ) (c : Command) →
-      commandAt text at ≡ c → Holds (Reads (suc d) at) (node sub text at c)
+      commandAt text at ≡ c → Holds (Reads (suc d) at) (node least sub text at c)
   unfolding node
   reads-node d sub h at Command.EndsEarly e = tt
   reads-node d sub h at Command.Unknown e = tt
@@ -136,7 +137,8 @@ module _ (text : List ℕ) where
   reads-node d sub h at (Command.Cap n) e = tt
   reads-node d sub h at (Command.Tag label) e = tt
   reads-node d sub h at (Command.Constant w) e = (Spells.constants e, omega arith)
-  reads-node d sub h at (Command.Read kind x) e = (Spells.reads e, omega arith)
+  reads-node d sub h at (Command.Read kind x) e =
+      holds-provided (Reads (suc d) at) (isAllowed least kind x) 5 at _ (λ t. (Spells.reads e t, omega arith))
   reads-node d sub h at (Command.Binary operator) e =
       holds-then (Reads d (at + 1)) (Reads (suc d) at) (sub (at + 1)) _ (h (at + 1)) (λ x u.
       holds-then (Reads d (x .next)) (Reads (suc d) at) (sub (x .next)) _ (h (x .next)) (λ y v.
@@ -149,7 +151,7 @@ module _ (text : List ℕ) where
       holds-then (Reads d (y .next)) (Reads (suc d) at) (sub (y .next)) _ (h (y .next)) (λ z w.
       (Spells.three e (u .0) (v .0) (w .0), omega arith))))
 
-  reads-expr : (d at : ℕ) → Holds (Reads d at) (parseExpr d text at)
+  reads-expr : (d at : ℕ) → Holds (Reads d at) (parseExpr least d text at)
   unfolding parseExpr
   reads-expr zero at =
       let here = operatorHere text at (keywordAt text at) in
@@ -157,12 +159,12 @@ module _ (text : List ℕ) where
   reads-expr (suc d) at =
       let here = operatorHere text at (keywordAt text at) in
       holds-then (λ u. here ≡ accepted u) (Reads (suc d) at) here _ (value-holds here) (λ u e.
-      reads-node d (λ n. parseExpr d text n) (λ a. reads-expr d a) at (commandAt text at) refl)
+      reads-node d (λ n. parseExpr least d text n) (λ a. reads-expr d a) at (commandAt text at) refl)
 
   -- An accepted expression is spelled, and nests at most d deep.
-  pub spelled : (d at : ℕ) (e : Expr) (next : ℕ) → parseExpr d text at ≡ parsed e next → Spells text at e next × (depth e ≤ d)
+  pub spelled : (d at : ℕ) (e : Expr) (next : ℕ) → parseExpr least d text at ≡ parsed e next → Spells least text at e next × (depth e ≤ d)
   spelled d at e next q =
-      holds-value (Reads d at) (parseExpr d text at) (record { value = e; next = next }) (reads-expr d at) q
+      holds-value (Reads d at) (parseExpr least d text at) (record { value = e; next = next }) (reads-expr d at) q
 
   -- LINKs read at `at` after those of `links`, at most `room`.
   abbrev ReadsLinks : ℕ → ℕ → List Link → Parsed (List Link) → Type 0
@@ -211,7 +213,7 @@ module _ (text : List ℕ) where
       (rw (h .1) (h .2), rw (h .1) (h .3))
 
   abbrev Ended : ℕ → ℕ → Program → Program → Type 0
-  Ended at label p q = (end : ℕ) × Declares text at label p end q
+  Ended at label p q = (end : ℕ) × Declares least text at label p end q
 
   -- The commands after this one are read by `next`.
   module _
@@ -220,12 +222,12 @@ module _ (text : List ℕ) where
       (at label : ℕ)
       (p : Program)
     where
-      onward : {a l : ℕ} {r : Program} → DeclaresOne text at label p a l r → Holds (Ended at label p) (next a l r)
+      onward : {a l : ℕ} {r : Program} → DeclaresOne least text at label p a l r → Holds (Ended at label p) (next a l r)
       onward {a} {l} {r} d =
           holds-map (Ended a l r) (Ended at label p) (next a l r) (λ q x. (x .0, Declares.onward d (x .1))) (h a l r)
 
       declares : (c : Command) → commandAt text at ≡ c → HasRoom p (keywordAt text at) →
-          Holds (Ended at label p) (declare next text at label p c)
+          Holds (Ended at label p) (declare least next text at label p c)
       unfolding declare
       declares Command.EndsEarly e room = tt
       declares Command.Unknown e room = tt
@@ -236,7 +238,7 @@ module _ (text : List ℕ) where
       declares (Command.Input period initial) e room =
           onward (DeclaresOne.inputs (room-of p _ (keyword-of text at _ e) room) e)
       declares (Command.Equation period initial weight) e room =
-          holds-then (Reads 16 (at + inProgram 0x11)) (Ended at label p) (parseExpr 16 text (at + inProgram 0x11)) _
+          holds-then (Reads 16 (at + inProgram 0x11)) (Ended at label p) (parseExpr least 16 text (at + inProgram 0x11)) _
           (reads-expr 16 (at + inProgram 0x11)) (λ x u.
           onward (DeclaresOne.equations (room-of p _ (keyword-of text at _ e) room) e (u .0) (u .1)))
       declares (Command.Latency mode bound) e room =
@@ -259,17 +261,17 @@ module _ (text : List ℕ) where
       declares Command.Negate e room = tt
       declares Command.If e room = tt
 
-  declares-commands : (left at label : ℕ) (p : Program) → Holds (Ended at label p) (parseCommands left text at label p)
+  declares-commands : (left at label : ℕ) (p : Program) → Holds (Ended at label p) (parseCommands least left text at label p)
   unfolding parseCommands commandAt
   declares-commands zero at label p = tt
   declares-commands (suc left) at label p =
       let here = commandHere text at p (keywordAt text at) in
       holds-then (λ u. here ≡ accepted u) (Ended at label p) here _ (value-holds here) (λ u e.
-      declares (λ n l q. parseCommands left text n l q) (λ a l q. declares-commands left a l q) at label p (commandAt text at)
+      declares (λ n l q. parseCommands least left text n l q) (λ a l q. declares-commands left a l q) at label p (commandAt text at)
       refl (here-room p text at (keywordAt text at) e))
 
   -- An accepted text declares its program.
-  pub declared : (p : Program) → parseProgram text ≡ accepted p → (end : ℕ) × Declares text 0 0 empty end p
-  unfolding parseProgram
+  pub declared : (p : Program) → parseWith least text ≡ accepted p → (end : ℕ) × Declares least text 0 0 empty end p
+  unfolding parseWith
   declared p e =
-      holds-value (Ended 0 0 empty) (parseCommands (length text) text 0 0 empty) p (declares-commands (length text) 0 0 empty) e
+      holds-value (Ended 0 0 empty) (parseCommands least (length text) text 0 0 empty) p (declares-commands (length text) 0 0 empty) e

@@ -13,6 +13,7 @@ use Rattle.model.specs.Command.{operatorOf, keywordOf, keywordAt, comman
 use Rattle.model.specs.Grammar.{IsSignal, DeclaresOne}
 use Rattle.model.specs.Outcome.{Outcome, accepted, refused, refuse, fault, _▷_, provided, Parsed, parsed}
 use Rattle.model.specs.Program.{
+  leastFactor,
   Expr,
   Link,
   Program,
@@ -30,7 +31,8 @@ use Rattle.model.specs.Program.{
   isUnlimited,
   commandHere,
   parseCommands,
-  parseProgram,
+  parseWith,
+  isAllowed,
 }
 use Rattle.model.specs.Schedule.{Put, scheduleCommandAt, scheduleCommand, parsePuts, parseSchedule}
 use Rattle.model.specs.Stops.{
@@ -206,10 +208,10 @@ operator-is IsOperator.choose = tt
 not-operator : {k : Keyword} (j : Keyword) → k ≡ j → (Operator j → ⊥) → ¬ IsOperator k
 not-operator j e h i = h (subst Operator e (operator-is i))
 
-module _ (text : List ℕ) where
+module _ (least : ℕ) (text : List ℕ) where
   -- 2 and 3 at an operator.
   here-stops : (d at : ℕ) (k : Keyword) → keywordAt text at ≡ k →
-      Refuses (StopsExpr text d at) (operatorHere text at k)
+      Refuses (StopsExpr least text d at) (operatorHere text at k)
   here-stops d at Keyword.Missing e = StopsExpr.early (missing-keyword text at e)
   here-stops d at Keyword.Unknown e = StopsExpr.unknown (keyword-inside text at (rw e tt)) (not-operator _ e (λ h. h))
   here-stops d at Keyword.End e = StopsExpr.unknown (keyword-inside text at (rw e tt)) (not-operator _ e (λ h. h))
@@ -245,17 +247,17 @@ module _ (text : List ℕ) where
   module _
       (d at : ℕ)
       (sub : ℕ → Outcome (Parsed Expr))
-      (stops : (a : ℕ) → Refuses (StopsExpr text d a) (sub a))
-      (spells : (a : ℕ) (x : Parsed Expr) → sub a ≡ accepted x → (k next : ℕ) → SpellsOperands text d (x .next) k next →
-      SpellsOperands text d a (suc k) next)
+      (stops : (a : ℕ) → Refuses (StopsExpr least text d a) (sub a))
+      (spells : (a : ℕ) (x : Parsed Expr) → sub a ≡ accepted x → (k next : ℕ) → SpellsOperands least text d (x .next) k next →
+      SpellsOperands least text d a (suc k) next)
     where
       operand-stops : {arity : ℕ} (k next : ℕ) → HasOperands (commandAt text at) arity → k < arity →
-          SpellsOperands text d (at + 1) k next → Refuses (StopsExpr text (suc d) at) (sub next)
+          SpellsOperands least text d (at + 1) k next → Refuses (StopsExpr least text (suc d) at) (sub next)
       operand-stops k next h lt o =
-          refuses-map (StopsExpr text d next) (StopsExpr text (suc d) at) (sub next) (λ n x s. StopsExpr.operand h lt o s) (stops next)
+          refuses-map (StopsExpr least text d next) (StopsExpr least text (suc d) at) (sub next) (λ n x s. StopsExpr.operand h lt o s) (stops next)
 
       node-stops : (c : Command) → commandAt text at ≡ c → IsOperator (keywordAt text at) →
-          Refuses (StopsExpr text (suc d) at) (node sub text at c)
+          Refuses (StopsExpr least text (suc d) at) (node least sub text at c)
       unfolding node
       node-stops Command.EndsEarly e i = StopsExpr.cut i e
       node-stops Command.Unknown e i = absurd (not-operator _ (keyword-of text at _ e) (λ h. h) i)
@@ -268,20 +270,22 @@ module _ (text : List ℕ) where
       node-stops (Command.Cap n) e i = absurd (not-operator _ (keyword-of text at _ e) (λ h. h) i)
       node-stops (Command.Tag label) e i = absurd (not-operator _ (keyword-of text at _ e) (λ h. h) i)
       node-stops (Command.Constant w) e i = tt
-      node-stops (Command.Read kind x) e i = tt
+      node-stops (Command.Read kind x) e i =
+          let R = StopsExpr least text (suc d) at in
+          refuses-then R (provided (isAllowed least kind x) 5 at) _ (refuses-provided R _ 5 at (λ t. StopsExpr.single e t)) (λ u t. tt)
       node-stops (Command.Binary operator) e i =
           let h : HasOperands (commandAt text at) 2 = rw e HasOperands.binary in
-          let R = StopsExpr text (suc d) at in
+          let R = StopsExpr least text (suc d) at in
           refuses-then R (sub (at + 1)) _ (operand-stops 0 (at + 1) h (omega arith) SpellsOperands.none) (λ x u.
           refuses-then R (sub (x .next)) _
           (operand-stops 1 (x .next) h (omega arith) (spells (at + 1) x u _ _ SpellsOperands.none)) (λ y v. tt))
       node-stops Command.Negate e i =
           let h : HasOperands (commandAt text at) 1 = rw e HasOperands.negate in
-          let R = StopsExpr text (suc d) at in
+          let R = StopsExpr least text (suc d) at in
           refuses-then R (sub (at + 1)) _ (operand-stops 0 (at + 1) h (omega arith) SpellsOperands.none) (λ x u. tt)
       node-stops Command.If e i =
           let h : HasOperands (commandAt text at) 3 = rw e HasOperands.choose in
-          let R = StopsExpr text (suc d) at in
+          let R = StopsExpr least text (suc d) at in
           refuses-then R (sub (at + 1)) _ (operand-stops 0 (at + 1) h (omega arith) SpellsOperands.none) (λ x u.
           refuses-then R (sub (x .next)) _
           (operand-stops 1 (x .next) h (omega arith) (spells (at + 1) x u _ _ SpellsOperands.none)) (λ y v.
@@ -290,18 +294,18 @@ module _ (text : List ℕ) where
           (λ z w. tt)))
 
   -- An expression that is refused stops.
-  expr-stops : (d at : ℕ) → Refuses (StopsExpr text d at) (parseExpr d text at)
+  expr-stops : (d at : ℕ) → Refuses (StopsExpr least text d at) (parseExpr least d text at)
   unfolding parseExpr
   expr-stops zero at =
-      refuses-then (StopsExpr text zero at) (operatorHere text at (keywordAt text at)) _
+      refuses-then (StopsExpr least text zero at) (operatorHere text at (keywordAt text at)) _
       (here-stops zero at (keywordAt text at) refl)
       (λ u e. StopsExpr.deep (here-operator at (keywordAt text at) e))
   expr-stops (suc d) at =
-      refuses-then (StopsExpr text (suc d) at) (operatorHere text at (keywordAt text at)) _
+      refuses-then (StopsExpr least text (suc d) at) (operatorHere text at (keywordAt text at)) _
       (here-stops (suc d) at (keywordAt text at) refl)
       (λ u e.
-      node-stops d at (λ n. parseExpr d text n) (λ a. expr-stops d a)
-      (λ a x q k next o. let s = spelled text d a (x .value) (x .next) q in SpellsOperands.more (s .0) (s .1) o)
+      node-stops d at (λ n. parseExpr least d text n) (λ a. expr-stops d a)
+      (λ a x q k next o. let s = spelled least text d a (x .value) (x .next) q in SpellsOperands.more (s .0) (s .1) o)
       (commandAt text at) refl (here-operator at (keywordAt text at) e))
 
   -- What stops is refused.
@@ -329,14 +333,14 @@ module _ (text : List ℕ) where
   other-here at Keyword.If h u = absurd (u IsOperator.choose)
 
   here-refused : (d at : ℕ) (f : Fault) → operatorHere text at (keywordAt text at) ≡ refused f →
-      parseExpr d text at ≡ refused f
+      parseExpr least d text at ≡ refused f
   unfolding parseExpr
   here-refused zero at f e = refused-then _ _ f e
   here-refused (suc d) at f e = refused-then _ _ f e
 
   operand-refused : {arity k next : ℕ} {c : Command} (d at : ℕ) (f : Fault) → HasOperands c arity → k < arity →
-      SpellsOperands text d (at + 1) k next → parseExpr d text next ≡ refused f →
-      node (λ n. parseExpr d text n) text at c ≡ refused f
+      SpellsOperands least text d (at + 1) k next → parseExpr least d text next ≡ refused f →
+      node least (λ n. parseExpr least d text n) text at c ≡ refused f
   unfolding node
   operand-refused d at f HasOperands.binary lt SpellsOperands.none e = refused-then _ _ f e
   operand-refused d at f HasOperands.binary lt (SpellsOperands.more u l SpellsOperands.none) e =
@@ -360,16 +364,18 @@ module _ (text : List ℕ) where
       go Command.Negate e HasOperands.negate = rw (keyword-of text at _ e) IsOperator.negate
       go Command.If e HasOperands.choose = rw (keyword-of text at _ e) IsOperator.choose
 
-  expr-refused : {d at n x : ℕ} → StopsExpr text d at n x → parseExpr d text at ≡ refused (fault n x)
+  expr-refused : {d at n x : ℕ} → StopsExpr least text d at n x → parseExpr least d text at ≡ refused (fault n x)
   unfolding parseExpr node
   expr-refused (StopsExpr.early {d = d} {at = at} le) = here-refused d at _ (rw (keyword-missing text at le))
   expr-refused (StopsExpr.unknown {d = d} {at = at} lt u) =
       here-refused d at _ (other-here at (keywordAt text at) (inside-keyword text at lt) u)
   expr-refused (StopsExpr.deep {at = at} i) = accepted-then _ _ tt (operator-here at i)
-  expr-refused (StopsExpr.cut {d = d} {at = at} i e) = expr-step text d at _ e (operator-here at i)
-  expr-refused (StopsExpr.outside {d = d} {at = at} i e) = expr-step text d at _ e (operator-here at i)
+  expr-refused (StopsExpr.cut {d = d} {at = at} i e) = expr-step least text d at _ e (operator-here at i)
+  expr-refused (StopsExpr.outside {d = d} {at = at} i e) = expr-step least text d at _ e (operator-here at i)
+  expr-refused (StopsExpr.single {d = d} {at = at} e t) =
+      expr-step least text d at _ e (rw (keyword-of text at _ e)) ∙ refused-then _ _ _ (false-provided _ 5 at t)
   expr-refused (StopsExpr.operand {d = d} {at = at} h lt o s) =
-      expr-step text d at _ refl (operator-here at (has-operator at h)) ∙ operand-refused d at _ h lt o (expr-refused s)
+      expr-step least text d at _ refl (operator-here at (has-operator at h)) ∙ operand-refused d at _ h lt o (expr-refused s)
 
   -- LINKs.
   links-stop : (room at : ℕ) (links : List Link) → Refuses (StopsLinks text room at) (parseLinks room text at links)
@@ -478,35 +484,35 @@ no-signal b u = go (isSignal b) refl
     go true e = absurd (u (signal-is b .0 e))
     go false e = e
 
-module _ (text : List ℕ) where
+module _ (least : ℕ) (text : List ℕ) where
   module _ (at label : ℕ) (p : Program) where
     -- 2, 3, then counts and second CAP.
-    unknown-stops : (k : Keyword) → keywordAt text at ≡ k → Present k → (Declaration k → ⊥) → Stops text at label p 3 at
+    unknown-stops : (k : Keyword) → keywordAt text at ≡ k → Present k → (Declaration k → ⊥) → Stops least text at label p 3 at
     unknown-stops k e h u = Stops.unknown (keyword-inside text at (subst Present (sym e) h)) (not-declaration k e u)
 
     many-stops : (k : Keyword) → keywordAt text at ≡ k → IsDeclaration k → ¬ (k ≡ Keyword.Cap) → ¬ RoomFor p k →
-        Stops text at label p 4 at
+        Stops least text at label p 4 at
     many-stops k e i u v =
         Stops.many (subst IsDeclaration (sym e) i) (λ q. u (sym e ∙ q)) (λ r. v (room-of p k e r))
 
-    command-here : (k : Keyword) → keywordAt text at ≡ k → Refuses (Stops text at label p) (commandHere text at p k)
+    command-here : (k : Keyword) → keywordAt text at ≡ k → Refuses (Stops least text at label p) (commandHere text at p k)
     command-here Keyword.Missing e = Stops.early (missing-keyword text at e)
     command-here Keyword.Unknown e = unknown-stops _ e tt (λ h. h)
     command-here Keyword.End e = tt
     command-here Keyword.Input e =
-        refuses-provided (Stops text at label p) _ 4 at (λ t.
+        refuses-provided (Stops least text at label p) _ 4 at (λ t.
         many-stops Keyword.Input e IsDeclaration.input (λ q. let z : _≡_ {A = ℕ} 0 1 = cc in omega arith) (λ r.
         omega (arith, ltb-false (count p) 64 t)))
     command-here Keyword.Equation e =
-        refuses-provided (Stops text at label p) _ 4 at (λ t.
+        refuses-provided (Stops least text at label p) _ 4 at (λ t.
         many-stops Keyword.Equation e IsDeclaration.equation (λ q. let z : _≡_ {A = ℕ} 0 1 = cc in omega arith) (λ r.
         omega (arith, ltb-false (count p) 64 t)))
     command-here Keyword.Latency e =
-        refuses-provided (Stops text at label p) _ 4 at (λ t.
+        refuses-provided (Stops least text at label p) _ 4 at (λ t.
         many-stops Keyword.Latency e IsDeclaration.latency (λ q. let z : _≡_ {A = ℕ} 0 1 = cc in omega arith) (λ r.
         omega (arith, ltb-false (length (p .chains)) 16 t)))
     command-here Keyword.Link e = unknown-stops _ e tt (λ h. h)
-    command-here Keyword.Cap e = refuses-provided (Stops text at label p) _ 5 at (λ t. Stops.second e (capped (p .cap) t))
+    command-here Keyword.Cap e = refuses-provided (Stops least text at label p) _ 5 at (λ t. Stops.second e (capped (p .cap) t))
     command-here Keyword.Tag e = tt
     command-here Keyword.Constant e = unknown-stops _ e tt (λ h. h)
     command-here (Keyword.Read kind) e = unknown-stops _ e tt (λ h. h)
@@ -525,46 +531,46 @@ module _ (text : List ℕ) where
     -- The command is fit; `next` reads on from any offset after it.
     module _
         (next : ℕ → ℕ → Program → Outcome Program)
-        (stops : (a l : ℕ) (q : Program) → at < a → Refuses (Stops text a l q) (next a l q))
+        (stops : (a l : ℕ) (q : Program) → at < a → Refuses (Stops least text a l q) (next a l q))
       where
-        onward : {a l : ℕ} {q : Program} → at < a → DeclaresOne text at label p a l q →
-            Refuses (Stops text at label p) (next a l q)
+        onward : {a l : ℕ} {q : Program} → at < a → DeclaresOne least text at label p a l q →
+            Refuses (Stops least text at label p) (next a l q)
         onward {a} {l} {q} lt d =
-            refuses-map (Stops text a l q) (Stops text at label p) (next a l q) (λ n x s. Stops.onward d s) (stops a l q lt)
+            refuses-map (Stops least text a l q) (Stops least text at label p) (next a l q) (λ n x s. Stops.onward d s) (stops a l q lt)
 
         never : (c : Command) (j : Keyword) → keywordAt text at ≡ j → (Declaration j → ⊥) → HasRoom p (keywordAt text at) →
-            Refuses (Stops text at label p) (declare next text at label p c)
+            Refuses (Stops least text at label p) (declare least next text at label p c)
         never c j e u r = absurd (not-declaration j e u (room-declaration r))
 
         declare-stops : (c : Command) → commandAt text at ≡ c → HasRoom p (keywordAt text at) →
-            Refuses (Stops text at label p) (declare next text at label p c)
+            Refuses (Stops least text at label p) (declare least next text at label p c)
         unfolding declare
         declare-stops Command.EndsEarly e r = Stops.cut r e
         declare-stops Command.Unknown e r = never Command.Unknown _ (keyword-of text at _ e) (λ h. h) r
         declare-stops Command.OutOfRange e r = Stops.outside r e
         declare-stops Command.End e r =
-            refuses-then (Stops text at label p) (provided (leb (length text) (at + 1)) 6 (at + 1)) _
-            (refuses-provided (Stops text at label p) _ 6 (at + 1) (λ t. Stops.trailing e (leb-false _ _ t))) (λ u t. tt)
+            refuses-then (Stops least text at label p) (provided (leb (length text) (at + 1)) 6 (at + 1)) _
+            (refuses-provided (Stops least text at label p) _ 6 (at + 1) (λ t. Stops.trailing e (leb-false _ _ t))) (λ u t. tt)
         declare-stops (Command.Input period initial) e r =
             onward (omega arith) (DeclaresOne.inputs (room-of p _ (keyword-of text at _ e) r) e)
         declare-stops (Command.Equation period initial weight) e r =
             let room = room-of p _ (keyword-of text at _ e) r in
-            refuses-then (Stops text at label p) (parseExpr 16 text (at + inProgram 0x11)) _
-            (refuses-map (StopsExpr text 16 (at + inProgram 0x11)) (Stops text at label p)
-            (parseExpr 16 text (at + inProgram 0x11)) (λ n x s. Stops.expression room e s)
-            (expr-stops text 16 (at + inProgram 0x11)))
+            refuses-then (Stops least text at label p) (parseExpr least 16 text (at + inProgram 0x11)) _
+            (refuses-map (StopsExpr least text 16 (at + inProgram 0x11)) (Stops least text at label p)
+            (parseExpr least 16 text (at + inProgram 0x11)) (λ n x s. Stops.expression room e s)
+            (expr-stops least text 16 (at + inProgram 0x11)))
             (λ o q.
-            let s = spelled text 16 (at + inProgram 0x11) (o .value) (o .next) q in
+            let s = spelled least text 16 (at + inProgram 0x11) (o .value) (o .next) q in
             onward (omega (arith, spells-after (s .0))) (DeclaresOne.equations room e (s .0) (s .1)))
         declare-stops (Command.Latency mode bound) e r =
             let room = room-of p _ (keyword-of text at _ e) r in
-            refuses-then (Stops text at label p) (parseLinks 16 text (at + 4) []) _
-            (refuses-map (StopsLinks text 16 (at + 4)) (Stops text at label p) (parseLinks 16 text (at + 4) []) (λ n x s.
-            Stops.links room e s) (links-stop text 16 (at + 4) []))
+            refuses-then (Stops least text at label p) (parseLinks 16 text (at + 4) []) _
+            (refuses-map (StopsLinks text 16 (at + 4)) (Stops least text at label p) (parseLinks 16 text (at + 4) []) (λ n x s.
+            Stops.links room e s) (links-stop least text 16 (at + 4) []))
             (λ o q.
-            let s = links-spelled text 16 (at + 4) o q in
-            refuses-then (Stops text at label p) (provided (leb 2 (length (o .value))) 5 at) _
-            (refuses-provided (Stops text at label p) _ 5 at (λ t. Stops.short room e (s .0) (leb-false _ _ t)))
+            let s = links-spelled least text 16 (at + 4) o q in
+            refuses-then (Stops least text at label p) (provided (leb 2 (length (o .value))) 5 at) _
+            (refuses-provided (Stops least text at label p) _ 5 at (λ t. Stops.short room e (s .0) (leb-false _ _ t)))
             (λ u t.
             onward (omega (arith, links-end (s .0)))
             (DeclaresOne.chains room e (s .0) (leb-true _ _ (provided-true _ 5 at t)) (s .1))))
@@ -573,12 +579,12 @@ module _ (text : List ℕ) where
             onward (omega arith) (DeclaresOne.caps (room-of p _ (keyword-of text at _ e) r) e)
         declare-stops (Command.Tag given) e r =
             let after = at + inProgram 0x15 in
-            refuses-then (Stops text at label p) (provided (ltb after (length text)) 2 (length text)) _
-            (refuses-provided (Stops text at label p) _ 2 (length text) (λ t. Stops.unfollowed e (ltb-false _ _ t)))
+            refuses-then (Stops least text at label p) (provided (ltb after (length text)) 2 (length text)) _
+            (refuses-provided (Stops least text at label p) _ 2 (length text) (λ t. Stops.unfollowed e (ltb-false _ _ t)))
             (λ u t.
             let more = ltb-true _ _ (provided-true _ 2 (length text) t) in
-            refuses-then (Stops text at label p) (provided (isSignal (byteAt text after)) 3 at) _
-            (refuses-provided (Stops text at label p) _ 3 at (λ f. Stops.stray e more (not-signal _ f)))
+            refuses-then (Stops least text at label p) (provided (isSignal (byteAt text after)) 3 at) _
+            (refuses-provided (Stops least text at label p) _ 3 at (λ f. Stops.stray e more (not-signal _ f)))
             (λ v f. onward (omega arith) (DeclaresOne.tags e more (signal-is _ .0 (provided-true _ 3 at f)))))
         declare-stops (Command.Constant w) e r = never (Command.Constant w) _ (keyword-of text at _ e) (λ h. h) r
         declare-stops (Command.Read kind x) e r = never (Command.Read kind x) _ (keyword-of text at _ e) (λ h. h) r
@@ -588,14 +594,14 @@ module _ (text : List ℕ) where
 
   -- Commands that are refused stop.
   commands-stop : (left at label : ℕ) (p : Program) → length text ≤ at + left →
-      Refuses (Stops text at label p) (parseCommands left text at label p)
+      Refuses (Stops least text at label p) (parseCommands least left text at label p)
   unfolding parseCommands
   commands-stop zero at label p enough = let le : length text ≤ at = omega arith in Stops.early le
   commands-stop (suc left) at label p enough =
-      refuses-then (Stops text at label p) (commandHere text at p (keywordAt text at)) _
+      refuses-then (Stops least text at label p) (commandHere text at p (keywordAt text at)) _
       (command-here at label p (keywordAt text at) refl)
       (λ u e.
-      declare-stops at label p (λ n l q. parseCommands left text n l q) (λ a l q lt. commands-stop left a l q (omega arith))
+      declare-stops at label p (λ n l q. parseCommands least left text n l q) (λ a l q lt. commands-stop left a l q (omega arith))
       (commandAt text at) refl (here-room p text at (keywordAt text at) e))
 
   -- What stops is refused.
@@ -626,7 +632,7 @@ module _ (text : List ℕ) where
 
   -- A command that is there and refused before its operands.
   judged-refused : (left at label : ℕ) (p : Program) (f : Fault) → at < length text → length text ≤ at + left →
-      commandHere text at p (keywordAt text at) ≡ refused f → parseCommands left text at label p ≡ refused f
+      commandHere text at p (keywordAt text at) ≡ refused f → parseCommands least left text at label p ≡ refused f
   unfolding parseCommands
   judged-refused zero at label p f lt enough e = absurd (omega arith)
   judged-refused (suc left) at label p f lt enough e = refused-then _ _ f e
@@ -634,15 +640,15 @@ module _ (text : List ℕ) where
   -- A command that is fit, and refused by its operands or what stands after them.
   declared-refused : (left at label : ℕ) (p : Program) (f : Fault) (c : Command) → commandAt text at ≡ c →
       HasRoom p (keywordAt text at) → length text ≤ at + left →
-      ((next : ℕ → ℕ → Program → Outcome Program) → declare next text at label p c ≡ refused f) →
-      parseCommands left text at label p ≡ refused f
+      ((next : ℕ → ℕ → Program → Outcome Program) → declare least next text at label p c ≡ refused f) →
+      parseCommands least left text at label p ≡ refused f
   declared-refused zero at label p f c e r enough g =
       absurd (omega (arith, keyword-inside text at (declaration-present (room-declaration r))))
   declared-refused (suc left) at label p f c e r enough g =
-      command-step text left at label p c e (room-here at label p r) ∙ g (λ n l q. parseCommands left text n l q)
+      command-step least text left at label p c e (room-here at label p r) ∙ g (λ n l q. parseCommands least left text n l q)
 
-  commands-refused : {at label n x : ℕ} {p : Program} → Stops text at label p n x → (left : ℕ) → length text ≤ at + left →
-      parseCommands left text at label p ≡ refused (fault n x)
+  commands-refused : {at label n x : ℕ} {p : Program} → Stops least text at label p n x → (left : ℕ) → length text ≤ at + left →
+      parseCommands least left text at label p ≡ refused (fault n x)
   unfolding declare parseCommands
   commands-refused (Stops.onward d s) left enough = parse-onward _ d (λ k l. commands-refused s k l) left enough
   commands-refused (Stops.early le) zero enough = refl
@@ -660,10 +666,10 @@ module _ (text : List ℕ) where
       declared-refused left at label p _ _ e r enough (λ next. refl)
   commands-refused (Stops.expression {at = at} {label = label} {p = p} room e s) left enough =
       declared-refused left at label p _ _ e (rw (keyword-of text at _ e) (HasRoom.equation room)) enough (λ next.
-      refused-then _ _ _ (expr-refused text s))
+      refused-then _ _ _ (expr-refused least text s))
   commands-refused (Stops.links {at = at} {label = label} {p = p} room e s) left enough =
       declared-refused left at label p _ _ e (rw (keyword-of text at _ e) (HasRoom.latency room)) enough (λ next.
-      refused-then _ _ _ (links-refused text [] s))
+      refused-then _ _ _ (links-refused least text [] s))
   commands-refused (Stops.short {at = at} {label = label} {p = p} room e u lt) left enough =
       declared-refused left at label p _ _ e (rw (keyword-of text at _ e) (HasRoom.latency room)) enough (λ next.
       accepted-then _ _ _ (parse-links 16 [] u (omega arith)) ∙
@@ -744,11 +750,11 @@ module _ (text : List ℕ) where
       refused-then _ _ _ (false-provided _ 11 (at + 1) (lt-leb _ _ lt))
 
 -- Reading a program text is refused exactly where and as it stops.
-pub program-stops : (text : List ℕ) (n x : ℕ) → (parseProgram text ≡ refused (fault n x)) ↔ Stops text 0 0 empty n x
-unfolding parseProgram
-program-stops text n x = (
-  λ e. refuses-fault (Stops text 0 0 empty) _ (fault n x) (commands-stop text (length text) 0 0 empty (omega arith)) e,
-  λ s. commands-refused text s (length text) (omega arith),
+pub with-stops : (least : ℕ) (text : List ℕ) (n x : ℕ) → (parseWith least text ≡ refused (fault n x)) ↔ Stops least text 0 0 empty n x
+unfolding parseWith
+with-stops least text n x = (
+  λ e. refuses-fault (Stops least text 0 0 empty) _ (fault n x) (commands-stop least text (length text) 0 0 empty (omega arith)) e,
+  λ s. commands-refused least text s (length text) (omega arith),
 )
 
 -- Reading a schedule text is refused, with 11, exactly where it stops.
@@ -757,6 +763,6 @@ pub schedule-stops : (text : List ℕ) (n x : ℕ) →
 unfolding parseSchedule
 schedule-stops text n x = (
   λ e.
-      refuses-fault (λ m y. (m ≡ 11) × StopsPuts text 0 y) _ (fault n x) (puts-stop text (length text) 0 [] (omega arith)) e,
-  λ s. puts-refused text (s .1) (length text) [] (omega arith) ∙ rw (s .0),
+      refuses-fault (λ m y. (m ≡ 11) × StopsPuts text 0 y) _ (fault n x) (puts-stop 2 text (length text) 0 [] (omega arith)) e,
+  λ s. puts-refused 2 text (s .1) (length text) [] (omega arith) ∙ rw (s .0),
 )

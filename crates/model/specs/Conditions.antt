@@ -6,11 +6,12 @@ use mathlib.Core.Path.{_≡_}
 use lib.ListN.{length, getD}
 use Rattle.model.specs.Accepted.{PeriodRule, Met, Multiple}
 use Rattle.model.specs.Compile.{Pair}
-use Rattle.model.specs.Grammar.{LegalProgram, LegalSchedule}
+use Rattle.model.specs.Grammar.{LegalWith, LegalSchedule}
 use Rattle.model.specs.Latency.{readsBack, backwards, Timely}
 use Rattle.model.specs.Load.{load}
 use Rattle.model.specs.Outcome.{Parsed}
 use Rattle.model.specs.Program.{
+  leastFactor,
   Program,
   Read,
   Link,
@@ -70,12 +71,15 @@ Linked p c =
     countReads (getD (linkSignals c) j 0) (bodyReads (signalAt p (getD (linkSignals c) (suc j) 0) .body)) ≡ 1
 
 -- What the program text has to keep: 1 to 10.
-pub record LegalRates (program schedule : List ℕ) (p : Program) (h : ℕ) : Type 0 where
+pub record LegalRatesWith (least : ℕ) (program schedule : List ℕ) (p : Program) (h : ℕ) : Type 0 where
   pub short : ShortEnough program schedule
-  pub legal : LegalProgram program p
+  pub legal : LegalWith least program p
   pub rated : DeclaredAndRated p
   pub hypercycle : Least p h
   pub linked : (c : Chain) → c among p .chains → Linked p c
+
+abbrev pub LegalRates : List ℕ → List ℕ → Program → ℕ → Type 0
+LegalRates program schedule p h = LegalRatesWith leastFactor program schedule p h
 
 abbrev pub noPut : Put
 noPut = record { place = 0; signal = 0; phase = 0 }
@@ -108,11 +112,14 @@ pub record Placed (p : Program) (puts : List Put) (s : Schedule) : Type 0 where
   pub schedule : s ≡ scheduleOf p puts
 
 -- What the schedule text has to keep besides: 11 to 13.
-pub record LegalPlaces (program schedule : List ℕ) (p : Program) (h : ℕ) (s : Schedule) : Type 0 where
-  pub rates : LegalRates program schedule p h
+pub record LegalPlacesWith (least : ℕ) (program schedule : List ℕ) (p : Program) (h : ℕ) (s : Schedule) : Type 0 where
+  pub rates : LegalRatesWith least program schedule p h
   pub puts : Parsed (List Put)
   pub legal : LegalSchedule schedule puts
   pub placed : Placed p (puts .value) s
+
+abbrev pub LegalPlaces : List ℕ → List ℕ → Program → ℕ → Schedule → Type 0
+LegalPlaces program schedule p h s = LegalPlacesWith leastFactor program schedule p h s
 
 -- A load is over CAP.
 abbrev pub Over : Limit → ℕ → Type 0
@@ -130,8 +137,11 @@ module _ (p : Program) (s : Schedule) where
 
 -- The pair q of program, schedule and hypercycle is what two legal texts say: the conditions above, and 14 to 16: every read
 -- is met, over all runs; in no cycle, of all cycles, is the load over CAP; every chain keeps its latency, over all runs.
-pub record LegalPair (program schedule : List ℕ) (q : Pair) : Type 0 where
-  pub places : LegalPlaces program schedule (q .program) (q .hypercycle) (q .schedule)
+pub record LegalPairWith (least : ℕ) (program schedule : List ℕ) (q : Pair) : Type 0 where
+  pub places : LegalPlacesWith least program schedule (q .program) (q .hypercycle) (q .schedule)
   pub met : (r : ℕ) (ρ : Read) → ReadIn (q .program) r ρ → Met (q .program) (q .schedule) r ρ
   pub loads : (c : ℕ) → ¬ Over (q .program .cap) (load (q .program) (q .schedule) c)
   pub latencies : (c : Chain) → c among q .program .chains → KeepsTime (q .program) (q .schedule) c
+
+abbrev pub LegalPair : List ℕ → List ℕ → Pair → Type 0
+LegalPair program schedule q = LegalPairWith leastFactor program schedule q

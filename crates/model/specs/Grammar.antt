@@ -1,7 +1,7 @@
 -- The grammar of both texts, as relations: which bytes are a legal program text, which a legal schedule text, and what they
 -- say. No parser is named here; a command and its operands are those of `commandAt` and `scheduleCommandAt`.
 use Prim.Native.Nat.{ℕ, suc, _+_, _≤_, _<_, max}
-use mathlib.Core.Bool.{false}
+use mathlib.Core.Bool.{true, false}
 use mathlib.Core.List.{List, [], _∷_}
 use mathlib.Core.Logic.{_⊎_}
 use mathlib.Core.Path.{_≡_}
@@ -27,6 +27,8 @@ use Rattle.model.specs.Program.{
   withCap,
   unlimited,
   count,
+  leastFactor,
+  isAllowed,
 }
 use Rattle.model.specs.Schedule.{scheduleCommandAt, Put}
 use Rattle.model.specs.Width.{inProgram, inExpression, inSchedule, readWidth}
@@ -47,17 +49,18 @@ depth (negate x) = suc (depth x)
 depth (choose x y z) = suc (max (depth x) (max (depth y) (depth z)))
 
 -- The bytes from `at` up to `next` spell the expression, operator first.
-pub data Spells (text : List ℕ) : ℕ → Expr → ℕ → Type 0 where
+pub data Spells (least : ℕ) (text : List ℕ) : ℕ → Expr → ℕ → Type 0 where
   constants : {at : ℕ} {w : ℤ} → commandAt text at ≡ Command.Constant w →
-      Spells text at (constant w) (at + inExpression 0x20)
+      Spells least text at (constant w) (at + inExpression 0x20)
   reads : {at : ℕ} {kind : Kind} {x : Sampled} → commandAt text at ≡ Command.Read kind x →
-      Spells text at (read (record { place = at; kind = kind; operands = x })) (at + readWidth kind)
+      isAllowed least kind x ≡ true →
+      Spells least text at (read (record { place = at; kind = kind; operands = x })) (at + readWidth kind)
   two : {at m n : ℕ} {operator : Binary} {x y : Expr} → commandAt text at ≡ Command.Binary operator →
-      Spells text (at + inExpression 0x30) x m → Spells text m y n → Spells text at (binary operator x y) n
-  one : {at n : ℕ} {x : Expr} → commandAt text at ≡ Command.Negate → Spells text (at + inExpression 0x38) x n →
-      Spells text at (negate x) n
+      Spells least text (at + inExpression 0x30) x m → Spells least text m y n → Spells least text at (binary operator x y) n
+  one : {at n : ℕ} {x : Expr} → commandAt text at ≡ Command.Negate → Spells least text (at + inExpression 0x38) x n →
+      Spells least text at (negate x) n
   three : {at m n o : ℕ} {x y z : Expr} → commandAt text at ≡ Command.If →
-      Spells text (at + inExpression 0x3A) x m → Spells text m y n → Spells text n z o → Spells text at (choose x y z) o
+      Spells least text (at + inExpression 0x3A) x m → Spells least text m y n → Spells least text n z o → Spells least text at (choose x y z) o
 
 -- The LINKs from `at` up to `next`; after them stands no other. Past its end a text reads 0.
 pub data SpellsLinks (text : List ℕ) : ℕ → List Link → ℕ → Type 0 where
@@ -73,36 +76,39 @@ IsSignal b = (b ≡ 0x10) ⊎ (b ≡ 0x11)
 -- A legal command from `at` up to `next`, other than END, makes q of p: at most 64 signals, 16 chains of 2 to 16 links,
 -- expressions at most 16 deep, one CAP. The number after an offset is the label that a TAG directly before it gives, 0 where
 -- there is none; IN and EQ take it.
-pub data DeclaresOne (text : List ℕ) : ℕ → ℕ → Program → ℕ → ℕ → Program → Type 0 where
+pub data DeclaresOne (least : ℕ) (text : List ℕ) : ℕ → ℕ → Program → ℕ → ℕ → Program → Type 0 where
   inputs : {at label period : ℕ} {initial : ℤ} {p : Program} → count p < 64 →
       commandAt text at ≡ Command.Input period initial →
-      DeclaresOne text at label p (at + inProgram 0x10) 0
+      DeclaresOne least text at label p (at + inProgram 0x10) 0
       (withSignal p (record { place = at; period = period; initial = initial; body = input; label = label }))
   equations : {at label next period weight : ℕ} {initial : ℤ} {e : Expr} {p : Program} → count p < 64 →
-      commandAt text at ≡ Command.Equation period initial weight → Spells text (at + inProgram 0x11) e next →
+      commandAt text at ≡ Command.Equation period initial weight → Spells least text (at + inProgram 0x11) e next →
       depth e ≤ 16 →
-      DeclaresOne text at label p next 0
+      DeclaresOne least text at label p next 0
       (withSignal p (record { place = at; period = period; initial = initial; body = equation weight e; label = label }))
   chains : {at label next bound : ℕ} {mode : Mode} {ls : List Link} {p : Program} → length (p .chains) < 16 →
       commandAt text at ≡ Command.Latency mode bound → SpellsLinks text (at + inProgram 0x12) ls next →
       2 ≤ length ls → length ls ≤ 16 →
-      DeclaresOne text at label p next 0 (withChain p (record { place = at; mode = mode; bound = bound; links = ls }))
+      DeclaresOne least text at label p next 0 (withChain p (record { place = at; mode = mode; bound = bound; links = ls }))
   caps : {at label n : ℕ} {p : Program} → p .cap ≡ unlimited → commandAt text at ≡ Command.Cap n →
-      DeclaresOne text at label p (at + inProgram 0x14) 0 (withCap p n)
+      DeclaresOne least text at label p (at + inProgram 0x14) 0 (withCap p n)
   tags : {at label given : ℕ} {p : Program} → commandAt text at ≡ Command.Tag given →
       at + inProgram 0x15 < length text → IsSignal (byteAt text (at + inProgram 0x15)) →
-      DeclaresOne text at label p (at + inProgram 0x15) given p
+      DeclaresOne least text at label p (at + inProgram 0x15) given p
 
 -- The commands from `at` up to END at `end`, the last byte, make q of p.
-pub data Declares (text : List ℕ) : ℕ → ℕ → Program → ℕ → Program → Type 0 where
+pub data Declares (least : ℕ) (text : List ℕ) : ℕ → ℕ → Program → ℕ → Program → Type 0 where
   ends : {at label : ℕ} {p : Program} → commandAt text at ≡ Command.End → length text ≤ at + inProgram 0x00 →
-      Declares text at label p at p
-  onward : {at label next given end : ℕ} {p q r : Program} → DeclaresOne text at label p next given q →
-      Declares text next given q end r → Declares text at label p end r
+      Declares least text at label p at p
+  onward : {at label next given end : ℕ} {p q r : Program} → DeclaresOne least text at label p next given q →
+      Declares least text next given q end r → Declares least text at label p end r
 
 -- A legal program text, and the program that it declares.
+abbrev pub LegalWith : ℕ → List ℕ → Program → Type 0
+LegalWith least text p = (end : ℕ) × Declares least text 0 0 empty end p
+
 abbrev pub LegalProgram : List ℕ → Program → Type 0
-LegalProgram text p = (end : ℕ) × Declares text 0 0 empty end p
+LegalProgram text p = LegalWith leastFactor text p
 
 -- The PUTs from `at` up to END, the last byte.
 pub data SpellsPuts (text : List ℕ) : ℕ → List Put → ℕ → Type 0 where

@@ -23,9 +23,13 @@ pub mod Reach
 pub mod Compile
 pub mod Report
 pub mod Conditions
+pub mod Convert
+pub mod Rewrite
 pub mod Refusals
 pub mod Calls
 pub mod Decimal
 pub mod Script
 pub mod Trial
 pub mod TrialRefusals
+pub mod Writing
+pub mod Conversion

@@ -15,6 +15,7 @@ use Rattle.model.specs.declared.Command.the-variants as Command
 use Rattle.model.specs.declared.Keyword.{Keyword}
 use Rattle.model.specs.declared.Keyword.the-variants as Keyword
 use Rattle.model.specs.declared.Kind.{Kind}
+use Rattle.model.specs.declared.Kind.the-variants.{Now, Last, When, LastWhen, Current}
 use Rattle.model.specs.declared.Mode.{Mode}
 use Rattle.model.specs.declared.Sampled.{Sampled}
 
@@ -103,34 +104,47 @@ operatorHere text at (Keyword.Binary operator) = accepted tt
 operatorHere text at Keyword.Negate = accepted tt
 operatorHere text at Keyword.If = accepted tt
 
+-- The least factor of WHEN, LASTWHEN and CURRENT. Texts written before had 1.
+abbrev pub leastFactor : ℕ
+leastFactor = 2
+
+-- Whether a text whose factors go from `least` on may have a read: NOW and LAST have no factor in the text.
+abbrev pub isAllowed : ℕ → Kind → Sampled → Bool
+isAllowed least Now x = true
+isAllowed least Last x = true
+isAllowed least When x = leb least (x .factor)
+isAllowed least LastWhen x = leb least (x .factor)
+isAllowed least Current x = leb least (x .factor)
+
 -- The expression at `at`, operator first, where `sub` reads an operand.
-unfoldable pub node : (ℕ → Outcome (Parsed Expr)) → List ℕ → ℕ → Command → Outcome (Parsed Expr)
-node sub text at Command.EndsEarly = refuse 2 (length text)
-node sub text at Command.Unknown = refuse 3 at
-node sub text at Command.OutOfRange = refuse 5 at
-node sub text at Command.End = refuse 3 at
-node sub text at (Command.Input period initial) = refuse 3 at
-node sub text at (Command.Equation period initial weight) = refuse 3 at
-node sub text at (Command.Latency mode bound) = refuse 3 at
-node sub text at (Command.Link signal) = refuse 3 at
-node sub text at (Command.Cap n) = refuse 3 at
-node sub text at (Command.Tag label) = refuse 3 at
-node sub text at (Command.Constant w) = parsed (constant w) (at + inExpression 0x20)
-node sub text at (Command.Read kind operands) =
+unfoldable pub node : ℕ → (ℕ → Outcome (Parsed Expr)) → List ℕ → ℕ → Command → Outcome (Parsed Expr)
+node least sub text at Command.EndsEarly = refuse 2 (length text)
+node least sub text at Command.Unknown = refuse 3 at
+node least sub text at Command.OutOfRange = refuse 5 at
+node least sub text at Command.End = refuse 3 at
+node least sub text at (Command.Input period initial) = refuse 3 at
+node least sub text at (Command.Equation period initial weight) = refuse 3 at
+node least sub text at (Command.Latency mode bound) = refuse 3 at
+node least sub text at (Command.Link signal) = refuse 3 at
+node least sub text at (Command.Cap n) = refuse 3 at
+node least sub text at (Command.Tag label) = refuse 3 at
+node least sub text at (Command.Constant w) = parsed (constant w) (at + inExpression 0x20)
+node least sub text at (Command.Read kind operands) =
+    provided (isAllowed least kind operands) 5 at ▷ λ _.
     parsed (read (record { place = at; kind = kind; operands = operands })) (at + readWidth kind)
-node sub text at (Command.Binary operator) =
+node least sub text at (Command.Binary operator) =
     sub (at + inExpression 0x30) ▷ λ x. sub (x .next) ▷ λ y.
     parsed (binary operator (x .value) (y .value)) (y .next)
-node sub text at Command.Negate = sub (at + inExpression 0x38) ▷ λ x. parsed (negate (x .value)) (x .next)
-node sub text at Command.If =
+node least sub text at Command.Negate = sub (at + inExpression 0x38) ▷ λ x. parsed (negate (x .value)) (x .next)
+node least sub text at Command.If =
     sub (at + inExpression 0x3A) ▷ λ x. sub (x .next) ▷ λ y. sub (y .next) ▷ λ z.
     parsed (choose (x .value) (y .value) (z .value)) (z .next)
 
 -- An expression nests at most `depth` deep; a leaf is 1.
-unfoldable pub parseExpr : ℕ → List ℕ → ℕ → Outcome (Parsed Expr)
-parseExpr zero text at = operatorHere text at (keywordAt text at) ▷ λ _. refuse 4 at
-parseExpr (suc depth) text at =
-    operatorHere text at (keywordAt text at) ▷ λ _. node (λ n. parseExpr depth text n) text at (commandAt text at)
+unfoldable pub parseExpr : ℕ → ℕ → List ℕ → ℕ → Outcome (Parsed Expr)
+parseExpr least zero text at = operatorHere text at (keywordAt text at) ▷ λ _. refuse 4 at
+parseExpr least (suc depth) text at =
+    operatorHere text at (keywordAt text at) ▷ λ _. node least (λ n. parseExpr least depth text n) text at (commandAt text at)
 
 -- The LINKs from `at` on, after those of `links`; `room` more are allowed. A chain ends at the first byte that isn't 13 or
 -- where the text ends.
@@ -150,35 +164,35 @@ isSignal b = eqb b 0x10 || eqb b 0x11
 
 -- A command with its operands, after those of p; `next` reads on. `label` is that of a TAG directly before it, 0 where there is
 -- none; IN and EQ take it.
-unfoldable pub declare : (ℕ → ℕ → Program → Outcome Program) → List ℕ → ℕ → ℕ → Program → Command → Outcome Program
-declare next text at label p Command.EndsEarly = refuse 2 (length text)
-declare next text at label p Command.Unknown = refuse 3 at
-declare next text at label p Command.OutOfRange = refuse 5 at
-declare next text at label p Command.End =
+unfoldable pub declare : ℕ → (ℕ → ℕ → Program → Outcome Program) → List ℕ → ℕ → ℕ → Program → Command → Outcome Program
+declare least next text at label p Command.EndsEarly = refuse 2 (length text)
+declare least next text at label p Command.Unknown = refuse 3 at
+declare least next text at label p Command.OutOfRange = refuse 5 at
+declare least next text at label p Command.End =
     provided (leb (length text) (at + inProgram 0x00)) 6 (at + inProgram 0x00) ▷ λ _. accepted p
-declare next text at label p (Command.Input period initial) =
+declare least next text at label p (Command.Input period initial) =
     next (at + inProgram 0x10) 0
     (withSignal p (record { place = at; period = period; initial = initial; body = input; label = label }))
-declare next text at label p (Command.Equation period initial weight) =
-    parseExpr 16 text (at + inProgram 0x11) ▷ λ e.
+declare least next text at label p (Command.Equation period initial weight) =
+    parseExpr least 16 text (at + inProgram 0x11) ▷ λ e.
     next (e .next) 0
     (withSignal p (record { place = at; period = period; initial = initial; body = equation weight (e .value); label = label }))
-declare next text at label p (Command.Latency mode bound) =
+declare least next text at label p (Command.Latency mode bound) =
     parseLinks 16 text (at + inProgram 0x12) [] ▷ λ ls.
     provided (leb 2 (length (ls .value))) 5 at ▷ λ _.
     next (ls .next) 0 (withChain p (record { place = at; mode = mode; bound = bound; links = ls .value }))
-declare next text at label p (Command.Link signal) = refuse 3 at
-declare next text at label p (Command.Cap n) = next (at + inProgram 0x14) 0 (withCap p n)
+declare least next text at label p (Command.Link signal) = refuse 3 at
+declare least next text at label p (Command.Cap n) = next (at + inProgram 0x14) 0 (withCap p n)
 -- A TAG stands directly before IN or EQ: 2 if the text ends after it, 3 if anything else follows.
-declare next text at label p (Command.Tag given) =
+declare least next text at label p (Command.Tag given) =
     provided (ltb (at + inProgram 0x15) (length text)) 2 (length text) ▷ λ _.
     provided (isSignal (byteAt text (at + inProgram 0x15))) 3 at ▷ λ _.
     next (at + inProgram 0x15) given p
-declare next text at label p (Command.Constant w) = refuse 3 at
-declare next text at label p (Command.Read kind operands) = refuse 3 at
-declare next text at label p (Command.Binary operator) = refuse 3 at
-declare next text at label p Command.Negate = refuse 3 at
-declare next text at label p Command.If = refuse 3 at
+declare least next text at label p (Command.Constant w) = refuse 3 at
+declare least next text at label p (Command.Read kind operands) = refuse 3 at
+declare least next text at label p (Command.Binary operator) = refuse 3 at
+declare least next text at label p Command.Negate = refuse 3 at
+declare least next text at label p Command.If = refuse 3 at
 
 abbrev pub isUnlimited : Limit → Bool
 isUnlimited unlimited = true
@@ -203,14 +217,18 @@ commandHere text at p Keyword.If = refuse 3 at
 
 -- The commands from `at` on, after those of p and a TAG's label. Each takes a byte at least, so `left` bytes hold no more than
 -- `left` of them.
-unfoldable pub parseCommands : ℕ → List ℕ → ℕ → ℕ → Program → Outcome Program
-parseCommands zero text at label p = refuse 2 (length text)
-parseCommands (suc left) text at label p =
+unfoldable pub parseCommands : ℕ → ℕ → List ℕ → ℕ → ℕ → Program → Outcome Program
+parseCommands least zero text at label p = refuse 2 (length text)
+parseCommands least (suc left) text at label p =
     commandHere text at p (keywordAt text at) ▷ λ _.
-    declare (λ n l q. parseCommands left text n l q) text at label p (commandAt text at)
+    declare least (λ n l q. parseCommands least left text n l q) text at label p (commandAt text at)
 
-unfoldable pub parseProgram : List ℕ → Outcome Program
-parseProgram text = parseCommands (length text) text 0 0 empty
+-- A program text whose factors go from `least` on: by the earlier rule from 1, now from 2.
+unfoldable pub parseWith : ℕ → List ℕ → Outcome Program
+parseWith least text = parseCommands least (length text) text 0 0 empty
+
+abbrev pub parseProgram : List ℕ → Outcome Program
+parseProgram text = parseWith leastFactor text
 
 -- The reads of an expression and of a signal, from left to right.
 unfoldable pub readsOf : Expr → List Read

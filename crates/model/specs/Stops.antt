@@ -2,6 +2,7 @@
 -- stands at it is cut, unknown, too many, too deep, outside its range or past END. The numbers after the offset are those of
 -- the refusal: its number and its place.
 use Prim.Native.Nat.{ℕ, suc, _+_, _≤_, _<_}
+use mathlib.Core.Bool.{false}
 use mathlib.Core.List.{List}
 use mathlib.Core.Path.{_≡_}
 use lib.IntN.{ℤ}
@@ -14,6 +15,7 @@ use Rattle.model.specs.Program.{
   Program,
   unlimited,
   count,
+  isAllowed,
 }
 use Rattle.model.specs.Schedule.{scheduleCommandAt}
 use Rattle.model.specs.Width.{inProgram, inExpression, inSchedule}
@@ -25,6 +27,7 @@ use Rattle.model.specs.declared.Keyword.{Keyword}
 use Rattle.model.specs.declared.Keyword.the-variants as Keyword
 use Rattle.model.specs.declared.Kind.{Kind}
 use Rattle.model.specs.declared.Mode.{Mode}
+use Rattle.model.specs.declared.Sampled.{Sampled}
 use Rattle.model.specs.declared.ScheduleCommand.the-variants as ScheduleCommand
 
 -- The commands of expressions, and how many operands follow each.
@@ -50,23 +53,26 @@ pub data IsDeclaration : Keyword → Type 0 where
   tag : IsDeclaration Keyword.Tag
 
 -- k expressions from `at` up to `next`, each at most d deep.
-pub data SpellsOperands (text : List ℕ) (d : ℕ) : ℕ → ℕ → ℕ → Type 0 where
-  none : {at : ℕ} → SpellsOperands text d at 0 at
-  more : {at m k next : ℕ} {e : Expr} → Spells text at e m → depth e ≤ d → SpellsOperands text d m k next →
-      SpellsOperands text d at (suc k) next
+pub data SpellsOperands (least : ℕ) (text : List ℕ) (d : ℕ) : ℕ → ℕ → ℕ → Type 0 where
+  none : {at : ℕ} → SpellsOperands least text d at 0 at
+  more : {at m k next : ℕ} {e : Expr} → Spells least text at e m → depth e ≤ d → SpellsOperands least text d m k next →
+      SpellsOperands least text d at (suc k) next
 
 -- An expression that may nest d deep stops.
-pub data StopsExpr (text : List ℕ) : ℕ → ℕ → ℕ → ℕ → Type 0 where
-  early : {d at : ℕ} → length text ≤ at → StopsExpr text d at 2 (length text)
-  unknown : {d at : ℕ} → at < length text → ¬ IsOperator (keywordAt text at) → StopsExpr text d at 3 at
-  deep : {at : ℕ} → IsOperator (keywordAt text at) → StopsExpr text 0 at 4 at
+pub data StopsExpr (least : ℕ) (text : List ℕ) : ℕ → ℕ → ℕ → ℕ → Type 0 where
+  early : {d at : ℕ} → length text ≤ at → StopsExpr least text d at 2 (length text)
+  unknown : {d at : ℕ} → at < length text → ¬ IsOperator (keywordAt text at) → StopsExpr least text d at 3 at
+  deep : {at : ℕ} → IsOperator (keywordAt text at) → StopsExpr least text 0 at 4 at
   cut : {d at : ℕ} → IsOperator (keywordAt text at) → commandAt text at ≡ Command.EndsEarly →
-      StopsExpr text (suc d) at 2 (length text)
+      StopsExpr least text (suc d) at 2 (length text)
   outside : {d at : ℕ} → IsOperator (keywordAt text at) → commandAt text at ≡ Command.OutOfRange →
-      StopsExpr text (suc d) at 5 at
+      StopsExpr least text (suc d) at 5 at
+  -- A factor below the least.
+  single : {d at : ℕ} {kind : Kind} {x : Sampled} → commandAt text at ≡ Command.Read kind x →
+      isAllowed least kind x ≡ false → StopsExpr least text (suc d) at 5 at
   -- The first k operands are legal, and the one after them stops. All operators are as wide as ADD.
   operand : {d at arity k next n x : ℕ} → HasOperands (commandAt text at) arity → k < arity →
-      SpellsOperands text d (at + inExpression 0x30) k next → StopsExpr text d next n x → StopsExpr text (suc d) at n x
+      SpellsOperands least text d (at + inExpression 0x30) k next → StopsExpr least text d next n x → StopsExpr least text (suc d) at n x
 
 -- The LINKs from `at` on stop, where `room` are allowed.
 pub data StopsLinks (text : List ℕ) : ℕ → ℕ → ℕ → ℕ → Type 0 where
@@ -86,36 +92,36 @@ pub data HasRoom (p : Program) : Keyword → Type 0 where
   tag : HasRoom p Keyword.Tag
 
 -- The commands from `at` on, after those of p and a TAG's label, stop.
-pub data Stops (text : List ℕ) : ℕ → ℕ → Program → ℕ → ℕ → Type 0 where
+pub data Stops (least : ℕ) (text : List ℕ) : ℕ → ℕ → Program → ℕ → ℕ → Type 0 where
   -- A legal command, and what stands after it stops.
-  onward : {at label next given n x : ℕ} {p q : Program} → DeclaresOne text at label p next given q →
-      Stops text next given q n x → Stops text at label p n x
+  onward : {at label next given n x : ℕ} {p q : Program} → DeclaresOne least text at label p next given q →
+      Stops least text next given q n x → Stops least text at label p n x
   -- At the command: 2, 3, then counts and second CAP.
-  early : {at label : ℕ} {p : Program} → length text ≤ at → Stops text at label p 2 (length text)
-  unknown : {at label : ℕ} {p : Program} → at < length text → ¬ IsDeclaration (keywordAt text at) → Stops text at label p 3 at
+  early : {at label : ℕ} {p : Program} → length text ≤ at → Stops least text at label p 2 (length text)
+  unknown : {at label : ℕ} {p : Program} → at < length text → ¬ IsDeclaration (keywordAt text at) → Stops least text at label p 3 at
   many : {at label : ℕ} {p : Program} → IsDeclaration (keywordAt text at) → ¬ (keywordAt text at ≡ Keyword.Cap) →
-      ¬ HasRoom p (keywordAt text at) → Stops text at label p 4 at
-  second : {at label : ℕ} {p : Program} → keywordAt text at ≡ Keyword.Cap → ¬ (p .cap ≡ unlimited) → Stops text at label p 5 at
+      ¬ HasRoom p (keywordAt text at) → Stops least text at label p 4 at
+  second : {at label : ℕ} {p : Program} → keywordAt text at ≡ Keyword.Cap → ¬ (p .cap ≡ unlimited) → Stops least text at label p 5 at
   -- Then its operands.
   cut : {at label : ℕ} {p : Program} → HasRoom p (keywordAt text at) → commandAt text at ≡ Command.EndsEarly →
-      Stops text at label p 2 (length text)
+      Stops least text at label p 2 (length text)
   outside : {at label : ℕ} {p : Program} → HasRoom p (keywordAt text at) → commandAt text at ≡ Command.OutOfRange →
-      Stops text at label p 5 at
+      Stops least text at label p 5 at
   -- Then the expression of an EQ, the LINKs of a LAT, what stands after END, and what is not IN or EQ after a TAG.
   expression : {at label period weight n x : ℕ} {initial : ℤ} {p : Program} → count p < 64 →
-      commandAt text at ≡ Command.Equation period initial weight → StopsExpr text 16 (at + inProgram 0x11) n x →
-      Stops text at label p n x
+      commandAt text at ≡ Command.Equation period initial weight → StopsExpr least text 16 (at + inProgram 0x11) n x →
+      Stops least text at label p n x
   links : {at label bound n x : ℕ} {mode : Mode} {p : Program} → length (p .chains) < 16 →
-      commandAt text at ≡ Command.Latency mode bound → StopsLinks text 16 (at + inProgram 0x12) n x → Stops text at label p n x
+      commandAt text at ≡ Command.Latency mode bound → StopsLinks text 16 (at + inProgram 0x12) n x → Stops least text at label p n x
   short : {at label next bound : ℕ} {mode : Mode} {ls : List Link} {p : Program} → length (p .chains) < 16 →
       commandAt text at ≡ Command.Latency mode bound → SpellsLinks text (at + inProgram 0x12) ls next →
-      length ls < 2 → Stops text at label p 5 at
+      length ls < 2 → Stops least text at label p 5 at
   trailing : {at label : ℕ} {p : Program} → commandAt text at ≡ Command.End → at + inProgram 0x00 < length text →
-      Stops text at label p 6 (at + inProgram 0x00)
+      Stops least text at label p 6 (at + inProgram 0x00)
   unfollowed : {at label given : ℕ} {p : Program} → commandAt text at ≡ Command.Tag given →
-      length text ≤ at + inProgram 0x15 → Stops text at label p 2 (length text)
+      length text ≤ at + inProgram 0x15 → Stops least text at label p 2 (length text)
   stray : {at label given : ℕ} {p : Program} → commandAt text at ≡ Command.Tag given →
-      at + inProgram 0x15 < length text → ¬ IsSignal (byteAt text (at + inProgram 0x15)) → Stops text at label p 3 at
+      at + inProgram 0x15 < length text → ¬ IsSignal (byteAt text (at + inProgram 0x15)) → Stops least text at label p 3 at
 
 -- The PUTs from `at` on stop at a place.
 pub data StopsPuts (text : List ℕ) : ℕ → ℕ → Type 0 where

@@ -142,10 +142,10 @@ module _ {l l₁ : List ℕ} {count to : ℕ} {a : Walk} (x : Expr) (m : Read-as
         (simp length-append (omega arith))
 
 -- Where no depth is left.
-pub walks-deep : {l : List ℕ} {count to : ℕ} {r : Walked} (text : List ℕ) (at : ℕ) →
-    r ≡ deepOf at (operatorHere text at (keywordAt text at)) → Walks (parseExpr 0 text at) l count to l r
+pub walks-deep : {l : List ℕ} {count to : ℕ} {r : Walked} (least : ℕ) (text : List ℕ) (at : ℕ) →
+    r ≡ deepOf at (operatorHere text at (keywordAt text at)) → Walks (parseExpr least 0 text at) l count to l r
 unfolding parseExpr WalksBy deepOf _▷_
-walks-deep {l} {count} {to} {r} text at e = go (operatorHere text at (keywordAt text at)) e
+walks-deep {l} {count} {to} {r} least text at e = go (operatorHere text at (keywordAt text at)) e
   where
     go : (o : Outcome (Unit {0})) → r ≡ deepOf at o → Walks (o ▷ λ _. refuse 4 at) l count to l r
     go (accepted u) e = record { by = e }
@@ -165,11 +165,11 @@ pub record Spans (size at : ℕ) (e : Expr) (n : ℕ) : Type 0 where
   pub inside : n ≤ size
 
 module _ {text : List ℕ} where
-  pub spans : {at n : ℕ} {e : Expr} → Spells text at e n → Spans (length text) at e n
+  pub spans : {least at n : ℕ} {e : Expr} → Spells least text at e n → Spans (length text) at e n
   unfolding readsOf exprCode wordBytes fourBytes
   spans (Spells.constants {at = at} e) =
       record { few = omega arith; small = omega arith; inside = command-sound text at _ e .1 }
-  spans (Spells.reads {at = at} {kind = kind} e) =
+  spans (Spells.reads {at = at} {kind = kind} e a) =
       record {
         few = omega (arith, read-least kind);
         small = omega (arith, read-least kind);
@@ -196,24 +196,24 @@ module _ {text : List ℕ} where
         inside = d .inside;
       }
 
-pub parsed-spans : (d : ℕ) (text : List ℕ) (at : ℕ) (e : Expr) (n : ℕ) → parseExpr d text at ≡ parsed e n →
+pub parsed-spans : (least d : ℕ) (text : List ℕ) (at : ℕ) (e : Expr) (n : ℕ) → parseExpr least d text at ≡ parsed e n →
     Spans (length text) at e n
-parsed-spans d text at e n q = spans (spelled text d at e n q .0)
+parsed-spans least d text at e n q = spans (spelled least text d at e n q .0)
 
 -- There is room for what comes after it.
 pub record Ahead (size room : ℕ) (w : Walk) : Type 0 where
   pub left : Room size (w .at) (w .reads) (w .code) room
   pub inside : w .at ≤ size
 
-pub ahead : (text : List ℕ) {l l′ : List ℕ} {at count to : ℕ} {r : Walked} {a : Walk} (d : ℕ) →
-    Room (length text) at count to (length l) → Walks (parseExpr d text at) l count to l′ r → r ≡ Walked.Next a →
+pub ahead : (least : ℕ) (text : List ℕ) {l l′ : List ℕ} {at count to : ℕ} {r : Walked} {a : Walk} (d : ℕ) →
+    Room (length text) at count to (length l) → Walks (parseExpr least d text at) l count to l′ r → r ≡ Walked.Next a →
     Ahead (length text) (length l′) a
 unfolding WalksBy
-ahead text {l} {l′} {at} {count} {to} {r} {a} d h w e = go (parseExpr d text at) refl w
+ahead least text {l} {l′} {at} {count} {to} {r} {a} d h w e = go (parseExpr least d text at) refl w
   where
-    go : (o : Outcome (Parsed Expr)) → parseExpr d text at ≡ o → Walks o l count to l′ r → Ahead (length text) (length l′) a
+    go : (o : Outcome (Parsed Expr)) → parseExpr least d text at ≡ o → Walks o l count to l′ r → Ahead (length text) (length l′) a
     go (accepted x) q w =
-        let s = parsed-spans d text at (x .value) (x .next) q in
+        let s = parsed-spans least d text at (x .value) (x .next) q in
         let f = w .by .1 in
         let z : w .by .0 ≡ a = cc in
         let m = subst (λ (y : Walk). Moves (x .next) (placesOf (readsOf (x .value))) (length (exprCode (x .value))) l count to l′ y) z (w .by .2) in

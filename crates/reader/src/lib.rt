@@ -2,6 +2,8 @@
 use model::Command;
 use model::Fault;
 use model::Keyword;
+use model::Kind;
+use model::Sampled;
 ghost use mathlib.Core.Path.{_≡_};
 ghost use mathlib.Core.List.{[]};
 ghost use Prim.Native.Nat.{ℕ, _+_, _*_, _≤_, _<_};
@@ -9,8 +11,9 @@ ghost use lib.Dec.{leb};
 ghost use lib.ListN.{length};
 ghost use Rattle.model.specs.Command.{keywordAt};
 ghost use Rattle.model.specs.Outcome.{provided};
-ghost use Rattle.model.specs.Program.{Program, operatorHere, parseExpr, parseLinks, isSignal, commandHere, parseProgram};
+ghost use Rattle.model.specs.Program.{Program, operatorHere, isAllowed, parseExpr, parseLinks, isSignal, commandHere, parseWith};
 ghost use Rattle.model.specs.Width.{inProgram};
+ghost use Rattle.reader.specs.Factors.{operatorFrom};
 ghost use Rattle.reader.specs.Results.{hereOf, linksOf, chainOf, tagOf, endOf};
 ghost use Rattle.reader.specs.Steps.{Counts, Stepped};
 ghost use Rattle.reader.specs.Tables.{judgedOf, ProgramReads};
@@ -98,9 +101,37 @@ fn too_deep(text: &[u8], at: usize) -> Walked
     }
 }
 
+// Whether a text whose factors go from `least` on may have a read. NOW and LAST have none in the text.
+fn is_allowed(least: u8, kind: Kind, operands: Sampled) -> bool
+    ensures { λ r. ⌜ r ≡ isAllowed least kind operands ⌝ }
+{
+    let factor = operands.factor;
+    match kind {
+        Kind::Now => true,
+        Kind::Last => true,
+        Kind::When => least <= factor,
+        Kind::LastWhen => least <= factor,
+        Kind::Current => least <= factor,
+    }
+}
+
+// The operator at `at`, where factors go from `least` on.
+fn operator_from(least: u8, text: &[u8], at: usize) -> Command
+    ensures { λ r. ⌜ r ≡ operatorFrom least (now (text .entry)) at ⌝ }
+{
+    let operator = commands::operator_at(text, at);
+    if let Command::Read(kind, operands) = operator {
+        if !is_allowed(least, kind, operands) {
+            return Command::OutOfRange;
+        }
+    }
+    operator
+}
+
 // Reads the expression at `at`, which may nest `depth` deep. Keeps the offset of each of its reads in `reads`, from `count` on, and
 // counts the bytes of its code, from `to` on.
 pub fn read_expression(
+    least: u8,
     text: &[u8],
     at: usize,
     count: usize,
@@ -109,12 +140,12 @@ pub fn read_expression(
     reads: &mut [u16],
 ) -> Walked
     requires { ⌜ Room (length (now text)) at count to (length (now reads)) ⌝ }
-    ensures { λ r. ⌜ Walks (parseExpr depth (now (text .entry)) at) (now (reads .entry)) count to (now (reads .exit)) r ⌝ }
+    ensures { λ r. ⌜ Walks (parseExpr least depth (now (text .entry)) at) (now (reads .entry)) count to (now (reads .exit)) r ⌝ }
 {
     if depth == 0 {
         return too_deep(text, at);
     }
-    let operator = commands::operator_at(text, at);
+    let operator = operator_from(least, text, at);
     match operator {
         Command::EndsEarly => refuse_walk(2, text.len()),
         Command::Unknown => refuse_walk(3, at),
@@ -141,11 +172,11 @@ pub fn read_expression(
         }
         Command::Binary(_) => {
             let first_at = at + width::in_expression(0x30);
-            let first = read_expression(text, first_at, count, to, depth - 1, reads);
+            let first = read_expression(least, text, first_at, count, to, depth - 1, reads);
             let Walked::Next(a) = first else {
                 return first;
             };
-            let second = read_expression(text, a.at, a.reads, a.code, depth - 1, reads);
+            let second = read_expression(least, text, a.at, a.reads, a.code, depth - 1, reads);
             let Walked::Next(b) = second else {
                 return second;
             };
@@ -153,7 +184,7 @@ pub fn read_expression(
         }
         Command::Negate => {
             let operand_at = at + width::in_expression(0x38);
-            let operand = read_expression(text, operand_at, count, to, depth - 1, reads);
+            let operand = read_expression(least, text, operand_at, count, to, depth - 1, reads);
             let Walked::Next(a) = operand else {
                 return operand;
             };
@@ -161,15 +192,15 @@ pub fn read_expression(
         }
         Command::If => {
             let condition_at = at + width::in_expression(0x3A);
-            let condition = read_expression(text, condition_at, count, to, depth - 1, reads);
+            let condition = read_expression(least, text, condition_at, count, to, depth - 1, reads);
             let Walked::Next(a) = condition else {
                 return condition;
             };
-            let first = read_expression(text, a.at, a.reads, a.code, depth - 1, reads);
+            let first = read_expression(least, text, a.at, a.reads, a.code, depth - 1, reads);
             let Walked::Next(b) = first else {
                 return first;
             };
-            let second = read_expression(text, b.at, b.reads, b.code, depth - 1, reads);
+            let second = read_expression(least, text, b.at, b.reads, b.code, depth - 1, reads);
             let Walked::Next(d) = second else {
                 return second;
             };
@@ -291,6 +322,7 @@ fn adds(entry: Entry, at: usize, count: usize, to: usize) -> Step
 
 // An EQ ends where its expression does; after the expression's code comes a STORE.
 fn equation_step(
+    least: u8,
     text: &[u8],
     at: usize,
     entry: Entry,
@@ -299,9 +331,17 @@ fn equation_step(
     reads: &mut [u16],
 ) -> Step
     requires { ⌜ (at < length (now text)) × Room (length (now text)) at count to (length (now reads)) ⌝ }
-    ensures { λ r. ⌜ WalksEquation (parseExpr 16 (now (text .entry)) (at + inProgram 0x11)) entry (now (reads .entry)) count to (now (reads .exit)) r ⌝ }
+    ensures { λ r. ⌜ WalksEquation (parseExpr least 16 (now (text .entry)) (at + inProgram 0x11)) entry (now (reads .entry)) count to (now (reads .exit)) r ⌝ }
 {
-    let reached = read_expression(text, at + width::in_program(0x11), count, to, 16, reads);
+    let reached = read_expression(
+        least,
+        text,
+        at + width::in_program(0x11),
+        count,
+        to,
+        16,
+        reads,
+    );
     match reached {
         Walked::Next(w) => adds(entry, w.at, w.reads, w.code + width::in_code(0x5F)),
         Walked::Refused(fault) => Step::Refused(fault),
@@ -362,6 +402,7 @@ fn end_step(text: &[u8], at: usize) -> Step
 // One command of the program text, after so many signals and chains. Its reads are kept from `count` on; the code before it takes `to`
 // bytes.
 fn read_command(
+    least: u8,
     text: &[u8],
     at: usize,
     signals: usize,
@@ -372,7 +413,7 @@ fn read_command(
     reads: &mut [u16],
 ) -> Step
     requires { ⌜ Room (length (now text)) at count to (length (now reads)) ⌝ }
-    ensures { λ r. ⌜ ((p : Program) (label : ℕ) → Counts p signals chains capped → Stepped (now (text .entry)) at label p (now (reads .entry)) count to (now (reads .exit)) r) ⌝ }
+    ensures { λ r. ⌜ ((p : Program) (label : ℕ) → Counts p signals chains capped → Stepped least (now (text .entry)) at label p (now (reads .entry)) count to (now (reads .exit)) r) ⌝ }
 {
     let here = command_here(text, at, signals, chains, capped);
     if let Reached::Refused(fault) = here {
@@ -390,6 +431,7 @@ fn read_command(
             adds(Entry::Signal(period, 0), next, count, end)
         }
         Command::Equation(period, _, weight) => equation_step(
+            least,
             text,
             at,
             Entry::Signal(period, weight),
@@ -468,11 +510,11 @@ fn judged_at(step: Step) -> Judged
     }
 }
 
-// Reads a program text to its END: 2 to 6, or the tables of the program that it is. Keeps the offset of each read in `reads`, which has
+// Reads a program text whose factors go from `least` on to its END: 2 to 6, or the tables of the program that it is. Keeps the offset of each read in `reads`, which has
 // an entry for each two bytes of the text.
-pub fn read_program(text: &[u8], reads: &mut [u16]) -> ProgramRead
+pub fn read_program(least: u8, text: &[u8], reads: &mut [u16]) -> ProgramRead
     requires { ⌜ (length (now text) ≤ 8192) × (length (now text) ≤ 2 * length (now reads)) ⌝ }
-    ensures { λ r. ⌜ ProgramReads (parseProgram (now (text .entry))) (now (reads .exit)) r ⌝ }
+    ensures { λ r. ⌜ ProgramReads (parseWith least (now (text .entry))) (now (reads .exit)) r ⌝ }
 {
     let mut places: [usize; 64] = [0; 64];
     let mut periods: [u8; 64] = [0; 64];
@@ -491,7 +533,7 @@ pub fn read_program(text: &[u8], reads: &mut [u16]) -> ProgramRead
     let mut count: usize = 0;
     let mut to: usize = 0;
     while at < text.len() {
-        let step = read_command(text, at, signals, chains, capped, count, to, reads);
+        let step = read_command(least, text, at, signals, chains, capped, count, to, reads);
         let Step::Adds(entry, walk) = step else {
             return ProgramRead {
                 judged: judged_at(step),

@@ -472,6 +472,40 @@ fn call_tail(lent: Lent, image: &[u8]) -> Lent {
     lent
 }
 
+fn convert(program: &[u8], buffer: &mut [u8]) {
+    let converted = larderlate::convert(program, &mut buffer[..]);
+    print_compiled(converted, &buffer[..]);
+}
+
+// 0A: a conversion.
+fn call_convert(lent: Lent) -> Lent {
+    let Number::Is(p) = two() else {
+        return stop();
+    };
+    let Number::Is(b) = four() else {
+        return stop();
+    };
+    if 9000 < p || 26000 < b {
+        return stop();
+    }
+    convert_next(lent, p, b)
+}
+
+// A conversion of p bytes of program into a buffer of b bytes.
+fn convert_next(lent: Lent, p: usize, b: usize) -> Lent
+    requires { ⌜ (p ≤ 9000) × (b ≤ 26000) ⌝ }
+{
+    let mut byte = [0u8; 1];
+    let mut program = [0u8; 9000];
+    let mut buffer = [0u8; 26000];
+    if !fill(&mut byte, 1) || !fill(&mut program, p) {
+        return stop();
+    }
+    set_all(&mut buffer, byte[0]);
+    convert(&program[..p], &mut buffer[..b]);
+    lent
+}
+
 // The next call of the stream, or its end.
 fn step(lent: Lent, image: &mut [u8], state: &mut [i32]) -> Lent {
     let mut byte = [0u8; 1];
@@ -489,6 +523,7 @@ fn step(lent: Lent, image: &mut [u8], state: &mut [i32]) -> Lent {
         7 => call_widths(lent),
         8 => call_trial(lent),
         9 => call_tail(lent, image),
+        10 => call_convert(lent),
         _ => stop(),
     }
 }

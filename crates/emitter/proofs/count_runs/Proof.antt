@@ -9,7 +9,7 @@ use lib.ListN.{length, getD, getD-replicate}
 use borrow.Author.Needs.{needs}
 use Rattle.model.specs.Reads.{due}
 use Rattle.emitter.specs.Lists.{rateAt, listBy}
-use Rattle.emitter.proofs.Left.{parts-length}
+use Rattle.model.proofs.Left.{parts-length}
 use Rattle.emitter.proofs.Listed.{run-size, listFrom, list-starts, list-step, list-ends}
 use Rattle.emitter.proofs.count_runs.Statement.{statement}
 use Rattle.emitter.proofs.count_runs.Tie as tie

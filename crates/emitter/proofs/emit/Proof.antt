@@ -8,7 +8,7 @@ use Rattle.model.specs.Image.{joined, offsets, records, listsAt}
 use Rattle.model.specs.Word.{twoBytes}
 use Rattle.emitter.specs.Codes.{signalsOf, codesFrom}
 use Rattle.emitter.specs.Lists.{listsBy, pairs}
-use Rattle.emitter.proofs.Left.{Left, starts, room, turn, done}
+use Rattle.model.proofs.Left.{Left, starts, room, turn, done}
 use Rattle.emitter.proofs.Imaged.{codesBy, lengthBy, imageBy, head-first, both, last, declared, timed, phased, lists-by, codes-at, code-by, length-by, image-size, image-written}
 use borrow.Author.Needs.{needs}
 use Rattle.emitter.proofs.emit.Statement.{statement}

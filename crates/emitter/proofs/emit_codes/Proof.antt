@@ -3,7 +3,7 @@ use Prim.Native.Nat.{_-_, _≤_}
 use native.Mathlib.Omega.{arith}
 use Rattle.model.specs.Image.{joined}
 use Rattle.emitter.specs.Codes.{signalsOf, codesFrom}
-use Rattle.emitter.proofs.Left.{Left, starts, room, turn, done}
+use Rattle.model.proofs.Left.{Left, starts, room, turn, done}
 use Rattle.emitter.proofs.Coded.{nth, codesLeft, codes-start, codes-next, codes-end}
 use Rattle.emitter.proofs.emit_codes.Statement.{statement}
 use Rattle.emitter.proofs.emit_codes.Tie as tie

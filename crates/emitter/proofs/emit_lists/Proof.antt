@@ -7,7 +7,7 @@ use lib.ListN.{length}
 use borrow.Author.Needs.{needs}
 use Rattle.model.specs.Image.{joined}
 use Rattle.emitter.specs.Lists.{listBy, listsBy, Runs}
-use Rattle.emitter.proofs.Left.{Left, starts, room, turn, done}
+use Rattle.model.proofs.Left.{Left, starts, room, turn, done}
 use Rattle.emitter.proofs.Listed.{first-run}
 use Rattle.emitter.proofs.Joined.{joinedFrom, joined-starts, joined-step, joined-ends}
 use Rattle.emitter.proofs.emit_lists.Statement.{statement}

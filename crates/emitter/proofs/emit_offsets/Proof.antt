@@ -8,7 +8,7 @@ use borrow.Author.Needs.{needs}
 use Rattle.model.specs.Image.{joined, offsets}
 use Rattle.model.specs.Word.{twoBytes}
 use Rattle.emitter.specs.Lists.{listBy, listsBy, pairs}
-use Rattle.emitter.proofs.Left.{Left, parts-length, starts, room, turn, done, wrote-size}
+use Rattle.model.proofs.Left.{Left, parts-length, starts, room, turn, done, wrote-size}
 use Rattle.emitter.proofs.Joined.{joinedFrom, pairsFrom, joined-starts, joined-step, pairs-start, pairs-step, pairs-last}
 use Rattle.emitter.proofs.emit_offsets.Statement.{statement}
 use Rattle.emitter.proofs.emit_offsets.Tie as tie

@@ -8,7 +8,7 @@ use borrow.Author.Needs.{needs}
 use Rattle.model.specs.Image.{offsets, records}
 use Rattle.model.specs.Program.{Signal}
 use Rattle.emitter.specs.Codes.{signalsOf, codesFrom}
-use Rattle.emitter.proofs.Left.{Left, starts, room, turn, done}
+use Rattle.model.proofs.Left.{Left, starts, room, turn, done}
 use Rattle.emitter.proofs.Coded.{nth, recordsLeft, records-start, records-next, records-at, records-end, initial-word, record-length, code-start, starts-many}
 use Rattle.emitter.proofs.emit_records.Statement.{statement}
 use Rattle.emitter.proofs.emit_records.Tie as tie

@@ -6,7 +6,7 @@ use lib.ListN.{length}
 use Rattle.model.specs.Word.{twoBytes}
 use Rattle.emitter.specs.Tail.{entryBy, tailBy}
 use Rattle.emitter.proofs.Joined.{joinedFrom, joined-starts, joined-step, joined-ends}
-use Rattle.emitter.proofs.Left.{Left, starts, room, turn, done}
+use Rattle.model.proofs.Left.{Left, starts, room, turn, done}
 use Rattle.emitter.proofs.emit_tail.Statement.{statement}
 use Rattle.emitter.proofs.emit_tail.Tie as tie
 

@@ -6,8 +6,8 @@ use native.Mathlib.Numerals.{add-one}
 use native.Mathlib.Omega.{arith}
 use lib.ListN.{length, set, length-set}
 use Rattle.model.specs.Word.{twoBytes}
-use Rattle.emitter.specs.Writing.{Wrote}
-use Rattle.emitter.proofs.Left.{after, wrote-size}
+use Rattle.model.specs.Writing.{Wrote}
+use Rattle.model.proofs.Left.{after, wrote-size}
 use borrow.Author.Needs.{needs}
 use Rattle.emitter.proofs.put_entry.Statement.{statement}
 use Rattle.emitter.proofs.put_entry.Tie as tie

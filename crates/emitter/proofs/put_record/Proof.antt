@@ -7,8 +7,8 @@ use lib.Seq.{sets}
 use mir.Facts.{toZ-ofZ}
 use Rattle.model.specs.Word.{wordAt, wordBytes}
 use Rattle.emit_code.proofs.Laws.{word-length}
-use Rattle.emitter.specs.Writing.{Wrote}
-use Rattle.emitter.proofs.Left.{after}
+use Rattle.model.specs.Writing.{Wrote}
+use Rattle.model.proofs.Left.{after}
 use borrow.Author.Needs.{needs}
 use Rattle.emitter.proofs.put_record.Statement.{statement}
 use Rattle.emitter.proofs.put_record.Tie as tie

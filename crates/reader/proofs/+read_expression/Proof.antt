@@ -9,6 +9,7 @@ use lib.ListN.{length}
 use denote.Ref.{now}
 use borrow.Fn.Kinds.{In}
 use borrow.Fn.PlainCycle.{Measures, is, falls, and}
+use Rattle.model.specs.Outcome.{_▷_, provided, parsed}
 use Rattle.model.specs.Program.{constant, read, node, parseExpr}
 use Rattle.model.specs.Width.{readWidth}
 use Rattle.model.specs.declared.Command.{Command}
@@ -20,7 +21,7 @@ use Rattle.reader.specs.declared.Walk.{Walk}
 use Rattle.reader.specs.declared.Walked.{Walked}
 use Rattle.reader.specs.declared.Walked.the-variants as Walked
 use Rattle.reader.proofs.Laws.{width-most}
-use Rattle.reader.proofs.Operators.{parse-node, operator-inside}
+use Rattle.reader.proofs.Operators.{parse-node, operator-inside, read-allowed}
 use Rattle.reader.proofs.Walks.{
   walks-refused,
   walks-deep,
@@ -40,7 +41,7 @@ use Rattle.reader.proofs.Walks.{
 use Rattle.reader.proofs.read_expression.Reads as own
 use Rattle.reader.proofs.read_expression.Kinds as kinds
 use Rattle.reader.proofs.+read_expression.Lts-read_expression as lts
-use Rattle.commands.proofs.operator_at.Reads as operator-at-reads
+use Rattle.reader.proofs.operator_from.Reads as operator-from-reads
 use Rattle.reader.proofs.moved_on.Reads as moved-on-reads
 use Rattle.width.proofs.in_code.Reads as in-code-reads
 use Rattle.width.proofs.in_expression.Reads as in-expression-reads
@@ -51,7 +52,7 @@ use Rattle.reader.proofs.+read_expression.{statement}
 use Rattle.reader.proofs.+read_expression.Tie.{close}
 
 abbrev μ : Measures 2 kinds.ps ℕ
-μ κs a = a .1 .1 .1 .1 .0
+μ κs a = a .1 .1 .1 .1 .1 .0
 
 abbrev given : ℕ → In 2 kinds.ps
 given t = and 2 kinds.ps (is 2 kinds.ps μ t) own.Pre
@@ -63,8 +64,8 @@ abbrev known : ℕ → lts.Claims
 known t = (
   too-deep-reads.Asked,
   too-deep-reads.Learnt,
-  operator-at-reads.Asked,
-  operator-at-reads.Learnt,
+  operator-from-reads.Asked,
+  operator-from-reads.Learnt,
   refuse-walk-reads.Asked,
   refuse-walk-reads.Learnt,
   in-expression-reads.Asked,
@@ -80,9 +81,12 @@ known t = (
 )
 
 -- where the operator is known, and the depth is not 0
-module _ (t : ℕ) (c : lts.After-operator-at (known t) (given t) own.Post) where
+module _ (t : ℕ) (c : lts.After-operator-from (known t) (given t) own.Post) where
   abbrev text : List ℕ
   text = now (c .before .before .before .before .args .text)
+
+  abbrev least : ℕ
+  least = c .before .before .before .before .args .least
 
   abbrev at : ℕ
   at = c .before .before .before .before .args .at
@@ -102,41 +106,47 @@ module _ (t : ℕ) (c : lts.After-operator-at (known t) (given t) own.Post) wher
   room : Room (length text) at count to size
   room = c .before .before .before .before .pre .1
 
-  module _ (o : Command) (e : c .operator-at .result ≡ o) where
-    step : parseExpr depth text at ≡ node (λ n. parseExpr (depth - 1) text n) text at o
+  module _ (o : Command) (e : c .operator-from .result ≡ o) where
+    step : parseExpr least depth text at ≡ node least (λ n. parseExpr least (depth - 1) text n) text at o
     step =
-        parse-node depth text at (c .before .if1 .left) ∙
-        ap (λ (x : Command). node (λ n. parseExpr (depth - 1) text n) text at x) (sym (c .operator-at .ensures) ∙ e)
+        parse-node least depth text at (c .before .if1 .left) ∙
+        ap (λ (x : Command). node least (λ n. parseExpr least (depth - 1) text n) text at x) (sym (c .operator-from .ensures) ∙ e)
 
     inside : (Command.EndsEarly ≡ o → ⊥) → at < length text
-    inside h = operator-inside text at (sym (c .operator-at .ensures) ∙ e) h
+    inside h = operator-inside least text at (sym (c .operator-from .ensures) ∙ e) h
 
-  constant-inside : {w : ℤ} → c .operator-at .result ≡ Command.Constant w → at + 5 ≤ length text
+  constant-inside : {w : ℤ} → c .operator-from .result ≡ Command.Constant w → at + 5 ≤ length text
   unfolding node
-  constant-inside {w} e = parsed-spans depth text at (constant w) (at + 5) (step _ e) .inside
+  constant-inside {w} e = parsed-spans least depth text at (constant w) (at + 5) (step _ e) .inside
 
-  read-inside : {kind : Kind} {x : Sampled} → c .operator-at .result ≡ Command.Read kind x → at + readWidth kind ≤ length text
+  -- A read has a factor that is allowed.
+  read-step : {kind : Kind} {x : Sampled} → c .operator-from .result ≡ Command.Read kind x →
+      parseExpr least depth text at ≡ parsed (read (record { place = at; kind = kind; operands = x })) (at + readWidth kind)
+  unfolding node _▷_ provided
+  read-step e = step _ e ∙ rw (read-allowed least text at (sym (c .operator-from .ensures) ∙ e))
+
+  read-inside : {kind : Kind} {x : Sampled} → c .operator-from .result ≡ Command.Read kind x → at + readWidth kind ≤ length text
   unfolding node
   read-inside {kind} {x} e =
-      parsed-spans depth text at (read (record { place = at; kind = kind; operands = x })) (at + readWidth kind) (step _ e) .inside
+      parsed-spans least depth text at (read (record { place = at; kind = kind; operands = x })) (at + readWidth kind) (read-step e) .inside
 
   -- where an operand is read
-  one : {l′ : List ℕ} {r : Walked} {a : Walk} → Walks (parseExpr (depth - 1) text (at + 1)) (now (c .before .before .before .before .args .reads)) count to l′ r →
+  one : {l′ : List ℕ} {r : Walked} {a : Walk} → Walks (parseExpr least (depth - 1) text (at + 1)) (now (c .before .before .before .before .args .reads)) count to l′ r →
       r ≡ Walked.Next a → Ahead (length text) (length l′) a
-  one w e = ahead text (depth - 1) (room-after 1 room) w e
+  one w e = ahead least text (depth - 1) (room-after 1 room) w e
 
   more : {l l′ : List ℕ} {r : Walked} {a b : Walk} → Ahead (length text) (length l) a →
-      Walks (parseExpr (depth - 1) text (a .at)) l (a .reads) (a .code) l′ r → r ≡ Walked.Next b → Ahead (length text) (length l′) b
-  more h w e = ahead text (depth - 1) (h .left) w e
+      Walks (parseExpr least (depth - 1) text (a .at)) l (a .reads) (a .code) l′ r → r ≡ Walked.Next b → Ahead (length text) (length l′) b
+  more h w e = ahead least text (depth - 1) (h .left) w e
 
 too-deep-requires : (t : ℕ) → lts.Need-too-deep-requires (known t) (given t) own.Post
 too-deep-requires t c κs = search needs
 
 returns : (t : ℕ) → lts.Need-returns (known t) (given t) own.Post
-returns t c = rw (c .before .if1 .taken) (walks-deep _ _ (c .too-deep .ensures))
+returns t c = rw (c .before .if1 .taken) (walks-deep _ _ _ (c .too-deep .ensures))
 
-operator-at-requires : (t : ℕ) → lts.Need-operator-at-requires (known t) (given t) own.Post
-operator-at-requires t c κs = search needs
+operator-from-requires : (t : ℕ) → lts.Need-operator-from-requires (known t) (given t) own.Post
+operator-from-requires t c κs = search needs
 
 enum-told : (t : ℕ) → lts.Need-enum-told (known t) (given t) own.Post
 enum-told t c = search needs
@@ -463,7 +473,7 @@ same-length-7 t c = search needs
 
 returns-19 : (t : ℕ) → lts.Need-returns-19 (known t) (given t) own.Post
 unfolding node
-returns-19 t c = rw (step t (c .before .before .before .before .before .before) _ (c .before .before .before .before .operator .given .1)) (walks-read _ (rw (c .before .before .of-read .ensures, c .before .in-code2 .ensures) at (c .moved-on2 .ensures)))
+returns-19 t c = rw (read-step t (c .before .before .before .before .before .before) (c .before .before .before .before .operator .given .1)) (walks-read _ (rw (c .before .before .of-read .ensures, c .before .in-code2 .ensures) at (c .moved-on2 .ensures)))
 
 same-length-8 : (t : ℕ) → lts.Need-same-length-8 (known t) (given t) own.Post
 same-length-8 t c = search needs
@@ -491,7 +501,7 @@ pub +read-expression-spec : {M : Type 1} → statement M
     close μ (λ t. lts.spec (known t) (given t) own.Post
     (too-deep-requires t)
     (returns t)
-    (operator-at-requires t)
+    (operator-from-requires t)
     (enum-told t)
     (refuse-walk-requires t)
     (enum-told-2 t)

@@ -26,7 +26,7 @@ in-code-requires c κs = search needs
 
 add-adds : tie.Need-add-adds
 add-adds c =
-    let h = ahead _ 16 (room-after 8 (c .before .before .before .before .before .before .before .before .before .before .before .before .pre .1)) (rw (c .before .before .before .before .before .before .before .before .before .in-program .ensures) at (c .before .before .before .before .before .before .before .read-expression .ensures)) (c .before .before .before .reached .given .1) in
+    let h = ahead _ _ 16 (room-after 8 (c .before .before .before .before .before .before .before .before .before .before .before .before .pre .1)) (rw (c .before .before .before .before .before .before .before .before .before .in-program .ensures) at (c .before .before .before .before .before .before .before .read-expression .ensures)) (c .before .before .before .reached .given .1) in
     omega (arith, h .left .short, h .left .small, h .inside)
 
 adds-requires : tie.Need-adds-requires

@@ -34,6 +34,9 @@ module _ (c : tie.After-command-at) where
   abbrev start : tie.Start
   start = c .before .before .before .before .before .before
 
+  abbrev least : ℕ
+  least = start .args .least
+
   abbrev text : List ℕ
   text = now (start .args .text)
 
@@ -46,7 +49,7 @@ module _ (c : tie.After-command-at) where
   abbrev Steps : List ℕ → Step → Type 0
   Steps l r =
       (p : Program) (label : ℕ) → HasSoFar p →
-      Stepped text at label p (now (start .args .reads)) (start .args .count) (start .args .to) l r
+      Stepped least text at label p (now (start .args .reads)) (start .args .count) (start .args .to) l r
 
   stands : (p : Program) → HasSoFar p → commandHere text at p (keywordAt text at) ≡ accepted tt
   stands p k = here-next _ _ _ (sym (c .before .enum-told .given .1) ∙ c .before .before .before .command-here .ensures p k)
@@ -59,11 +62,11 @@ module _ (c : tie.After-command-at) where
     inside h = command-inside text at is h
 
     refuses : {f : Fault} {r : Step} → r ≡ Step.Refused f →
-        ((next : ℕ → ℕ → Program → Outcome Program) (label : ℕ) (p : Program) → declare next text at label p k ≡ refused f) →
+        ((next : ℕ → ℕ → Program → Outcome Program) (label : ℕ) (p : Program) → declare least next text at label p k ≡ refused f) →
         Steps (now (start .args .reads)) r
     refuses q h = λ p label n.
-        subst (Stepped text at label p _ _ _ _) (sym q)
-        (step-refused text at label p _ _ _ (stands p n) k _ is (λ next. h next label p))
+        subst (Stepped least text at label p _ _ _ _) (sym q)
+        (step-refused least text at label p _ _ _ (stands p n) k _ is (λ next. h next label p))
 
 command-here-requires : tie.Need-command-here-requires
 command-here-requires c κs = search needs
@@ -73,7 +76,7 @@ enum-known-here c = search needs
 
 returns : tie.Need-returns
 returns c = λ p label k.
-    step-stopped _ _ label p _ _ _
+    step-stopped _ _ _ label p _ _ _
     (here-refused _ _ (sym (c .before .here .given .1) ∙ c .before .before .before .command-here .ensures p k))
 
 enum-told : tie.Need-enum-told
@@ -226,17 +229,17 @@ returns-4 c =
 returns-5 : tie.Need-returns-5
 returns-5 c = λ p label k.
     let b = c .before .before .before in
-    subst (Stepped _ _ label p _ _ _ _) (sym (c .end-step .ensures))
-    (step-end _ _ label p _ _ _ (stands b p k) (is b (c .before .enum-told5 .given .1)))
+    subst (Stepped _ _ _ label p _ _ _ _) (sym (c .end-step .ensures))
+    (step-end _ _ _ label p _ _ _ (stands b p k) (is b (c .before .enum-told5 .given .1)))
 
 returns-6 : tie.Need-returns-6
 returns-6 c = λ p label k.
     let b = c .before .before .before .before .before .before .before in
-    subst (Stepped _ _ label p _ _ _ _)
+    subst (Stepped _ _ _ label p _ _ _ _)
     (sym
     (rw (c .before .before .before .in-program .ensures, c .before .before .in-code .ensures, c .before .in-code2 .ensures) at
     (c .adds .ensures)))
-    (step-input _ _ label p _ _ _ (stands b p k) _ _ (is b (c .before .before .before .before .before .command .given .1)))
+    (step-input _ _ _ label p _ _ _ (stands b p k) _ _ (is b (c .before .before .before .before .before .command .given .1)))
 
 same-length : tie.Need-same-length
 same-length c = search needs
@@ -244,14 +247,14 @@ same-length c = search needs
 returns-7 : tie.Need-returns-7
 returns-7 c = λ p label k.
     let b = c .before .before .before .before .before .before .before in
-    step-equation _ _ label p _ _ _ (stands b p k) _ _ _ (is b (c .before .before .before .before .before .command2 .given .1))
+    step-equation _ _ _ label p _ _ _ (stands b p k) _ _ _ (is b (c .before .before .before .before .before .command2 .given .1))
     (c .before .before .equation-step .ensures)
 
 returns-8 : tie.Need-returns-8
 returns-8 c = λ p label k.
     let b = c .before .before .before in
-    subst (Stepped _ _ label p _ _ _ _) (sym (c .chain-step .ensures))
-    (step-chain _ _ label p _ _ _ (stands b p k) _ _ (is b (c .before .enum-told6 .given .1)))
+    subst (Stepped _ _ _ label p _ _ _ _) (sym (c .chain-step .ensures))
+    (step-chain _ _ _ label p _ _ _ (stands b p k) _ _ (is b (c .before .enum-told6 .given .1)))
 
 returns-9 : tie.Need-returns-9
 unfolding declare
@@ -261,14 +264,14 @@ returns-9 c =
 returns-10 : tie.Need-returns-10
 returns-10 c = λ p label k.
     let b = c .before .before .before .before .before in
-    subst (Stepped _ _ label p _ _ _ _) (sym (rw (c .before .in-program2 .ensures) at (c .adds2 .ensures)))
-    (step-cap _ _ label p _ _ _ (stands b p k) _ (is b (c .before .before .before .command3 .given .1)))
+    subst (Stepped _ _ _ label p _ _ _ _) (sym (rw (c .before .in-program2 .ensures) at (c .adds2 .ensures)))
+    (step-cap _ _ _ label p _ _ _ (stands b p k) _ (is b (c .before .before .before .command3 .given .1)))
 
 returns-11 : tie.Need-returns-11
 returns-11 c = λ p label k.
     let b = c .before .before .before .before in
-    subst (Stepped _ _ label p _ _ _ _) (sym (c .tag-step .ensures))
-    (step-tag _ _ label p _ _ _ (stands b p k) _ (is b (c .before .before .command4 .given .1)))
+    subst (Stepped _ _ _ label p _ _ _ _) (sym (c .tag-step .ensures))
+    (step-tag _ _ _ label p _ _ _ (stands b p k) _ (is b (c .before .before .command4 .given .1)))
 
 returns-12 : tie.Need-returns-12
 unfolding declare

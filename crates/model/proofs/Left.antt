@@ -5,8 +5,8 @@ use mathlib.Core.Path.{_≡_, refl, sym, ap, _∙_}
 use native.Mathlib.Omega.{arith}
 use lib.ListN.{length, length-append}
 use lib.Seq.{sets, length-sets}
 use Rattle.model.proofs.Stretches.{sets-append}
-use Rattle.emitter.specs.Writing.{Wrote}
+use Rattle.model.specs.Writing.{Wrote}
 
 pub record Left (l₀ : List ℕ) (to₀ : ℕ) (whole l : List ℕ) (to : ℕ) (rest : List ℕ) : Type 0 where
   pub same : sets l to rest ≡ sets l₀ to₀ whole
