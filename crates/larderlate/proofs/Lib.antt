@@ -1,2 +1,4 @@
 -- The promises of the calls.
 pub mod Promises
+pub mod BoardPromises
+pub mod BoardCalls
