@@ -4,6 +4,7 @@
 mod generate;
 #[allow(dead_code)]
 mod images;
+#[allow(dead_code)]
 mod library;
 #[allow(dead_code)]
 mod random;
@@ -79,6 +80,24 @@ fn cycle_row(name: &str, image: &[u8]) -> Row {
     row(format!("cycle {name}"), image.len(), [Box::new(library), Box::new(reference)])
 }
 
+/// A turn of a board whose other places are idle, against a cycle of the same image, both by the library.
+fn turn_row(name: &str, image: &[u8]) -> Row {
+    let samples: Vec<i32> = (0..256).map(|sample| sample % 64 * 77 - 5).collect();
+    let other_samples = samples.clone();
+    let [lent, other_lent] = [0; 2].map(|_| image.to_vec());
+    let (mut record, mut outcome) = (library::board_new(), [0; 3]);
+    let (mut state, mut other) = (vec![0; 260], vec![0; 65]);
+    assert_eq!(library::board_load(&mut record, &lent, &mut state, 0, 0, lent.len()), 0);
+    assert_eq!(library::reset(&lent, &mut other), 0);
+    let turn = move || {
+        record[0] |= 2;
+        assert_eq!(library::board_turn(&mut record, black_box(&lent), &mut state, &samples, &mut outcome), 0);
+        assert_eq!(outcome[..2], [1, 0]);
+    };
+    let cycle = move || assert!(library::cycle(black_box(&other_lent), &mut other, &other_samples[..64]) < 1 << 32);
+    row(format!("turn {name}"), image.len(), [Box::new(turn), Box::new(cycle)])
+}
+
 fn main() {
     let (small, large) = (program_a(), program_of(64, &[1, 2, 8, 24, 240], 240));
     let mut rows = vec![compile_row("program A", &small), compile_row("64 signals", &large)];
@@ -87,6 +106,8 @@ fn main() {
     rows.extend(images.iter().map(|(name, image)| reset_row(name, image)));
     rows.extend(images.iter().map(|(name, image)| cycle_row(name, image)));
     let calls = rows.len();
+    rows.extend(images.iter().map(|(name, image)| turn_row(name, image)));
+    let turns = rows.len();
     for signals in [4, 8, 16, 32, 64] {
         rows.push(compile_row(&format!("{signals} signals"), &program_of(signals, &[1, 2, 4, 8, 24], 24)));
     }
@@ -94,5 +115,6 @@ fn main() {
     measure(&mut rows);
     println!("medians of {ROUNDS} interleaved rounds; buffers and states not cleared between calls\n");
     print("call", ["ours", "Rust"], &mut rows[..calls]);
-    print("compile by length and shape", ["ours", "Rust"], &mut rows[calls..]);
+    print("a turn beside a cycle of its image", ["turn", "cycle"], &mut rows[calls..turns]);
+    print("compile by length and shape", ["ours", "Rust"], &mut rows[turns..]);
 }

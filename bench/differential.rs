@@ -3,8 +3,9 @@
 //!     differential [COUNT [SEED]]
 //!
 //! Each of COUNT rounds lends one pair to compile and to report, a program text of the earlier rule to convert, and then images, states
-//! and samples to reset, cycle and tail. After each call the answers and all that was lent must be equal. It stops at the first
-//! difference with the bytes lent. Round r depends on the seed and on r alone.
+//! and samples to reset, cycle and tail, and makes calls of a board. After each call the answers and all that was lent must be equal. It
+//! stops at the first difference with the bytes lent. Round r depends on the seed and on r alone.
+mod board;
 mod generate;
 // The benchmark uses the rest of these.
 #[allow(dead_code)]
@@ -15,6 +16,7 @@ mod reference;
 
 use generate::{Pair, Shape, Twist};
 use random::Random;
+use reference::{Board, Outcome};
 use std::process::exit;
 
 const COUNT: u64 = 200_000;
@@ -22,22 +24,29 @@ const SEED: u64 = 20_260_101;
 /// Every image fits, with its tail.
 const IMAGE_BYTES: usize = 24_678;
 /// The refusals of the paper.
-const NUMBERS: [usize; 21] = [1, 2, 3, 4, 5, 6, 7, 8, 9, 10, 11, 12, 13, 14, 15, 16, 17, 20, 21, 22, 23];
+const NUMBERS: [usize; 24] = [1, 2, 3, 4, 5, 6, 7, 8, 9, 10, 11, 12, 13, 14, 15, 16, 17, 20, 21, 22, 23, 26, 27, 28];
+/// One more than the highest.
+const TOP: usize = 29;
 
 /// How many answers of each number a call gave.
 #[derive(Default)]
 struct Seen {
-    compile: [u64; 24],
-    report: [u64; 24],
-    reset: [u64; 24],
-    cycle: [u64; 24],
-    tail: [u64; 24],
-    convert: [u64; 24],
+    compile: [u64; TOP],
+    report: [u64; TOP],
+    reset: [u64; TOP],
+    cycle: [u64; TOP],
+    tail: [u64; TOP],
+    convert: [u64; TOP],
+    load: [u64; TOP],
+    mark: [u64; TOP],
+    turn: [u64; TOP],
+    /// What the runs of turns answered.
+    run: [u64; TOP],
 }
 
 impl Seen {
-    fn calls(&self) -> [&[u64; 24]; 6] {
-        [&self.compile, &self.report, &self.reset, &self.cycle, &self.tail, &self.convert]
+    fn calls(&self) -> [&[u64; TOP]; 10] {
+        [&self.compile, &self.report, &self.reset, &self.cycle, &self.tail, &self.convert, &self.load, &self.mark, &self.turn, &self.run]
     }
 }
 
@@ -45,7 +54,7 @@ fn hexadecimal(bytes: &[u8]) -> String {
     bytes.iter().map(|byte| format!("{byte:02X}")).collect::<Vec<_>>().join(" ")
 }
 
-fn count(seen: &mut [u64; 24], answer: u64) {
+fn count(seen: &mut [u64; TOP], answer: u64) {
     seen[(answer >> 32) as usize] += 1;
 }
 
@@ -58,6 +67,15 @@ fn differ(round: u64, call: &str, lent: &[String], library: u64, reference: u64,
     }
     println!("  what was lent is {} after both", if kept { "equal" } else { "not equal" });
     exit(1);
+}
+
+/// What is lent to the calls of a board, on one side.
+#[derive(Clone)]
+struct Lent {
+    record: library::Record,
+    images: Vec<u8>,
+    state: Vec<i32>,
+    outcome: [u32; 3],
 }
 
 /// L, by bytes 2-3.
@@ -291,6 +309,118 @@ impl Round<'_> {
         image.extend((0..bytes).map(|_| self.random.byte()));
     }
 
+    /// Compares a call of the board: the answers, the record and the state after both.
+    fn compare(&mut self, call: &str, library: u64, reference: u64, ours: &Lent, other: &Lent) {
+        let kept = ours.record == other.record && ours.state == other.state && ours.outcome == other.outcome;
+        if library != reference || !kept {
+            let records = [&ours.record, &other.record].map(|record| format!("record after: {record:?}"));
+            let outcomes = format!("outcomes: {:?} and {:?}", ours.outcome, other.outcome);
+            let lent = [format!("images: {}", hexadecimal(&ours.images)), records.join("; "), outcomes];
+            differ(self.number, call, &lent, library, reference, kept);
+        }
+    }
+
+    fn load(&mut self, ours: &mut Lent, other: &mut Lent, place: usize, start: usize, size: usize) {
+        let library = library::board_load(&mut ours.record, &ours.images, &mut ours.state, place, start, size);
+        let mut board = board::of_words(&other.record);
+        let result = board.load(&other.images, &mut other.state, place, start, size);
+        if result.is_ok() {
+            other.record = board::words_of(&board);
+        }
+        self.compare(&format!("load {place} {start} {size}"), library, reference::answer(result.map(|()| 0)), ours, other);
+        count(&mut self.seen.load, library);
+    }
+
+    fn mark(&mut self, ours: &mut Lent, other: &mut Lent, place: usize) {
+        let library = library::board_mark(&mut ours.record, place);
+        let mut board = board::of_words(&other.record);
+        let result = board.mark(place);
+        if result.is_ok() {
+            other.record = board::words_of(&board);
+        }
+        self.compare(&format!("mark {place}"), library, reference::answer(result.map(|()| 0)), ours, other);
+        count(&mut self.seen.mark, library);
+    }
+
+    fn turn(&mut self, ours: &mut Lent, other: &mut Lent) {
+        let words = if self.random.one_in(16) { self.random.below(256) } else { 256 + self.random.below(3) };
+        let samples = self.random.words(words);
+        let library = library::board_turn(&mut ours.record, &ours.images, &mut ours.state, &samples, &mut ours.outcome);
+        let mut board = board::of_words(&other.record);
+        let result = board.turn(&other.images, &mut other.state, &samples);
+        if let Ok(outcome) = result {
+            other.outcome = outcome.words();
+            if outcome != Outcome::Idle {
+                other.record = board::words_of(&board);
+                self.seen.run[if other.outcome[0] == 2 { other.outcome[2] as usize } else { 0 }] += 1;
+            }
+        }
+        self.compare("turn", library, reference::answer(result.map(|_| 0)), ours, other);
+        count(&mut self.seen.turn, library);
+    }
+
+    /// Four images in one buffer, with bytes between them, and where each starts.
+    fn buffer(&mut self, image: &[u8]) -> (Vec<u8>, [(usize, usize); 4]) {
+        let mut images = vec![];
+        let stretches = [0; 4].map(|_| {
+            images.resize(images.len() + self.random.below(5), 0xAA);
+            let own = if self.random.one_in(3) { images::foreign_image(&mut self.random) } else { image.to_vec() };
+            let start = images.len();
+            images.extend_from_slice(&own);
+            (start, own.len())
+        });
+        (images, stretches)
+    }
+
+    /// A board in use: loads, marks, turns and changes from outside.
+    fn board(&mut self, image: &[u8]) {
+        let (images, stretches) = self.buffer(image);
+        let words = if self.random.one_in(16) { self.random.below(260) } else { 260 + self.random.below(3) };
+        let mut record = library::board_new();
+        assert_eq!(record, board::words_of(&Board::default()));
+        if self.random.one_in(4) {
+            record = record.map(|_| if self.random.one_in(3) { self.random.next() as usize } else { self.random.below(8) });
+        }
+        let outcome = [self.random.next() as u32; 3];
+        let mut ours = Lent { record, images, state: self.random.words(words), outcome };
+        let mut other = ours.clone();
+        for (place, (start, size)) in stretches.into_iter().enumerate() {
+            self.load(&mut ours, &mut other, place, start, size);
+        }
+        for _ in 0..4 + self.random.below(24) {
+            match self.random.below(16) {
+                0 => {
+                    let (start, size) = self.random.pick(&stretches);
+                    let off = self.random.pick(&[(0, 0), (0, 1), (usize::MAX, 1), (1, usize::MAX), (usize::MAX, usize::MAX)]);
+                    let place = self.random.below(6);
+                    self.load(&mut ours, &mut other, place, start.wrapping_add(off.0), size.wrapping_add(off.1));
+                }
+                1 => self.change(&mut ours, &mut other),
+                2..=8 => {
+                    let place = self.random.below(5);
+                    self.mark(&mut ours, &mut other, place);
+                }
+                _ => self.turn(&mut ours, &mut other),
+            }
+        }
+    }
+
+    /// The images or the state change from outside.
+    fn change(&mut self, ours: &mut Lent, other: &mut Lent) {
+        match self.random.below(3) {
+            0 => self.random.damage(&mut ours.images),
+            1 => ours.images.truncate(self.random.below(ours.images.len() + 1)),
+            _ => {
+                let at = self.random.below(ours.state.len().max(1));
+                if let Some(word) = ours.state.get_mut(at / 65 * 65) {
+                    *word = self.random.word();
+                }
+            }
+        }
+        other.images.clone_from(&ours.images);
+        other.state.clone_from(&ours.state);
+    }
+
     /// One pair, then its image or one from elsewhere, whole and damaged.
     fn run(&mut self) {
         let pair = self.pair();
@@ -300,6 +430,7 @@ impl Round<'_> {
         let mut image = own.unwrap_or_else(|| images::foreign_image(&mut self.random));
         self.retail(&mut image);
         self.calls(&image);
+        self.board(&image);
         if self.random.one_in(2) {
             image.truncate(stated(&image));
         }
@@ -314,7 +445,7 @@ impl Round<'_> {
 }
 
 fn print_seen(seen: &Seen) -> bool {
-    println!("number    compile     report      reset      cycle       tail    convert");
+    println!("number    compile     report      reset      cycle       tail    convert       load       mark       turn        run");
     let mut all = true;
     for number in [0].into_iter().chain(NUMBERS) {
         let row = seen.calls().map(|counts| counts[number]);

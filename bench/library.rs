@@ -28,6 +28,28 @@ extern "C" {
         samples: *const i32,
         samples_words: usize,
     ) -> u64;
+    fn larderlate_board_new(record: *mut usize);
+    fn larderlate_board_load(
+        record: *mut usize,
+        images: *const u8,
+        images_length: usize,
+        state: *mut i32,
+        state_words: usize,
+        place: usize,
+        start: usize,
+        length: usize,
+    ) -> u64;
+    fn larderlate_board_mark(record: *mut usize, place: usize) -> u64;
+    fn larderlate_board_turn(
+        record: *mut usize,
+        images: *const u8,
+        images_length: usize,
+        state: *mut i32,
+        state_words: usize,
+        samples: *const i32,
+        samples_words: usize,
+        outcome: *mut u32,
+    ) -> u64;
 }
 
 // A Rust slice keeps all that the header asks of the caller.
@@ -60,4 +82,31 @@ pub fn reset(image: &[u8], state: &mut [i32]) -> u64 {
 pub fn cycle(image: &[u8], state: &mut [i32], samples: &[i32]) -> u64 {
     let (words, state) = (state.len(), state.as_mut_ptr());
     unsafe { larderlate_cycle(image.as_ptr(), image.len(), state, words, samples.as_ptr(), samples.len()) }
+}
+
+/// The record of a board as its words.
+pub type Record = [usize; 14];
+
+pub fn board_new() -> Record {
+    let mut record = [0; 14];
+    unsafe { larderlate_board_new(record.as_mut_ptr()) };
+    record
+}
+
+pub fn board_load(record: &mut Record, images: &[u8], state: &mut [i32], place: usize, start: usize, size: usize) -> u64 {
+    let (words, state) = (state.len(), state.as_mut_ptr());
+    unsafe { larderlate_board_load(record.as_mut_ptr(), images.as_ptr(), images.len(), state, words, place, start, size) }
+}
+
+pub fn board_mark(record: &mut Record, place: usize) -> u64 {
+    unsafe { larderlate_board_mark(record.as_mut_ptr(), place) }
+}
+
+pub fn board_turn(record: &mut Record, images: &[u8], state: &mut [i32], samples: &[i32], outcome: &mut [u32; 3]) -> u64 {
+    let (record, outcome) = (record.as_mut_ptr(), outcome.as_mut_ptr());
+    let (words, state) = (state.len(), state.as_mut_ptr());
+    unsafe {
+        let (images, length) = (images.as_ptr(), images.len());
+        larderlate_board_turn(record, images, length, state, words, samples.as_ptr(), samples.len(), outcome)
+    }
 }

@@ -1,7 +1,8 @@
-//! Paper 01 in plain Rust: compile, report, reset, cycle, tail, trial and convert.
+//! The papers in plain Rust: compile, report, reset, cycle, tail, trial, convert and a board of four programs.
 //!
 //! Written from the paper alone and sharing nothing with the crates, so that a misreading on one side shows as a difference.
 //! It is also the baseline of the benchmark: what one would write without a prover, with the same checks.
+mod board;
 mod checks;
 mod convert;
 mod image;
@@ -15,6 +16,7 @@ mod trial;
 // No program here uses all calls.
 #[allow(unused_imports)]
 pub use {
+    board::{Board, Outcome, Place},
     convert::convert,
     machine::{cycle, reset, tail},
     report::report,

@@ -2,6 +2,7 @@
 mod reference;
 mod widths;
 
+use reference::{Board, Outcome, Place};
 use std::process::exit;
 
 /// The bytes of the cases, taken from the front.
@@ -82,10 +83,46 @@ fn trial(cases: &mut Cases) -> String {
     line(reference::answer(result), hash(printed.into_iter()))
 }
 
+/// The record that a case puts as it is.
+fn record(cases: &mut Cases) -> Board {
+    let [loaded, due, last] = [0; 3].map(|_| cases.number(1));
+    let count = cases.number(4) as u32;
+    let place = |at: usize| {
+        let [start, size] = [0; 2].map(|_| cases.number(4));
+        Place { loaded: loaded >> at & 1 != 0, due: due >> at & 1 != 0, start, size }
+    };
+    Board { places: [0, 1, 2, 3].map(place), last, count }
+}
+
+/// A call of the board and its line.
+fn board_call(call: usize, cases: &mut Cases, board: &mut Board, image: &[u8], state: &mut [i32]) -> String {
+    let result = match call {
+        11 => {
+            *board = Board::default();
+            Ok(Outcome::Idle)
+        }
+        12 => {
+            let (place, start, size) = (cases.number(1), cases.number(4), cases.number(4));
+            board.load(image, state, place, start, size).map(|()| Outcome::Idle)
+        }
+        13 => board.mark(cases.number(1)).map(|()| Outcome::Idle),
+        _ => board.turn(image, state, &cases.words()),
+    };
+    let number = result.map_or_else(|(number, _)| number, |_| 0);
+    let [outcome, place, value] = result.map_or([0; 3], Outcome::words);
+    let sum = |flag: fn(&Place) -> bool| (0..4).filter(|&at| flag(&board.places[at])).map(|at| 1 << at).sum::<usize>();
+    let [loaded, due] = [sum(|place| place.loaded), sum(|place| place.due)];
+    let stretches = board.places.iter().flat_map(|place| [place.start, place.size]);
+    let stretches = hash(stretches.flat_map(|number| (number as u32).to_le_bytes()));
+    let words = hash(state.iter().flat_map(|word| word.to_le_bytes()));
+    format!("{number} {outcome} {place} {value} {loaded} {due} {} {} {stretches} {words}", board.last, board.count)
+}
+
 /// The lines that the cases print.
 fn replay(cases: &[u8]) -> Vec<String> {
     let mut cases = Cases(cases);
     let (mut image, mut state, mut lines) = (&[][..], vec![], vec![]);
+    let mut board = Board::default();
     while !cases.0.is_empty() {
         let result = match cases.number(1) {
             1 => {
@@ -121,6 +158,14 @@ fn replay(cases: &[u8]) -> Vec<String> {
             }
             10 => {
                 lines.push(convert(&mut cases));
+                continue;
+            }
+            call @ 11..=14 => {
+                lines.push(board_call(call, &mut cases, &mut board, image, &mut state));
+                continue;
+            }
+            17 => {
+                board = record(&mut cases);
                 continue;
             }
             command => panic!("no such case: {command}"),

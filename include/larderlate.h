@@ -6,6 +6,8 @@
  *     larderlate_cycle     runs one cycle on a state
  *     larderlate_tail      finds the labels, periods and phases that stand after an image
  *     larderlate_convert   rewrites a program text that has sampling factors of 1
+ *     larderlate_board_new, larderlate_board_load, larderlate_board_mark, larderlate_board_turn
+ *                          four programs on one board, run by turns
  *
  * Every call takes any bytes and words, ends, and does its job or refuses. A refused call changes nothing that was lent to it.
  * The calls keep nothing between them and need no memory but their stack, so any number may run at once on different state.
@@ -16,14 +18,15 @@
  *
  * THE ANSWER is one number of 64 bits: number x 2^32 + value. Number 0 says done; the value is then L + 4N for a compile, L for a
  * report, 0 for a reset, the number of commands run for a cycle, the tail's length for a tail, and the new text's for a conversion.
- * Any other number is that of the refusal, and the value is its place.
+ * Any other number is that of the refusal, and the value is its place. The board's calls yield 0, or a refusal with place 0.
  *
  * WHAT IS LENT is a pointer and a length: bytes for uint8_t, words (not bytes) for int32_t. The caller keeps these rules, which no
  * call can test:
  *   - the pointer is to that many bytes or words, all of them set, and is not null, also where the length is 0;
  *   - int32_t and uint32_t pointers are aligned to 4 bytes, a size_t pointer to 8; uint8_t pointers need no alignment;
  *   - what a call may change (the image of a compile, the counts and sizes of a report, the state of a reset or cycle, the start of
- *     a tail, the result of a conversion) overlaps nothing else that is lent to the same call; what it only reads may overlap;
+ *     a tail, the result of a conversion, the record, the state and the outcome of the board's calls) overlaps nothing else that is
+ *     lent to the same call; what it only reads may overlap;
  *   - until the call returns nobody else writes what is lent, nor reads what the call may change;
  *   - nothing lent spans more than PTRDIFF_MAX bytes.
  */
@@ -44,6 +47,10 @@ enum {
     LARDERLATE_SIGNALS = 64,
     LARDERLATE_STATE_WORDS = 65,
     LARDERLATE_COUNTS = 240,
+    LARDERLATE_PLACES = 4,
+    LARDERLATE_BOARD_STATE_WORDS = 260,
+    LARDERLATE_BOARD_SAMPLES = 256,
+    LARDERLATE_BOARD_RECORD = 14,
     /* 4 + 64 x 6 + 241 x 2 + 240 x 64 bytes before the code, which is no longer than the program, and 64 x 4 of tail. */
     LARDERLATE_IMAGE_BYTES = 24678
 };
@@ -84,7 +91,19 @@ enum {
     LARDERLATE_IMAGE_NOT_WELL_FORMED = 20, /* also neither L nor L + 4N bytes long (0) */
     LARDERLATE_STATE_SHORT = 21,           /* fewer than N + 1 words (0) */
     LARDERLATE_POSITION = 22,              /* word 0 of the state not from 0 to H - 1 (0) */
-    LARDERLATE_SAMPLES_SHORT = 23          /* fewer than N words (0) */
+    LARDERLATE_SAMPLES_SHORT = 23,         /* fewer than N words (0) */
+
+    /* The board. A load gives 26, 21, 27 and 20 in this order, a mark 26 and 28, a turn 21 and 23. */
+    LARDERLATE_NO_SUCH_PLACE = 26,    /* a place above 3 (0) */
+    LARDERLATE_STRETCH_OUTSIDE = 27,  /* the image stretch lies outside its buffer (0) */
+    LARDERLATE_NEVER_LOADED = 28      /* a mark of a place that was never loaded (0) */
+};
+
+/* What a turn that is not refused has done: the first number of its outcome. */
+enum {
+    LARDERLATE_IDLE = 0,   /* nothing was due; the other two are 0 */
+    LARDERLATE_RAN = 1,    /* then the place, and the commands that it ran */
+    LARDERLATE_FAILED = 2  /* then the place, and the number of its run's refusal: 27, 20 or 22 */
 };
 
 static inline uint32_t larderlate_number(uint64_t answer)
@@ -134,6 +153,36 @@ uint64_t larderlate_tail(const uint8_t *image, size_t image_length, size_t *star
  * 17. Every schedule that the old text was accepted with is accepted with the new one, which has the same streams and image. */
 uint64_t larderlate_convert(const uint8_t *program, size_t program_length,
                             uint8_t *result, size_t result_length);
+
+/* Four programs on one board. The caller keeps the record of LARDERLATE_BOARD_RECORD numbers and lends it to each call as the last one
+ * left it: for each place its flags (1 loaded, 2 due), start and length of its stretch of the images, in place order; then the place
+ * last taken, and the count of turns taken, held at 2^32 - 1. Any numbers are a record. A refused call and an idle turn leave
+ * it as it was.
+ *
+ * `images` is the buffer that the places' images lie in. The state has 260 words, 65 for each place in place order, the samples of a
+ * turn are 256 words, 64 for each; more may be lent, and those beyond stay. */
+
+/* A new record: nothing loaded or due, the count 0, the place last taken 3. */
+void larderlate_board_new(size_t record[LARDERLATE_BOARD_RECORD]);
+
+/* Loads a place with the image in a stretch of the images: its words are reset (those beyond its signals stay), its due mark is
+ * cleared. Gives 26, 21 (fewer than 260 words), 27 and 20. */
+uint64_t larderlate_board_load(size_t record[LARDERLATE_BOARD_RECORD],
+                               const uint8_t *images, size_t images_length,
+                               int32_t *state, size_t state_words,
+                               size_t place, size_t start, size_t length);
+
+/* Marks a loaded place due; marked twice it is due once. Gives 26 and 28. */
+uint64_t larderlate_board_mark(size_t record[LARDERLATE_BOARD_RECORD], size_t place);
+
+/* Runs one cycle of the next due place in cyclic order after the one last taken, clears its mark and counts the turn. A run that
+ * would be refused, since the images or the state changed since the load, does the same and leaves the state. The outcome says
+ * which it was. Gives 21 (fewer than 260 words) and 23 (fewer than 256 samples), and then takes no place and leaves the outcome. */
+uint64_t larderlate_board_turn(size_t record[LARDERLATE_BOARD_RECORD],
+                               const uint8_t *images, size_t images_length,
+                               int32_t *state, size_t state_words,
+                               const int32_t *samples, size_t samples_words,
+                               uint32_t outcome[3]);
 
 #ifdef __cplusplus
 }

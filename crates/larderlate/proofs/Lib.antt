@@ -1,3 +1,5 @@
 -- The promises of the calls.
 pub mod TailCode
 pub mod Promises
+pub mod BoardPromises
+pub mod BoardCalls

@@ -1,5 +1,8 @@
 // Makes the calls of a stream on standard input and prints a line for each (docs/VECTORS.md has the layout of both). What is
 // compared from outside is these lines. A stream that is cut off or too large for the space here ends the run.
+use board::Board;
+use board::Place;
+use board::Turned;
 use libc::STDIN_FILENO;
 use libc::STDOUT_FILENO;
 use model::Compiled;
@@ -18,10 +21,11 @@ enum Number {
     Missing,
 }
 
-// How many bytes of the image and words of the state are lent, and whether the stream goes on.
+// How many bytes of the image and words of the state are lent, the board's record, and whether the stream goes on.
 struct Lent {
     image: usize,
     state: usize,
+    board: Board,
     goes_on: bool,
 }
 
@@ -31,6 +35,19 @@ fn fill(space: &mut [u8], n: usize) -> bool {
         return false;
     }
     io::read_full(STDIN_FILENO, &mut space[..n]) == n
+}
+
+fn wide(byte: u8) -> usize {
+    byte as usize
+}
+
+// Reads a number of one byte.
+fn one() -> Number {
+    let mut bytes = [0u8; 1];
+    if !fill(&mut bytes, 1) {
+        return Number::Missing;
+    }
+    Number::Is(wide(bytes[0]))
 }
 
 // Reads a number of two bytes.
@@ -190,6 +207,7 @@ fn stop() -> Lent {
     Lent {
         image: 0,
         state: 0,
+        board: board::new_board(),
         goes_on: false,
     }
 }
@@ -199,9 +217,11 @@ fn lend_image(lent: Lent, image: &mut [u8]) -> Lent {
     let Number::Is(n) = four() else {
         return stop();
     };
+    let board = lent.board;
     Lent {
         image: n,
         state: lent.state,
+        board,
         goes_on: fill(&mut image[..], n),
     }
 }
@@ -211,9 +231,11 @@ fn lend_state(lent: Lent, state: &mut [i32]) -> Lent {
     let Number::Is(n) = fill_words(&mut state[..]) else {
         return stop();
     };
+    let board = lent.board;
     Lent {
         image: lent.image,
         state: n,
+        board,
         goes_on: true,
     }
 }
@@ -506,6 +528,224 @@ fn convert_next(lent: Lent, p: usize, b: usize) -> Lent
     lent
 }
 
+// A place's part of a sum over flags.
+fn weighed(flag: bool, weight: u64) -> u64
+    ensures { λ r. ⌜ r ≤ weight ⌝ }
+{
+    if flag { weight } else { 0 }
+}
+
+// The hash of a number's four bytes, low byte first, after others that have the hash `before`.
+fn hash_number(before: u32, n: usize) -> u32 {
+    let first = mix(before, (n % 256) as u8);
+    let second = mix(first, (n / 256 % 256) as u8);
+    let third = mix(second, (n / 65536 % 256) as u8);
+    mix(third, (n / 16777216 % 256) as u8)
+}
+
+// The hash of the stretches, start and length of each.
+fn hash_stretches(a: Place, b: Place, c: Place, d: Place) -> u32 {
+    let first = hash_number(hash_number(2166136261, a.start), a.size);
+    let second = hash_number(hash_number(first, b.start), b.size);
+    let third = hash_number(hash_number(second, c.start), c.size);
+    hash_number(hash_number(third, d.start), d.size)
+}
+
+// A number and the space after it.
+fn print_part(n: u64) {
+    io::print_decimal(STDOUT_FILENO, n);
+    io::write_all(STDOUT_FILENO, b" ");
+}
+
+fn print_record(board: Board) {
+    let places = board.places;
+    let a = places[0];
+    let b = places[1];
+    let c = places[2];
+    let d = places[3];
+    print_part(
+        weighed(a.loaded, 1) + weighed(b.loaded, 2) + weighed(c.loaded, 4) + weighed(d.loaded, 8),
+    );
+    print_part(weighed(a.due, 1) + weighed(b.due, 2) + weighed(c.due, 4) + weighed(d.due, 8));
+    print_part(board.last as u64);
+    print_part(board.count as u64);
+    print_part(hash_stretches(a, b, c, d) as u64);
+}
+
+// The line of a call of the board.
+fn print_board(number: u8, outcome: [u32; 3], board: Board, state: &[i32]) {
+    print_part(number as u64);
+    print_part(outcome[0] as u64);
+    print_part(outcome[1] as u64);
+    print_part(outcome[2] as u64);
+    print_record(board);
+    io::print_decimal(STDOUT_FILENO, hash_words(state) as u64);
+    io::write_all(STDOUT_FILENO, b"\n");
+}
+
+// The number of a load's or a mark's answer.
+fn number_of(ran: Ran) -> u8 {
+    match ran {
+        Ran::Done => 0,
+        Ran::Refused(fault) => fault.number,
+    }
+}
+
+// The outcome of a turn that took a place.
+fn outcome_of(place: usize, run: Cycled) -> [u32; 3] {
+    let at = (place % 4) as u32;
+    match run {
+        Cycled::Commands(n) => [1, at, n],
+        Cycled::Refused(fault) => [2, at, fault.number as u32],
+    }
+}
+
+fn print_turned(turned: Turned, board: Board, state: &[i32]) {
+    match turned {
+        Turned::Idle => print_board(0, [0, 0, 0], board, state),
+        Turned::Took(place, run) => print_board(0, outcome_of(place, run), board, state),
+        Turned::Refused(fault) => print_board(fault.number, [0, 0, 0], board, state),
+    }
+}
+
+// What is lent, with another record.
+fn with_board(lent: Lent, board: Board) -> Lent {
+    Lent {
+        image: lent.image,
+        state: lent.state,
+        board,
+        goes_on: true,
+    }
+}
+
+// 0B: a new record.
+fn call_board(lent: Lent, state: &[i32]) -> Lent {
+    let words = lent.state;
+    if state.len() < words {
+        return stop();
+    }
+    let board = board::new_board();
+    print_board(0, [0, 0, 0], board, &state[..words]);
+    with_board(lent, board)
+}
+
+fn load(
+    board: Board,
+    image: &[u8],
+    state: &mut [i32],
+    place: usize,
+    start: usize,
+    size: usize,
+) -> Board {
+    let after = board::load(board, image, &mut state[..], place, start, size);
+    let ran = after.answer;
+    let next = after.board;
+    print_board(number_of(ran), [0, 0, 0], next, &state[..]);
+    next
+}
+
+// 0C: a load.
+fn call_load(lent: Lent, image: &[u8], state: &mut [i32]) -> Lent {
+    let bytes = lent.image;
+    let words = lent.state;
+    let Number::Is(place) = one() else {
+        return stop();
+    };
+    let Number::Is(start) = four() else {
+        return stop();
+    };
+    let Number::Is(size) = four() else {
+        return stop();
+    };
+    if image.len() < bytes || state.len() < words {
+        return stop();
+    }
+    let old = lent.board;
+    let board = load(
+        old,
+        &image[..bytes],
+        &mut state[..words],
+        place,
+        start,
+        size,
+    );
+    with_board(lent, board)
+}
+
+// 0D: a mark.
+fn call_mark(lent: Lent, state: &[i32]) -> Lent {
+    let words = lent.state;
+    let Number::Is(place) = one() else {
+        return stop();
+    };
+    if state.len() < words {
+        return stop();
+    }
+    let old = lent.board;
+    let after = board::mark(old, place);
+    let ran = after.answer;
+    let next = after.board;
+    print_board(number_of(ran), [0, 0, 0], next, &state[..words]);
+    with_board(lent, next)
+}
+
+fn turn(board: Board, image: &[u8], state: &mut [i32], samples: &[i32]) -> Board {
+    let after = board::turn(board, image, &mut state[..], samples);
+    let turned = after.answer;
+    let next = after.board;
+    print_turned(turned, next, &state[..]);
+    next
+}
+
+// 0E: a turn.
+fn call_turn(lent: Lent, image: &[u8], state: &mut [i32]) -> Lent {
+    let mut samples = [0i32; 400];
+    let bytes = lent.image;
+    let words = lent.state;
+    let Number::Is(n) = fill_words(&mut samples) else {
+        return stop();
+    };
+    if 400 < n || image.len() < bytes || state.len() < words {
+        return stop();
+    }
+    let old = lent.board;
+    let board = turn(old, &image[..bytes], &mut state[..words], &samples[..n]);
+    with_board(lent, board)
+}
+
+// A place of a record that is put as it is.
+fn place_at(bytes: [u8; 39], at: usize, weight: u8) -> Place
+    requires { ⌜ (at ≤ 3) × (1 ≤ weight) ⌝ }
+{
+    let loaded = bytes[0];
+    let due = bytes[1];
+    Place {
+        loaded: loaded / weight % 2 == 1,
+        due: due / weight % 2 == 1,
+        start: word::four_at(&bytes, 7 + 8 * at) as usize,
+        size: word::four_at(&bytes, 11 + 8 * at) as usize,
+    }
+}
+
+// 11: a record as it is.
+fn put_record(lent: Lent) -> Lent {
+    let mut bytes = [0u8; 39];
+    if !fill(&mut bytes, 39) {
+        return stop();
+    }
+    let a = place_at(bytes, 0, 1);
+    let b = place_at(bytes, 1, 2);
+    let c = place_at(bytes, 2, 4);
+    let d = place_at(bytes, 3, 8);
+    let last = wide(bytes[2]);
+    let board = Board {
+        places: [a, b, c, d],
+        last,
+        count: word::four_at(&bytes, 3),
+    };
+    with_board(lent, board)
+}
+
 // The next call of the stream, or its end.
 fn step(lent: Lent, image: &mut [u8], state: &mut [i32]) -> Lent {
     let mut byte = [0u8; 1];
@@ -524,6 +764,11 @@ fn step(lent: Lent, image: &mut [u8], state: &mut [i32]) -> Lent {
         8 => call_trial(lent),
         9 => call_tail(lent, image),
         10 => call_convert(lent),
+        11 => call_board(lent, state),
+        12 => call_load(lent, image, &mut state[..]),
+        13 => call_mark(lent, state),
+        14 => call_turn(lent, image, &mut state[..]),
+        17 => put_record(lent),
         _ => stop(),
     }
 }
@@ -533,6 +778,7 @@ fn run(image: &mut [u8], state: &mut [i32]) {
     let mut lent = Lent {
         image: 0,
         state: 0,
+        board: board::new_board(),
         goes_on: true,
     };
     let mut turns: u64 = 1000000000;

@@ -12,6 +12,9 @@ Inv-loop image₀ state₀ lent₀ turns₀ image state lent turns = (length ima
 abbrev μ-loop : tie.MeasureT-loop
 μ-loop image₀ state₀ lent₀ turns₀ image state lent turns = turns
 
+new-board-requires : tie.Need-new-board-requires Inv-loop μ-loop
+new-board-requires c κs = search needs
+
 loop-holds : tie.Need-loop-holds Inv-loop μ-loop
 loop-holds c = (refl, refl)
 
@@ -51,6 +54,7 @@ run-spec =
     (tie.spec
     Inv-loop
     μ-loop
+    new-board-requires
     loop-holds
     step-requires
     sub-turns

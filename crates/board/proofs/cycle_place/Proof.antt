@@ -1,0 +1,67 @@
+-- `board::cycle_place` meets its contract. Assumes nothing.
+use Prim.Native.Nat.{_+_}
+use mathlib.Core.Bool.{true}
+use mathlib.Core.Path.{_≡_, refl, sym, _∙_}
+use native.Mathlib.Omega.{arith}
+use borrow.Author.Needs.{needs}
+use borrow.Author.Tests.{leb-true, not-true, not-false}
+use denote.Ref.{now}
+use lib.Dec.{leb}
+use lib.ListN.{length}
+use Rattle.board.proofs.Stretch.{gives-effect, outside-27, inside-runs}
+use Rattle.board.proofs.cycle_place.Statement.{statement}
+use Rattle.board.proofs.cycle_place.Tie as tie
+
+inside : (e : tie.Else1) → let a = e .before .before .before .args in leb (a .start + a .size) (length (now (a .images))) ≡ true
+inside e = sym (e .before .is-inside .ensures) ∙ not-false _ (e .if1 .left)
+
+is-inside-requires : tie.Need-is-inside-requires
+is-inside-requires c κs = search needs
+
+stopped-requires : tie.Need-stopped-requires
+stopped-requires c κs = search needs
+
+returns : tie.Need-returns
+returns c =
+    let w = c .before .before in
+    gives-effect (outside-27 _ _ _ _ _ (sym (w .is-inside .ensures) ∙ not-true _ (c .before .if1 .taken))) (c .stopped .ensures) refl
+
+add-end : tie.Need-add-end
+add-end c =
+    let a = c .before .before .before .args in
+    omega (arith, leb-true (a .start + a .size) (length (now (a .images))) (inside c))
+
+sub-cycle : tie.Need-sub-cycle
+sub-cycle c = search needs
+
+part-cycle-start : tie.Need-part-cycle-start
+part-cycle-start c = search needs
+
+part-cycle-end : tie.Need-part-cycle-end
+part-cycle-end c = leb-true _ _ (inside c)
+
+cycle-requires : tie.Need-cycle-requires
+cycle-requires c κs = search needs
+
+same-length : tie.Need-same-length
+same-length c = search needs
+
+returns-2 : tie.Need-returns-2
+returns-2 c =
+    let e = c .before .before .before .before in
+    gives-effect (inside-runs _ _ _ _ _ (inside e)) (c .before .cycle .ensures .0) (c .before .cycle .ensures .1)
+
+pub cycle-place-spec : {M : Type 1} → statement M
+cycle-place-spec =
+    tie.close
+    (tie.spec
+    is-inside-requires
+    stopped-requires
+    returns
+    add-end
+    sub-cycle
+    part-cycle-start
+    part-cycle-end
+    cycle-requires
+    same-length
+    returns-2)

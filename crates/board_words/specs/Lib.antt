@@ -1,0 +1,2 @@
+-- What the board's record as words, and its answers for a C caller, stand for.
+pub mod Record

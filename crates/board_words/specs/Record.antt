@@ -1,0 +1,71 @@
+-- The board's record as an array of 14 numbers, and a turn's outcome as three, for a C caller.
+use Prim.Native.Nat.{ℕ, _/_, _%_}
+use mathlib.Core.Bool.{cond}
+use mathlib.Core.List.{List, [], _∷_}
+use lib.Dec.{eqb}
+use lib.ListN.{getD}
+use Rattle.model.specs.Outcome.{Outcome, accepted, refused}
+use Rattle.board.specs.Board.{placeAt, BoardEffect, Yield, idle, took}
+use Rattle.board.specs.declared.Board.{Board}
+use Rattle.board.specs.declared.Place.{Place}
+
+-- The flags of a place: 1 loaded, 2 due.
+abbrev pub flagsOf : Place → ℕ
+flagsOf p = cond (p .due) (cond (p .loaded) 3 2) (cond (p .loaded) 1 0)
+
+abbrev pub placeFrom : ℕ → ℕ → ℕ → Place
+placeFrom flags start size =
+    record { loaded = eqb (flags % 2) 1; due = eqb (flags / 2 % 2) 1; start = start; size = size }
+
+-- Flags, start and size of each place in place order; then the place last taken, and the count. Any numbers are a record.
+unfoldable pub boardOf : List ℕ → Board
+boardOf w =
+    record {
+      places =
+          placeFrom (getD w 0 0) (getD w 1 0) (getD w 2 0) ∷
+          (placeFrom (getD w 3 0) (getD w 4 0) (getD w 5 0) ∷
+          (placeFrom (getD w 6 0) (getD w 7 0) (getD w 8 0) ∷
+          (placeFrom (getD w 9 0) (getD w 10 0) (getD w 11 0) ∷ [])));
+      last = getD w 12 0;
+      count = getD w 13 0 % 4294967296;
+    }
+
+abbrev pub packedPlace : Place → List ℕ → List ℕ
+packedPlace p rest = flagsOf p ∷ (p .start ∷ (p .size ∷ rest))
+
+unfoldable pub packed : Board → List ℕ
+packed b =
+    packedPlace (placeAt b 0)
+    (packedPlace (placeAt b 1) (packedPlace (placeAt b 2) (packedPlace (placeAt b 3) (b .last ∷ (b .count ∷ [])))))
+
+-- The array after a call: a refused call and an idle turn leave it as it was.
+abbrev pub callKeeps : List ℕ → Board → Outcome ℕ → List ℕ
+callKeeps w b (accepted n) = packed b
+callKeeps w b (refused f) = w
+
+abbrev pub callRecord : List ℕ → BoardEffect ℕ → List ℕ
+callRecord w c = callKeeps w (c .board) (c .answer)
+
+abbrev pub turnKeeps : List ℕ → Board → Outcome Yield → List ℕ
+turnKeeps w b (accepted idle) = w
+turnKeeps w b (accepted (took k o)) = packed b
+turnKeeps w b (refused f) = w
+
+abbrev pub turnRecord : List ℕ → BoardEffect Yield → List ℕ
+turnRecord w c = turnKeeps w (c .board) (c .answer)
+
+-- Of what a turn answers: done, or the refusal.
+abbrev pub turnDone : Outcome Yield → Outcome ℕ
+turnDone (accepted y) = accepted 0
+turnDone (refused f) = refused f
+
+-- The outcome of a turn as three numbers: 0 0 0 idle; 1, the place and the commands that it ran; 2, the place and the number
+-- of its run's refusal. A refused turn leaves what was there.
+abbrev pub runOutcome : ℕ → Outcome ℕ → List ℕ
+runOutcome k (accepted n) = 1 ∷ (k ∷ (n ∷ []))
+runOutcome k (refused f) = 2 ∷ (k ∷ (f .number ∷ []))
+
+abbrev pub outcomeIn : List ℕ → Outcome Yield → List ℕ
+outcomeIn old (accepted idle) = 0 ∷ (0 ∷ (0 ∷ []))
+outcomeIn old (accepted (took k o)) = runOutcome k o
+outcomeIn old (refused f) = old
