@@ -145,10 +145,10 @@ pub extern "C" fn larderlate_cycle(image: &[u8], state: &mut [i32], samples: &[i
     code_of_cycled(cycled)
 }
 
-// The board's calls. The record is an array of 14 numbers that the caller keeps (crate `board_words`); a refused call and an idle
+// The board's calls. The record is an array of 17 numbers that the caller keeps (crate `board_words`); a refused call and an idle
 // turn leave it as it was.
 #[no_mangle]
-pub extern "C" fn larderlate_board_new(words: &mut [usize; 14])
+pub extern "C" fn larderlate_board_new(words: &mut [usize; 17])
     ensures { λ _. ⌜ now (words .exit) ≡ packed newBoard ⌝ }
 {
     let board = board::new_board();
@@ -157,7 +157,7 @@ pub extern "C" fn larderlate_board_new(words: &mut [usize; 14])
 
 #[no_mangle]
 pub extern "C" fn larderlate_board_load(
-    words: &mut [usize; 14],
+    words: &mut [usize; 17],
     images: &[u8],
     state: &mut [i32],
     place: usize,
@@ -187,7 +187,7 @@ pub extern "C" fn larderlate_board_load(
 }
 
 #[no_mangle]
-pub extern "C" fn larderlate_board_mark(words: &mut [usize; 14], place: usize) -> u64
+pub extern "C" fn larderlate_board_mark(words: &mut [usize; 17], place: usize) -> u64
     ensures answer { λ r. ⌜ r ≡ codeNumber (markPlaceOf (boardOf (now (words .entry))) place .answer) ⌝ }
     ensures kept { λ _. ⌜ now (words .exit) ≡ callRecord (now (words .entry)) (markPlaceOf (boardOf (now (words .entry))) place) ⌝ }
 {
@@ -204,7 +204,7 @@ pub extern "C" fn larderlate_board_mark(words: &mut [usize; 14], place: usize) -
 
 #[no_mangle]
 pub extern "C" fn larderlate_board_turn(
-    words: &mut [usize; 14],
+    words: &mut [usize; 17],
     images: &[u8],
     state: &mut [i32],
     samples: &[i32],
