@@ -196,8 +196,7 @@ report-exactly program schedule counts =
         let h = q .hypercycle in
         let told : Sizes =
         record { length = lengthOf p s h; written = writtenLength p s h; stack = highest (p .signals) } in
-        let same : told ≡ sizes = cc in
-        (
+        let same : told ≡ sizes = cc in (
           q,
           refl,
           ap (λ x. x .length) (sym same) ∙ sym (image-length p s h),
@@ -224,60 +223,6 @@ report-keeps program schedule counts f = go (pairOf program schedule)
 -- Of an accepted pair it tells L, the length of its image, and L + 4N, that with its tail; the least number of words that the code
 -- of every signal keeps within on the image's bytes; and 240 counts, those of the hypercycle being the commands that the image's
 -- lists run and the others 0.
-pub record ReportsExactly (program schedule counts : List ℕ) : Type 0 where
-  pub refuses : (f : Fault) → (reportOf program schedule counts .answer ≡ refused f) ↔ (pairOf program schedule ≡ refused f)
-  pub tells : (sizes : Sizes) → reportOf program schedule counts .answer ≡ accepted sizes →
-      (q : Pair) × (pairOf program schedule ≡ accepted q) ×
-      (sizes .length ≡ length (imageOf (q .program) (q .schedule) (q .hypercycle))) ×
-      (sizes .written ≡ length (writtenOf (q .program) (q .schedule) (q .hypercycle)))
-
-pub report-exactly : (program schedule counts : List ℕ) → ReportsExactly program schedule counts
-unfolding reportOf
-report-exactly program schedule counts =
-    record { refuses = refuses (pairOf program schedule); tells = tells (pairOf program schedule) }
-  where
-    refuses : (o : Outcome Pair) (f : Fault) → (toldOf counts o .answer ≡ refused f) ↔ (o ≡ refused f)
-    refuses (accepted q) f =
-        ((λ e. let z : _≡_ {A = ℕ} 0 1 = cc in absurd (omega arith)), (λ e. let z : _≡_ {A = ℕ} 0 1 = cc in absurd (omega arith)))
-    refuses (refused g) f = ((λ e. let same : g ≡ f = cc in ap refused same), (λ e. let same : g ≡ f = cc in ap refused same))
-
-    tells : (o : Outcome Pair) (sizes : Sizes) → toldOf counts o .answer ≡ accepted sizes → (q : Pair) × (o ≡ accepted q) ×
-        (sizes .length ≡ length (imageOf (q .program) (q .schedule) (q .hypercycle))) ×
-        (sizes .written ≡ length (writtenOf (q .program) (q .schedule) (q .hypercycle)))
-    tells (accepted q) sizes e =
-        let p = q .program in
-        let s = q .schedule in
-        let h = q .hypercycle in
-        let told : Sizes =
-        record { length = lengthOf p s h; written = writtenLength p s h; stack = highest (p .signals) } in
-        let same : told ≡ sizes = cc in
-        (
-          q,
-          refl,
-          ap (λ x. x .length) (sym same) ∙ sym (image-length p s h),
-          ap (λ x. x .written) (sym same) ∙ sym (written-length p s h),
-        )
-    tells (refused g) sizes e = let z : _≡_ {A = ℕ} 0 1 = cc in absurd (omega arith)
-
--- Its places are small, too.
-pub report-code : (program schedule counts : List ℕ) → Texts.Bytes program → (f : Fault) →
-    reportOf program schedule counts .answer ≡ refused f → codeNumber (refused f) ≡ f .number * 4294967296 + f .place
-unfolding compileOf verdictOf _▷_
-report-code program schedule counts bytes f e =
-    small-code f (places-small program schedule [] bytes f (rw (report-exactly program schedule counts .refuses f .0 e) refl))
-
-pub report-keeps : (program schedule counts : List ℕ) (f : Fault) → reportOf program schedule counts .answer ≡ refused f →
-    reportOf program schedule counts .left ≡ counts
-unfolding reportOf
-report-keeps program schedule counts f = go (pairOf program schedule)
-  where
-    go : (o : Outcome Pair) → toldOf counts o .answer ≡ refused f → toldOf counts o .left ≡ counts
-    go (accepted q) e = let z : _≡_ {A = ℕ} 0 1 = cc in absurd (omega arith)
-    go (refused g) e = refl
-
--- Of an accepted pair it tells L, the length of its image, and L + 4N, that with its tail; the least number of words that the code of every
--- signal keeps within on that image's bytes; and 240 counts, those of the hypercycle being the commands that the image's lists
--- run and the others 0.
 pub record Reports (program schedule : List ℕ) (p : Program) (s : Schedule) (h : ℕ) (image : List ℕ) : Type 0 where
   pub told : (counts : List ℕ) → reportOf program schedule counts ≡
       record {
