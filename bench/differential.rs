@@ -78,6 +78,11 @@ struct Lent {
     outcome: [u32; 3],
 }
 
+/// L, by bytes 2-3.
+fn stated(image: &[u8]) -> usize {
+    u16::from_le_bytes([image[2], image[3]]).into()
+}
+
 struct Round<'a> {
     number: u64,
     random: Random,
@@ -300,7 +305,7 @@ impl Round<'_> {
             6 => tail.saturating_sub(1),
             _ => tail,
         };
-        image.truncate(usize::from(u16::from_le_bytes([image[2], image[3]])));
+        image.truncate(stated(image));
         image.extend((0..bytes).map(|_| self.random.byte()));
     }
 
@@ -426,6 +431,9 @@ impl Round<'_> {
         self.retail(&mut image);
         self.calls(&image);
         self.board(&image);
+        if self.random.one_in(2) {
+            image.truncate(stated(&image));
+        }
         for _ in 0..1 + self.random.below(2) {
             self.random.damage(&mut image);
         }

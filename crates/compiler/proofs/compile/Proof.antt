@@ -101,7 +101,7 @@ emit-tail-requires c κs =
     let e = emitted k in
     let l = laid-out (e .before) in
     let q = pair (checked (e .before)) in (
-      declared (q .2 .prepared) .few,
+      omega (arith, declared (q .2 .prepared) .few),
       tail-room _ _ _ (q .0) _ _ (q .1) (q .2 .hyper) (l .tail-ends) (e .if1 .left) (image-is k) (l .ends) (tail-is k),
     )
 
