@@ -2,14 +2,14 @@
 use crate::library::Record;
 use crate::reference::{Board, Place};
 
-/// Flags, start and size of each place, then the place last taken and the count.
+/// Flags, start, size and count of each place, then the place last taken.
 pub fn words_of(board: &Board) -> Record {
-    let mut words = [0; 14];
-    for (words, place) in words.chunks_exact_mut(3).zip(&board.places) {
-        words.copy_from_slice(&[usize::from(place.loaded) + 2 * usize::from(place.due), place.start, place.size]);
+    let mut words = [0; 17];
+    for (words, place) in words.chunks_exact_mut(4).zip(&board.places) {
+        let flags = usize::from(place.loaded) + 2 * usize::from(place.due);
+        words.copy_from_slice(&[flags, place.start, place.size, place.count as usize]);
     }
-    words[12] = board.last;
-    words[13] = board.count as usize;
+    words[16] = board.last;
     words
 }
 
@@ -20,6 +20,7 @@ pub fn of_words(words: &Record) -> Board {
         due: words[at] & 2 != 0,
         start: words[at + 1],
         size: words[at + 2],
+        count: words[at + 3] as u32,
     };
-    Board { places: [0, 3, 6, 9].map(place), last: words[12], count: words[13] as u32 }
+    Board { places: [0, 4, 8, 12].map(place), last: words[16] }
 }

@@ -85,10 +85,10 @@ pub fn cycle(image: &[u8], state: &mut [i32], samples: &[i32]) -> u64 {
 }
 
 /// The record of a board as its words.
-pub type Record = [usize; 14];
+pub type Record = [usize; 17];
 
 pub fn board_new() -> Record {
-    let mut record = [0; 14];
+    let mut record = [0; 17];
     unsafe { larderlate_board_new(record.as_mut_ptr()) };
     record
 }

@@ -86,12 +86,12 @@ fn trial(cases: &mut Cases) -> String {
 /// The record that a case puts as it is.
 fn record(cases: &mut Cases) -> Board {
     let [loaded, due, last] = [0; 3].map(|_| cases.number(1));
-    let count = cases.number(4) as u32;
+    let counts = [0; 4].map(|_| cases.number(4) as u32);
     let place = |at: usize| {
         let [start, size] = [0; 2].map(|_| cases.number(4));
-        Place { loaded: loaded >> at & 1 != 0, due: due >> at & 1 != 0, start, size }
+        Place { loaded: loaded >> at & 1 != 0, due: due >> at & 1 != 0, start, size, count: counts[at] }
     };
-    Board { places: [0, 1, 2, 3].map(place), last, count }
+    Board { places: [0, 1, 2, 3].map(place), last }
 }
 
 /// A call of the board and its line.
@@ -115,7 +115,8 @@ fn board_call(call: usize, cases: &mut Cases, board: &mut Board, image: &[u8], s
     let stretches = board.places.iter().flat_map(|place| [place.start, place.size]);
     let stretches = hash(stretches.flat_map(|number| (number as u32).to_le_bytes()));
     let words = hash(state.iter().flat_map(|word| word.to_le_bytes()));
-    format!("{number} {outcome} {place} {value} {loaded} {due} {} {} {stretches} {words}", board.last, board.count)
+    let counts = board.places.map(|place| place.count.to_string()).join(" ");
+    format!("{number} {outcome} {place} {value} {loaded} {due} {} {counts} {stretches} {words}", board.last)
 }
 
 /// The lines that the cases print.

@@ -50,7 +50,7 @@ enum {
     LARDERLATE_PLACES = 4,
     LARDERLATE_BOARD_STATE_WORDS = 260,
     LARDERLATE_BOARD_SAMPLES = 256,
-    LARDERLATE_BOARD_RECORD = 14,
+    LARDERLATE_BOARD_RECORD = 17,
     /* 4 + 64 x 6 + 241 x 2 + 240 x 64 bytes before the code, which is no longer than the program, and 64 x 4 of tail. */
     LARDERLATE_IMAGE_BYTES = 24678
 };
@@ -155,18 +155,18 @@ uint64_t larderlate_convert(const uint8_t *program, size_t program_length,
                             uint8_t *result, size_t result_length);
 
 /* Four programs on one board. The caller keeps the record of LARDERLATE_BOARD_RECORD numbers and lends it to each call as the last one
- * left it: for each place its flags (1 loaded, 2 due), start and length of its stretch of the images, in place order; then the place
- * last taken, and the count of turns taken, held at 2^32 - 1. Any numbers are a record. A refused call and an idle turn leave
- * it as it was.
+ * left it: for each place its flags (1 loaded, 2 due), start and length of its stretch of the images, and the count of the turns that
+ * took it since its load, held at 2^32 - 1, in place order; then the place last taken. Any numbers are a record. A refused call
+ * and an idle turn leave it as it was.
  *
  * `images` is the buffer that the places' images lie in. The state has 260 words, 65 for each place in place order, the samples of a
  * turn are 256 words, 64 for each; more may be lent, and those beyond stay. */
 
-/* A new record: nothing loaded or due, the count 0, the place last taken 3. */
+/* A new record: nothing loaded or due, the counts 0, the place last taken 3. */
 void larderlate_board_new(size_t record[LARDERLATE_BOARD_RECORD]);
 
-/* Loads a place with the image in a stretch of the images: its words are reset (those beyond its signals stay), its due mark is
- * cleared. Gives 26, 21 (fewer than 260 words), 27 and 20. */
+/* Loads a place with the image in a stretch of the images: its words are reset (those beyond its signals stay), its due mark
+ * is cleared, its count 0. Gives 26, 21 (fewer than 260 words), 27 and 20. */
 uint64_t larderlate_board_load(size_t record[LARDERLATE_BOARD_RECORD],
                                const uint8_t *images, size_t images_length,
                                int32_t *state, size_t state_words,
@@ -175,7 +175,7 @@ uint64_t larderlate_board_load(size_t record[LARDERLATE_BOARD_RECORD],
 /* Marks a loaded place due; marked twice it is due once. Gives 26 and 28. */
 uint64_t larderlate_board_mark(size_t record[LARDERLATE_BOARD_RECORD], size_t place);
 
-/* Runs one cycle of the next due place in cyclic order after the one last taken, clears its mark and counts the turn. A run that
+/* Runs one cycle of the next due place in cyclic order after the one last taken, clears its mark and counts the turn for it. A run that
  * would be refused, since the images or the state changed since the load, does the same and leaves the state. The outcome says
  * which it was. Gives 21 (fewer than 260 words) and 23 (fewer than 256 samples), and then takes no place and leaves the outcome. */
 uint64_t larderlate_board_turn(size_t record[LARDERLATE_BOARD_RECORD],

@@ -5,13 +5,14 @@ use super::Refusal;
 const WORDS: usize = 65;
 const SAMPLES: usize = 64;
 
-/// Whether a place is loaded and due, and its stretch of the images.
+/// Whether a place is loaded and due, its stretch of the images, and the turns that took it since its load.
 #[derive(Clone, Copy, Debug, Default, PartialEq)]
 pub struct Place {
     pub loaded: bool,
     pub due: bool,
     pub start: usize,
     pub size: usize,
+    pub count: u32,
 }
 
 impl Place {
@@ -27,7 +28,6 @@ impl Place {
 pub struct Board {
     pub places: [Place; 4],
     pub last: usize,
-    pub count: u32,
 }
 
 /// What a turn that is not refused reports.
@@ -53,7 +53,7 @@ impl Outcome {
 
 impl Default for Board {
     fn default() -> Self {
-        Board { places: [Place::default(); 4], last: 3, count: 0 }
+        Board { places: [Place::default(); 4], last: 3 }
     }
 }
 
@@ -63,7 +63,7 @@ impl Board {
         if state.len() < 4 * WORDS {
             return Err((21, 0));
         }
-        let loaded = Place { loaded: true, due: false, start, size };
+        let loaded = Place { loaded: true, due: false, start, size, count: 0 };
         reset(loaded.image(images)?, &mut state[WORDS * place..][..WORDS])?;
         *held = loaded;
         Ok(())
@@ -89,9 +89,10 @@ impl Board {
         let Some(place) = (after..after + 4).map(|place| place % 4).find(|&place| self.places[place].due) else {
             return Ok(Outcome::Idle);
         };
-        self.places[place].due = false;
+        let held = &mut self.places[place];
+        held.due = false;
+        held.count = held.count.saturating_add(1);
         self.last = place;
-        self.count = self.count.saturating_add(1);
         let words = &mut state[WORDS * place..][..WORDS];
         let run = self.places[place].image(images).and_then(|image| cycle(image, words, &samples[SAMPLES * place..][..SAMPLES]));
         Ok(run.map_or_else(|(number, _)| Outcome::Failed(place, number), |commands| Outcome::Ran(place, commands)))

@@ -30,6 +30,8 @@ use Rattle.board.specs.Board.{
   BoardEffect,
   Yield,
   took,
+  placeWith,
+  takenPlace,
 }
 use Rattle.board.specs.Events.{
   Event,
@@ -159,7 +161,7 @@ module _ (k : ℕ) (lt : k < 4) (s : Scene) where
           let ne : k ≡ j → ⊥ = λ q. let r = free (sym q) in never n (r .0) (sym (ap callAnswer e) ∙ r .1) in
           let le = leb-true 260 (length (s .state)) w in
           let u : stretchOf (placeAt (loadedAt (s .board) j start size) k) ≡ stretchOf (placeAt (s .board) k) =
-          ap stretchOf (set-other (s .board .places) j k (record { loaded = true; due = false; start = start; size = size }) ne)
+          ap stretchOf (set-other (s .board .places) j k (placeWith start size) ne)
           in
           same (rw e u) (rw e (image-same (s .board) (loadedAt (s .board) j start size) (s .images) k u))
           (rw e
@@ -183,7 +185,7 @@ module _ (k : ℕ) (lt : k < 4) (s : Scene) where
   turn-leaves samples = go (turn-case s samples)
     where
       stays : (j : ℕ) → stretchOf (placeAt (takenAt (s .board) j) k) ≡ stretchOf (placeAt (s .board) k)
-      stays j = stretch-set (s .board .places) j k (withDue false (placeAt (s .board) j)) refl
+      stays j = stretch-set (s .board .places) j k (takenPlace (placeAt (s .board) j)) refl
 
       step : (es : List Event) {c : BoardEffect Yield} → turnBy s samples ≡ c →
           ownCycles k s (turn samples ∷ es) ≡ ownCycle k samples (c .answer) (ownCycles k (afterEvent s (turn samples)) es)

@@ -14,7 +14,19 @@ use Rattle.model.specs.Machine.{Effect, stretch, resetOf, cycleOf}
 use Rattle.model.specs.Outcome.{accepted, refused}
 use Rattle.model.specs.declared.Fault.{Fault}
 use Rattle.image_check.proofs.Parts.{stretch-length}
-use Rattle.board.specs.Board.{vacant, placeAt, placeWords, placeSamples, loadedAt, resetIn, runOf, BoardEffect, Yield, took}
+use Rattle.board.specs.Board.{
+  vacant,
+  placeAt,
+  placeWords,
+  placeSamples,
+  placeWith,
+  loadedAt,
+  resetIn,
+  runOf,
+  BoardEffect,
+  Yield,
+  took,
+}
 use Rattle.board.specs.Events.{
   Event,
   load,
@@ -219,6 +231,7 @@ pub record LoadedPlace (s : Scene) (k start size : ℕ) : Type 0 where
   pub words : placeWords k (afterEvent s (load k start size) .state) ≡
       resetOf (stretch (s .images) start (start + size)) (placeWords k (s .state)) .left
   pub intact : Intact k (afterEvent s (load k start size))
+  pub count : placeAt (afterEvent s (load k start size) .board) k .count ≡ 0
 
 pub load-leaves-place : (s : Scene) (k start size n : ℕ) → length (s .board .places) ≡ 4 →
     loadBy s k start size .answer ≡ accepted n → LoadedPlace s k start size
@@ -240,8 +253,7 @@ load-leaves-place s k start size n four a = go (load-case s k start size)
         let inside = accepted-inside (s .images) start size old reset m h in
         let ran = accepted-runs (s .images) start size old reset m h in
         let answered : resetOf image old .answer ≡ accepted m = sym (ap answerOf ran) ∙ h in
-        let p : placeAt (afterEvent s (load k start size) .board) k ≡ record
-        { loaded = true; due = false; start = start; size = size } =
+        let p : placeAt (afterEvent s (load k start size) .board) k ≡ placeWith start size =
         rw e (getD-set-same (s .board .places) k _ vacant (omega arith)) in
         let i : imageAt (afterEvent s (load k start size) .board) (s .images) k ≡ image =
         ap (λ (p : Place). stretch (s .images) (p .start) (p .start + p .size)) p in
@@ -255,6 +267,7 @@ load-leaves-place s k start size n four a = go (load-case s k start size)
           image = i;
           reset = reset-zero image old m answered;
           words = ws;
+          count = ap (λ (p : Place). p .count) p;
           intact =
               record {
                 whole = ap length i ∙ inside-length (s .images) start size inside ∙ sym (ap (λ (p : Place). p .size) p);

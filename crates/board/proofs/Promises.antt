@@ -10,7 +10,7 @@ use Rattle.model.specs.Calls as Calls
 use Rattle.model.specs.Machine.{stretch, resetOf}
 use Rattle.model.specs.Outcome.{accepted, refused}
 use Rattle.model.specs.declared.Fault.{Fault}
-use Rattle.board.specs.Board.{newBoard, placeWords, idle, took}
+use Rattle.board.specs.Board.{placeAt, placeWords, idle, took}
 use Rattle.board.specs.Events.{
   Event,
   load,
@@ -24,7 +24,6 @@ use Rattle.board.specs.Events.{
   CallRefused,
   totalOf,
   isTurn,
-  isTaken,
   isTakenAt,
   Throughout,
   NotLoaded,
@@ -125,13 +124,19 @@ runs-unless-changed s k start size n four a es free =
     let p = load-leaves-place s k start size n four a in
     intact-runs k (p .below) (afterEvent s (load k start size)) (p .intact) es free
 
--- The count of a board that was new tells the turns that took a place, refused runs included, and is held at its maximum.
-pub count-tells : (images : List ℕ) (state : List ℤ) (es : List Event) →
-    let s : Scene = record { board = newBoard; images = images; state = state } in
-    afterEvents s es .board .count ≡ held (totalOf isTaken s es)
-count-tells images state es =
-    let s : Scene = record { board = newBoard; images = images; state = state } in
-    count-from s es (omega arith) ∙ ap held (plus-none (totalOf isTaken s es))
+-- The count of a place tells the turns that took it since its latest accepted load, refused runs included, and is held at its
+-- maximum.
+pub count-tells : (s : Scene) (k start size n : ℕ) → length (s .board .places) ≡ 4 →
+    loadBy s k start size .answer ≡ accepted n → (es : List Event) →
+    Throughout (NotLoaded k) (afterEvent s (load k start size)) es →
+    placeAt (afterEvents s (load k start size ∷ es) .board) k .count ≡
+    held (totalOf (isTakenAt k) (afterEvent s (load k start size)) es)
+unfolding afterEvents
+count-tells s k start size n four a es free =
+    let t = afterEvent s (load k start size) in
+    let z = load-leaves-place s k start size n four a .count in
+    count-from k t es (omega arith) free ∙ ap (λ (m : ℕ). held (m + totalOf (isTakenAt k) t es)) z ∙
+    ap held (plus-none (totalOf (isTakenAt k) t es))
   where
     plus-none : (n : ℕ) → 0 + n ≡ n
     plus-none n = omega arith

@@ -23,6 +23,7 @@ use Rattle.board.specs.Board.{
   BoardEffect,
   Yield,
   took,
+  placeWith,
 }
 use Rattle.board.specs.Events.{
   Event,
@@ -97,7 +98,7 @@ module _ (k d : ℕ) (s : Scene) (at : placeAfter (s .board) d ≡ k) (due : pla
           miss d (omega arith) (rw e at)
           (rw e
           (ap (λ (p : Place). p .due)
-          (set-other (s .board .places) j k (record { loaded = true; due = false; start = start; size = size })
+          (set-other (s .board .places) j k (placeWith start size)
           (λ q. let r = free (sym q) in never n (r .0) (sym (ap callAnswer e) ∙ r .1))) ∙
           due))
 
@@ -191,6 +192,12 @@ pub due-taken : (k : ℕ) (s : Scene) → k < 4 → placeAt (s .board) k .due �
     4 ≤ totalOf isTurn s es → 0 < totalOf (isTakenAt k) s es
 due-taken k s lt due es free le =
     waits-taken k ((k + 3 - s .board .last % 4) % 4) s (omega arith) (distance (s .board .last) k lt) due es free (omega arith)
+
+-- A place that is due is in the list.
+pub due-in : (places : List Place) (k : ℕ) → getD places k vacant .due ≡ true → k < length places
+due-in [] k e = absurd (true≢false (sym e))
+due-in (p ∷ ps) zero e = omega arith
+due-in (p ∷ ps) (suc k) e = omega (arith, due-in ps k e)
 
 -- A mark that is not refused makes its place due.
 loaded-in : (places : List Place) (k : ℕ) → getD places k vacant .loaded ≡ true → k < length places

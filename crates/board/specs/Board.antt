@@ -18,11 +18,11 @@ use Rattle.board.specs.declared.Turned.the-variants as Turned
 
 -- A place that was never loaded.
 abbrev pub vacant : Place
-vacant = record { loaded = false; due = false; start = 0; size = 0 }
+vacant = record { loaded = false; due = false; start = 0; size = 0; count = 0 }
 
--- The new record: nothing loaded or due, its count 0, the first turn starting after place 3.
+-- The new record: nothing loaded or due, its counts 0, the first turn starting after place 3.
 abbrev pub newBoard : Board
-newBoard = record { places = vacant ∷ (vacant ∷ (vacant ∷ (vacant ∷ []))); last = 3; count = 0 }
+newBoard = record { places = vacant ∷ (vacant ∷ (vacant ∷ (vacant ∷ []))); last = 3 }
 
 abbrev pub placeAt : Board → ℕ → Place
 placeAt b k = getD (b .places) k vacant
@@ -37,27 +37,29 @@ placeSamples k samples = take 64 (drop (64 * k) samples)
 abbrev pub withWords : ℕ → List ℤ → List ℤ → List ℤ
 withWords k state words = take (65 * k) state ++ (words ++ drop 65 (drop (65 * k) state))
 
--- The count: 32 bits, held at its maximum.
+-- A count: 32 bits, held at its maximum.
 unfoldable pub countUp : ℕ → ℕ
 countUp n = cond (ltb n 4294967295) (n + 1) n
 
--- The record once a place is loaded with a stretch; once it is due; once a turn has taken it.
-unfoldable pub loadedAt : Board → ℕ → ℕ → ℕ → Board
-loadedAt b k start size =
-    record {
-      places = set (b .places) k (record { loaded = true; due = false; start = start; size = size });
-      last = b .last;
-      count = b .count;
-    }
+-- A place that is loaded with a stretch: not due, its count 0; with its due mark set or cleared; once a turn has taken it.
+abbrev pub placeWith : ℕ → ℕ → Place
+placeWith start size = record { loaded = true; due = false; start = start; size = size; count = 0 }
 
 abbrev pub withDue : Bool → Place → Place
-withDue d p = record { loaded = p .loaded; due = d; start = p .start; size = p .size }
+withDue d p = record { loaded = p .loaded; due = d; start = p .start; size = p .size; count = p .count }
+
+abbrev pub takenPlace : Place → Place
+takenPlace p = record { loaded = p .loaded; due = false; start = p .start; size = p .size; count = countUp (p .count) }
+
+-- The record once a place is loaded with a stretch; once it is due; once a turn has taken it.
+unfoldable pub loadedAt : Board → ℕ → ℕ → ℕ → Board
+loadedAt b k start size = record { places = set (b .places) k (placeWith start size); last = b .last }
 
 unfoldable pub markedAt : Board → ℕ → Board
-markedAt b k = record { places = set (b .places) k (withDue true (placeAt b k)); last = b .last; count = b .count }
+markedAt b k = record { places = set (b .places) k (withDue true (placeAt b k)); last = b .last }
 
 unfoldable pub takenAt : Board → ℕ → Board
-takenAt b k = record { places = set (b .places) k (withDue false (placeAt b k)); last = k; count = countUp (b .count) }
+takenAt b k = record { places = set (b .places) k (takenPlace (placeAt b k)); last = k }
 
 -- The places in cyclic order after the one last taken, i from 0 to 3, and whether each is due.
 abbrev pub placeAfter : Board → ℕ → ℕ

@@ -88,18 +88,7 @@ isTurn s (mark k) = 0
 isTurn s (turn samples) = notRefused (turnIn s samples)
 isTurn s (change images state) = 0
 
--- A turn that takes a place, its run refused or not; and one that takes place k.
-abbrev pub takesOne : Outcome Yield → ℕ
-takesOne (accepted idle) = 0
-takesOne (accepted (took k o)) = 1
-takesOne (refused f) = 0
-
-unfoldable pub isTaken : Scene → Event → ℕ
-isTaken s (load k start size) = 0
-isTaken s (mark k) = 0
-isTaken s (turn samples) = takesOne (turnIn s samples)
-isTaken s (change images state) = 0
-
+-- A turn that takes place k, its run refused or not.
 abbrev pub takesPlace : ℕ → Outcome Yield → ℕ
 takesPlace k (accepted idle) = 0
 takesPlace k (accepted (took j o)) = cond (eqb j k) 1 0

@@ -10,8 +10,8 @@ ghost use lib.Dec.{leb};
 ghost use lib.ListN.{length};
 ghost use Rattle.model.specs.Machine.{ranOf, cycledOf};
 ghost use Rattle.model.specs.Outcome.{refuse};
-ghost use Rattle.board.specs.Board.{countUp, withDue, withWords, nextDue, newBoard, loadedAt, markedAt, takenAt};
-ghost use Rattle.board.specs.Board.{resetIn, cycleIn, runOf, loadOf, markPlaceOf, turnOf, turnedOf};
+ghost use Rattle.board.specs.Board.{countUp, takenPlace, withDue, withWords, nextDue, newBoard};
+ghost use Rattle.board.specs.Board.{loadedAt, markedAt, takenAt, resetIn, cycleIn, runOf, loadOf, markPlaceOf, turnOf, turnedOf};
 
 const PLACES: usize = 4;
 
@@ -36,19 +36,19 @@ const OUTSIDE: u8 = 27;
 
 const NOT_LOADED: u8 = 28;
 
-// A place: whether it is loaded and due, and its stretch of the images.
+// A place: whether it is loaded and due, its stretch of the images, and the number of turns that took it since its load.
 pub struct Place {
     pub loaded: bool,
     pub due: bool,
     pub start: usize,
     pub size: usize,
+    pub count: u32,
 }
 
-// The record: the places, the one last taken, and the number of turns taken.
+// The record: the places, and the one last taken.
 pub struct Board {
     pub places: [Place; 4],
     pub last: usize,
-    pub count: u32,
 }
 
 // What a turn answers: nothing was due; the place taken and what its run answers; or the refusal of the turn.
@@ -97,11 +97,11 @@ pub fn new_board() -> Board
         due: false,
         start: 0,
         size: 0,
+        count: 0,
     };
     Board {
         places: [vacant; 4],
         last: 3,
-        count: 0,
     }
 }
 
@@ -121,6 +121,20 @@ fn with_due(p: Place, due: bool) -> Place
         due,
         start: p.start,
         size: p.size,
+        count: p.count,
+    }
+}
+
+// A place once a turn has taken it.
+fn taken_place(p: Place) -> Place
+    ensures { λ r. ⌜ r ≡ takenPlace p ⌝ }
+{
+    Place {
+        loaded: p.loaded,
+        due: false,
+        start: p.start,
+        size: p.size,
+        count: count_up(p.count),
     }
 }
 
@@ -135,11 +149,11 @@ fn with_load(board: Board, place: usize, start: usize, size: usize) -> Board
         due: false,
         start,
         size,
+        count: 0,
     };
     Board {
         places: places,
         last: board.last,
-        count: board.count,
     }
 }
 
@@ -154,7 +168,6 @@ fn with_mark(board: Board, place: usize) -> Board
     Board {
         places: places,
         last: board.last,
-        count: board.count,
     }
 }
 
@@ -165,11 +178,10 @@ fn with_turn(board: Board, place: usize) -> Board
 {
     let mut places = board.places;
     let p = places[place];
-    places[place] = with_due(p, false);
+    places[place] = taken_place(p);
     Board {
         places: places,
         last: place,
-        count: count_up(board.count),
     }
 }
 

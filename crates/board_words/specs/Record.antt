@@ -1,4 +1,4 @@
--- The board's record as an array of 14 numbers, and a turn's outcome as three, for a C caller.
+-- The board's record as an array of 17 numbers, and a turn's outcome as three, for a C caller.
 use Prim.Native.Nat.{ℕ, _/_, _%_}
 use mathlib.Core.Bool.{cond}
 use mathlib.Core.List.{List, [], _∷_}
@@ -13,30 +13,29 @@ use Rattle.board.specs.declared.Place.{Place}
 abbrev pub flagsOf : Place → ℕ
 flagsOf p = cond (p .due) (cond (p .loaded) 3 2) (cond (p .loaded) 1 0)
 
-abbrev pub placeFrom : ℕ → ℕ → ℕ → Place
-placeFrom flags start size =
-    record { loaded = eqb (flags % 2) 1; due = eqb (flags / 2 % 2) 1; start = start; size = size }
+abbrev pub placeFrom : ℕ → ℕ → ℕ → ℕ → Place
+placeFrom flags start size count =
+    record { loaded = eqb (flags % 2) 1; due = eqb (flags / 2 % 2) 1; start = start; size = size; count = count % 4294967296 }
 
--- Flags, start and size of each place in place order; then the place last taken, and the count. Any numbers are a record.
+-- Flags, start, size and count of each place in place order; then the place last taken. Any numbers are a record.
 unfoldable pub boardOf : List ℕ → Board
 boardOf w =
     record {
       places =
-          placeFrom (getD w 0 0) (getD w 1 0) (getD w 2 0) ∷
-          (placeFrom (getD w 3 0) (getD w 4 0) (getD w 5 0) ∷
-          (placeFrom (getD w 6 0) (getD w 7 0) (getD w 8 0) ∷
-          (placeFrom (getD w 9 0) (getD w 10 0) (getD w 11 0) ∷ [])));
-      last = getD w 12 0;
-      count = getD w 13 0 % 4294967296;
+          placeFrom (getD w 0 0) (getD w 1 0) (getD w 2 0) (getD w 3 0) ∷
+          (placeFrom (getD w 4 0) (getD w 5 0) (getD w 6 0) (getD w 7 0) ∷
+          (placeFrom (getD w 8 0) (getD w 9 0) (getD w 10 0) (getD w 11 0) ∷
+          (placeFrom (getD w 12 0) (getD w 13 0) (getD w 14 0) (getD w 15 0) ∷ [])));
+      last = getD w 16 0;
     }
 
 abbrev pub packedPlace : Place → List ℕ → List ℕ
-packedPlace p rest = flagsOf p ∷ (p .start ∷ (p .size ∷ rest))
+packedPlace p rest = flagsOf p ∷ (p .start ∷ (p .size ∷ (p .count ∷ rest)))
 
 unfoldable pub packed : Board → List ℕ
 packed b =
     packedPlace (placeAt b 0)
-    (packedPlace (placeAt b 1) (packedPlace (placeAt b 2) (packedPlace (placeAt b 3) (b .last ∷ (b .count ∷ [])))))
+    (packedPlace (placeAt b 1) (packedPlace (placeAt b 2) (packedPlace (placeAt b 3) (b .last ∷ []))))
 
 -- The array after a call: a refused call and an idle turn leave it as it was.
 abbrev pub callKeeps : List ℕ → Board → Outcome ℕ → List ℕ

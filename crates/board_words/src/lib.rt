@@ -1,5 +1,5 @@
-// The board's record as an array of 14 numbers that a C caller keeps: for each place its flags (1 loaded, 2 due), start and
-// size, in place order; then the place last taken, and the count. Any numbers are a record.
+// The board's record as an array of 17 numbers that a C caller keeps: for each place its flags (1 loaded, 2 due), start, size and
+// count, in place order; then the place last taken. Any numbers are a record.
 use board::Board;
 use board::Place;
 use model::Cycled;
@@ -18,34 +18,34 @@ fn flags(p: Place) -> usize
     }
 }
 
-fn place_from(flags: usize, start: usize, size: usize) -> Place
-    ensures { λ r. ⌜ r ≡ placeFrom flags start size ⌝ }
+fn place_from(flags: usize, start: usize, size: usize, count: usize) -> Place
+    ensures { λ r. ⌜ r ≡ placeFrom flags start size count ⌝ }
 {
     Place {
         loaded: flags % 2 == 1,
         due: flags / 2 % 2 == 1,
         start,
         size,
+        count: (count % 4294967296) as u32,
     }
 }
 
 // The record that an array holds.
-pub fn unpack(w: [usize; 14]) -> Board
+pub fn unpack(w: [usize; 17]) -> Board
     ensures { λ r. ⌜ r ≡ boardOf w ⌝ }
 {
-    let a = place_from(w[0], w[1], w[2]);
-    let b = place_from(w[3], w[4], w[5]);
-    let c = place_from(w[6], w[7], w[8]);
-    let d = place_from(w[9], w[10], w[11]);
+    let a = place_from(w[0], w[1], w[2], w[3]);
+    let b = place_from(w[4], w[5], w[6], w[7]);
+    let c = place_from(w[8], w[9], w[10], w[11]);
+    let d = place_from(w[12], w[13], w[14], w[15]);
     Board {
         places: [a, b, c, d],
-        last: w[12],
-        count: (w[13] % 4294967296) as u32,
+        last: w[16],
     }
 }
 
 // The array of a record.
-pub fn pack(board: Board) -> [usize; 14]
+pub fn pack(board: Board) -> [usize; 17]
     ensures { λ r. ⌜ r ≡ packed board ⌝ }
 {
     let places = board.places;
@@ -57,22 +57,28 @@ pub fn pack(board: Board) -> [usize; 14]
     let fb = flags(b);
     let fc = flags(c);
     let fd = flags(d);
-    let count = board.count as usize;
+    let na = a.count as usize;
+    let nb = b.count as usize;
+    let nc = c.count as usize;
+    let nd = d.count as usize;
     [
         fa,
         a.start,
         a.size,
+        na,
         fb,
         b.start,
         b.size,
+        nb,
         fc,
         c.start,
         c.size,
+        nc,
         fd,
         d.start,
         d.size,
+        nd,
         board.last,
-        count,
     ]
 }
 

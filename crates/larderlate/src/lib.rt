@@ -199,10 +199,10 @@ pub extern "C" fn larderlate_convert(program: &[u8], result: &mut [u8]) -> u64
     code_of_compiled(converted)
 }
 
-// The board's calls. The record is an array of 14 numbers that the caller keeps (crate `board_words`); a refused call and an idle
+// The board's calls. The record is an array of 17 numbers that the caller keeps (crate `board_words`); a refused call and an idle
 // turn leave it as it was.
 #[no_mangle]
-pub extern "C" fn larderlate_board_new(words: &mut [usize; 14])
+pub extern "C" fn larderlate_board_new(words: &mut [usize; 17])
     ensures { λ _. ⌜ now (words .exit) ≡ packed newBoard ⌝ }
 {
     let board = board::new_board();
@@ -211,7 +211,7 @@ pub extern "C" fn larderlate_board_new(words: &mut [usize; 14])
 
 #[no_mangle]
 pub extern "C" fn larderlate_board_load(
-    words: &mut [usize; 14],
+    words: &mut [usize; 17],
     images: &[u8],
     state: &mut [i32],
     place: usize,
@@ -241,7 +241,7 @@ pub extern "C" fn larderlate_board_load(
 }
 
 #[no_mangle]
-pub extern "C" fn larderlate_board_mark(words: &mut [usize; 14], place: usize) -> u64
+pub extern "C" fn larderlate_board_mark(words: &mut [usize; 17], place: usize) -> u64
     ensures answer { λ r. ⌜ r ≡ codeNumber (markPlaceOf (boardOf (now (words .entry))) place .answer) ⌝ }
     ensures kept { λ _. ⌜ now (words .exit) ≡ callRecord (now (words .entry)) (markPlaceOf (boardOf (now (words .entry))) place) ⌝ }
 {
@@ -258,7 +258,7 @@ pub extern "C" fn larderlate_board_mark(words: &mut [usize; 14], place: usize) -
 
 #[no_mangle]
 pub extern "C" fn larderlate_board_turn(
-    words: &mut [usize; 14],
+    words: &mut [usize; 17],
     images: &[u8],
     state: &mut [i32],
     samples: &[i32],

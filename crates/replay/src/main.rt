@@ -1,8 +1,5 @@
 // Makes the calls of a stream on standard input and prints a line for each (docs/VECTORS.md has the layout of both). What is
 // compared from outside is these lines. A stream that is cut off or too large for the space here ends the run.
-use board::Board;
-use board::Place;
-use board::Turned;
 use libc::STDIN_FILENO;
 use libc::STDOUT_FILENO;
 use model::Compiled;
@@ -21,11 +18,10 @@ enum Number {
     Missing,
 }
 
-// How many bytes of the image and words of the state are lent, the board's record, and whether the stream goes on.
+// How many bytes of the image and words of the state are lent, and whether the stream goes on.
 struct Lent {
     image: usize,
     state: usize,
-    board: Board,
     goes_on: bool,
 }
 
@@ -207,7 +203,6 @@ fn stop() -> Lent {
     Lent {
         image: 0,
         state: 0,
-        board: board::new_board(),
         goes_on: false,
     }
 }
@@ -217,11 +212,9 @@ fn lend_image(lent: Lent, image: &mut [u8]) -> Lent {
     let Number::Is(n) = four() else {
         return stop();
     };
-    let board = lent.board;
     Lent {
         image: n,
         state: lent.state,
-        board,
         goes_on: fill(&mut image[..], n),
     }
 }
@@ -231,11 +224,9 @@ fn lend_state(lent: Lent, state: &mut [i32]) -> Lent {
     let Number::Is(n) = fill_words(&mut state[..]) else {
         return stop();
     };
-    let board = lent.board;
     Lent {
         image: lent.image,
         state: n,
-        board,
         goes_on: true,
     }
 }
@@ -528,13 +519,6 @@ fn convert_next(lent: Lent, p: usize, b: usize) -> Lent
     lent
 }
 
-// A place's part of a sum over flags.
-fn weighed(flag: bool, weight: u64) -> u64
-    ensures { λ r. ⌜ r ≤ weight ⌝ }
-{
-    if flag { weight } else { 0 }
-}
-
 // The hash of a number's four bytes, low byte first, after others that have the hash `before`.
 fn hash_number(before: u32, n: usize) -> u32 {
     let first = mix(before, (n % 256) as u8);
@@ -543,109 +527,75 @@ fn hash_number(before: u32, n: usize) -> u32 {
     mix(third, (n / 16777216 % 256) as u8)
 }
 
-// The hash of the stretches, start and length of each.
-fn hash_stretches(a: Place, b: Place, c: Place, d: Place) -> u32 {
-    let first = hash_number(hash_number(2166136261, a.start), a.size);
-    let second = hash_number(hash_number(first, b.start), b.size);
-    let third = hash_number(hash_number(second, c.start), c.size);
-    hash_number(hash_number(third, d.start), d.size)
+// The hash of a stretch after others.
+fn hash_stretch(before: u32, start: usize, size: usize) -> u32 {
+    hash_number(hash_number(before, start), size)
 }
 
 // A number and the space after it.
-fn print_part(n: u64) {
-    io::print_decimal(STDOUT_FILENO, n);
+fn print_part(n: usize) {
+    io::print_decimal(STDOUT_FILENO, n as u64);
     io::write_all(STDOUT_FILENO, b" ");
 }
 
-fn print_record(board: Board) {
-    let places = board.places;
-    let a = places[0];
-    let b = places[1];
-    let c = places[2];
-    let d = places[3];
-    print_part(
-        weighed(a.loaded, 1) + weighed(b.loaded, 2) + weighed(c.loaded, 4) + weighed(d.loaded, 8),
-    );
-    print_part(weighed(a.due, 1) + weighed(b.due, 2) + weighed(c.due, 4) + weighed(d.due, 8));
-    print_part(board.last as u64);
-    print_part(board.count as u64);
-    print_part(hash_stretches(a, b, c, d) as u64);
+// A sum of bits, one for each place.
+fn print_bits(a: usize, b: usize, c: usize, d: usize) {
+    print_part(a % 2 + b % 2 * 2 + c % 2 * 4 + d % 2 * 8);
+}
+
+// The record of a board, as its words (crate `board_words`).
+fn print_record(w: [usize; 17]) {
+    print_bits(w[0], w[4], w[8], w[12]);
+    print_bits(w[0] / 2, w[4] / 2, w[8] / 2, w[12] / 2);
+    print_part(w[16]);
+    print_part(w[3]);
+    print_part(w[7]);
+    print_part(w[11]);
+    print_part(w[15]);
+    let first = hash_stretch(2166136261, w[1], w[2]);
+    let second = hash_stretch(first, w[5], w[6]);
+    let third = hash_stretch(second, w[9], w[10]);
+    print_part(hash_stretch(third, w[13], w[14]) as usize);
 }
 
 // The line of a call of the board.
-fn print_board(number: u8, outcome: [u32; 3], board: Board, state: &[i32]) {
-    print_part(number as u64);
-    print_part(outcome[0] as u64);
-    print_part(outcome[1] as u64);
-    print_part(outcome[2] as u64);
-    print_record(board);
+fn print_board(code: u64, outcome: [u32; 3], record: [usize; 17], state: &[i32]) {
+    print_part((code / 4294967296) as usize);
+    print_part(outcome[0] as usize);
+    print_part(outcome[1] as usize);
+    print_part(outcome[2] as usize);
+    print_record(record);
     io::print_decimal(STDOUT_FILENO, hash_words(state) as u64);
     io::write_all(STDOUT_FILENO, b"\n");
 }
 
-// The number of a load's or a mark's answer.
-fn number_of(ran: Ran) -> u8 {
-    match ran {
-        Ran::Done => 0,
-        Ran::Refused(fault) => fault.number,
-    }
-}
-
-// The outcome of a turn that took a place.
-fn outcome_of(place: usize, run: Cycled) -> [u32; 3] {
-    let at = (place % 4) as u32;
-    match run {
-        Cycled::Commands(n) => [1, at, n],
-        Cycled::Refused(fault) => [2, at, fault.number as u32],
-    }
-}
-
-fn print_turned(turned: Turned, board: Board, state: &[i32]) {
-    match turned {
-        Turned::Idle => print_board(0, [0, 0, 0], board, state),
-        Turned::Took(place, run) => print_board(0, outcome_of(place, run), board, state),
-        Turned::Refused(fault) => print_board(fault.number, [0, 0, 0], board, state),
-    }
-}
-
-// What is lent, with another record.
-fn with_board(lent: Lent, board: Board) -> Lent {
-    Lent {
-        image: lent.image,
-        state: lent.state,
-        board,
-        goes_on: true,
-    }
-}
-
 // 0B: a new record.
-fn call_board(lent: Lent, state: &[i32]) -> Lent {
+fn call_board(lent: Lent, state: &[i32], record: &mut [usize; 17]) -> Lent {
     let words = lent.state;
     if state.len() < words {
         return stop();
     }
-    let board = board::new_board();
-    print_board(0, [0, 0, 0], board, &state[..words]);
-    with_board(lent, board)
+    larderlate::larderlate_board_new(record);
+    let w = *record;
+    print_board(0, [0, 0, 0], w, &state[..words]);
+    lent
 }
 
 fn load(
-    board: Board,
     image: &[u8],
     state: &mut [i32],
+    record: &mut [usize; 17],
     place: usize,
     start: usize,
     size: usize,
-) -> Board {
-    let after = board::load(board, image, &mut state[..], place, start, size);
-    let ran = after.answer;
-    let next = after.board;
-    print_board(number_of(ran), [0, 0, 0], next, &state[..]);
-    next
+) {
+    let code = larderlate::larderlate_board_load(record, image, &mut state[..], place, start, size);
+    let w = *record;
+    print_board(code, [0, 0, 0], w, &state[..]);
 }
 
 // 0C: a load.
-fn call_load(lent: Lent, image: &[u8], state: &mut [i32]) -> Lent {
+fn call_load(lent: Lent, image: &[u8], state: &mut [i32], record: &mut [usize; 17]) -> Lent {
     let bytes = lent.image;
     let words = lent.state;
     let Number::Is(place) = one() else {
@@ -660,20 +610,19 @@ fn call_load(lent: Lent, image: &[u8], state: &mut [i32]) -> Lent {
     if image.len() < bytes || state.len() < words {
         return stop();
     }
-    let old = lent.board;
-    let board = load(
-        old,
+    load(
         &image[..bytes],
         &mut state[..words],
+        record,
         place,
         start,
         size,
     );
-    with_board(lent, board)
+    lent
 }
 
 // 0D: a mark.
-fn call_mark(lent: Lent, state: &[i32]) -> Lent {
+fn call_mark(lent: Lent, state: &[i32], record: &mut [usize; 17]) -> Lent {
     let words = lent.state;
     let Number::Is(place) = one() else {
         return stop();
@@ -681,24 +630,27 @@ fn call_mark(lent: Lent, state: &[i32]) -> Lent {
     if state.len() < words {
         return stop();
     }
-    let old = lent.board;
-    let after = board::mark(old, place);
-    let ran = after.answer;
-    let next = after.board;
-    print_board(number_of(ran), [0, 0, 0], next, &state[..words]);
-    with_board(lent, next)
+    let code = larderlate::larderlate_board_mark(record, place);
+    let w = *record;
+    print_board(code, [0, 0, 0], w, &state[..words]);
+    lent
 }
 
-fn turn(board: Board, image: &[u8], state: &mut [i32], samples: &[i32]) -> Board {
-    let after = board::turn(board, image, &mut state[..], samples);
-    let turned = after.answer;
-    let next = after.board;
-    print_turned(turned, next, &state[..]);
-    next
+fn turn(image: &[u8], state: &mut [i32], record: &mut [usize; 17], samples: &[i32]) {
+    let mut outcome = [0u32; 3];
+    let code = larderlate::larderlate_board_turn(
+        record,
+        image,
+        &mut state[..],
+        samples,
+        &mut outcome,
+    );
+    let w = *record;
+    print_board(code, outcome, w, &state[..]);
 }
 
 // 0E: a turn.
-fn call_turn(lent: Lent, image: &[u8], state: &mut [i32]) -> Lent {
+fn call_turn(lent: Lent, image: &[u8], state: &mut [i32], record: &mut [usize; 17]) -> Lent {
     let mut samples = [0i32; 400];
     let bytes = lent.image;
     let words = lent.state;
@@ -708,46 +660,68 @@ fn call_turn(lent: Lent, image: &[u8], state: &mut [i32]) -> Lent {
     if 400 < n || image.len() < bytes || state.len() < words {
         return stop();
     }
-    let old = lent.board;
-    let board = turn(old, &image[..bytes], &mut state[..words], &samples[..n]);
-    with_board(lent, board)
+    turn(&image[..bytes], &mut state[..words], record, &samples[..n]);
+    lent
 }
 
-// A place of a record that is put as it is.
-fn place_at(bytes: [u8; 39], at: usize, weight: u8) -> Place
-    requires { ⌜ (at ≤ 3) × (1 ≤ weight) ⌝ }
+// The flags of a place, from the bits of all.
+fn flags_of(loaded: u8, due: u8, weight: u8) -> usize
+    requires { ⌜ 1 ≤ weight ⌝ }
 {
-    let loaded = bytes[0];
-    let due = bytes[1];
-    Place {
-        loaded: loaded / weight % 2 == 1,
-        due: due / weight % 2 == 1,
-        start: word::four_at(&bytes, 7 + 8 * at) as usize,
-        size: word::four_at(&bytes, 11 + 8 * at) as usize,
+    wide(loaded / weight % 2 + due / weight % 2 * 2)
+}
+
+// The numbers of a record that is put as it is: four counts, then start and length of each place.
+fn record_numbers(bytes: &[u8]) -> [usize; 12]
+    requires { ⌜ 51 ≤ length (now bytes) ⌝ }
+{
+    let mut numbers = [0usize; 12];
+    let mut i: usize = 0;
+    while i < 12 {
+        numbers[i] = word::four_at(bytes, 3 + 4 * i) as usize;
+        i = i + 1;
     }
+    numbers
 }
 
 // 11: a record as it is.
-fn put_record(lent: Lent) -> Lent {
-    let mut bytes = [0u8; 39];
-    if !fill(&mut bytes, 39) {
+fn put_record(lent: Lent, record: &mut [usize; 17]) -> Lent {
+    let mut bytes = [0u8; 51];
+    if !fill(&mut bytes, 51) {
         return stop();
     }
-    let a = place_at(bytes, 0, 1);
-    let b = place_at(bytes, 1, 2);
-    let c = place_at(bytes, 2, 4);
-    let d = place_at(bytes, 3, 8);
+    let loaded = bytes[0];
+    let due = bytes[1];
+    let a = flags_of(loaded, due, 1);
+    let b = flags_of(loaded, due, 2);
+    let c = flags_of(loaded, due, 4);
+    let d = flags_of(loaded, due, 8);
     let last = wide(bytes[2]);
-    let board = Board {
-        places: [a, b, c, d],
+    let n = record_numbers(&bytes);
+    *record = [
+        a,
+        n[4],
+        n[5],
+        n[0],
+        b,
+        n[6],
+        n[7],
+        n[1],
+        c,
+        n[8],
+        n[9],
+        n[2],
+        d,
+        n[10],
+        n[11],
+        n[3],
         last,
-        count: word::four_at(&bytes, 3),
-    };
-    with_board(lent, board)
+    ];
+    lent
 }
 
 // The next call of the stream, or its end.
-fn step(lent: Lent, image: &mut [u8], state: &mut [i32]) -> Lent {
+fn step(lent: Lent, image: &mut [u8], state: &mut [i32], record: &mut [usize; 17]) -> Lent {
     let mut byte = [0u8; 1];
     if !fill(&mut byte, 1) {
         return stop();
@@ -764,11 +738,11 @@ fn step(lent: Lent, image: &mut [u8], state: &mut [i32]) -> Lent {
         8 => call_trial(lent),
         9 => call_tail(lent, image),
         10 => call_convert(lent),
-        11 => call_board(lent, state),
-        12 => call_load(lent, image, &mut state[..]),
-        13 => call_mark(lent, state),
-        14 => call_turn(lent, image, &mut state[..]),
-        17 => put_record(lent),
+        11 => call_board(lent, state, record),
+        12 => call_load(lent, image, &mut state[..], record),
+        13 => call_mark(lent, state, record),
+        14 => call_turn(lent, image, &mut state[..], record),
+        17 => put_record(lent, record),
         _ => stop(),
     }
 }
@@ -778,12 +752,13 @@ fn run(image: &mut [u8], state: &mut [i32]) {
     let mut lent = Lent {
         image: 0,
         state: 0,
-        board: board::new_board(),
         goes_on: true,
     };
+    let mut record = [0usize; 17];
+    larderlate::larderlate_board_new(&mut record);
     let mut turns: u64 = 1000000000;
     while 0 < turns && lent.goes_on {
-        lent = step(lent, &mut image[..], &mut state[..]);
+        lent = step(lent, &mut image[..], &mut state[..], &mut record);
         turns = turns - 1;
     }
 }

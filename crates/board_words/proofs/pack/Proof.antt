@@ -28,13 +28,22 @@ flags-requires-3 c κs = search needs
 flags-requires-4 : tie.Need-flags-requires-4
 flags-requires-4 c κs = search needs
 
-cast-count : tie.Need-cast-count
-cast-count c = search needs
+cast-na : tie.Need-cast-na
+cast-na c = search needs
+
+cast-nb : tie.Need-cast-nb
+cast-nb c = search needs
+
+cast-nc : tie.Need-cast-nc
+cast-nc c = search needs
+
+cast-nd : tie.Need-cast-nd
+cast-nd c = search needs
 
 returns : tie.Need-returns
 unfolding packed
 returns c =
-    let d = c .before in
+    let d = c .before .before .before .before in
     rw (d .before .before .before .flags .ensures, d .before .before .flags2 .ensures, d .before .flags3 .ensures, d .flags4 .ensures)
 
 pub pack-spec : {M : Type 1} → statement M
@@ -49,5 +58,8 @@ pack-spec =
     flags-requires-2
     flags-requires-3
     flags-requires-4
-    cast-count
+    cast-na
+    cast-nb
+    cast-nc
+    cast-nd
     returns)

@@ -10,17 +10,14 @@ stop-requires c κs = search needs
 returns : tie.Need-returns
 returns c = search needs
 
-new-board-requires : tie.Need-new-board-requires
-new-board-requires c κs = search needs
+larderlate-board-new-requires : tie.Need-larderlate-board-new-requires
+larderlate-board-new-requires c κs = search needs
 
 slice-aggregate-print-board : tie.Need-slice-aggregate-print-board
 slice-aggregate-print-board c = taken _ _ (search needs)
 
 print-board-requires : tie.Need-print-board-requires
 print-board-requires c κs = search needs
-
-with-board-requires : tie.Need-with-board-requires
-with-board-requires c κs = search needs
 
 returns-2 : tie.Need-returns-2
 returns-2 c = search needs
@@ -31,8 +28,7 @@ call-board-spec =
     (tie.spec
     stop-requires
     returns
-    new-board-requires
+    larderlate-board-new-requires
     slice-aggregate-print-board
     print-board-requires
-    with-board-requires
     returns-2)

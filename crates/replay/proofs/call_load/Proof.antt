@@ -67,9 +67,6 @@ slice-aggregate-load-2 c = taken _ _ (search needs)
 load-requires : tie.Need-load-requires
 load-requires c κs = search needs
 
-with-board-requires : tie.Need-with-board-requires
-with-board-requires c κs = search needs
-
 same-length : tie.Need-same-length
 same-length c = search needs
 
@@ -101,6 +98,5 @@ call-load-spec =
     slice-relend-prefix-load
     slice-aggregate-load-2
     load-requires
-    with-board-requires
     same-length
     returns-5)

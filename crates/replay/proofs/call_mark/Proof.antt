@@ -25,20 +25,14 @@ stop-requires-2 c κs = search needs
 returns-2 : tie.Need-returns-2
 returns-2 c = search needs
 
-mark-requires : tie.Need-mark-requires
-mark-requires c κs = search needs
-
-number-of-requires : tie.Need-number-of-requires
-number-of-requires c κs = search needs
+larderlate-board-mark-requires : tie.Need-larderlate-board-mark-requires
+larderlate-board-mark-requires c κs = search needs
 
 slice-aggregate-print-board : tie.Need-slice-aggregate-print-board
 slice-aggregate-print-board c = taken _ _ (search needs)
 
 print-board-requires : tie.Need-print-board-requires
 print-board-requires c κs = search needs
-
-with-board-requires : tie.Need-with-board-requires
-with-board-requires c κs = search needs
 
 returns-3 : tie.Need-returns-3
 returns-3 c = search needs
@@ -54,9 +48,7 @@ call-mark-spec =
     returns
     stop-requires-2
     returns-2
-    mark-requires
-    number-of-requires
+    larderlate-board-mark-requires
     slice-aggregate-print-board
     print-board-requires
-    with-board-requires
     returns-3)

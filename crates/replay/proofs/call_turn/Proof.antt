@@ -46,9 +46,6 @@ slice-aggregate-turn-3 c = taken _ _ (search needs)
 turn-requires : tie.Need-turn-requires
 turn-requires c κs = search needs
 
-with-board-requires : tie.Need-with-board-requires
-with-board-requires c κs = search needs
-
 same-length : tie.Need-same-length
 same-length c = search needs
 
@@ -73,6 +70,5 @@ call-turn-spec =
     array-share-prefix-samples
     slice-aggregate-turn-3
     turn-requires
-    with-board-requires
     same-length
     returns-3)

@@ -7,13 +7,14 @@ use Rattle.replay.proofs.run.Statement.{statement}
 use Rattle.replay.proofs.run.Tie as tie
 
 abbrev Inv-loop : tie.InvT-loop
-Inv-loop image₀ state₀ lent₀ turns₀ image state lent turns = (length image ≡ length image₀) × (length state ≡ length state₀)
+Inv-loop image₀ state₀ lent₀ record₀ turns₀ image state lent words turns =
+    (length image ≡ length image₀) × (length state ≡ length state₀)
 
 abbrev μ-loop : tie.MeasureT-loop
-μ-loop image₀ state₀ lent₀ turns₀ image state lent turns = turns
+μ-loop image₀ state₀ lent₀ record₀ turns₀ image state lent words turns = turns
 
-new-board-requires : tie.Need-new-board-requires Inv-loop μ-loop
-new-board-requires c κs = search needs
+larderlate-board-new-requires : tie.Need-larderlate-board-new-requires Inv-loop μ-loop
+larderlate-board-new-requires c κs = search needs
 
 loop-holds : tie.Need-loop-holds Inv-loop μ-loop
 loop-holds c = (refl, refl)
@@ -54,7 +55,7 @@ run-spec =
     (tie.spec
     Inv-loop
     μ-loop
-    new-board-requires
+    larderlate-board-new-requires
     loop-holds
     step-requires
     sub-turns
