@@ -1,18 +1,34 @@
 -- A program and its conversion keep the same conditions with every schedule, have the same streams and the same image.
 -- Assumes nothing.
-use Prim.Native.Nat.{ℕ, zero, suc, _+_, _*_, _-_, _/_, _≤_, _<_, _∣_}
+use Prim.Native.Nat.{ℕ, zero, suc, _+_, _-_, _≤_, _<_}
 use mathlib.Core.Bool.{Bool, true, false, cond, and-eq-true-iff}
-use mathlib.Core.List.{List, [], _∷_, _++_, map, map-map, map-append, reverse}
+use mathlib.Core.List.{List, [], _∷_, _++_, map, map-map, map-append}
 use mathlib.Core.Logic.{_↔_}
 use mathlib.Core.Path.{_≡_, refl, sym, ap, ap₂, subst, _∙_, fun-ext}
-use native.Mathlib.Nat.{one-mul, mul-one, add-zero, sub-zero, div-one}
+use native.Mathlib.Nat.{div-one}
 use native.Mathlib.Omega.{arith}
 use borrow.Author.Tests.{eqb-true, eqb-false}
 use lib.Dec.{eqb}
 use lib.IntN.{ℤ}
-use lib.ListN.{length, getD, length-map, List·getD-map}
-use Rattle.model.specs.Accepted.{PeriodRule, Line, Order, Met, Multiple}
-use Rattle.model.specs.Conditions.{_among_, ReadIn, LinkIn, ReadRule, DeclaredAndRated, Least, linkSignals, Linked, putAt, IsPut, Placed, Over, TimelyFrom, KeepsTime, LegalPairWith, LegalPair}
+use lib.ListN.{length, length-map, List·getD-map}
+use Rattle.model.specs.Accepted.{PeriodRule, Line, Met, Multiple}
+use Rattle.model.specs.Conditions.{
+  _among_,
+  ReadIn,
+  LinkIn,
+  ReadRule,
+  DeclaredAndRated,
+  Least,
+  linkSignals,
+  Linked,
+  putAt,
+  IsPut,
+  Placed,
+  TimelyFrom,
+  KeepsTime,
+  LegalPairWith,
+  LegalPair,
+}
 use Rattle.model.specs.Grammar.{LegalProgram}
 use Rattle.model.specs.Compile.{Pair}
 use Rattle.model.specs.Convert.{
@@ -26,8 +42,6 @@ use Rattle.model.specs.Convert.{
   mapSignal,
   mapLink,
   mapChain,
-  convertedRead,
-  converted,
   bareRead,
   bare,
   Renamed,
@@ -675,63 +689,13 @@ module _ (p : Program) (s : Schedule) where
           ((c : Chain) → c among bare p .chains → KeepsTime (bare p) s c)
       latencies = each-chain p (KeepsTime p s) (KeepsTime (bare p) s) (λ c i. keeps-time-bare c)
 
--- The conversion itself is a renaming: a read that is converted once is not changed again.
+-- A kind that is converted once is not changed again.
 pub single-twice : (kind : Kind) → singleKind (singleKind kind) ≡ singleKind kind
 single-twice Now = refl
 single-twice Last = refl
 single-twice When = refl
 single-twice LastWhen = refl
 single-twice Current = refl
-
-read-twice : (ρ : Read) → bareRead (convertedRead ρ) ≡ bareRead ρ
-read-twice ρ = go (isSingle n i) refl
-  where
-    n : ℕ
-    n = ρ .operands .factor
-
-    i : Index
-    i = ρ .operands .index
-
-    made : ℕ → Kind → Index → Read
-    made m kind index =
-        record { place = 0; kind = kind; operands = record { signal = ρ .operands .signal; factor = m; index = index } }
-
-    go : (b : Bool) → isSingle n i ≡ b →
-        made n (kindAfter (isSingle n (indexAfter b i)) (kindAfter b (ρ .kind)))
-        (indexAfter (isSingle n (indexAfter b i)) (indexAfter b i)) ≡ made n (kindAfter b (ρ .kind)) (indexAfter b i)
-    go true e = rw (single-factor n i e) (ap (λ a. made 1 a (Fixed 0)) (single-twice (ρ .kind)))
-    go false e = rw e
-
-expr-twice : (f g h : Read → Read) → ((ρ : Read) → f (g ρ) ≡ h ρ) → (e : Expr) → mapExpr f (mapExpr g e) ≡ mapExpr h e
-unfolding mapExpr
-expr-twice f g h same (constant w) = refl
-expr-twice f g h same (read ρ) = ap read (same ρ)
-expr-twice f g h same (binary operator x y) = rw (expr-twice f g h same x, expr-twice f g h same y)
-expr-twice f g h same (negate x) = ap negate (expr-twice f g h same x)
-expr-twice f g h same (choose x y z) = rw (expr-twice f g h same x, expr-twice f g h same y, expr-twice f g h same z)
-
-body-twice : (b : Body) → mapBody bareRead (mapBody convertedRead b) ≡ mapBody bareRead b
-body-twice input = refl
-body-twice (equation weight e) = ap (equation weight) (expr-twice bareRead convertedRead bareRead read-twice e)
-
-pub converted-renamed : (p : Program) → Renamed p (converted p)
-converted-renamed p =
-    record { same = ap₂ (λ xs cs. record { signals = xs; chains = cs; cap = p .cap }) (sym signals) (sym chains) }
-  where
-    signals : bare (converted p) .signals ≡ bare p .signals
-    signals =
-        map-map (mapSignal bareRead (λ at. 0)) (mapSignal convertedRead (λ at. at)) (p .signals) ∙
-        ap (λ f. map f (p .signals))
-        (fun-ext (λ x.
-        ap (λ b. record { place = 0; period = x .period; initial = x .initial; body = b; label = x .label }) (body-twice (x .body))))
-
-    chains : bare (converted p) .chains ≡ bare p .chains
-    chains =
-        map-map (mapChain bareRead (λ at. 0)) (mapChain convertedRead (λ at. at)) (p .chains) ∙
-        ap (λ f. map f (p .chains))
-        (fun-ext (λ c.
-        ap (λ ls. record { place = 0; mode = c .mode; bound = c .bound; links = ls })
-        (map-map (mapLink bareRead (λ at. 0)) (mapLink convertedRead (λ at. at)) (c .links))))
 
 -- What a program and its conversion have in common, with every schedule: the conditions 7 to 16 with one hypercycle, the streams,
 -- and the image.

@@ -1,4 +1,5 @@
 -- What is proved of the definitions alone: their laws, and the paper's examples.
+pub mod Tests
 pub mod Widths
 pub mod Nearest
 pub mod Rate
