@@ -205,8 +205,8 @@ abbrev Labelled : Signal → Type 0
 Labelled x = x .label < 65536
 
 module _ {text : List ℕ} (bytes : Bytes text) where
-  one-labelled : {at label next given : ℕ} {p q : Program} → DeclaresOne leastFactor text at label p next given q → label < 65536 →
-      All Labelled (p .signals) → (given < 65536) × All Labelled (q .signals)
+  one-labelled : {at label next given : ℕ} {p q : Program} → DeclaresOne leastFactor text at label p next given q →
+      label < 65536 → All Labelled (p .signals) → (given < 65536) × All Labelled (q .signals)
   one-labelled (DeclaresOne.inputs {p = p} room e) lt l = (omega arith, all-append Labelled (p .signals) (_ ∷ []) l (lt, tt))
   one-labelled (DeclaresOne.equations {p = p} room e u d) lt l =
       (omega arith, all-append Labelled (p .signals) (_ ∷ []) l (lt, tt))

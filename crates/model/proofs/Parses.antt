@@ -65,7 +65,8 @@ module _ (least : ℕ) (text : List ℕ) where
   -- A command is judged before its operands are read.
   pub command-step : (left at label : ℕ) (p : Program) (c : Command) → commandAt text at ≡ c →
       commandHere text at p (keywordAt text at) ≡ accepted tt →
-      parseCommands least (suc left) text at label p ≡ declare least (λ n l q. parseCommands least left text n l q) text at label p c
+      parseCommands least (suc left) text at label p ≡
+      declare least (λ n l q. parseCommands least left text n l q) text at label p c
   unfolding parseCommands
   command-step left at label p c e here =
       accepted-then _ _ tt here ∙ ap (declare least (λ n l q. parseCommands least left text n l q) text at label p) e

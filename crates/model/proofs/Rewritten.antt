@@ -1,19 +1,17 @@
 -- A legal program text, rewritten, is legal and declares the same program up to places and the conversion. Assumes nothing.
-use Prim.Native.Nat.{ℕ, zero, suc, _+_, _≤_, _<_, min}
+use Prim.Native.Nat.{ℕ, zero, suc, _+_, _≤_, _<_}
 use mathlib.Core.Bool.{Bool, true, false, cond}
 use mathlib.Core.List.{List, [], _∷_, _++_, map, map-append}
-use mathlib.Core.Logic.{_↔_, _⊎_, inl, inr}
+use mathlib.Core.Logic.{_⊎_, inl, inr}
 use mathlib.Core.Path.{_≡_, refl, sym, ap, ap₂, subst, _∙_}
 use native.Mathlib.Omega.{arith}
-use borrow.Author.Tests.{ltb-true, ltb-false, eqb-true, eqb-false, eq-eqb, le-ltb, le-leb}
-use lib.Dec.{ltb, eqb}
+use borrow.Author.Tests.{eqb-true, eqb-false, eq-eqb, le-ltb, le-leb}
+use lib.Dec.{eqb}
 use lib.IntN.{ℤ}
-use lib.ListN.{length, getD, take, drop, length-append, length-drop, length-map, List·getD-append, List·getD-eq-default}
+use lib.ListN.{length, getD, take, drop, length-append, length-drop, length-map, List·getD-append}
 use lib.Seq.{drop-drop, drop-append-seam, getD-drop, getD-take, length-take-le}
 use Rattle.model.specs.Accepted.{All}
 use Rattle.model.specs.Command.{keywordAt, commandOf, commandAt}
-use Rattle.model.specs.Compile.{Pair, pairOf, verdictOf}
-use Rattle.model.specs.Conditions.{LegalPairWith, LegalPair}
 use Rattle.model.specs.Convert.{isSingle, singleKind, mapExpr, mapSignal, mapLink, mapChain, bareRead, bare, Renamed}
 use Rattle.model.specs.Grammar.{depth, Spells, SpellsLinks, IsSignal, DeclaresOne, Declares, LegalWith, LegalProgram}
 use Rattle.model.specs.Program.{
@@ -42,12 +40,8 @@ use Rattle.model.specs.Program.{
   bodyReads,
 }
 use Rattle.model.specs.Rewrite.{widthOf, bytesAfter, rewriteAt, rewriteFrom, rewrite}
-use Rattle.model.specs.Image.{imageOf}
-use Rattle.model.specs.Outcome.{accepted}
-use Rattle.model.specs.Reads.{settled}
-use Rattle.model.specs.Streams.{Satisfies}
 use Rattle.model.specs.Word.{byteAt, twoAt, fourAt, wordOf, wordAt}
-use Rattle.model.specs.Width.{inProgram, inExpression, readWidth}
+use Rattle.model.specs.Width.{readWidth}
 use Rattle.model.specs.Written.{readByte, Written}
 use Rattle.model.specs.declared.Binary.{Binary}
 use Rattle.model.specs.declared.Command.{Command}
@@ -60,10 +54,8 @@ use Rattle.model.specs.declared.Mode.{Mode}
 use Rattle.model.specs.declared.Sampled.{Sampled}
 use Rattle.model.proofs.All.{all-append}
 use Rattle.model.proofs.Commands.{ReadSound, command-sound, link-command}
-use Rattle.model.proofs.Converted.{single-twice, count-bare, Common, renamed-common, renamed-legal}
+use Rattle.model.proofs.Converted.{single-twice, count-bare}
 use Rattle.model.proofs.Decide.{InRange}
-use Rattle.model.proofs.Exact.{accepted-exactly}
-use Rattle.model.proofs.Outcomes.{accepted-then}
 use Rattle.model.proofs.Keywords.{signal-inside}
 use Rattle.model.proofs.Written.{decoded}
 
@@ -596,8 +588,11 @@ module _ (text new : List ℕ) where
       let k = kept (Command.Equation period initial weight) e (λ bytes. refl) s in
       let a = g (at′ + 8) (k .next) in
       let fits : count p′ < 64 = omega (arith, count-same p p′ same) in
-      let x′ : Signal = record { place = at′; period = period; initial = initial; body = equation weight (a .expr); label = label } in
-      let eq : mapSignal bareRead (λ at. 0) (record { place = at; period = period; initial = initial; body = equation weight x; label = label }) ≡
+      let x′ : Signal =
+      record { place = at′; period = period; initial = initial; body = equation weight (a .expr); label = label } in
+      let eq :
+      mapSignal bareRead (λ at. 0)
+      (record { place = at; period = period; initial = initial; body = equation weight x; label = label }) ≡
       mapSignal bareRead (λ at. 0) x′ =
       ap (λ b. record { place = 0; period = period; initial = initial; body = equation weight b; label = label }) (a .same) in
       let m =
@@ -627,7 +622,8 @@ module _ (text new : List ℕ) where
       ap (λ l. record { place = 0; mode = mode; bound = bound; links = l }) (a .same) in
       let m = f (a .end) (withChain p′ c′) (chain-same p p′ _ c′ same eq) allowed (a .onward) in
       let long : length ls ≡ length (a .links) =
-      sym (length-map ls (mapLink bareRead (λ at. 0))) ∙ ap length (a .same) ∙ length-map (a .links) (mapLink bareRead (λ at. 0)) in
+      sym (length-map ls (mapLink bareRead (λ at. 0))) ∙ ap length (a .same) ∙
+      length-map (a .links) (mapLink bareRead (λ at. 0)) in
       record {
         program = m .program;
         end = m .end;
@@ -681,10 +677,12 @@ module _ (text new : List ℕ) where
   declares-follows (Declares.ends e le) b s = kept Command.End e (λ bytes. refl) s .first
   declares-follows (Declares.onward d r) b s = one-follows d b s
 
-  declared-moves : {at label next given : ℕ} {p r : Program} (q : Program) → DeclaresOne 1 text at label p next given r → Follows next →
+  declared-moves : {at label next given : ℕ} {p r : Program} (q : Program) → DeclaresOne 1 text at label p next given r →
+      Follows next →
       Declaring next given r q → Declaring at label p q
   declared-moves q (DeclaresOne.inputs {p = p} room e) follows r = input-moves _ _ _ _ p q room e r
-  declared-moves q (DeclaresOne.equations {p = p} room e x deep) follows r = equation-moves _ _ _ _ _ _ _ p q room e (expr-moves x) deep r
+  declared-moves q (DeclaresOne.equations {p = p} room e x deep) follows r =
+      equation-moves _ _ _ _ _ _ _ p q room e (expr-moves x) deep r
   declared-moves q (DeclaresOne.chains {p = p} room e l low high) follows r =
       chain-moves _ _ _ _ _ _ p q room e (links-move l follows) low high r
   declared-moves q (DeclaresOne.caps {p = p} room e) follows r = cap-moves _ _ _ p q room e r

@@ -136,7 +136,8 @@ module _ (least : ℕ) (text : List ℕ) where
       holds-then (Reads d (x .next)) (Reads (suc d) at) (sub (x .next)) _ (h (x .next)) (λ y v.
       (Spells.two (as-written _ tt e) (u .0) (v .0), omega arith)))
   reads-node d sub h at Command.Negate e =
-      holds-then (Reads d (at + 1)) (Reads (suc d) at) (sub (at + 1)) _ (h (at + 1)) (λ x u. (Spells.one (as-written _ tt e) (u .0), omega arith))
+      holds-then (Reads d (at + 1)) (Reads (suc d) at) (sub (at + 1)) _ (h (at + 1)) (λ x u.
+      (Spells.one (as-written _ tt e) (u .0), omega arith))
   reads-node d sub h at Command.If e =
       holds-then (Reads d (at + 1)) (Reads (suc d) at) (sub (at + 1)) _ (h (at + 1)) (λ x u.
       holds-then (Reads d (x .next)) (Reads (suc d) at) (sub (x .next)) _ (h (x .next)) (λ y v.
@@ -154,7 +155,8 @@ module _ (least : ℕ) (text : List ℕ) where
       reads-node d (λ n. parseExpr least d text n) (λ a. reads-expr d a) at (commandAt text at) refl)
 
   -- An accepted expression is spelled, and nests at most d deep.
-  pub spelled : (d at : ℕ) (e : Expr) (next : ℕ) → parseExpr least d text at ≡ parsed e next → Spells least text at e next × (depth e ≤ d)
+  pub spelled : (d at : ℕ) (e : Expr) (next : ℕ) → parseExpr least d text at ≡ parsed e next →
+      Spells least text at e next × (depth e ≤ d)
   spelled d at e next q =
       holds-value (Reads d at) (parseExpr least d text at) (record { value = e; next = next }) (reads-expr d at) q
 
@@ -259,11 +261,12 @@ module _ (least : ℕ) (text : List ℕ) where
   declares-commands (suc left) at label p =
       let here = commandHere text at p (keywordAt text at) in
       holds-then (λ u. here ≡ accepted u) (Ended at label p) here _ (value-holds here) (λ u e.
-      declares (λ n l q. parseCommands least left text n l q) (λ a l q. declares-commands left a l q) at label p (commandAt text at)
-      refl (here-room p text at (keywordAt text at) e))
+      declares (λ n l q. parseCommands least left text n l q) (λ a l q. declares-commands left a l q) at label p
+      (commandAt text at) refl (here-room p text at (keywordAt text at) e))
 
   -- An accepted text declares its program.
   pub declared : (p : Program) → parseWith least text ≡ accepted p → (end : ℕ) × Declares least text 0 0 empty end p
   unfolding parseWith
   declared p e =
-      holds-value (Ended 0 0 empty) (parseCommands least (length text) text 0 0 empty) p (declares-commands (length text) 0 0 empty) e
+      holds-value (Ended 0 0 empty) (parseCommands least (length text) text 0 0 empty) p
+      (declares-commands (length text) 0 0 empty) e

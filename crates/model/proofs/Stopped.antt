@@ -1,6 +1,6 @@
 -- Reading a text is refused exactly where and as the relations of `Stops` say: 2 to 6, and 11. Assumes nothing.
 use Prim.Native.Nat.{ℕ, zero, suc, _+_, _≤_, _<_}
-use mathlib.Core.Bool.{Bool, true, false, cond, false≢true}
+use mathlib.Core.Bool.{Bool, true, false, false≢true}
 use mathlib.Core.List.{List, [], _∷_, _++_}
 use mathlib.Core.Logic.{_↔_, _⊎_, inl, inr}
 use mathlib.Core.Path.{_≡_, refl, sym, ap, subst, _∙_}
@@ -12,7 +12,6 @@ use Rattle.model.specs.Command.{keywordOf, keywordAt, commandAt}
 use Rattle.model.specs.Grammar.{IsSignal, DeclaresOne}
 use Rattle.model.specs.Outcome.{Outcome, accepted, refused, refuse, fault, _▷_, provided, Parsed, parsed}
 use Rattle.model.specs.Program.{
-  leastFactor,
   Expr,
   Link,
   Program,
@@ -30,7 +29,7 @@ use Rattle.model.specs.Program.{
   isUnlimited,
   commandHere,
   parseCommands,
-    parseWith,
+  parseWith,
   isAllowed,
 }
 use Rattle.model.specs.Schedule.{Put, scheduleCommandAt, scheduleCommand, parsePuts, parseSchedule}
@@ -71,7 +70,6 @@ use Rattle.model.proofs.Keywords.{
 }
 use Rattle.model.proofs.Legal.{links-end}
 use Rattle.model.proofs.Outcomes.{
-  not-below,
   accepted≢refused,
   accepted-then,
   refused-then,
@@ -176,7 +174,8 @@ module _ (least : ℕ) (text : List ℕ) where
       operand-stops : {arity : ℕ} {c : Command} (k next : ℕ) → Written text at c → HasOperands c arity → k < arity →
           SpellsOperands least text d (at + 1) k next → Refuses (StopsExpr least text (suc d) at) (sub next)
       operand-stops k next w h lt o =
-          refuses-map (StopsExpr least text d next) (StopsExpr least text (suc d) at) (sub next) (λ n x s. StopsExpr.operand w h lt o s) (stops next)
+          refuses-map (StopsExpr least text d next) (StopsExpr least text (suc d) at) (sub next)
+          (λ n x s. StopsExpr.operand w h lt o s) (stops next)
 
       node-stops : (c : Command) → commandAt text at ≡ c → Operator (keywordAt text at) →
           Refuses (StopsExpr least text (suc d) at) (node least sub text at c)
@@ -198,7 +197,8 @@ module _ (least : ℕ) (text : List ℕ) where
       node-stops (Command.Constant w) e i = tt
       node-stops (Command.Read kind x) e i =
           let R = StopsExpr least text (suc d) at in
-          refuses-then R (provided (isAllowed least kind x) 5 at) _ (refuses-provided R _ 5 at (λ t. StopsExpr.single (as-written _ tt e) t)) (λ u t. tt)
+          refuses-then R (provided (isAllowed least kind x) 5 at) _
+          (refuses-provided R _ 5 at (λ t. StopsExpr.single (as-written _ tt e) t)) (λ u t. tt)
       node-stops (Command.Binary operator) e i =
           let w = as-written _ tt e in
           let h = HasOperands.binary in
@@ -424,9 +424,12 @@ module _ (least : ℕ) (text : List ℕ) where
     room-here : at < length text → HasRoom p (byteAt text at) → commandHere text at p (keywordAt text at) ≡ accepted tt
     unfolding keywordOf
     room-here lt (HasRoom.end b) = rw (keyword-at text at Keyword.End lt (rw b))
-    room-here lt (HasRoom.signal (inl b) h) = rw (keyword-at text at Keyword.Input lt (rw b)) (true-provided _ 4 at (lt-ltb _ _ h))
-    room-here lt (HasRoom.signal (inr b) h) = rw (keyword-at text at Keyword.Equation lt (rw b)) (true-provided _ 4 at (lt-ltb _ _ h))
-    room-here lt (HasRoom.latency b h) = rw (keyword-at text at Keyword.Latency lt (rw b)) (true-provided _ 4 at (lt-ltb _ _ h))
+    room-here lt (HasRoom.signal (inl b) h) =
+        rw (keyword-at text at Keyword.Input lt (rw b)) (true-provided _ 4 at (lt-ltb _ _ h))
+    room-here lt (HasRoom.signal (inr b) h) =
+        rw (keyword-at text at Keyword.Equation lt (rw b)) (true-provided _ 4 at (lt-ltb _ _ h))
+    room-here lt (HasRoom.latency b h) =
+        rw (keyword-at text at Keyword.Latency lt (rw b)) (true-provided _ 4 at (lt-ltb _ _ h))
     room-here lt (HasRoom.cap b h) = rw (keyword-at text at Keyword.Cap lt (rw b), h) (true-provided true 5 at refl)
     room-here lt (HasRoom.tag b) = rw (keyword-at text at Keyword.Tag lt (rw b))
 
@@ -438,7 +441,8 @@ module _ (least : ℕ) (text : List ℕ) where
         onward : {a l : ℕ} {q : Program} → at < a → DeclaresOne least text at label p a l q →
             Refuses (Stops least text at label p) (next a l q)
         onward {a} {l} {q} lt d =
-            refuses-map (Stops least text a l q) (Stops least text at label p) (next a l q) (λ n x s. Stops.onward d s) (stops a l q lt)
+            refuses-map (Stops least text a l q) (Stops least text at label p) (next a l q) (λ n x s. Stops.onward d s)
+            (stops a l q lt)
 
         declare-stops : (c : Command) → commandAt text at ≡ c → RoomFor p (keywordAt text at) →
             Refuses (Stops least text at label p) (declare least next text at label p c)
@@ -451,7 +455,8 @@ module _ (least : ℕ) (text : List ℕ) where
             Stops.outside (room-at r .1) (command-outside text at .0 e)
         declare-stops Command.End e r =
             refuses-then (Stops least text at label p) (provided (leb (length text) (at + 1)) 6 (at + 1)) _
-            (refuses-provided (Stops least text at label p) _ 6 (at + 1) (λ t. Stops.trailing (as-written _ tt e) (leb-false _ _ t))) (λ u t. tt)
+            (refuses-provided (Stops least text at label p) _ 6 (at + 1) (λ t.
+            Stops.trailing (as-written _ tt e) (leb-false _ _ t))) (λ u t. tt)
         declare-stops (Command.Input period initial) e r =
             onward (omega arith) (DeclaresOne.inputs (room-of p _ (keyword-of text at _ e) r) (as-written _ tt e))
         declare-stops (Command.Equation period initial weight) e r =
@@ -471,7 +476,8 @@ module _ (least : ℕ) (text : List ℕ) where
             (λ o q.
             let s = links-spelled least text 16 (at + 4) o q in
             refuses-then (Stops least text at label p) (provided (leb 2 (length (o .value))) 5 at) _
-            (refuses-provided (Stops least text at label p) _ 5 at (λ t. Stops.short room (as-written _ tt e) (s .0) (leb-false _ _ t)))
+            (refuses-provided (Stops least text at label p) _ 5 at (λ t.
+            Stops.short room (as-written _ tt e) (s .0) (leb-false _ _ t)))
             (λ u t.
             onward (omega (arith, links-end (s .0)))
             (DeclaresOne.chains room (as-written _ tt e) (s .0) (leb-true _ _ (provided-true _ 5 at t)) (s .1))))
@@ -481,7 +487,8 @@ module _ (least : ℕ) (text : List ℕ) where
         declare-stops (Command.Tag given) e r =
             let after = at + inProgram 0x15 in
             refuses-then (Stops least text at label p) (provided (ltb after (length text)) 2 (length text)) _
-            (refuses-provided (Stops least text at label p) _ 2 (length text) (λ t. Stops.unfollowed (as-written _ tt e) (ltb-false _ _ t)))
+            (refuses-provided (Stops least text at label p) _ 2 (length text) (λ t.
+            Stops.unfollowed (as-written _ tt e) (ltb-false _ _ t)))
             (λ u t.
             let more = ltb-true _ _ (provided-true _ 2 (length text) t) in
             refuses-then (Stops least text at label p) (provided (isSignal (byteAt text after)) 3 at) _
@@ -527,9 +534,11 @@ module _ (least : ℕ) (text : List ℕ) where
       commandHere text at p (keywordAt text at) ≡ refuse 4 at
   unfolding keywordOf
   many-here at p (inl b) many =
-      rw (keyword-at text at Keyword.Input (byte-inside text at (omega arith)) (rw b)) (false-provided _ 4 at (le-ltb _ _ many))
+      rw (keyword-at text at Keyword.Input (byte-inside text at (omega arith)) (rw b))
+      (false-provided _ 4 at (le-ltb _ _ many))
   many-here at p (inr b) many =
-      rw (keyword-at text at Keyword.Equation (byte-inside text at (omega arith)) (rw b)) (false-provided _ 4 at (le-ltb _ _ many))
+      rw (keyword-at text at Keyword.Equation (byte-inside text at (omega arith)) (rw b))
+      (false-provided _ 4 at (le-ltb _ _ many))
 
   -- A command that is there and refused before its operands.
   judged-refused : (left at label : ℕ) (p : Program) (f : Fault) → at < length text → length text ≤ at + left →
@@ -618,7 +627,8 @@ module _ (least : ℕ) (text : List ℕ) where
       put-stops puts ScheduleCommand.Unknown e = let h = put-unknown text at .0 e in (refl, StopsPuts.unknown (h .0) (h .1))
       put-stops puts ScheduleCommand.End e =
           refuses-then R (provided (leb (length text) (at + 1)) 11 (at + 1)) _
-          (refuses-provided R _ 11 (at + 1) (λ t. (refl, StopsPuts.trailing (put-as-written _ tt e) (leb-false _ _ t)))) (λ u t. tt)
+          (refuses-provided R _ 11 (at + 1) (λ t. (refl, StopsPuts.trailing (put-as-written _ tt e) (leb-false _ _ t))))
+          (λ u t. tt)
       put-stops puts (ScheduleCommand.Put signal phase) e =
           let qs : List Put = puts ++ (record { place = at; signal = signal; phase = phase } ∷ []) in
           refuses-map (λ n x. (n ≡ 11) × StopsPuts text (at + 3) x) R (next (at + 3) qs)
@@ -655,10 +665,13 @@ module _ (least : ℕ) (text : List ℕ) where
       refused-then _ _ _ (false-provided _ 11 (at + 1) (lt-leb _ _ lt))
 
 -- Reading a program text is refused exactly where and as it stops.
-pub with-stops : (least : ℕ) (text : List ℕ) (n x : ℕ) → (parseWith least text ≡ refused (fault n x)) ↔ Stops least text 0 0 empty n x
+pub with-stops : (least : ℕ) (text : List ℕ) (n x : ℕ) →
+    (parseWith least text ≡ refused (fault n x)) ↔ Stops least text 0 0 empty n x
 unfolding parseWith
 with-stops least text n x = (
-  λ e. refuses-fault (Stops least text 0 0 empty) _ (fault n x) (commands-stop least text (length text) 0 0 empty (omega arith)) e,
+  λ e.
+      refuses-fault (Stops least text 0 0 empty) _ (fault n x)
+      (commands-stop least text (length text) 0 0 empty (omega arith)) e,
   λ s. commands-refused least text s (length text) (omega arith),
 )
 

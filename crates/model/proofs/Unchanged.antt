@@ -1,13 +1,13 @@
 -- A legal text with no factor of 1, rewritten, is what it was; so that a text rewritten twice is the text rewritten once.
 -- Assumes nothing.
-use Prim.Native.Nat.{ℕ, zero, suc, _+_, _≤_, _<_}
-use mathlib.Core.Bool.{Bool, true, false, cond}
+use Prim.Native.Nat.{ℕ, zero, suc, _+_, _≤_}
+use mathlib.Core.Bool.{true, false}
 use mathlib.Core.List.{List, [], _∷_, _++_}
 use mathlib.Core.Path.{_≡_, refl, sym, ap, _∙_}
 use native.Mathlib.Numerals.{add-one}
 use native.Mathlib.Omega.{arith}
 use borrow.Author.Tests.{leb-true, ne-eqb}
-use lib.Dec.{leb, eqb}
+use lib.Dec.{eqb}
 use lib.ListN.{length, take, drop, take-append-drop, drop-of-length-le}
 use lib.Seq.{drop-cons, drop-drop}
 use Rattle.model.specs.Convert.{singleKind}
@@ -121,7 +121,8 @@ module _ (text : List ℕ) where
   links-same (SpellsLinks.link {at = at} e le r) f =
       kept-same (Command.Link (byteAt text (at + 1))) (Written.link le e) (λ bytes. refl) (links-same r f)
 
-  one-same : {at label next given : ℕ} {p q : Program} → DeclaresOne leastFactor text at label p next given q → Same next → Same at
+  one-same : {at label next given : ℕ} {p q : Program} → DeclaresOne leastFactor text at label p next given q → Same next →
+      Same at
   one-same (DeclaresOne.inputs room e) f = kept-same (Command.Input _ _) e (λ bytes. refl) f
   one-same (DeclaresOne.equations room e u d) f = kept-same (Command.Equation _ _ _) e (λ bytes. refl) (expr-same u f)
   one-same (DeclaresOne.chains room e u low high) f = kept-same (Command.Latency _ _) e (λ bytes. refl) (links-same u f)

@@ -6,7 +6,20 @@ use mathlib.Core.List.{List}
 use mathlib.Core.Logic.{_↔_, _⊎_, inl, inr}
 use mathlib.Core.Path.{_≡_, refl, sym, ap, subst, _∙_}
 use native.Mathlib.Omega.{arith}
-use borrow.Author.Tests.{leb-true, leb-false, ltb-true, ltb-false, lt-ltb, le-ltb, le-leb, lt-leb, eqb-true, eqb-false, eq-eqb}
+use borrow.Author.Tests.{
+  leb-true,
+  leb-false,
+  ltb-true,
+  ltb-false,
+  lt-ltb,
+  le-ltb,
+  le-leb,
+  lt-leb,
+  eqb-true,
+  eqb-false,
+  eq-eqb,
+  ne-eqb,
+}
 use lib.Dec.{leb, ltb, eqb}
 use lib.ListN.{length}
 use Rattle.model.specs.Command.{
@@ -70,6 +83,7 @@ use Rattle.model.proofs.Keywords.{
   keyword-missing,
   keyword-at,
 }
+use Rattle.model.proofs.Outcomes.{not-true-false}
 
 -- Ranges.
 in-periods : (n : ℕ) → (leb 1 n && leb n 240 ≡ true) ↔ InPeriods n
@@ -100,13 +114,12 @@ in-ranges i n = (
   λ h. and-eq-true-iff (isFactor n) (isIndex i n) .1 (in-periods n .1 (h .0), in-indices i n .1 (h .1)),
 )
 
--- A test that fails, and one that can't hold.
+-- A test that fails.
 fails : {b : Bool} {Q : Type 0} → (b ≡ true) ↔ Q → b ≡ false → ¬ Q
 fails i e q = false≢true (sym e ∙ i .1 q)
 
-failing : {Q : Type 0} (b : Bool) → (b ≡ true) ↔ Q → ¬ Q → b ≡ false
-failing true i u = absurd (u (i .0 refl))
-failing false i u = refl
+failing : {b : Bool} {Q : Type 0} → (b ≡ true) ↔ Q → ¬ Q → b ≡ false
+failing {b} i u = not-true-false b (λ t. u (i .0 t))
 
 -- What the bytes say where a command is decoded.
 data Decodes (text : List ℕ) (at : ℕ) : Command → Type 0 where
@@ -121,12 +134,6 @@ data PutDecodes (text : List ℕ) (at : ℕ) : ScheduleCommand → Type 0 where
   cut : PutCut text at → PutDecodes text at ScheduleCommand.EndsEarly
   unknown : at < length text → NoPutByte (byteAt text at) → PutDecodes text at ScheduleCommand.Unknown
   written : {c : ScheduleCommand} → PutWritten text at c → PutDecodes text at c
-
-is-not : {b c : ℕ} → eqb b c ≡ false → ¬ (b ≡ c)
-is-not e q = false≢true (sym e ∙ eq-eqb _ _ q)
-
-not-eqb : {b c : ℕ} → ¬ (b ≡ c) → eqb b c ≡ false
-not-eqb {b} {c} u = failing (eqb b c) (eqb-true b c, eq-eqb b c) u
 
 module _ (text : List ℕ) (at : ℕ) where
   whole-decodes : (n : ℕ) (c : Command) → (length text < at + n → Cut text at) → (at + n ≤ length text → Decodes text at c) →
@@ -294,7 +301,7 @@ module _ (text : List ℕ) (at : ℕ) where
 
   judged-outside : {Q : Type 0} (n : ℕ) (t : Bool) (c : Command) → (t ≡ true) ↔ Q → at + 2 ≤ length text → ¬ Q →
       whole text at 2 (ranged t (whole text at n c)) ≡ Command.OutOfRange
-  judged-outside n t c i g u = there 2 _ g ∙ fails-range t _ (failing t i u)
+  judged-outside n t c i g u = there 2 _ g ∙ fails-range t _ (failing i u)
 
   pub cut-inside : Cut text at → at < length text
   cut-inside (Cut.input b g h) = byte-inside text at (omega arith)
@@ -359,7 +366,7 @@ module _ (text : List ℕ) (at : ℕ) where
       let i = byteAt text (at + 2) in
       let n = byteAt text (at + 3) in
       written-keyword (Keyword.Read kind) (omega arith) (read-keyword kind b) ∙ sampled-written kind e h ∙
-      there (inExpression 0x23) _ h ∙ fails-range _ _ (failing (isFactor n && isIndex i n) (in-ranges i n) u)
+      there (inExpression 0x23) _ h ∙ fails-range _ _ (failing (in-ranges i n) u)
 
   -- And so is a byte that is listed nowhere.
   unknown-command : at < length text → NoCommandByte (byteAt text at) → commandAt text at ≡ Command.Unknown
@@ -438,7 +445,7 @@ module _ (text : List ℕ) (at : ℕ) where
       go true false true true h e p a = PutDecodes.written (PutWritten.put (leb-true _ _ a) (eqb-true _ _ p))
       go true false true false h e p a = PutDecodes.cut (eqb-true _ _ p, leb-false _ _ a)
       go true false false all h e p a =
-          PutDecodes.unknown (ltb-true at (length text) h) (is-not e, is-not p)
+          PutDecodes.unknown (ltb-true at (length text) h) (eqb-false _ _ e, eqb-false _ _ p)
       go false end put all h e p a = PutDecodes.early (ltb-false at (length text) h)
 
   put-command : (c : ScheduleCommand) → PutDecodes text at c → scheduleCommandAt text at ≡ c
@@ -447,7 +454,7 @@ module _ (text : List ℕ) (at : ℕ) where
   put-command c (PutDecodes.cut h) =
       let lt = byte-inside text at (omega (arith, h .0)) in
       rw (lt-ltb at (length text) lt, h .0, lt-leb (at + inSchedule 0x40) (length text) (h .1))
-  put-command c (PutDecodes.unknown lt u) = rw (lt-ltb at (length text) lt, not-eqb (u .0), not-eqb (u .1))
+  put-command c (PutDecodes.unknown lt u) = rw (lt-ltb at (length text) lt, ne-eqb _ _ (u .0), ne-eqb _ _ (u .1))
   put-command c (PutDecodes.written (PutWritten.end h b)) = rw (lt-ltb at (length text) (omega arith), b)
   put-command c (PutDecodes.written (PutWritten.put h b)) =
       rw (lt-ltb at (length text) (omega arith), b, le-leb (at + inSchedule 0x40) (length text) h)

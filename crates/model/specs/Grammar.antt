@@ -60,7 +60,8 @@ pub data Spells (least : ℕ) (text : List ℕ) : ℕ → Expr → ℕ → Type 
   one : {at n : ℕ} {x : Expr} → Written text at Command.Negate → Spells least text (at + inExpression 0x38) x n →
       Spells least text at (negate x) n
   three : {at m n o : ℕ} {x y z : Expr} → Written text at Command.If →
-      Spells least text (at + inExpression 0x3A) x m → Spells least text m y n → Spells least text n z o → Spells least text at (choose x y z) o
+      Spells least text (at + inExpression 0x3A) x m → Spells least text m y n → Spells least text n z o →
+      Spells least text at (choose x y z) o
 
 -- The LINKs from `at` up to `next`; after them stands no other. Past its end a text reads 0.
 pub data SpellsLinks (text : List ℕ) : ℕ → List Link → ℕ → Type 0 where

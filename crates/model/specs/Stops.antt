@@ -60,7 +60,8 @@ pub data StopsExpr (least : ℕ) (text : List ℕ) : ℕ → ℕ → ℕ → ℕ
       isAllowed least kind x ≡ false → StopsExpr least text (suc d) at 5 at
   -- The first k operands are legal, and the one after them stops. All operators are as wide as ADD.
   operand : {d at arity k next n x : ℕ} {c : Command} → Written text at c → HasOperands c arity → k < arity →
-      SpellsOperands least text d (at + inExpression 0x30) k next → StopsExpr least text d next n x → StopsExpr least text (suc d) at n x
+      SpellsOperands least text d (at + inExpression 0x30) k next → StopsExpr least text d next n x →
+      StopsExpr least text (suc d) at n x
 
 -- The LINKs from `at` on stop, where `room` are allowed.
 pub data StopsLinks (text : List ℕ) : ℕ → ℕ → ℕ → ℕ → Type 0 where
@@ -98,7 +99,8 @@ pub data Stops (least : ℕ) (text : List ℕ) : ℕ → ℕ → Program → ℕ
       Written text at (Command.Equation period initial weight) → StopsExpr least text 16 (at + inProgram 0x11) n x →
       Stops least text at label p n x
   links : {at label bound n x : ℕ} {mode : Mode} {p : Program} → length (p .chains) < 16 →
-      Written text at (Command.Latency mode bound) → StopsLinks text 16 (at + inProgram 0x12) n x → Stops least text at label p n x
+      Written text at (Command.Latency mode bound) → StopsLinks text 16 (at + inProgram 0x12) n x →
+      Stops least text at label p n x
   short : {at label next bound : ℕ} {mode : Mode} {ls : List Link} {p : Program} → length (p .chains) < 16 →
       Written text at (Command.Latency mode bound) → SpellsLinks text (at + inProgram 0x12) ls next →
       length ls < 2 → Stops least text at label p 5 at

@@ -1,5 +1,5 @@
--- One command of a text or a code, byte for byte: written (it lies within the text, its first byte is its own, and its operands are
--- in their ranges), cut, or with an operand outside its range. Grammar and stops rest on these relations; no decoder is named.
+-- One command of a text or a code, byte for byte: written (it lies within the text, its first byte is its own, and its operands
+-- are in their ranges), cut, or with an operand outside its range. Grammar and stops rest on these; no decoder is named.
 use Prim.Native.Nat.{ℕ, _+_, _≤_, _<_}
 use mathlib.Core.List.{List}
 use mathlib.Core.Logic.{_⊎_}
