@@ -25,6 +25,7 @@ use lib.ListN.{length}
 use Rattle.model.specs.Command.{
   whole,
   ranged,
+  firstJudged,
   isFactor,
   isIndex,
   modeOf,
@@ -170,10 +171,10 @@ module _ (text : List ℕ) (at : ℕ) where
   judged-decodes : {Q : Type 0} (n : ℕ) (t : Bool) (c : Command) → 2 ≤ n → (t ≡ true) ↔ Q →
       (length text < at + n → (at + 2 ≤ length text → Q) → Cut text at) → (at + 2 ≤ length text → ¬ Q → Outside text at) →
       (at + n ≤ length text → Q → Written text at c) →
-      Decodes text at (whole text at 2 (ranged t (whole text at n c)))
+      Decodes text at (firstJudged text at n t c)
   judged-decodes n t c two i short out all =
-      whole-decodes 2 _ (λ g. short (omega arith) (λ h. absurd (omega arith))) (λ h.
-      ranged-decodes t _ (λ f. out h (fails i f)) (λ r.
+      whole-decodes _ _ (λ g. short (omega arith) (λ h. absurd (omega arith))) (λ h.
+      ranged-decodes t _ (λ f. out (omega arith) (fails i f)) (λ r.
       whole-decodes n c (λ g. short g (λ _. i .0 r)) (λ g. Decodes.written (all g (i .0 r)))))
 
   keyword-decodes : (k : Keyword) → keywordAt text at ≡ k → KeywordStands text at k → Decodes text at (commandOf k text at)
@@ -243,22 +244,27 @@ module _ (text : List ℕ) (at : ℕ) where
   sampled-written LastWhen e h = refl
   sampled-written Current e h = refl
 
+  judged-written : {Q : Type 0} (n : ℕ) (t : Bool) (c : Command) → 2 ≤ n → (t ≡ true) ↔ Q → at + n ≤ length text → Q →
+      firstJudged text at n t c ≡ c
+  judged-written n t c two i h q = there _ _ (omega arith) ∙ fits t _ (i .1 q) ∙ there n c h
+
   written-command : (c : Command) → Written text at c → (commandAt text at ≡ c) × Whole c
   unfolding commandOf keywordOf operatorOf plainRead sampledRead
   written-command c (Written.end h b) = (written-keyword Keyword.End (omega arith) (rw b), tt)
   written-command c (Written.input h b r) = (
     written-keyword Keyword.Input (omega arith) (rw b) ∙
-        there 2 _ (omega arith) ∙ fits _ _ (in-periods _ .1 r) ∙ there (inProgram 0x10) _ h,
+        judged-written (inProgram 0x10) _ _ (omega arith) (in-periods _) h r,
     tt,
   )
   written-command c (Written.equation h b r) = (
     written-keyword Keyword.Equation (omega arith) (rw b) ∙
-        there 2 _ (omega arith) ∙ fits _ _ (in-periods _ .1 r) ∙ there (inProgram 0x11) _ h,
+        judged-written (inProgram 0x11) _ _ (omega arith) (in-periods _) h r,
     tt,
   )
-  written-command c (Written.latency h b r) = (
+  written-command c (Written.latency h b r) = let mode = byteAt text (at + 1) in (
     written-keyword Keyword.Latency (omega arith) (rw b) ∙
-        there 2 _ (omega arith) ∙ fits _ _ (le-leb _ _ r) ∙ there (inProgram 0x12) _ h,
+        judged-written (inProgram 0x12) (leb mode 1) (Command.Latency (modeOf mode) (twoAt text (at + 2))) (omega arith)
+        (leb-true mode 1, le-leb mode 1) h r,
     tt,
   )
   written-command c (Written.link h b) = (written-keyword Keyword.Link (omega arith) (rw b) ∙ there (inProgram 0x13) _ h, tt)
@@ -291,7 +297,7 @@ module _ (text : List ℕ) (at : ℕ) where
 
   -- IN, EQ and LAT.
   judged-cut : {Q : Type 0} (n : ℕ) (t : Bool) (c : Command) → (t ≡ true) ↔ Q → length text < at + n →
-      (at + 2 ≤ length text → Q) → whole text at 2 (ranged t (whole text at n c)) ≡ Command.EndsEarly
+      (at + 2 ≤ length text → Q) → firstJudged text at n t c ≡ Command.EndsEarly
   judged-cut n t c i g h = go (leb (at + 2) (length text)) refl
     where
       go : (b : Bool) → leb (at + 2) (length text) ≡ b →
@@ -300,8 +306,8 @@ module _ (text : List ℕ) (at : ℕ) where
       go false e = refl
 
   judged-outside : {Q : Type 0} (n : ℕ) (t : Bool) (c : Command) → (t ≡ true) ↔ Q → at + 2 ≤ length text → ¬ Q →
-      whole text at 2 (ranged t (whole text at n c)) ≡ Command.OutOfRange
-  judged-outside n t c i g u = there 2 _ g ∙ fails-range t _ (failing i u)
+      firstJudged text at n t c ≡ Command.OutOfRange
+  judged-outside n t c i g u = there _ _ g ∙ fails-range t _ (failing i u)
 
   pub cut-inside : Cut text at → at < length text
   cut-inside (Cut.input b g h) = byte-inside text at (omega arith)
