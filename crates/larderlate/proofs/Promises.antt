@@ -4,7 +4,7 @@
 use Prim.Native.Nat.{ℕ, suc, _+_, _*_, _%_, _^_, _≤_, _<_}
 use mathlib.Core.Bool.{Bool, true, false}
 use mathlib.Core.List.{List, [], _∷_, _++_, map}
-use mathlib.Core.Logic.{_↔_}
+use mathlib.Core.Logic.{_↔_, _⊎_}
 use mathlib.Core.Path.{_≡_, refl, sym, ap, subst, subst₂, _∙_}
 use native.Mathlib.Nat.{mod-eq-of-lt}
 use native.Mathlib.Omega.{arith}
@@ -14,6 +14,7 @@ use lib.IntN.{ℤ, pos}
 use lib.ListN.{length, getD, drop}
 use Rattle.model.specs.Accepted.{All, Accepted, Multiple}
 use Rattle.model.specs.Calls.{Call, callOf, after, logAfter, Supplied, Holds}
+use Rattle.model.specs.Command.{commandAt}
 use Rattle.model.specs.Compile.{Pair, pairOf, verdictOf, compileOf}
 use Rattle.model.specs.Conditions.{_among_, LegalPairWith, LegalPair}
 use Rattle.model.specs.Conversion.{earlierFactor, ConvertsExactly, ConversionKeeps}
@@ -22,7 +23,7 @@ use Rattle.model.specs.Height.{Within}
 use Rattle.model.specs.Image.{lengthOf, imageOf, tailOf, writtenOf, writtenLength}
 use Rattle.model.specs.Latency.{readsBack, backwards, back, source, latencyOf}
 use Rattle.model.specs.Machine.{Effect, Job, effect, isPosition, hyperOf, countOf, statedLength, listOf, codeOf, countSignals}
-use Rattle.model.specs.Machine.{wellFormed, imagePart, lentOk, resetWords, cycleWords, cycleCount, resetOf, cycleOf}
+use Rattle.model.specs.Machine.{wellFormed, imagePart, lentOk, resetWords, cycleWords, cycleCount, resetOf, cycleOf, codeAt}
 use Rattle.model.specs.Outcome.{Outcome, accepted, refused, refuse, fault, _▷_, provided}
 use Rattle.model.specs.Program.{Program, Chain, count, signalAt, bodyReads, parseWith, parseProgram}
 use Rattle.model.specs.Rates.{hypercycle}
@@ -31,16 +32,34 @@ use Rattle.model.specs.Report.{highest, countsOf, toldOf, reportOf}
 use Rattle.model.specs.Reach.{WidthsListed}
 use Rattle.model.specs.Refusals.{RefusedAt}
 use Rattle.model.specs.Rewrite.{rewrite, convertOf}
-use Rattle.model.specs.Schedule.{Schedule, phaseOf}
+use Rattle.model.specs.Schedule.{Schedule, phaseOf, scheduleCommandAt}
 use Rattle.model.specs.Script.{Action, scriptOf, noSamples, callsFrom, cyclesOf}
 use Rattle.model.specs.Streams.{Satisfies}
 use Rattle.model.specs.Tail.{tailIn, Bears, Tells}
 use Rattle.model.specs.Trial.{trialOf, wordsAfter, inputsOf}
 use Rattle.model.specs.TrialRefusals.{LegalScript, TrialRefusedAt}
-use Rattle.model.specs.Word.{NearestResults}
+use Rattle.model.specs.Word.{byteAt, NearestResults}
+use Rattle.model.specs.Written.{
+  Written,
+  Cut,
+  Outside,
+  NoCommandByte,
+  Whole,
+  PutWritten,
+  PutCut,
+  NoPutByte,
+  PutWhole,
+  CodeWritten,
+  CodeWhole,
+}
+use Rattle.model.specs.declared.Code.{Code}
+use Rattle.model.specs.declared.Command.{Command}
+use Rattle.model.specs.declared.Command.the-variants as Command
 use Rattle.model.specs.declared.Fault.{Fault}
 use Rattle.model.specs.declared.Found.the-variants.{At}
 use Rattle.model.specs.declared.Index.the-variants.{Open}
+use Rattle.model.specs.declared.ScheduleCommand.{ScheduleCommand}
+use Rattle.model.specs.declared.ScheduleCommand.the-variants as ScheduleCommand
 use Rattle.model.specs.declared.Sizes.{Sizes}
 use Rattle.model.proofs.Alike.{open-alike, alike-satisfy}
 use Rattle.model.proofs.AlikeBytes.{Agree, Ends, element-alike}
@@ -69,6 +88,7 @@ use Rattle.model.proofs.TrialLines.{tried-count, tried-line}
 use Rattle.model.proofs.Trials.{linesOf, Tried, trial-refused, trial-accepts}
 use Rattle.model.proofs.Unique as Unique
 use Rattle.model.proofs.Widths as Widths
+use Rattle.model.proofs.Written as Commands
 use Rattle.larderlate.specs.Code.{codeNumber}
 use Rattle.model.proofs.Verdict.{pair-passed, pair-accepted, pair-multiple, pair-bounded}
 
@@ -304,6 +324,38 @@ tail-alike image tail tail′ lent lent′ formed b b′ state c =
 -- known in its kind of text, and a command that is read whole reaches exactly as far as its width.
 pub widths-listed : WidthsListed
 widths-listed = Widths.widths-listed
+
+-- A command is decoded exactly where its bytes are written, each case of the enum with its byte and its operands: in a program
+-- text, in a schedule text and in an image's code.
+pub command-written : (text : List ℕ) (at : ℕ) (c : Command) → ((commandAt text at ≡ c) × Whole c) ↔ Written text at c
+command-written = Commands.command-written
+
+pub put-written : (text : List ℕ) (at : ℕ) (c : ScheduleCommand) →
+    ((scheduleCommandAt text at ≡ c) × PutWhole c) ↔ PutWritten text at c
+put-written = Commands.put-written
+
+pub code-written : (code : List ℕ) (at : ℕ) (c : Code) → ((codeAt code at ≡ c) × CodeWhole c) ↔ CodeWritten code at c
+code-written = Commands.code-written
+
+-- It is decoded as one that ends early exactly if no byte is left or it is cut, as one out of range exactly if an operand is
+-- outside its range, and as unknown exactly if its byte is no command.
+pub command-cut : (text : List ℕ) (at : ℕ) → (commandAt text at ≡ Command.EndsEarly) ↔ ((length text ≤ at) ⊎ Cut text at)
+command-cut = Commands.command-cut
+
+pub command-outside : (text : List ℕ) (at : ℕ) → (commandAt text at ≡ Command.OutOfRange) ↔ Outside text at
+command-outside = Commands.command-outside
+
+pub command-unknown : (text : List ℕ) (at : ℕ) →
+    (commandAt text at ≡ Command.Unknown) ↔ ((at < length text) × NoCommandByte (byteAt text at))
+command-unknown = Commands.command-unknown
+
+pub put-cut : (text : List ℕ) (at : ℕ) →
+    (scheduleCommandAt text at ≡ ScheduleCommand.EndsEarly) ↔ ((length text ≤ at) ⊎ PutCut text at)
+put-cut = Commands.put-cut
+
+pub put-unknown : (text : List ℕ) (at : ℕ) →
+    (scheduleCommandAt text at ≡ ScheduleCommand.Unknown) ↔ ((at < length text) × NoPutByte (byteAt text at))
+put-unknown = Commands.put-unknown
 
 -- After a reset that is not refused and any list of resets and cycles, all lent the pair's image with a tail or without: no reset
 -- is refused, and a cycle exactly when it is lent fewer than N samples (23); a cycle that is not refused answers the report's count

@@ -27,6 +27,7 @@ pub mod Outcomes
 pub mod Faults
 pub mod Hypercycle
 pub mod Commands
+pub mod Keywords
 pub mod Written
 pub mod Spelled
 pub mod All
