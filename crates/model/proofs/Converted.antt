@@ -11,7 +11,7 @@ use borrow.Author.Tests.{eqb-true, eqb-false}
 use lib.Dec.{eqb}
 use lib.IntN.{ℤ}
 use lib.ListN.{length, getD, length-map, List·getD-map}
-use Rattle.model.specs.Accepted.{PeriodRule, Line, Order, Met, Multiple}
+use Rattle.model.specs.Accepted.{PeriodRule, Line, LineHolds, Order, Met, Multiple}
 use Rattle.model.specs.Conditions.{_among_, ReadIn, LinkIn, ReadRule, DeclaredAndRated, Least, linkSignals, Linked, putAt, IsPut, Placed, Over, TimelyFrom, KeepsTime, LegalPairWith, LegalPair}
 use Rattle.model.specs.Grammar.{LegalProgram}
 use Rattle.model.specs.Compile.{Pair}
@@ -98,6 +98,7 @@ use Rattle.model.specs.declared.Kind.{Kind}
 use Rattle.model.specs.declared.Kind.the-variants.{Now, Last, When, LastWhen, Current}
 use Rattle.model.specs.declared.Mode.{Mode}
 use Rattle.model.specs.declared.Mode.the-variants.{Exists, Backward}
+use Rattle.model.proofs.Decide.{line-settled, settled-line}
 use Rattle.model.proofs.Outcomes.{getD-table}
 
 -- One read.
@@ -172,21 +173,21 @@ module _ (kind : Kind) (n : ℕ) (i : Index) where
       after (λ a j. uses a n (indexOf a w r n j) k ≡ uses kind n (indexOf kind w r n i) k) refl
       (λ e. rw (single-index kind w r n i e, single-factor n i e) (single-uses kind k))
 
-  after-within : (w r : Rate) → indexOf kind w r n i < n ↔ indexOf kind′ w r n index′ < n
-  after-within w r =
-      after (λ a j. indexOf kind w r n i < n ↔ indexOf a w r n j < n) (λ h. h, λ h. h)
-      (λ e. rw (single-index kind w r n i e) (λ h. h, λ h. h))
-
   after-rule : (w r : ℕ) → PeriodRule kind w r n ↔ PeriodRule kind′ w r n
   after-rule w r =
       after (λ a j. PeriodRule kind w r n ↔ PeriodRule a w r n) (λ h. h, λ h. h)
       (λ e. rw (single-factor n i e) (single-rule kind w r))
 
   after-line : (w r : Rate) → w .phase < w .period → r .phase < r .period → PeriodRule kind (w .period) (r .period) n →
-      Line kind w r (indexOf kind w r n i) ↔ Line kind′ w r (indexOf kind′ w r n index′)
+      LineHolds kind w r n i ↔ LineHolds kind′ w r n index′
   after-line w r u v rule =
-      after (λ a j. Line kind w r (indexOf kind w r n i) ↔ Line a w r (indexOf a w r n j)) (λ h. h, λ h. h)
-      (λ e. rw (single-index kind w r n i e) (single-line kind w r u v (rw (single-factor n i e) at rule)))
+      after (λ a j. LineHolds kind w r n i ↔ LineHolds a w r n j) (λ h. h, λ h. h) (λ e.
+      let one = single-factor n i e in
+      let zeroth = single-index kind w r n i e in
+      let same = single-line kind w r u v (rw one at rule) in (
+        λ h. let q = line-settled kind w r n i h in (omega (arith, one), same .0 (rw zeroth at (q .1))),
+        λ h. settled-line kind w r n i (rw zeroth (omega (arith, one))) (rw zeroth (same .1 (h .1))),
+      ))
 
   after-first : writerFirst kind′ ≡ writerFirst kind
   after-first = after (λ a j. writerFirst a ≡ writerFirst kind) refl (λ e. single-first kind)
@@ -479,7 +480,6 @@ module _ (p : Program) (s : Schedule) where
     λ m.
         record {
           declared = rw (count-bare p) (m .declared);
-          within = rw (period-bare p w, period-bare p r) (after-within kind n i a b .0 (m .within));
           periods = rule-bare p r ρ .0 (m .periods);
           line = rw (period-bare p w, period-bare p r) (after-line kind n i a b (u (m .declared)) v (m .periods) .0 (m .line));
           order = rw (period-bare p w, period-bare p r, after-first kind n i) (m .order);
@@ -489,7 +489,6 @@ module _ (p : Program) (s : Schedule) where
         let e = rule-bare p r ρ .1 (m .periods) in
         record {
           declared = d;
-          within = after-within kind n i a b .1 (rw (period-bare p w, period-bare p r) at (m .within));
           periods = e;
           line = after-line kind n i a b (u d) v e .1 (rw (period-bare p w, period-bare p r) at (m .line));
           order = rw (period-bare p w, period-bare p r, after-first kind n i) at (m .order);

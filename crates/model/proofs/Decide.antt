@@ -1,6 +1,7 @@
 -- The tests decide the statements: line, period rule, shared cycles and order of a read, and the searches. Assumes nothing.
 use Prim.Native.Nat.{ℕ, zero, suc, _+_, _*_, _/_, _%_, _≤_, _<_, min}
 use mathlib.Core.Bool.{Bool, true, false, not, _||_, Bool·beq, false≢true, and-eq-true-iff}
+use mathlib.Core.Logic.{_↔_}
 use mathlib.Core.Path.{_≡_, refl, sym, ap, _∙_}
 use native.Mathlib.Decide.{decLe, decLt}
 use native.Mathlib.Nat.{
@@ -15,7 +16,7 @@ use native.Mathlib.Nat.{
 use native.Mathlib.Omega.{arith}
 use borrow.Author.Tests.{leb-true, ltb-true, eqb-true, eq-eqb, le-leb, lt-ltb}
 use lib.Dec.{leb, ltb}
-use Rattle.model.specs.Accepted.{PeriodRule, Between, Line, Order, Met}
+use Rattle.model.specs.Accepted.{PeriodRule, Between, Line, LineHolds, SettlesAt, Order, Met}
 use Rattle.model.specs.Program.{Program, Read, count, signalAt}
 use Rattle.model.specs.Rates.{periodRule}
 use Rattle.model.specs.Reads.{
@@ -223,18 +224,6 @@ unfolding settle
 settle-line kind w r n i e =
     let h = is-first n (line kind w r) (At i) e in (omega arith, line-true kind w r i (h .2))
 
-pub settles : (kind : Kind) (w r : Rate) (n i : ℕ) → Indexed kind → PeriodRule kind (w .period) (r .period) n → i < n →
-    Line kind w r i → settle kind w r n ≡ At i
-unfolding settle
-settles kind w r n i x p lt l = go (first n (line kind w r)) refl
-  where
-    go : (f : Found) → first n (line kind w r) ≡ f → f ≡ At i
-    go (At j) e =
-        let h = is-first n (line kind w r) (At j) e in
-        ap At (index-once kind w r n j i x (omega arith) lt p (line-true kind w r j (h .2)) l)
-    go Nowhere e =
-        absurd (false≢true (sym (is-first n (line kind w r) Nowhere e i (omega arith) (omega arith)) ∙ true-line kind w r i l))
-
 -- A read is met.
 abbrev pub InRange : ℕ → Index → Type 0
 InRange n (Fixed i) = i < n
@@ -249,6 +238,30 @@ holds-line kind w r n Open u e = go (settle kind w r n) refl e
     go (At i) q t = settle-line kind w r n i q
     go Nowhere q t = absurd (false≢true t)
 
+-- What the line of a read says, it says of the index that the search settles.
+pub line-settled : (kind : Kind) (w r : Rate) (n : ℕ) (index : Index) → LineHolds kind w r n index →
+    (indexOf kind w r n index < n) × Line kind w r (indexOf kind w r n index)
+unfolding settle
+line-settled kind w r n (Fixed i) h = h
+line-settled kind w r n Open h =
+    holds-line kind w r n Open tt (true-isFound n (line kind w r) (h .0) (h .1) (true-line kind w r (h .0) (h .2)))
+
+pub settled-line : (kind : Kind) (w r : Rate) (n : ℕ) (index : Index) → indexOf kind w r n index < n →
+    Line kind w r (indexOf kind w r n index) → LineHolds kind w r n index
+settled-line kind w r n (Fixed i) lt l = (lt, l)
+settled-line kind w r n Open lt l = (indexOf kind w r n Open, lt, l)
+
+-- No other index is settled.
+pub settles-once : (kind : Kind) (w r : Rate) (n : ℕ) (index : Index) → (index ≡ Open → Indexed kind) →
+    PeriodRule kind (w .period) (r .period) n → LineHolds kind w r n index → (i : ℕ) →
+    SettlesAt kind w r n index i ↔ (i ≡ indexOf kind w r n index)
+settles-once kind w r n (Fixed j) named rule h i = (λ e. e, λ e. e)
+settles-once kind w r n Open named rule h i =
+    let q = line-settled kind w r n Open h in (
+      λ g. index-once kind w r n i (indexOf kind w r n Open) (named refl) (g .0) (q .0) rule (g .1) (q .1),
+      λ e. (rw e (q .0), rw e (q .1)),
+    )
+
 pub line-holds : (kind : Kind) (w r : Rate) (n : ℕ) (index : Index) → indexOf kind w r n index < n →
     Line kind w r (indexOf kind w r n index) → lineHolds kind w r n index ≡ true
 unfolding settle
@@ -256,6 +269,14 @@ line-holds kind w r n (Fixed i) lt l = true-line kind w r i l
 line-holds kind w r n Open lt l = true-isFound n (line kind w r) _ lt (true-line kind w r _ l)
 
 module _ (p : Program) (s : Schedule) (r : ℕ) (ρ : Read) where
+  -- The index of a read that is met is below its factor, and its line holds there.
+  pub met-settled : Met p s r ρ →
+      (settled p s r ρ < ρ .operands .factor) ×
+      Line (ρ .kind) (rateOf p s (ρ .operands .signal)) (rateOf p s r) (settled p s r ρ)
+  unfolding settled
+  met-settled m =
+      line-settled (ρ .kind) (rateOf p s (ρ .operands .signal)) (rateOf p s r) (ρ .operands .factor) (ρ .operands .index) (m .line)
+
   pub met-true : ρ .operands .signal < count p → InRange (ρ .operands .factor) (ρ .operands .index) →
       PeriodRule (ρ .kind) (signalAt p (ρ .operands .signal) .period) (signalAt p r .period) (ρ .operands .factor) →
       isMet p s r ρ ≡ true → Met p s r ρ
@@ -266,9 +287,9 @@ module _ (p : Program) (s : Schedule) (r : ℕ) (ρ : Read) where
       let h = holds-line (ρ .kind) (rateOf p s w) (rateOf p s r) (ρ .operands .factor) (ρ .operands .index) range (f .0) in
       record {
         declared = lt;
-        within = h .0;
         periods = rule;
-        line = h .1;
+        line =
+            settled-line (ρ .kind) (rateOf p s w) (rateOf p s r) (ρ .operands .factor) (ρ .operands .index) (h .0) (h .1);
         order =
             ordered-true (ρ .kind) (rateOf p s w) (rateOf p s r) (ρ .operands .factor) (before s w r) (omega (arith, h .0)) rule (f .1);
       }
@@ -278,7 +299,8 @@ module _ (p : Program) (s : Schedule) (r : ℕ) (ρ : Read) where
   unfolding settled isMet
   true-met vw vr m =
       let w = ρ .operands .signal in
+      let q = met-settled m in
       and-eq-true-iff _ _ .1 (
-        line-holds (ρ .kind) (rateOf p s w) (rateOf p s r) (ρ .operands .factor) (ρ .operands .index) (m .within) (m .line),
+        line-holds (ρ .kind) (rateOf p s w) (rateOf p s r) (ρ .operands .factor) (ρ .operands .index) (q .0) (q .1),
         true-ordered (ρ .kind) (rateOf p s w) (rateOf p s r) (before s w r) vw vr (m .order),
       )

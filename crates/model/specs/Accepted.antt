@@ -5,8 +5,10 @@ use mathlib.Core.List.{List, [], _∷_}
 use mathlib.Core.Path.{_≡_}
 use lib.ListN.{length, getD}
 use Rattle.model.specs.Program.{Program, Read, count, signalAt, bodyReads}
-use Rattle.model.specs.Reads.{Rate, rateOf, runCycle, writerFirst, before, place, settled}
+use Rattle.model.specs.Reads.{Rate, rateOf, runCycle, writerFirst, before, place}
 use Rattle.model.specs.Schedule.{Schedule, phaseOf}
+use Rattle.model.specs.declared.Index.{Index}
+use Rattle.model.specs.declared.Index.the-variants.{Fixed, Open}
 use Rattle.model.specs.declared.Kind.{Kind}
 use Rattle.model.specs.declared.Kind.the-variants.{Now, Last, When, LastWhen, Current}
 
@@ -33,6 +35,16 @@ Line When w r i = Between (i * w .period + w .phase) (r .phase) (suc i * w .peri
 Line LastWhen w r i = Between (r .phase) (i * w .period + w .phase) (r .phase + w .period)
 Line Current w r i = Between (w .phase) (i * r .period + r .phase) (w .phase + r .period)
 
+-- The line of a read with factor n holds: that of a fixed index at i; that of an open one if some i from 0 to n − 1 meets its line.
+abbrev pub LineHolds : Kind → Rate → Rate → ℕ → Index → Type 0
+LineHolds kind w r n (Fixed i) = (i < n) × Line kind w r i
+LineHolds kind w r n Open = (i : ℕ) × (i < n) × Line kind w r i
+
+-- The index settled is i: a fixed one is itself; an open one is from 0 to n − 1 and meets its line.
+abbrev pub SettlesAt : Kind → Rate → Rate → ℕ → Index → ℕ → Type 0
+SettlesAt kind w r n (Fixed j) i = i ≡ j
+SettlesAt kind w r n Open i = (i < n) × Line kind w r i
+
 -- Wherever a run of w and a run of r share a cycle, the one comes first that the read wants first.
 abbrev pub Order : Kind → Rate → Rate → Bool → Type 0
 Order kind w r before = (j k : ℕ) → runCycle w j ≡ runCycle r k → before ≡ writerFirst kind
@@ -41,9 +53,9 @@ module _ (p : Program) (s : Schedule) where
   -- A read in the equation of r is met.
   pub record Met (r : ℕ) (ρ : Read) : Type 0 where
     pub declared : ρ .operands .signal < count p
-    pub within : settled p s r ρ < ρ .operands .factor
     pub periods : PeriodRule (ρ .kind) (signalAt p (ρ .operands .signal) .period) (signalAt p r .period) (ρ .operands .factor)
-    pub line : Line (ρ .kind) (rateOf p s (ρ .operands .signal)) (rateOf p s r) (settled p s r ρ)
+    pub line :
+        LineHolds (ρ .kind) (rateOf p s (ρ .operands .signal)) (rateOf p s r) (ρ .operands .factor) (ρ .operands .index)
     pub order : Order (ρ .kind) (rateOf p s (ρ .operands .signal)) (rateOf p s r) (before s (ρ .operands .signal) r)
 
   -- Phases are below periods, every read is met, and every signal is put once.
