@@ -45,6 +45,7 @@ pub mod Rewritten
 pub mod Unchanged
 pub mod Conversions
 pub mod Places
+pub mod Settled
 pub mod Refused
 pub mod Among
 pub mod Demand
