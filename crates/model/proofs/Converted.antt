@@ -11,7 +11,7 @@ use borrow.Author.Tests.{eqb-true, eqb-false}
 use lib.Dec.{eqb}
 use lib.IntN.{ℤ}
 use lib.ListN.{length, getD, length-map, List·getD-map}
-use Rattle.model.specs.Accepted.{PeriodRule, Line, LineHolds, Order, Met, Multiple}
+use Rattle.model.specs.Accepted.{PeriodRule, Line, LineHolds, PutFor, Met, Multiple}
 use Rattle.model.specs.Conditions.{_among_, ReadIn, LinkIn, ReadRule, DeclaredAndRated, Least, linkSignals, Linked, putAt, IsPut, Placed, Over, TimelyFrom, KeepsTime, LegalPairWith, LegalPair}
 use Rattle.model.specs.Grammar.{LegalProgram}
 use Rattle.model.specs.Compile.{Pair}
@@ -86,7 +86,7 @@ use Rattle.model.specs.Program.{
   weightOf,
 }
 use Rattle.model.specs.Rates.{countReads}
-use Rattle.model.specs.Reads.{Rate, rateOf, due, uses, writerFirst, settle, indexOf, settled}
+use Rattle.model.specs.Reads.{Rate, rateOf, due, uses, settle, indexOf, settled}
 use Rattle.model.specs.Search.{first, firstFrom, foundOr, sum, table, chosen, joinFrom}
 use Rattle.model.specs.Schedule.{Schedule, Put, phaseOf, putPhase, scheduleOf}
 use Rattle.model.specs.Streams.{value, next, entry, Satisfies}
@@ -144,12 +144,12 @@ single-line When w r u v e = (λ h. omega (arith, h .0), λ h. (omega arith, ome
 single-line LastWhen w r u v e = (λ h. omega (arith, h .0), λ h. (omega arith, omega arith))
 single-line Current w r u v e = (λ h. omega (arith, h .0), λ h. (omega arith, omega arith))
 
-single-first : (kind : Kind) → writerFirst (singleKind kind) ≡ writerFirst kind
-single-first Now = refl
-single-first Last = refl
-single-first When = refl
-single-first LastWhen = refl
-single-first Current = refl
+single-first : (kind : Kind) (s : Schedule) (w r : ℕ) → PutFor (singleKind kind) s w r ↔ PutFor kind s w r
+single-first Now s w r = (λ h. h, λ h. h)
+single-first Last s w r = (λ h. h, λ h. h)
+single-first When s w r = (λ h. h, λ h. h)
+single-first LastWhen s w r = (λ h. h, λ h. h)
+single-first Current s w r = (λ h. h, λ h. h)
 
 -- The same of a read before and after the conversion.
 module _ (kind : Kind) (n : ℕ) (i : Index) where
@@ -189,8 +189,8 @@ module _ (kind : Kind) (n : ℕ) (i : Index) where
         λ h. settled-line kind w r n i (rw zeroth (omega (arith, one))) (rw zeroth (same .1 (h .1))),
       ))
 
-  after-first : writerFirst kind′ ≡ writerFirst kind
-  after-first = after (λ a j. writerFirst a ≡ writerFirst kind) refl (λ e. single-first kind)
+  after-first : (s : Schedule) (w r : ℕ) → PutFor kind′ s w r ↔ PutFor kind s w r
+  after-first s w r = after (λ a j. PutFor a s w r ↔ PutFor kind s w r) (λ h. h, λ h. h) (λ e. single-first kind s w r)
 
 -- Expressions, signals and chains.
 
@@ -482,7 +482,8 @@ module _ (p : Program) (s : Schedule) where
           declared = rw (count-bare p) (m .declared);
           periods = rule-bare p r ρ .0 (m .periods);
           line = rw (period-bare p w, period-bare p r) (after-line kind n i a b (u (m .declared)) v (m .periods) .0 (m .line));
-          order = rw (period-bare p w, period-bare p r, after-first kind n i) (m .order);
+          order = λ j k same.
+              after-first kind n i s w r .1 (m .order j k (rw (period-bare p w, period-bare p r) at same));
         },
     λ m.
         let d : w < count p = rw (count-bare p) at (m .declared) in
@@ -491,7 +492,8 @@ module _ (p : Program) (s : Schedule) where
           declared = d;
           periods = e;
           line = after-line kind n i a b (u d) v e .1 (rw (period-bare p w, period-bare p r) at (m .line));
-          order = rw (period-bare p w, period-bare p r, after-first kind n i) at (m .order);
+          order = λ j k same.
+              after-first kind n i s w r .0 (m .order j k (rw (period-bare p w, period-bare p r) same));
         },
   )
     where

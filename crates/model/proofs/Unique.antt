@@ -15,7 +15,7 @@ use Rattle.model.specs.Program.{Program, Read, count, signalAt}
 use Rattle.model.specs.Reads.{Rate, rateOf, runCycle, stored, place, before, settled}
 use Rattle.model.specs.Schedule.{Schedule}
 use Rattle.model.specs.Streams.{entry, Satisfies}
-use Rattle.model.proofs.Decide.{met-settled}
+use Rattle.model.proofs.Decide.{met-settled, for-put}
 use Rattle.model.proofs.Fix
 use Rattle.model.proofs.Lines.{met-index}
 use Rattle.model.proofs.Rate.{stored-high, bit}
@@ -59,7 +59,8 @@ module _ (p : Program) (s : Schedule) where
         let w = ρ .operands .signal in
         let q = met-settled p s r ρ m in
         met-index (ρ .kind) (rateOf p s w) (rateOf p s r) (ρ .operands .factor) (settled p s r ρ) k (before s w r)
-        (acc .phases w (m .declared)) (acc .phases r lt) (q .0) (m .periods) (q .1) (m .order)
+        (acc .phases w (m .declared)) (acc .phases r lt) (q .0) (m .periods) (q .1)
+        (λ j i same. for-put (ρ .kind) s w r (m .order j i same))
 
     -- What it uses was computed before.
     used-lower : (r : ℕ) (ρ : Read) (k : ℕ) → r < count p → Met p s r ρ →
