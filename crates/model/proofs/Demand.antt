@@ -44,7 +44,7 @@ module _ (program schedule : List ℕ) (bytes : Texts.Bytes program) (p : Progra
   bounded : Bounded p s h
   bounded = pair-bounded program schedule _ e bytes
 
-  image-formed : wellFormed (imageOf p s h) ≡ true
+  pub image-formed : wellFormed (imageOf p s h) ≡ true
   image-formed = image-well-formed p s h accepts whole bounded
 
   reset-long : (old : List ℤ) → resetOf (imageOf p s h) old .answer ≡ accepted 0 → count p < length old
