@@ -73,6 +73,8 @@ module _ (program schedule buffer : List ℕ) where
           (accepted n ≡ compileOf program schedule buffer .answer) × (after ≡ compileOf program schedule buffer .left)
       unfolding compileOf verdictOf provided _▷_
       compile-done e =
-          rw (pair, long, le-leb n (length buffer) le)
-          (refl, e ∙ (rw (out-is, end-is, tail-is) (both-written le)) ∙
-          ap (λ (k : ℕ). writtenOf (q .program) (q .schedule) k ++ drop n buffer) hyper)
+          rw (pair, long, le-leb n (length buffer) le) (
+            refl,
+            e ∙ (rw (out-is, end-is, tail-is) (both-written le)) ∙
+                ap (λ (k : ℕ). writtenOf (q .program) (q .schedule) k ++ drop n buffer) hyper,
+          )

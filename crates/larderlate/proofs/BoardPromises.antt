@@ -1,19 +1,20 @@
 -- Demand 3 for each place of a board. What the board's calls promise besides is in crate `board`. Assumes nothing.
 use Prim.Native.Nat.{ℕ, _+_}
 use mathlib.Core.List.{List, _∷_}
-use mathlib.Core.Path.{_≡_, sym, subst}
+use mathlib.Core.Path.{_≡_, subst}
 use lib.IntN.{ℤ}
 use lib.ListN.{length}
 use Rattle.model.specs.Calls.{stateBy, logBy, Supplied, Holds}
 use Rattle.model.specs.Compile.{pairOf}
 use Rattle.model.specs.Image.{imageOf}
 use Rattle.model.specs.Lists.{KeptBy}
-use Rattle.model.specs.Machine.{stretch, resetOf}
+use Rattle.model.specs.Machine.{stretch}
 use Rattle.model.specs.Outcome.{accepted}
 use Rattle.model.specs.Program.{Program}
 use Rattle.model.specs.Reads.{settled}
 use Rattle.model.specs.Schedule.{Schedule}
 use Rattle.model.specs.Streams.{Satisfies}
+use Rattle.model.specs.Tail.{Bears}
 use Rattle.model.proofs.Commands as Texts
 use Rattle.board.specs.Board.{placeWords}
 use Rattle.board.specs.Events.{Event, load, Scene, loadBy, afterEvent, afterEvents, Throughout, Untouched, ownCycles}
@@ -40,22 +41,20 @@ place-kept program schedule p q h s k start size n four a es free inputs X kept 
     (subst (λ (c : ℕ). Holds p q h X old c (stateBy image old cycles)) (place-cycles s k start size n four a es free .1)
     (kept .holds inputs X supplied satisfied))
 
--- So it is where the stretch holds the image of an accepted pair and it and the place's words are not changed from outside.
+-- So it is where the stretch holds the image of an accepted pair, with a tail or without, and it and the place's words are not
+-- changed from outside.
 module _ (program schedule : List ℕ) (bytes : Texts.Bytes program) (p : Program) (q : Schedule) (h : ℕ)
     (e : pairOf program schedule ≡ accepted (record { program = p; schedule = q; hypercycle = h })) where
   pub place-streams : (s : Scene) (k start size n : ℕ) → length (s .board .places) ≡ 4 →
-      loadBy s k start size .answer ≡ accepted n → stretch (s .images) start (start + size) ≡ imageOf p q h →
-      (es : List Event) → Throughout (Untouched k) (afterEvent s (load k start size)) es → (inputs X : ℕ → ℕ → ℤ) →
+      loadBy s k start size .answer ≡ accepted n → (tail : List ℕ) →
+      Bears (imageOf p q h) tail (stretch (s .images) start (start + size)) → (es : List Event) →
+      Throughout (Untouched k) (afterEvent s (load k start size)) es → (inputs X : ℕ → ℕ → ℤ) →
       let image = stretch (s .images) start (start + size) in
       let cycles = ownCycles k (afterEvent s (load k start size)) es in
       let old = placeWords k (s .state) in
       Supplied p q (logBy image old cycles) inputs → Satisfies p (settled p q) inputs X →
       Holds p q h X old (length cycles) (placeWords k (afterEvents s (load k start size ∷ es) .state))
-  place-streams s k start size n four a same es free inputs X =
-      let cycles = ownCycles k (afterEvent s (load k start size)) es in
-      let old = placeWords k (s .state) in
-      let reset : resetOf (imageOf p q h) old .answer ≡ accepted 0 =
-      subst (λ (im : List ℕ). resetOf im old .answer ≡ accepted 0) same (place-cycles s k start size n four a es free .0) in
+  place-streams s k start size n four a tail bears es free inputs X =
       place-kept program schedule p q h s k start size n four a es free inputs X
-      (subst (λ (im : List ℕ). KeptBy program schedule p q h im old cycles) (sym same)
-      (calls-hold program schedule bytes p q h e old reset cycles))
+      (calls-hold program schedule bytes p q h e tail (stretch (s .images) start (start + size)) bears (placeWords k (s .state))
+      (place-cycles s k start size n four a es free .0) (ownCycles k (afterEvent s (load k start size)) es))

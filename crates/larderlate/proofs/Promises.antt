@@ -172,8 +172,7 @@ report-exactly program schedule counts =
         let h = q .hypercycle in
         let told : Sizes =
         record { length = lengthOf p s h; written = writtenLength p s h; stack = highest (p .signals) } in
-        let same : told ≡ sizes = cc in
-        (
+        let same : told ≡ sizes = cc in (
           q,
           refl,
           ap (λ x. x .length) (sym same) ∙ sym (image-length p s h),

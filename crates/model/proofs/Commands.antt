@@ -119,8 +119,7 @@ module _ (text : List ℕ) (at : ℕ) where
   plain-sound : (kind : Kind) → readWidth kind ≡ inExpression 0x21 → Sound (plainRead kind text at)
   unfolding plainRead
   plain-sound kind e =
-      whole-sound (inExpression 0x21) _ (λ h.
-      (
+      whole-sound (inExpression 0x21) _ (λ h. (
         record { positive = omega arith; bound = omega arith; range = omega arith },
         omega arith,
         λ u. let z : _≡_ {A = ℕ} 0 1 = cc in absurd (omega arith),

@@ -134,4 +134,3 @@ module _ (program schedule schedule′ : List ℕ) (bytes : Texts.Bytes program)
       (lent-long program schedule′ bytes p s′ h e′ b′ old′ r′) cs cs′ (subst₂ (Agree p s s′) log log′ agree) x j lt
       (subst (λ (l : List (List ℤ)). EndsWith p s (length l) x j) log ends)
       (subst (λ (l : List (List ℤ)). EndsWith p s′ (length l) x j) log′ ends′))
-

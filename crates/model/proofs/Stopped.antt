@@ -31,7 +31,7 @@ use Rattle.model.specs.Program.{
   isUnlimited,
   commandHere,
   parseCommands,
-    parseWith,
+  parseWith,
   isAllowed,
 }
 use Rattle.model.specs.Schedule.{Put, scheduleCommandAt, scheduleCommand, parsePuts, parseSchedule}

@@ -333,7 +333,15 @@ fn equation_step(
     requires { ⌜ (at < length (now text)) × Room (length (now text)) at count to (length (now reads)) ⌝ }
     ensures { λ r. ⌜ WalksEquation (parseExpr least 16 (now (text .entry)) (at + inProgram 0x11)) entry (now (reads .entry)) count to (now (reads .exit)) r ⌝ }
 {
-    let reached = read_expression(least, text, at + width::in_program(0x11), count, to, 16, reads);
+    let reached = read_expression(
+        least,
+        text,
+        at + width::in_program(0x11),
+        count,
+        to,
+        16,
+        reads,
+    );
     match reached {
         Walked::Next(w) => adds(entry, w.at, w.reads, w.code + width::in_code(0x5F)),
         Walked::Refused(fault) => Step::Refused(fault),
