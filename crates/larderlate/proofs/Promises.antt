@@ -196,9 +196,9 @@ report-keeps program schedule counts f = go (pairOf program schedule)
     go (accepted q) e = let z : _≡_ {A = ℕ} 0 1 = cc in absurd (omega arith)
     go (refused g) e = refl
 
--- Of an accepted pair it tells L, the length of its image, and L + 4N, that with its tail; the least number of words that the code of every
--- signal keeps within on that image's bytes; and 240 counts, those of the hypercycle being the commands that the image's lists
--- run and the others 0.
+-- Of an accepted pair it tells L, the length of its image, and L + 4N, that with its tail; the least number of words that the code
+-- of every signal keeps within on the image's bytes; and 240 counts, those of the hypercycle being the commands that the image's
+-- lists run and the others 0.
 pub record Reports (program schedule : List ℕ) (p : Program) (s : Schedule) (h : ℕ) (image : List ℕ) : Type 0 where
   pub told : (counts : List ℕ) → reportOf program schedule counts ≡
       record {

@@ -57,7 +57,8 @@ module _ (p : Program) (s s′ : Schedule) where
   -- Two lists of calls, one under each schedule, whose input elements agree wherever both supply them: where both end holding
   -- one and the same element of x, it is the same word.
   pub alike-words : (h : ℕ) → Accepted p s → Accepted p s′ → Multiple p h → Alike p s s′ → (st st′ : State) (cs cs′ : List Call) →
-      Agree p s s′ (logOf p [] cs) (logOf p [] cs′) → (x : ℕ) → x < count p → stored (rateOf p s x) (length (logOf p [] cs)) ≡ stored (rateOf p s′ x) (length (logOf p [] cs′)) →
+      Agree p s s′ (logOf p [] cs) (logOf p [] cs′) → (x : ℕ) → x < count p →
+      stored (rateOf p s x) (length (logOf p [] cs)) ≡ stored (rateOf p s′ x) (length (logOf p [] cs′)) →
       stateAfter p s h (reset p st) cs .words x ≡ stateAfter p s′ h (reset p st′) cs′ .words x
   alike-words h acc acc′ whole alike st st′ cs cs′ agree x lt e =
       calls-follow p s h acc whole st cs .follows inputs X first sat .words x lt ∙

@@ -350,5 +350,6 @@ module _ (p : Program) (s : Schedule) (r : ℕ) (ρ : Read) where
       let q = met-settled m in
       and-eq-true-iff _ _ .1 (
         line-holds (ρ .kind) (rateOf p s w) (rateOf p s r) (ρ .operands .factor) (ρ .operands .index) (q .0) (q .1),
-        true-ordered (ρ .kind) (rateOf p s w) (rateOf p s r) (before s w r) vw vr (λ j k same. for-put (ρ .kind) s w r (m .order j k same)),
+        true-ordered (ρ .kind) (rateOf p s w) (rateOf p s r) (before s w r) vw vr
+            (λ j k same. for-put (ρ .kind) s w r (m .order j k same)),
       )

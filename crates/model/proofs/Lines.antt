@@ -58,7 +58,8 @@ First kind w r before = (j k : ℕ) → runCycle w j ≡ runCycle r k → before
 -- A read that is met uses what is stored when the reader runs: the elements of earlier cycles, and that of the same cycle
 -- if the signal is put before the reader.
 pub met-index : (kind : Kind) (w r : Rate) (n i k : ℕ) (before : Bool) → w .phase < w .period → r .phase < r .period → i < n →
-    PeriodRule kind (w .period) (r .period) n → Line kind w r i → First kind w r before → stored w (runCycle r k + bit before) ≡ uses kind n i k
+    PeriodRule kind (w .period) (r .period) n → Line kind w r i → First kind w r before →
+    stored w (runCycle r k + bit before) ≡ uses kind n i k
 met-index kind w r n i k before vw vr lt p l o =
     stored-bit w (runCycle r k) before (writerFirst kind) vw (λ j e. o j k e) ∙ line-index kind w r n i k vw vr lt p l
 

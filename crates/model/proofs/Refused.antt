@@ -58,6 +58,7 @@ convert-keeps program buffer f e =
     provided (leb (length (rewrite program)) (length buffer)) 17 (length (rewrite program)) ▷ λ _.
     accepted (record { yields = length (rewrite program); leaves = rewrite program ++ drop (length (rewrite program)) buffer })) f e
 
-pub writer-keeps : (buffer : List ℕ) (w : Writer) (f : Fault) → writerOf buffer w .answer ≡ refused f → writerOf buffer w .left ≡ buffer
+pub writer-keeps : (buffer : List ℕ) (w : Writer) (f : Fault) → writerOf buffer w .answer ≡ refused f →
+    writerOf buffer w .left ≡ buffer
 writer-keeps buffer (Writer.compiles program schedule) f e = compile-keeps program schedule buffer f e
 writer-keeps buffer (Writer.converts program) f e = convert-keeps program buffer f e

@@ -35,7 +35,7 @@ Line When w r i = Between (i * w .period + w .phase) (r .phase) (suc i * w .peri
 Line LastWhen w r i = Between (r .phase) (i * w .period + w .phase) (r .phase + w .period)
 Line Current w r i = Between (w .phase) (i * r .period + r .phase) (w .phase + r .period)
 
--- The line of a read with factor n holds: that of a fixed index at i; that of an open one if some i from 0 to n − 1 meets its line.
+-- The line of a read with factor n holds: with a fixed index at i; with an open one if some i from 0 to n − 1 meets its line.
 abbrev pub LineHolds : Kind → Rate → Rate → ℕ → Index → Type 0
 LineHolds kind w r n (Fixed i) = (i < n) × Line kind w r i
 LineHolds kind w r n Open = (i : ℕ) × (i < n) × Line kind w r i
