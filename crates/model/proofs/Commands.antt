@@ -31,12 +31,14 @@ use Rattle.model.specs.Word.{byteAt, twoAt, fourAt, wordOf, wordAt}
 use Rattle.model.specs.declared.Command.{Command}
 use Rattle.model.specs.declared.Command.the-variants as Command
 use Rattle.model.specs.declared.Index.{Index}
+use Rattle.model.specs.declared.Index.the-variants as Index
 use Rattle.model.specs.declared.Keyword.{Keyword}
 use Rattle.model.specs.declared.Keyword.the-variants as Keyword
 use Rattle.model.specs.declared.Kind.{Kind}
 use Rattle.model.specs.declared.Kind.the-variants.{Now, Last, When, LastWhen, Current}
 use Rattle.model.specs.declared.Sampled.{Sampled}
 use Rattle.model.proofs.Decide.{InRange}
+use Rattle.model.proofs.Lines.{Indexed}
 
 -- The elements of a text are bytes.
 abbrev pub Bytes : List ℕ → Type 0
@@ -99,7 +101,7 @@ module _ (text : List ℕ) (at : ℕ) where
   Sound (Command.Cap n) = at + inProgram 0x14 ≤ length text
   Sound (Command.Tag label) = (label ≡ twoAt text (at + 1)) × (at + inProgram 0x15 ≤ length text)
   Sound (Command.Constant w) = (w ≡ wordAt text (at + 1)) × (at + inExpression 0x20 ≤ length text)
-  Sound (Command.Read kind x) = ReadSound x × (at + readWidth kind ≤ length text)
+  Sound (Command.Read kind x) = ReadSound x × (at + readWidth kind ≤ length text) × (x .index ≡ Index.Open → Indexed kind)
   Sound (Command.Binary operator) = at + inExpression 0x30 ≤ length text
   Sound Command.Negate = at + inExpression 0x38 ≤ length text
   Sound Command.If = at + inExpression 0x3A ≤ length text
@@ -122,16 +124,19 @@ module _ (text : List ℕ) (at : ℕ) where
   plain-sound : (kind : Kind) → readWidth kind ≡ inExpression 0x21 → Sound (plainRead kind text at)
   unfolding plainRead
   plain-sound kind e =
-      whole-sound (inExpression 0x21) _ (λ h.
-      (record { positive = omega arith; bound = omega arith; range = omega arith }, omega arith))
+      whole-sound (inExpression 0x21) _ (λ h. (
+        record { positive = omega arith; bound = omega arith; range = omega arith },
+        omega arith,
+        λ u. let z : _≡_ {A = ℕ} 0 1 = cc in absurd (omega arith),
+      ))
 
-  sampled-sound : (kind : Kind) → readWidth kind ≡ inExpression 0x23 → Sound (sampledRead kind text at)
+  sampled-sound : (kind : Kind) → readWidth kind ≡ inExpression 0x23 → Indexed kind → Sound (sampledRead kind text at)
   unfolding sampledRead
-  sampled-sound kind e =
+  sampled-sound kind e named =
       let i = byteAt text (at + 2) in
       let n = byteAt text (at + 3) in
       whole-sound (inExpression 0x23) _ (λ h.
-      ranged-sound (isFactor n && isIndex i n) _ (λ t. (operands-sound (byteAt text (at + 1)) i n t, omega arith)))
+      ranged-sound (isFactor n && isIndex i n) _ (λ t. (operands-sound (byteAt text (at + 1)) i n t, omega arith, λ u. named)))
 
   keyword-sound : (k : Keyword) → at < length text → Sound (commandOf k text at)
   unfolding commandOf
@@ -155,9 +160,9 @@ module _ (text : List ℕ) (at : ℕ) where
   keyword-sound Keyword.Constant lt = whole-sound (inExpression 0x20) _ (λ h. (refl, h))
   keyword-sound (Keyword.Read Now) lt = plain-sound Now refl
   keyword-sound (Keyword.Read Last) lt = plain-sound Last refl
-  keyword-sound (Keyword.Read When) lt = sampled-sound When refl
-  keyword-sound (Keyword.Read LastWhen) lt = sampled-sound LastWhen refl
-  keyword-sound (Keyword.Read Current) lt = sampled-sound Current refl
+  keyword-sound (Keyword.Read When) lt = sampled-sound When refl tt
+  keyword-sound (Keyword.Read LastWhen) lt = sampled-sound LastWhen refl tt
+  keyword-sound (Keyword.Read Current) lt = sampled-sound Current refl tt
   keyword-sound (Keyword.Binary operator) lt = omega arith
   keyword-sound Keyword.Negate lt = omega arith
   keyword-sound Keyword.If lt = omega arith

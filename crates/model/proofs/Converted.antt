@@ -10,8 +10,8 @@ use native.Mathlib.Omega.{arith}
 use borrow.Author.Tests.{eqb-true, eqb-false}
 use lib.Dec.{eqb}
 use lib.IntN.{ℤ}
-use lib.ListN.{length, length-map, List·getD-map}
-use Rattle.model.specs.Accepted.{PeriodRule, Line, Met, Multiple}
+use lib.ListN.{length, getD, length-map, List·getD-map}
+use Rattle.model.specs.Accepted.{PeriodRule, Line, LineHolds, PutFor, Met, Multiple}
 use Rattle.model.specs.Conditions.{
   _among_,
   ReadIn,
@@ -100,7 +100,7 @@ use Rattle.model.specs.Program.{
   weightOf,
 }
 use Rattle.model.specs.Rates.{countReads}
-use Rattle.model.specs.Reads.{Rate, rateOf, due, uses, writerFirst, settle, indexOf, settled}
+use Rattle.model.specs.Reads.{Rate, rateOf, due, uses, settle, indexOf, settled}
 use Rattle.model.specs.Search.{first, firstFrom, foundOr, sum, table, chosen, joinFrom}
 use Rattle.model.specs.Schedule.{Schedule, Put, phaseOf, putPhase, scheduleOf}
 use Rattle.model.specs.Streams.{value, next, entry, Satisfies}
@@ -112,6 +112,7 @@ use Rattle.model.specs.declared.Kind.{Kind}
 use Rattle.model.specs.declared.Kind.the-variants.{Now, Last, When, LastWhen, Current}
 use Rattle.model.specs.declared.Mode.{Mode}
 use Rattle.model.specs.declared.Mode.the-variants.{Exists, Backward}
+use Rattle.model.proofs.Decide.{line-settled, settled-line}
 use Rattle.model.proofs.Outcomes.{getD-table}
 
 -- One read.
@@ -157,12 +158,12 @@ single-line When w r u v e = (λ h. omega (arith, h .0), λ h. (omega arith, ome
 single-line LastWhen w r u v e = (λ h. omega (arith, h .0), λ h. (omega arith, omega arith))
 single-line Current w r u v e = (λ h. omega (arith, h .0), λ h. (omega arith, omega arith))
 
-single-first : (kind : Kind) → writerFirst (singleKind kind) ≡ writerFirst kind
-single-first Now = refl
-single-first Last = refl
-single-first When = refl
-single-first LastWhen = refl
-single-first Current = refl
+single-first : (kind : Kind) (s : Schedule) (w r : ℕ) → PutFor (singleKind kind) s w r ↔ PutFor kind s w r
+single-first Now s w r = (λ h. h, λ h. h)
+single-first Last s w r = (λ h. h, λ h. h)
+single-first When s w r = (λ h. h, λ h. h)
+single-first LastWhen s w r = (λ h. h, λ h. h)
+single-first Current s w r = (λ h. h, λ h. h)
 
 -- The same of a read before and after the conversion.
 module _ (kind : Kind) (n : ℕ) (i : Index) where
@@ -186,24 +187,24 @@ module _ (kind : Kind) (n : ℕ) (i : Index) where
       after (λ a j. uses a n (indexOf a w r n j) k ≡ uses kind n (indexOf kind w r n i) k) refl
       (λ e. rw (single-index kind w r n i e, single-factor n i e) (single-uses kind k))
 
-  after-within : (w r : Rate) → indexOf kind w r n i < n ↔ indexOf kind′ w r n index′ < n
-  after-within w r =
-      after (λ a j. indexOf kind w r n i < n ↔ indexOf a w r n j < n) (λ h. h, λ h. h)
-      (λ e. rw (single-index kind w r n i e) (λ h. h, λ h. h))
-
   after-rule : (w r : ℕ) → PeriodRule kind w r n ↔ PeriodRule kind′ w r n
   after-rule w r =
       after (λ a j. PeriodRule kind w r n ↔ PeriodRule a w r n) (λ h. h, λ h. h)
       (λ e. rw (single-factor n i e) (single-rule kind w r))
 
   after-line : (w r : Rate) → w .phase < w .period → r .phase < r .period → PeriodRule kind (w .period) (r .period) n →
-      Line kind w r (indexOf kind w r n i) ↔ Line kind′ w r (indexOf kind′ w r n index′)
+      LineHolds kind w r n i ↔ LineHolds kind′ w r n index′
   after-line w r u v rule =
-      after (λ a j. Line kind w r (indexOf kind w r n i) ↔ Line a w r (indexOf a w r n j)) (λ h. h, λ h. h)
-      (λ e. rw (single-index kind w r n i e) (single-line kind w r u v (rw (single-factor n i e) at rule)))
+      after (λ a j. LineHolds kind w r n i ↔ LineHolds a w r n j) (λ h. h, λ h. h) (λ e.
+      let one = single-factor n i e in
+      let zeroth = single-index kind w r n i e in
+      let same = single-line kind w r u v (rw one at rule) in (
+        λ h. let q = line-settled kind w r n i h in (omega (arith, one), same .0 (rw zeroth at (q .1))),
+        λ h. settled-line kind w r n i (rw zeroth (omega (arith, one))) (rw zeroth (same .1 (h .1))),
+      ))
 
-  after-first : writerFirst kind′ ≡ writerFirst kind
-  after-first = after (λ a j. writerFirst a ≡ writerFirst kind) refl (λ e. single-first kind)
+  after-first : (s : Schedule) (w r : ℕ) → PutFor kind′ s w r ↔ PutFor kind s w r
+  after-first s w r = after (λ a j. PutFor a s w r ↔ PutFor kind s w r) (λ h. h, λ h. h) (λ e. single-first kind s w r)
 
 -- Expressions, signals and chains.
 
@@ -493,20 +494,20 @@ module _ (p : Program) (s : Schedule) where
     λ m.
         record {
           declared = rw (count-bare p) (m .declared);
-          within = rw (period-bare p w, period-bare p r) (after-within kind n i a b .0 (m .within));
           periods = rule-bare p r ρ .0 (m .periods);
           line = rw (period-bare p w, period-bare p r) (after-line kind n i a b (u (m .declared)) v (m .periods) .0 (m .line));
-          order = rw (period-bare p w, period-bare p r, after-first kind n i) (m .order);
+          order = λ j k same.
+              after-first kind n i s w r .1 (m .order j k (rw (period-bare p w, period-bare p r) at same));
         },
     λ m.
         let d : w < count p = rw (count-bare p) at (m .declared) in
         let e = rule-bare p r ρ .1 (m .periods) in
         record {
           declared = d;
-          within = after-within kind n i a b .1 (rw (period-bare p w, period-bare p r) at (m .within));
           periods = e;
           line = after-line kind n i a b (u d) v e .1 (rw (period-bare p w, period-bare p r) at (m .line));
-          order = rw (period-bare p w, period-bare p r, after-first kind n i) at (m .order);
+          order = λ j k same.
+              after-first kind n i s w r .0 (m .order j k (rw (period-bare p w, period-bare p r) same));
         },
   )
     where

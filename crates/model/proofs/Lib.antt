@@ -47,6 +47,10 @@ pub mod Rewritten
 pub mod Unchanged
 pub mod Conversions
 pub mod Places
+pub mod Settled
+pub mod Refused
+pub mod Among
+pub mod Demand
 pub mod Decimals
 pub mod Scripts
 pub mod Trials

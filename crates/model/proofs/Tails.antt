@@ -21,7 +21,7 @@ use lib.ListN.{
   List·getD-eq-default,
 }
 use lib.Seq.{getD-take, take-all, take-append-seam, drop-append-seam}
-use Rattle.model.specs.Calls.{Call, reset, cycle, callOf, logged, after, logAfter}
+use Rattle.model.specs.Calls.{Call, reset, cycle, callOf, logged, after, logAfter, answersOf}
 use Rattle.model.specs.Image.{joined, listsAt, withTail, imageOf, tailEntry, tailOf, writtenOf, writtenLength}
 use Rattle.model.specs.Machine.{
   hyperOf,
@@ -39,7 +39,7 @@ use Rattle.model.specs.Machine.{
   resetOf,
   cycleOf,
 }
-use Rattle.model.specs.Outcome.{accepted, _▷_, provided}
+use Rattle.model.specs.Outcome.{Outcome, accepted, _▷_, provided}
 use Rattle.model.specs.Program.{Program, count, signalAt}
 use Rattle.model.specs.Schedule.{Schedule, phaseOf}
 use Rattle.model.specs.Search.{table, joinFrom}
@@ -229,6 +229,14 @@ log-alike f b state log [] = refl
 log-alike {image} f b state log (c ∷ cs) =
     log-alike f b _ _ cs ∙
     ap (λ (e : Effect ℤ). logAfter image (e .left) (logged c (e .answer) log) cs) (call-alike f b state c)
+
+pub answers-alike : {image tail lent : List ℕ} → wellFormed image ≡ true → Bears image tail lent → (state : List ℤ)
+    (cs : List Call) → answersOf lent state cs ≡ answersOf image state cs
+unfolding answersOf
+answers-alike f b state [] = refl
+answers-alike {image} {lent = lent} f b state (c ∷ cs) =
+    ap (λ (rest : List (Outcome ℕ)). callOf lent state c .answer ∷ rest) (answers-alike f b _ cs) ∙
+    ap (λ (e : Effect ℤ). e .answer ∷ answersOf image (e .left) cs) (call-alike f b state c)
 
 -- Parts of four bytes each, joined.
 four-parts : (xs : List (List ℕ)) → ((x : ℕ) → x < length xs → length (getD xs x []) ≡ 4) → (x : ℕ) → x ≤ length xs →

@@ -33,3 +33,4 @@ pub mod Trial
 pub mod TrialRefusals
 pub mod Writing
 pub mod Conversion
+pub mod Lists
