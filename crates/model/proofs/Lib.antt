@@ -18,6 +18,7 @@ pub mod Runs
 pub mod Tails
 pub mod Counts
 pub mod Formed
+pub mod FormedExactly
 pub mod Offsets
 pub mod Heights
 pub mod Bytes

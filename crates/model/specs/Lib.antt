@@ -33,3 +33,5 @@ pub mod Trial
 pub mod TrialRefusals
 pub mod Writing
 pub mod Conversion
+pub mod WellFormed
+pub mod Exactness
