@@ -41,6 +41,7 @@ pub mod Judged
 pub mod JudgedPuts
 pub mod JudgedRuns
 pub mod Exact
+pub mod CallsExact
 pub mod Converted
 pub mod Rewritten
 pub mod Unchanged
