@@ -228,7 +228,7 @@ module _ (image : List ℕ) where
     code-within : (x : ℕ) → x ≤ n → codeOffset image x ≤ length image
     code-within x le = omega (arith, rises (codeOffset image) n (w .codes-rise) x le, w .codes-end)
 
-    lists-within : listsAt n h ≤ length image
+    pub lists-within : listsAt n h ≤ length image
     lists-within =
         omega (
           arith,

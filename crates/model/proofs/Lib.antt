@@ -15,10 +15,10 @@ pub mod Bounds
 pub mod Stretches
 pub mod Left
 pub mod Runs
+pub mod FormedExactly
 pub mod Tails
 pub mod Counts
 pub mod Formed
-pub mod FormedExactly
 pub mod Offsets
 pub mod Heights
 pub mod Bytes
