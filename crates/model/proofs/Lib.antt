@@ -47,6 +47,7 @@ pub mod Rewritten
 pub mod Unchanged
 pub mod Conversions
 pub mod Places
+pub mod Numbers
 pub mod Decimals
 pub mod Scripts
 pub mod Trials
