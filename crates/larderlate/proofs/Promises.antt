@@ -19,6 +19,15 @@ use Rattle.model.specs.Compile.{Pair, pairOf, verdictOf, compileOf}
 use Rattle.model.specs.Conditions.{_among_, ReadIn, LegalPairWith, LegalPair}
 use Rattle.model.specs.Conversion.{earlierFactor, ConvertsExactly, ConversionKeeps}
 use Rattle.model.specs.Decimal.{natural, decimal, lineOf, SaysNumber, SaysWord}
+use Rattle.model.specs.Exactness.{
+  Exactly,
+  Compiles,
+  CompileRefusedAt,
+  Resets,
+  ResetRefusedAt,
+  Cycles,
+  CycleRefusedAt,
+}
 use Rattle.model.specs.Height.{Within}
 use Rattle.model.specs.Image.{lengthOf, imageOf, tailOf, writtenOf, writtenLength}
 use Rattle.model.specs.Latency.{readsBack, backwards, back, source, latencyOf}
@@ -40,6 +49,7 @@ use Rattle.model.specs.Streams.{Satisfies}
 use Rattle.model.specs.Tail.{tailIn, Bears, Tells}
 use Rattle.model.specs.Trial.{trialOf, wordsAfter, inputsOf}
 use Rattle.model.specs.TrialRefusals.{LegalScript, TrialRefusedAt}
+use Rattle.model.specs.WellFormed.{WellFormed}
 use Rattle.model.specs.Word.{byteAt, NearestResults}
 use Rattle.model.specs.Written.{
   Written,
@@ -64,6 +74,7 @@ use Rattle.model.specs.declared.ScheduleCommand.the-variants as ScheduleCommand
 use Rattle.model.specs.declared.Sizes.{Sizes}
 use Rattle.model.proofs.Among as Among
 use Rattle.model.proofs.Bounds.{Bounded}
+use Rattle.model.proofs.CallsExact as CallsExact
 use Rattle.model.proofs.Commands as Texts
 use Rattle.model.proofs.Counts.{cycle-count, counts-length, counts-at, counts-past, count-fits}
 use Rattle.model.proofs.Conversions as Conversions
@@ -71,6 +82,7 @@ use Rattle.model.proofs.Decimals as Decimals
 use Rattle.model.proofs.Demand as Demand
 use Rattle.model.proofs.Exact as Exact
 use Rattle.model.proofs.Examples as Examples
+use Rattle.model.proofs.FormedExactly as FormedExactly
 use Rattle.model.proofs.Heights.{stack-least, stack-31}
 use Rattle.model.proofs.Latency as Latency
 use Rattle.model.proofs.Legal.{signal-label}
@@ -510,3 +522,23 @@ decimal-says = Decimals.decimal-says
 -- The paper's examples marked m: one table, which the definitions answer by computation.
 pub examples : map (λ c. Examples.answerTo (c .question)) Examples.cases ≡ map (λ c. c .answer) Examples.cases
 examples = Examples.examples
+
+-- The calls exact. Well formed is what the paper's sentence says, point by point: the test passes exactly these images.
+pub well-formed-exactly : (image : List ℕ) → (wellFormed image ≡ true) ↔ WellFormed image
+well-formed-exactly = FormedExactly.well-formed-exactly
+
+-- Compile is refused exactly where the pair is, or with 17 where the pair is legal and the buffer shorter than its L + 4N; it yields
+-- exactly the L + 4N of a legal pair that the buffer holds.
+pub compile-exactly : (program schedule buffer : List ℕ) →
+    Exactly buffer (Compiles program schedule buffer) (CompileRefusedAt program schedule buffer) (compileOf program schedule buffer)
+compile-exactly = CallsExact.compile-exactly
+
+-- A reset is refused by 20 or 21, a cycle by 20 to 23, each exactly under its condition with all earlier ones absent; else they do
+-- their job.
+pub reset-exactly : (lent : List ℕ) (state : List ℤ) →
+    Exactly state (Resets lent state) (ResetRefusedAt lent state) (resetOf lent state)
+reset-exactly = CallsExact.reset-exactly
+
+pub cycle-exactly : (lent : List ℕ) (state samples : List ℤ) →
+    Exactly state (Cycles lent state samples) (CycleRefusedAt lent state samples) (cycleOf lent state samples)
+cycle-exactly = CallsExact.cycle-exactly

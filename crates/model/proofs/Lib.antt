@@ -16,6 +16,7 @@ pub mod Bounds
 pub mod Stretches
 pub mod Left
 pub mod Runs
+pub mod FormedExactly
 pub mod Tails
 pub mod Counts
 pub mod Formed
@@ -42,6 +43,7 @@ pub mod Judged
 pub mod JudgedPuts
 pub mod JudgedRuns
 pub mod Exact
+pub mod CallsExact
 pub mod Converted
 pub mod Rewritten
 pub mod Unchanged
@@ -51,6 +53,7 @@ pub mod Settled
 pub mod Refused
 pub mod Among
 pub mod Demand
+pub mod Numbers
 pub mod Decimals
 pub mod Scripts
 pub mod Trials

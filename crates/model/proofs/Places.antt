@@ -52,7 +52,7 @@ use Rattle.model.proofs.Written.{outside-inside, decoded, put-decoded}
 
 -- 2 to 6 and 11: a text stops within it or at its end.
 module _ (text : List ℕ) where
-  expr-inside : {d at n x : ℕ} → StopsExpr leastFactor text d at n x → x ≤ length text
+  expr-inside : {least d at n x : ℕ} → StopsExpr least text d at n x → x ≤ length text
   expr-inside (StopsExpr.early le) = omega arith
   expr-inside (StopsExpr.unknown lt u) = omega arith
   expr-inside (StopsExpr.deep {at = at} o) = omega (arith, operator-inside text at o)
@@ -66,7 +66,7 @@ module _ (text : List ℕ) where
   links-inside le (StopsLinks.cut e lt) = omega arith
   links-inside le (StopsLinks.link e next s) = links-inside next s
 
-  commands-inside : {at label n x : ℕ} {p : Program} → Stops leastFactor text at label p n x → x ≤ length text
+  pub commands-inside : {least at label n x : ℕ} {p : Program} → Stops least text at label p n x → x ≤ length text
   commands-inside (Stops.onward d s) = commands-inside s
   commands-inside (Stops.early le) = omega arith
   commands-inside (Stops.unknown lt u) = omega arith

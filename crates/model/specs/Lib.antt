@@ -34,3 +34,5 @@ pub mod TrialRefusals
 pub mod Writing
 pub mod Conversion
 pub mod Lists
+pub mod WellFormed
+pub mod Exactness
