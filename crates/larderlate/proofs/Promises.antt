@@ -345,8 +345,8 @@ pub put-unknown : (text : List ℕ) (at : ℕ) →
     (scheduleCommandAt text at ≡ ScheduleCommand.Unknown) ↔ ((at < length text) × NoPutByte (byteAt text at))
 put-unknown = Commands.put-unknown
 
--- The index settled: in an accepted pair a fixed read has its own; of an open read exactly one i from 0 to n − 1 meets its line, and
--- that is the index settled.
+-- The index settled: in an accepted pair a fixed read has its own; of an open read exactly one i from 0 to n − 1 meets its line,
+-- and that is the index settled.
 pub settled-exactly : (program schedule : List ℕ) (q : Pair) → pairOf program schedule ≡ accepted q → (r : ℕ) (ρ : Read) →
     ReadIn (q .program) r ρ → (i : ℕ) →
     let p = q .program in
@@ -409,11 +409,11 @@ module _ (program schedule : List ℕ) (bytes : Texts.Bytes program) (p : Progra
       (x j : ℕ) → x < count p → X x j ≡ Y x j
   streams-unique inputs = Unique.streams-unique p s accepts inputs
 
-  -- After a reset that is not refused, any list of resets and cycles, all lent the pair's image with a tail or without: no reset is
-  -- refused, and a cycle exactly when it is lent fewer than N samples (23); a cycle that is not refused answers the report's count
-  -- of its position. With c the number of cycles since the latest reset, word 0 is the remainder of c by H; signal s holds its
-  -- element floor((c − 1 − p)/P), or its initial word if c ≤ p, of every stream that satisfies the equations with the inputs that
-  -- the cycles were lent; words beyond N are as before the first reset.
+  -- After a reset that is not refused, any list of resets and cycles, all lent the pair's image with a tail or without: no reset
+  -- is refused, and a cycle exactly when it is lent fewer than N samples (23); a cycle that is not refused answers the report's
+  -- count of its position. With c the number of cycles since the latest reset, word 0 is the remainder of c by H; signal s holds
+  -- its element floor((c − 1 − p)/P), or its initial word if c ≤ p, of every stream that satisfies the equations with the inputs
+  -- that the cycles were lent; words beyond N are as before the first reset.
   pub calls-hold : (tail lent : List ℕ) → Bears (imageOf p s h) tail lent → (old : List ℤ) →
       resetOf lent old .answer ≡ accepted 0 → (cs : List Call) → KeptBy program schedule p s h lent old cs
   calls-hold tail lent bears = Demand.calls-hold program schedule bytes p s h e bears
