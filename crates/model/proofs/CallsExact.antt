@@ -71,23 +71,27 @@ module _ {A : Type 0} (lent : List A) (Done : ℕ → List A → Type 0) (Refuse
     where
       done : (o : Outcome (Job A)) → Judged (Does Done) Refused o → (n : ℕ) (left : List A) →
           ((effect lent o .answer ≡ accepted n) × (effect lent o .left ≡ left)) ↔ Done n left
-      done (accepted j) h n left =
-          (λ e. subst (λ k. Done n k) (e .1)
-          (subst (λ (k : ℕ). Done k (j .leaves)) (accepted-same _ n (e .0)) (h .accepts j .0 refl)),
-          λ d. let e = accepted-same _ _ (h .accepts (record { yields = n; leaves = left }) .1 d) in
-          (ap (λ k. accepted (k .yields)) e, ap (λ k. k .leaves) e))
-      done (refused f) h n left =
-          (λ e. absurd (accepted≢refused _ n f (e .0) refl),
-          λ d. absurd (accepted≢refused _ _ f (h .accepts (record { yields = n; leaves = left }) .1 d) refl))
+      done (accepted j) h n left = (
+        λ e. subst (λ k. Done n k) (e .1)
+            (subst (λ (k : ℕ). Done k (j .leaves)) (accepted-same _ n (e .0)) (h .accepts j .0 refl)),
+        λ d. let e = accepted-same _ _ (h .accepts (record { yields = n; leaves = left }) .1 d) in
+            (ap (λ k. accepted (k .yields)) e, ap (λ k. k .leaves) e),
+      )
+      done (refused f) h n left = (
+        λ e. absurd (accepted≢refused _ n f (e .0) refl),
+        λ d. absurd (accepted≢refused _ _ f (h .accepts (record { yields = n; leaves = left }) .1 d) refl),
+      )
 
       refuses : (o : Outcome (Job A)) → Judged (Does Done) Refused o → (n x : ℕ) (left : List A) →
           ((effect lent o .answer ≡ refused (fault n x)) × (effect lent o .left ≡ left)) ↔ (Refused n x × (left ≡ lent))
-      refuses (accepted j) h n x left =
-          (λ e. absurd (accepted≢refused _ (j .yields) (fault n x) refl (e .0)),
-          λ d. absurd (accepted≢refused _ j (fault n x) refl (h .refuses n x .1 (d .0))))
-      refuses (refused f) h n x left =
-          (λ e. let q : f ≡ fault n x = cc (e .0) in (h .refuses n x .0 (ap refused q), sym (e .1)),
-          λ d. let e = h .refuses n x .1 (d .0) in let q : f ≡ fault n x = cc e in (ap refused q, sym (d .1)))
+      refuses (accepted j) h n x left = (
+        λ e. absurd (accepted≢refused _ (j .yields) (fault n x) refl (e .0)),
+        λ d. absurd (accepted≢refused _ j (fault n x) refl (h .refuses n x .1 (d .0))),
+      )
+      refuses (refused f) h n x left = (
+        λ e. let q : f ≡ fault n x = cc (e .0) in (h .refuses n x .0 (ap refused q), sym (e .1)),
+        λ d. let e = h .refuses n x .1 (d .0) in let q : f ≡ fault n x = cc e in (ap refused q, sym (d .1)),
+      )
 
 -- Compile.
 module _ (program schedule buffer : List ℕ) where
