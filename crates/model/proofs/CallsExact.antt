@@ -1,7 +1,7 @@
 -- Compile, reset and cycle do their job, and are refused with each number at its place, exactly under the stated conditions.
 -- Assumes nothing.
 use Prim.Native.Nat.{ℕ, _+_, _≤_, _<_}
-use mathlib.Core.Bool.{Bool, true, false, false≢true}
+use mathlib.Core.Bool.{true, false, false≢true}
 use mathlib.Core.List.{List, _++_}
 use mathlib.Core.Logic.{_↔_}
 use mathlib.Core.Path.{_≡_, refl, sym, ap, ap₂, subst, _∙_}
@@ -27,7 +27,6 @@ use Rattle.model.specs.Exactness.{
 use Rattle.model.specs.Image.{writtenOf}
 use Rattle.model.specs.Machine.{
   Job,
-  Effect,
   effect,
   hyperOf,
   countOf,
@@ -41,10 +40,9 @@ use Rattle.model.specs.Machine.{
   resetOf,
   cycleOf,
 }
-use Rattle.model.specs.Outcome.{Outcome, accepted, refused, refuse, fault, _▷_, provided}
+use Rattle.model.specs.Outcome.{Outcome, accepted, refused, fault, _▷_, provided}
 use Rattle.model.specs.Refusals.{RefusedAt}
 use Rattle.model.specs.WellFormed.{WellLent}
-use Rattle.model.specs.declared.Fault.{Fault}
 use Rattle.model.proofs.Exact.{accepted-exactly, refused-exactly}
 use Rattle.model.proofs.FormedExactly.{well-formed-exactly}
 use Rattle.model.proofs.Judged.{Judged, Only, provided-judged, Answers, answers-then, answers-accepted, answers-refused}
@@ -71,23 +69,27 @@ module _ {A : Type 0} (lent : List A) (Done : ℕ → List A → Type 0) (Refuse
     where
       done : (o : Outcome (Job A)) → Judged (Does Done) Refused o → (n : ℕ) (left : List A) →
           ((effect lent o .answer ≡ accepted n) × (effect lent o .left ≡ left)) ↔ Done n left
-      done (accepted j) h n left =
-          (λ e. subst (λ k. Done n k) (e .1)
-          (subst (λ (k : ℕ). Done k (j .leaves)) (accepted-same _ n (e .0)) (h .accepts j .0 refl)),
-          λ d. let e = accepted-same _ _ (h .accepts (record { yields = n; leaves = left }) .1 d) in
-          (ap (λ k. accepted (k .yields)) e, ap (λ k. k .leaves) e))
-      done (refused f) h n left =
-          (λ e. absurd (accepted≢refused _ n f (e .0) refl),
-          λ d. absurd (accepted≢refused _ _ f (h .accepts (record { yields = n; leaves = left }) .1 d) refl))
+      done (accepted j) h n left = (
+        λ e. subst (λ k. Done n k) (e .1)
+            (subst (λ (k : ℕ). Done k (j .leaves)) (accepted-same _ n (e .0)) (h .accepts j .0 refl)),
+        λ d. let e = accepted-same _ _ (h .accepts (record { yields = n; leaves = left }) .1 d) in
+            (ap (λ k. accepted (k .yields)) e, ap (λ k. k .leaves) e),
+      )
+      done (refused f) h n left = (
+        λ e. absurd (accepted≢refused _ n f (e .0) refl),
+        λ d. absurd (accepted≢refused _ _ f (h .accepts (record { yields = n; leaves = left }) .1 d) refl),
+      )
 
       refuses : (o : Outcome (Job A)) → Judged (Does Done) Refused o → (n x : ℕ) (left : List A) →
           ((effect lent o .answer ≡ refused (fault n x)) × (effect lent o .left ≡ left)) ↔ (Refused n x × (left ≡ lent))
-      refuses (accepted j) h n x left =
-          (λ e. absurd (accepted≢refused _ (j .yields) (fault n x) refl (e .0)),
-          λ d. absurd (accepted≢refused _ j (fault n x) refl (h .refuses n x .1 (d .0))))
-      refuses (refused f) h n x left =
-          (λ e. let q : f ≡ fault n x = cc (e .0) in (h .refuses n x .0 (ap refused q), sym (e .1)),
-          λ d. let e = h .refuses n x .1 (d .0) in let q : f ≡ fault n x = cc e in (ap refused q, sym (d .1)))
+      refuses (accepted j) h n x left = (
+        λ e. absurd (accepted≢refused _ (j .yields) (fault n x) refl (e .0)),
+        λ d. absurd (accepted≢refused _ j (fault n x) refl (h .refuses n x .1 (d .0))),
+      )
+      refuses (refused f) h n x left = (
+        λ e. let q : f ≡ fault n x = cc (e .0) in (h .refuses n x .0 (ap refused q), sym (e .1)),
+        λ d. let e = h .refuses n x .1 (d .0) in let q : f ≡ fault n x = cc e in (ap refused q, sym (d .1)),
+      )
 
 -- Compile.
 module _ (program schedule buffer : List ℕ) where
@@ -162,7 +164,8 @@ module _ (lent : List ℕ) (state : List ℤ) where
   lent-image : {image : List ℕ} → WellLent lent image → own ≡ image
   lent-image {image} w = part-is (well-formed-exactly image .1 (w .formed)) (w .bears)
 
-  lent-judged : Judged (λ u. WellLent lent own) (Only 20 0 ((image : List ℕ) → ¬ WellLent lent image)) (provided (lentOk lent) 20 0)
+  lent-judged : Judged (λ u. WellLent lent own) (Only 20 0 ((image : List ℕ) → ¬ WellLent lent image))
+      (provided (lentOk lent) 20 0)
   lent-judged =
       provided-judged _ 20 0 (WellLent lent own) ((image : List ℕ) → ¬ WellLent lent image) (forth, back)
       (λ e image w. false≢true (sym e ∙ back w)) (λ none w. none own w)
@@ -230,8 +233,8 @@ module _ (lent : List ℕ) (state : List ℤ) where
   reset-exactly =
       exactly state (Resets lent state) (ResetRefusedAt lent state) _
       (both-ways _
-      (checked-answers _ _ _ (λ n x r. r) (λ usable. record { image = own; usable = usable; is = refl; leaves = refl })) reset-done
-      (λ n x r. checked-refuses _ r))
+      (checked-answers _ _ _ (λ n x r. r) (λ usable. record { image = own; usable = usable; is = refl; leaves = refl }))
+      reset-done (λ n x r. checked-refuses _ r))
 
   position-judged : Judged (λ u. Positioned lent state own) (Only 22 0 (¬ Positioned lent state own))
       (provided (isPosition (hyperOf own) (getD state 0 (pos 0))) 22 0)
