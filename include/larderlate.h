@@ -51,7 +51,8 @@ enum {
     LARDERLATE_BOARD_STATE_WORDS = 260,
     LARDERLATE_BOARD_SAMPLES = 256,
     LARDERLATE_BOARD_RECORD = 17,
-    /* 4 + 64 x 6 + 241 x 2 + 240 x 64 bytes before the code, which is no longer than the program, and 64 x 4 of tail. */
+    /* 4 + 64 x 6 + 241 x 2 + 240 x 64 bytes before the code, which is no longer than the program, and 64 x 4 of tail: proved
+     * (`image-bytes`). */
     LARDERLATE_IMAGE_BYTES = 24678
 };
 

@@ -5,7 +5,7 @@ use Prim.Native.Nat.{ℕ, suc, _+_, _*_, _%_, _^_, _≤_, _<_}
 use mathlib.Core.Bool.{Bool, true, false}
 use mathlib.Core.List.{List, [], _∷_, _++_, map}
 use mathlib.Core.Logic.{_↔_, _⊎_}
-use mathlib.Core.Path.{_≡_, refl, sym, ap, subst, subst₂, _∙_}
+use mathlib.Core.Path.{_≡_, refl, sym, ap, ap₂, subst, subst₂, _∙_}
 use native.Mathlib.Nat.{mod-eq-of-lt}
 use native.Mathlib.Omega.{arith}
 use borrow.Author.Tests.{le-leb, lt-leb}
@@ -21,6 +21,7 @@ use Rattle.model.specs.Conversion.{earlierFactor, ConvertsExactly, ConversionKe
 use Rattle.model.specs.Decimal.{natural, decimal, lineOf, SaysNumber, SaysWord}
 use Rattle.model.specs.Exactness.{
   Exactly,
+  sizeOf,
   Compiles,
   CompileRefusedAt,
   Resets,
@@ -87,9 +88,10 @@ use Rattle.model.proofs.Heights.{stack-least, stack-31}
 use Rattle.model.proofs.Latency as Latency
 use Rattle.model.proofs.Legal.{signal-label}
 use Rattle.model.proofs.Nearest as Nearest
+use Rattle.model.proofs.Numbers as Numbers
 use Rattle.model.proofs.Outcomes.{accepted≢refused}
 use Rattle.model.proofs.Offsets.{OffsetsFit, offsets-fit}
-use Rattle.model.proofs.Places.{places-small, places-zero}
+use Rattle.model.proofs.Places.{refusal-small, places-small, places-zero}
 use Rattle.model.proofs.Refused as Refused
 use Rattle.model.proofs.Scripts.{script-actions}
 use Rattle.model.proofs.Settled as Settled
@@ -101,8 +103,8 @@ use Rattle.model.proofs.Trials.{linesOf, Tried, trial-refused, trial-accepts}
 use Rattle.model.proofs.Unique as Unique
 use Rattle.model.proofs.Widths as Widths
 use Rattle.model.proofs.Written as Commands
-use Rattle.larderlate.specs.Code.{codeNumber}
-use Rattle.model.proofs.Verdict.{pair-passed, pair-accepted, pair-bounded}
+use Rattle.larderlate.specs.Code.{codeNumber, Codable, lengthIn, lengthOfTail}
+use Rattle.model.proofs.Verdict.{pair-passed, pair-accepted, pair-multiple, pair-bounded}
 
 -- Demand 1, total. That every call ends, whatever it is lent, is in the contracts: none has a `requires`. A refused call
 -- changes nothing.
@@ -527,14 +529,15 @@ examples = Examples.examples
 pub well-formed-exactly : (image : List ℕ) → (wellFormed image ≡ true) ↔ WellFormed image
 well-formed-exactly = FormedExactly.well-formed-exactly
 
--- Compile is refused exactly where the pair is, or with 17 where the pair is legal and the buffer shorter than its L + 4N; it yields
--- exactly the L + 4N of a legal pair that the buffer holds.
+-- Compile is refused exactly where the pair is, or with 17 where the pair is legal and the buffer shorter than its L + 4N; it
+-- yields exactly the L + 4N of a legal pair that the buffer holds.
 pub compile-exactly : (program schedule buffer : List ℕ) →
-    Exactly buffer (Compiles program schedule buffer) (CompileRefusedAt program schedule buffer) (compileOf program schedule buffer)
+    Exactly buffer (Compiles program schedule buffer) (CompileRefusedAt program schedule buffer)
+    (compileOf program schedule buffer)
 compile-exactly = CallsExact.compile-exactly
 
--- A reset is refused by 20 or 21, a cycle by 20 to 23, each exactly under its condition with all earlier ones absent; else they do
--- their job.
+-- A reset is refused by 20 or 21, a cycle by 20 to 23, each exactly under its condition with all earlier ones absent; else they
+-- do their job.
 pub reset-exactly : (lent : List ℕ) (state : List ℤ) →
     Exactly state (Resets lent state) (ResetRefusedAt lent state) (resetOf lent state)
 reset-exactly = CallsExact.reset-exactly
@@ -542,3 +545,92 @@ reset-exactly = CallsExact.reset-exactly
 pub cycle-exactly : (lent : List ℕ) (state samples : List ℤ) →
     Exactly state (Cycles lent state samples) (CycleRefusedAt lent state samples) (cycleOf lent state samples)
 cycle-exactly = CallsExact.cycle-exactly
+
+-- 24,678 bytes, the header's LARDERLATE_IMAGE_BYTES, hold what compile writes for every accepted pair.
+pub image-bytes : (program schedule : List ℕ) → Texts.Bytes program → (q : Pair) → pairOf program schedule ≡ accepted q →
+    (buffer : List ℕ) → 24678 ≤ length buffer → compileOf program schedule buffer .answer ≡ accepted (sizeOf q)
+image-bytes program schedule bytes q e buffer le =
+    compile-exactly program schedule buffer .done (sizeOf q) _ .1
+    (record {
+      pair = q;
+      legal = accepted-exactly program schedule q .0 e;
+      is = refl;
+      fits = omega (arith, Numbers.size-most program schedule bytes q e);
+      leaves = refl;
+    }) .0
+
+-- One number tells all: of two answers that have the same number each is the other, whichever calls gave them ..
+pub code-tells : (o o′ : Outcome ℕ) → Codable o → Codable o′ → codeNumber o ≡ codeNumber o′ → o ≡ o′
+code-tells (accepted n) (accepted m) c d e = ap accepted e
+code-tells (accepted n) (refused g) c d e = absurd (omega arith)
+code-tells (refused f) (accepted m) c d e = absurd (omega arith)
+code-tells (refused f) (refused g) c d e =
+    let p = mod-eq-of-lt (c .1) in
+    let q = mod-eq-of-lt (d .1) in
+    let number : f .number ≡ g .number = omega arith in
+    let place : f .place ≡ g .place = omega arith in
+    ap₂ (λ (n x : ℕ). refused (fault n x)) number place
+
+-- .. since lengths and places are below 2^32 and the numbers of refusals above 0, in every call.
+pub compile-codable : (program schedule buffer : List ℕ) → Texts.Bytes program →
+    Codable (compileOf program schedule buffer .answer)
+compile-codable program schedule buffer bytes = go (compileOf program schedule buffer .answer) refl
+  where
+    go : (o : Outcome ℕ) → compileOf program schedule buffer .answer ≡ o → Codable o
+    go (accepted n) e = omega (arith, Numbers.length-most program schedule buffer bytes n e)
+    go (refused f) e = (
+      Numbers.compile-number (compile-exactly program schedule buffer .refuses (f .number) (f .place) _ .0 (e, refl) .0),
+      omega (arith, places-small program schedule buffer bytes f e),
+    )
+
+pub report-codable : (program schedule counts : List ℕ) → Texts.Bytes program →
+    Codable (lengthIn (reportOf program schedule counts .answer))
+report-codable program schedule counts bytes = go (reportOf program schedule counts .answer) refl
+  where
+    go : (o : Outcome Sizes) → reportOf program schedule counts .answer ≡ o → Codable (lengthIn o)
+    go (accepted sizes) e =
+        let t = report-exactly program schedule counts .tells sizes e in
+        let q = t .0 in
+        let b = pair-bounded program schedule q (t .1) bytes in
+        omega (arith, t .2, image-length (q .program) (q .schedule) (q .hypercycle), b .size)
+    go (refused f) e =
+        let r = report-exactly program schedule counts .refuses f .0 e in
+        let at = refused-exactly program schedule (f .number) (f .place) .0 r in
+        (Numbers.pair-number at, omega (arith, refusal-small at))
+
+pub call-codable : (lent : List ℕ) (state : List ℤ) (c : Call) → Texts.Bytes lent → Codable (callOf lent state c .answer)
+unfolding callOf
+call-codable lent state Call.reset bytes = go (resetOf lent state .answer) refl
+  where
+    go : (o : Outcome ℕ) → resetOf lent state .answer ≡ o → Codable o
+    go (accepted n) e = omega (arith, reset-exactly lent state .done n _ .0 (e, refl) .is)
+    go (refused f) e = (
+      Numbers.reset-number (reset-exactly lent state .refuses (f .number) (f .place) _ .0 (e, refl) .0),
+      omega (arith, places-zero lent state Call.reset f e),
+    )
+call-codable lent state (Call.cycle samples) bytes = go (cycleOf lent state samples .answer) refl
+  where
+    go : (o : Outcome ℕ) → cycleOf lent state samples .answer ≡ o → Codable o
+    go (accepted n) e = count-small lent state samples bytes n e
+    go (refused f) e = (
+      Numbers.cycle-number (cycle-exactly lent state samples .refuses (f .number) (f .place) _ .0 (e, refl) .0),
+      omega (arith, places-zero lent state (Call.cycle samples) f e),
+    )
+
+pub tail-codable : (lent : List ℕ) → Codable (lengthOfTail (tailIn lent))
+tail-codable lent = go (tailIn lent) refl
+  where
+    go : (o : Outcome (List ℕ)) → tailIn lent ≡ o → Codable (lengthOfTail o)
+    go (accepted tail) e =
+        let t = tail-exactly lent .returns tail .0 e in
+        omega (arith, Numbers.tail-most (well-formed-exactly (t .0) .0 (t .1)) (t .2))
+    go (refused f) e = rw (tail-exactly lent .alone f e) (omega arith, omega arith)
+
+pub convert-codable : (program buffer : List ℕ) → Codable (convertOf program buffer .answer)
+convert-codable program buffer = go (convertOf program buffer .answer) refl
+  where
+    go : (o : Outcome ℕ) → convertOf program buffer .answer ≡ o → Codable o
+    go (accepted n) e = omega (arith, Numbers.convert-most (convert-exactly program buffer .done n .0 e))
+    go (refused f) e =
+        let r = convert-exactly program buffer .refused-at (f .number) (f .place) .0 e in
+        (Numbers.convert-number r, omega (arith, Numbers.convert-place r))

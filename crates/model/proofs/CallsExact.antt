@@ -1,7 +1,7 @@
 -- Compile, reset and cycle do their job, and are refused with each number at its place, exactly under the stated conditions.
 -- Assumes nothing.
 use Prim.Native.Nat.{ℕ, _+_, _≤_, _<_}
-use mathlib.Core.Bool.{Bool, true, false, false≢true}
+use mathlib.Core.Bool.{true, false, false≢true}
 use mathlib.Core.List.{List, _++_}
 use mathlib.Core.Logic.{_↔_}
 use mathlib.Core.Path.{_≡_, refl, sym, ap, ap₂, subst, _∙_}
@@ -27,7 +27,6 @@ use Rattle.model.specs.Exactness.{
 use Rattle.model.specs.Image.{writtenOf}
 use Rattle.model.specs.Machine.{
   Job,
-  Effect,
   effect,
   hyperOf,
   countOf,
@@ -41,10 +40,9 @@ use Rattle.model.specs.Machine.{
   resetOf,
   cycleOf,
 }
-use Rattle.model.specs.Outcome.{Outcome, accepted, refused, refuse, fault, _▷_, provided}
+use Rattle.model.specs.Outcome.{Outcome, accepted, refused, fault, _▷_, provided}
 use Rattle.model.specs.Refusals.{RefusedAt}
 use Rattle.model.specs.WellFormed.{WellLent}
-use Rattle.model.specs.declared.Fault.{Fault}
 use Rattle.model.proofs.Exact.{accepted-exactly, refused-exactly}
 use Rattle.model.proofs.FormedExactly.{well-formed-exactly}
 use Rattle.model.proofs.Judged.{Judged, Only, provided-judged, Answers, answers-then, answers-accepted, answers-refused}
@@ -166,7 +164,8 @@ module _ (lent : List ℕ) (state : List ℤ) where
   lent-image : {image : List ℕ} → WellLent lent image → own ≡ image
   lent-image {image} w = part-is (well-formed-exactly image .1 (w .formed)) (w .bears)
 
-  lent-judged : Judged (λ u. WellLent lent own) (Only 20 0 ((image : List ℕ) → ¬ WellLent lent image)) (provided (lentOk lent) 20 0)
+  lent-judged : Judged (λ u. WellLent lent own) (Only 20 0 ((image : List ℕ) → ¬ WellLent lent image))
+      (provided (lentOk lent) 20 0)
   lent-judged =
       provided-judged _ 20 0 (WellLent lent own) ((image : List ℕ) → ¬ WellLent lent image) (forth, back)
       (λ e image w. false≢true (sym e ∙ back w)) (λ none w. none own w)
@@ -234,8 +233,8 @@ module _ (lent : List ℕ) (state : List ℤ) where
   reset-exactly =
       exactly state (Resets lent state) (ResetRefusedAt lent state) _
       (both-ways _
-      (checked-answers _ _ _ (λ n x r. r) (λ usable. record { image = own; usable = usable; is = refl; leaves = refl })) reset-done
-      (λ n x r. checked-refuses _ r))
+      (checked-answers _ _ _ (λ n x r. r) (λ usable. record { image = own; usable = usable; is = refl; leaves = refl }))
+      reset-done (λ n x r. checked-refuses _ r))
 
   position-judged : Judged (λ u. Positioned lent state own) (Only 22 0 (¬ Positioned lent state own))
       (provided (isPosition (hyperOf own) (getD state 0 (pos 0))) 22 0)

@@ -3,11 +3,11 @@ use Prim.Native.Nat.{ℕ, zero, suc, _+_, _-_, _≤_, _<_}
 use mathlib.Core.Bool.{Bool, true, false, _&&_, false≢true, and-eq-true-iff}
 use mathlib.Core.List.{List}
 use mathlib.Core.Logic.{_↔_}
-use mathlib.Core.Path.{_≡_, refl, sym, ap, subst, _∙_}
+use mathlib.Core.Path.{_≡_, refl, sym, ap, subst}
 use native.Mathlib.Decide.{decLt}
 use native.Mathlib.Omega.{arith}
 use borrow.Author.Tests.{leb-true, ltb-true, eqb-true, le-leb, lt-ltb, le-ltb, eq-eqb}
-use lib.Dec.{leb, ltb, eqb}
+use lib.Dec.{leb, ltb}
 use lib.ListN.{length}
 use Rattle.model.specs.Height.{Changes}
 use Rattle.model.specs.Image.{listsAt}
@@ -15,7 +15,6 @@ use Rattle.model.specs.Machine.{
   codeAt,
   hyperOf,
   countOf,
-  statedLength,
   listOffset,
   codeOffset,
   codeOf,
@@ -68,7 +67,8 @@ module _ (n own : ℕ) (code : List ℕ) where
       let t = and-eq-true-iff _ _ .0 h in
       let u = and-eq-true-iff _ _ .0 (t .0) in
       let room : suc height ≤ 32 = omega (arith, ltb-true height 32 (u .1)) in
-      FormedFrom.onward (written e tt) (eqb-true x own (u .0)) Changes.fetch room (go _ _ room (at-height next (omega arith) (t .1)))
+      FormedFrom.onward (written e tt) (eqb-true x own (u .0)) Changes.fetch room
+      (go _ _ room (at-height next (omega arith) (t .1)))
   command-formed next go at height le (Code.Store x) e h =
       let t = and-eq-true-iff _ _ .0 h in
       let u = and-eq-true-iff _ _ .0 (t .0) in
@@ -96,11 +96,12 @@ module _ (n own : ℕ) (code : List ℕ) where
   unfolding codeOkFrom
   from-formed zero at height le h = absurd (false≢true h)
   from-formed (suc left) at height le h =
-      command-formed (λ a k. codeOkFrom left code n own a k) (λ a k l t. from-formed left a k l t) at height le (codeAt code at) refl h
+      command-formed (λ a k. codeOkFrom left code n own a k) (λ a k l t. from-formed left a k l t) at height le (codeAt code at)
+      refl h
 
   -- And the other way round.
-  change-ok : {c : Code} {width height after : ℕ} (next : ℕ → ℕ → Bool) (at : ℕ) → Changes c width height after → BeforeStore n own c →
-      after ≤ 32 → next (at + width) after ≡ true → commandOk next (length code) n own at height c ≡ true
+  change-ok : {c : Code} {width height after : ℕ} (next : ℕ → ℕ → Bool) (at : ℕ) → Changes c width height after →
+      BeforeStore n own c → after ≤ 32 → next (at + width) after ≡ true → commandOk next (length code) n own at height c ≡ true
   unfolding commandOk
   change-ok next at (Changes.push {height}) a le t = rw (lt-ltb height 32 (omega arith)) (at-height next (omega arith) t)
   change-ok next at (Changes.load {height} {x}) a le t =
@@ -130,7 +131,8 @@ module _ (n own : ℕ) (code : List ℕ) where
   inside (CodeWritten.negate le e) = omega arith
   inside (CodeWritten.choose le e) = omega arith
 
-  formed-from : {at height : ℕ} → From at height → (left : ℕ) → length code ≤ at + left → codeOkFrom left code n own at height ≡ true
+  formed-from : {at height : ℕ} → From at height → (left : ℕ) → length code ≤ at + left →
+      codeOkFrom left code n own at height ≡ true
   unfolding codeOkFrom commandOk
   formed-from (FormedFrom.store w ends) zero le = absurd (omega (arith, inside w))
   formed-from (FormedFrom.store {at = at} w ends) (suc left) le =

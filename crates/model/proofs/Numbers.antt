@@ -1,23 +1,23 @@
--- The number of every refusal is above 0, and what a call yields is small: one number can tell a refusal from the rest. Assumes nothing.
-use Prim.Native.Nat.{ℕ, _+_, _*_, _≤_, _<_}
-use mathlib.Core.List.{List, []}
+-- The number of every refusal is above 0, and what a call yields is small: one number can tell a refusal from the rest.
+-- Assumes nothing.
+use Prim.Native.Nat.{ℕ, _*_, _≤_}
+use mathlib.Core.List.{List}
 use mathlib.Core.Logic.{_⊎_, ⊎-elim}
-use mathlib.Core.Path.{_≡_, refl, _∙_}
+use mathlib.Core.Path.{_≡_, refl}
 use native.Mathlib.Omega.{arith}
 use lib.IntN.{ℤ}
 use lib.ListN.{length}
 use Rattle.model.specs.Compile.{Pair, pairOf, compileOf}
 use Rattle.model.specs.Conversion.{ConvertsTo, ConvertRefusedAt}
-use Rattle.model.specs.Exactness.{sizeOf, Compiles, CompileRefusedAt, ResetRefusedAt, CycleRefusedAt}
-use Rattle.model.specs.Machine.{Effect, countOf}
-use Rattle.model.specs.Outcome.{accepted, refused, fault}
+use Rattle.model.specs.Exactness.{sizeOf, CompileRefusedAt, ResetRefusedAt, CycleRefusedAt}
+use Rattle.model.specs.Machine.{countOf}
+use Rattle.model.specs.Outcome.{accepted, fault}
 use Rattle.model.specs.Program.{Program, Chain}
 use Rattle.model.specs.Refusals.{RateFault, ChainFault, PutFault, MetFault, LoadFault, RefusedAt}
 use Rattle.model.specs.Schedule.{Schedule, Put}
 use Rattle.model.specs.Stops.{StopsExpr, StopsLinks, Stops}
 use Rattle.model.specs.Tail.{Bears}
 use Rattle.model.specs.WellFormed.{WellFormed}
-use Rattle.model.proofs.Bounds.{Bounded}
 use Rattle.model.proofs.CallsExact.{compile-exactly}
 use Rattle.model.proofs.Commands.{Bytes}
 use Rattle.model.proofs.Exact.{accepted-exactly}

@@ -130,7 +130,7 @@ load-below {p} {s} h whole (LoadFault.over c o) least =
     )
 
 -- What the two texts are refused with.
-refusal-small : {program schedule : List ℕ} {n x : ℕ} → RefusedAt program schedule n x → x ≤ 65535
+pub refusal-small : {program schedule : List ℕ} {n x : ℕ} → RefusedAt program schedule n x → x ≤ 65535
 refusal-small (RefusedAt.long u) = omega arith
 refusal-small {program} (RefusedAt.stopped short f) = omega (arith, short .0, commands-inside program f)
 refusal-small {program} (RefusedAt.unrated {p = p} short l f) = omega (arith, short .0, rate-inside program p l (f .fault))

@@ -13,8 +13,8 @@ use Rattle.model.specs.Written.{CodeWritten}
 use Rattle.model.specs.declared.Code.{Code}
 use Rattle.model.specs.declared.Code.the-variants as Code
 
--- What may stand before the STORE in the code of signal `own`, in an image of n signals: only the codes named, loads below N, FETCH
--- only of the code's own signal, and no other STORE.
+-- What may stand before the STORE in the code of signal `own`, in an image of n signals: only the codes named, loads below N,
+-- FETCH only of the code's own signal, and no other STORE.
 abbrev pub BeforeStore : ℕ → ℕ → Code → Type 0
 BeforeStore n own Code.EndsEarly = ⊥
 BeforeStore n own Code.Unknown = ⊥
