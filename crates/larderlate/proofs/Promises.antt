@@ -598,9 +598,9 @@ report-codable program schedule counts bytes = go (reportOf program schedule cou
         let at = refused-exactly program schedule (f .number) (f .place) .0 r in
         (Numbers.pair-number at, omega (arith, refusal-small at))
 
-pub call-codable : (lent : List ℕ) (state : List ℤ) (c : Call) → Texts.Bytes lent → Codable (callOf lent state c .answer)
+pub reset-codable : (lent : List ℕ) (state : List ℤ) → Codable (resetOf lent state .answer)
 unfolding callOf
-call-codable lent state Call.reset bytes = go (resetOf lent state .answer) refl
+reset-codable lent state = go (resetOf lent state .answer) refl
   where
     go : (o : Outcome ℕ) → resetOf lent state .answer ≡ o → Codable o
     go (accepted n) e = omega (arith, reset-exactly lent state .done n _ .0 (e, refl) .is)
@@ -608,6 +608,10 @@ call-codable lent state Call.reset bytes = go (resetOf lent state .answer) refl
       Numbers.reset-number (reset-exactly lent state .refuses (f .number) (f .place) _ .0 (e, refl) .0),
       omega (arith, places-zero lent state Call.reset f e),
     )
+
+pub call-codable : (lent : List ℕ) (state : List ℤ) (c : Call) → Texts.Bytes lent → Codable (callOf lent state c .answer)
+unfolding callOf
+call-codable lent state Call.reset bytes = reset-codable lent state
 call-codable lent state (Call.cycle samples) bytes = go (cycleOf lent state samples .answer) refl
   where
     go : (o : Outcome ℕ) → cycleOf lent state samples .answer ≡ o → Codable o
