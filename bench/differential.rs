@@ -12,6 +12,8 @@ mod generate;
 mod images;
 mod library;
 mod random;
+// A trial is compared by a program of its own.
+#[allow(dead_code)]
 mod reference;
 
 use generate::{Pair, Shape, Twist};

@@ -10,7 +10,9 @@
  *                          four programs on one board, run by turns
  *
  * Every call takes any bytes and words, ends, and does its job or refuses. A refused call changes nothing that was lent to it.
- * The calls keep nothing between them and need no memory but their stack, so any number may run at once on different state.
+ * The calls keep nothing between them and need no memory but their stack, so any number may run at once on different state. Of the
+ * stack, measured on x86-64 with 64 signals, 16 chains and expressions 16 deep, a compile or a report takes 25 KB, a conversion
+ * 18 KB, each other call less than 1 KB.
  *
  * AN IMAGE has L bytes, and bytes 2-3 hold L, low byte first. After them stands its tail, four bytes for each of its N signals: label
  * (2 bytes, low byte first), period, phase. Compile always writes both. Reset, cycle and tail take an image at exactly L bytes,
@@ -51,12 +53,13 @@ enum {
     LARDERLATE_BOARD_STATE_WORDS = 260,
     LARDERLATE_BOARD_SAMPLES = 256,
     LARDERLATE_BOARD_RECORD = 17,
-    /* 4 + 64 x 6 + 241 x 2 + 240 x 64 bytes before the code, which is no longer than the program, and 64 x 4 of tail. */
+    /* 4 + 64 x 6 + 241 x 2 + 240 x 64 bytes before the code, which is no longer than the program, and 64 x 4 of tail: proved
+     * (`image-bytes`). */
     LARDERLATE_IMAGE_BYTES = 24678
 };
 
-/* The numbers of an answer, in the order in which a call judges, with the place of each in parentheses. Of the faults under one
- * number the lowest is given; 7 and 8 are judged together in order of offset, and so are 12 and 13. */
+/* The numbers of an answer, with the place of each in parentheses, in the order in which a call judges: 1; then 2 to 6 together,
+ * command after command; then the others, of each the lowest, 7 and 8 together in order of offset, and so 12 and 13. */
 enum {
     LARDERLATE_DONE = 0,
 
@@ -117,8 +120,8 @@ static inline uint32_t larderlate_value(uint64_t answer)
 }
 
 /* Checks the program and the schedule and writes their image and its tail to the start of the buffer `image`. The answer's value is
- * how many bytes these are, L + 4N; bytes of the buffer past that stay. Gives 1 to 17. A buffer of length 0 is a way to ask for
- * L + 4N: 17 has it as its place. */
+ * how many bytes these are, L + 4N; bytes of the buffer past that stay. Gives 1 to 17. A buffer of length 0 (its pointer
+ * not null) is a way to ask for L + 4N: 17 has it as its place. */
 uint64_t larderlate_compile(const uint8_t *program, size_t program_length,
                             const uint8_t *schedule, size_t schedule_length,
                             uint8_t *image, size_t image_length);

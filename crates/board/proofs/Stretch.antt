@@ -132,8 +132,12 @@ cycle-case lent words samples =
     go true true true false w l p m =
         cycle-stays (fault 23 0)
         (λ h i. absurd
-        (omega (arith, few-signals (imagePart lent) (lent-formed lent w), leb-false (countOf (imagePart lent))
-            (length samples) m)))
+        (omega (
+          arith,
+          few-signals (imagePart lent) (lent-formed lent w),
+          leb-false (countOf (imagePart lent))
+              (length samples) m,
+        )))
         (Answers.cycle-samples (lends lent w) words samples (lent-formed lent w) l p m)
     go true true true true w l p m =
         cycle-does w

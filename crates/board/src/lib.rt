@@ -240,7 +240,13 @@ fn cycle_place(
         return stopped(OUTSIDE);
     }
     let end = start + size;
-    machine::cycle(&images[start..end], &mut words[..], samples)
+    let lent = &images[start..end];
+    let number = machine::judge_cycle(lent, &words[..], samples);
+    if 0 < number {
+        return stopped(number);
+    }
+    let total = machine::run_cycle(image_check::image_in(lent), &mut words[..], samples);
+    Cycled::Commands(total)
 }
 
 // Runs one cycle of a place on its own words and samples.

@@ -121,11 +121,6 @@ unfolding EndedAt
 ended-refused (accepted puts) r f h e = let z : _≡_ {A = ℕ} 0 1 = cc in absurd (omega arith)
 ended-refused (refused g) r f h e = let same : g ≡ f = cc in ap refused same
 
-pub scheduled-refused : (p : Program) (o : Outcome Schedule) (r : Placing) (f : Fault) → o ≡ refused f →
-    r .judged ≡ Judged.Refused f → ScheduledAs p o r
-unfolding ScheduledAs
-scheduled-refused p o r f e h = rw e h
-
 -- The steps are those of the verdict.
 rates-then : {B : Type 0} (p : Program) (next : ℕ → Outcome B) →
     ratesOf p ▷ next ≡ declaredAndRated p ▷ λ _. hypercycle p ▷ λ h. linked p ▷ λ _. next h

@@ -1,8 +1,8 @@
 -- One turn of the check of a code, by the byte of the command. Assumes nothing.
-use mathlib.Core.Path.{_≡_, refl, sym, ap, _∙_, subst}
+use mathlib.Core.Path.{_≡_, refl, sym, _∙_, subst}
 use mathlib.Core.Bool.{Bool, true, false, cond, _&&_}
 use mathlib.Core.List.{List}
-use Prim.Native.Nat.{ℕ, zero, suc, _+_, _-_, _*_, _%_, _/_, _≤_, _<_}
+use Prim.Native.Nat.{ℕ, zero, suc, _+_, _-_, _*_, _≤_, _<_}
 use native.Mathlib.Omega.{arith}
 use native.Mathlib.Numerals.{unary-clauses}
 use borrow.Author.Tests.{eqb-true, leb-true, leb-false, ltb-true, ltb-false, le-leb, lt-leb, lt-ltb, le-ltb}
@@ -10,16 +10,10 @@ use lib.Dec.{leb, ltb, eqb}
 use lib.ListN.{length}
 use Rattle.model.specs.Machine.{operatorCode, wholeCode, codeAt, commandOk, codeOkFrom}
 use Rattle.model.specs.Word.{byteAt, wordAt}
-use Rattle.model.specs.declared.Binary.{Binary}
-use Rattle.model.specs.declared.Binary.the-variants.{Add, Sub, Mul, Less, Same, Min, Max}
 use Rattle.model.specs.declared.Code.{Code}
 use Rattle.model.specs.declared.Code.the-variants as Code
+use Rattle.model.proofs.Tests.{by}
 use Rattle.code_check.specs.Shape.{shapeOf, lengthOf, afterOf, lastOf}
-
--- a choice by how a test came out
-by : {X : Type 0} (b : Bool) → (b ≡ true → X) → (b ≡ false → X) → X
-by true f g = f refl
-by false f g = g refl
 
 -- the command whose byte is b
 abbrev pub commandOf : ℕ → List ℕ → ℕ → Code

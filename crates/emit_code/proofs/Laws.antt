@@ -27,6 +27,7 @@ use Rattle.model.proofs.Command.{enum}
 use Rattle.model.proofs.Commands.{command-sound}
 use Rattle.model.proofs.Heights.{height-some}
 use Rattle.model.proofs.Stretches.{sets-append}
+use Rattle.model.proofs.Written.{decoded}
 use Rattle.model.specs.Grammar.{Spells}
 use Rattle.emit_code.specs.Code.{Puts, Room, Emits}
 use Rattle.emit_code.specs.Shape.{Lead, noLead, leadOf}
@@ -68,17 +69,17 @@ module _ {text : List ℕ} where
   unfolding exprCode codeOfAll commandsOfAll heightOfAll
   opens (Spells.constants {w = w} e) = (
     Command.Constant w,
-    e,
+    decoded e,
     record { operator = refl; operands = []; spelled = none; arity = refl; code = refl; commands = refl; height = refl; deep = λ d h. tt },
   )
   opens (Spells.reads {kind = kind} {x = x} e a) = (
     Command.Read kind x,
-    e,
+    decoded e,
     record { operator = refl; operands = []; spelled = none; arity = refl; code = refl; commands = refl; height = refl; deep = λ d h. tt },
   )
   opens (Spells.two {operator = operator} {x = x} {y = y} e u v) = (
     Command.Binary operator,
-    e,
+    decoded e,
     record {
       operator = refl;
       operands = x ∷ y ∷ [];
@@ -92,7 +93,7 @@ module _ {text : List ℕ} where
   )
   opens (Spells.one {x = x} e u) = (
     Command.Negate,
-    e,
+    decoded e,
     record {
       operator = refl;
       operands = x ∷ [];
@@ -106,7 +107,7 @@ module _ {text : List ℕ} where
   )
   opens (Spells.three {x = x} {y = y} {z = z} e u v w) = (
     Command.If,
-    e,
+    decoded e,
     record {
       operator = refl;
       operands = x ∷ y ∷ z ∷ [];

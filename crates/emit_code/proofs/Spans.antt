@@ -16,7 +16,7 @@ use Rattle.model.specs.declared.Command.{Command}
 use Rattle.model.specs.declared.Kind.{Kind}
 use Rattle.model.specs.declared.Kind.the-variants.{Now, Last, When, LastWhen, Current}
 use Rattle.model.proofs.Commands.{command-sound}
-use Rattle.model.proofs.Written.{command-written}
+use Rattle.model.proofs.Written.{decoded}
 use Rattle.model.specs.Grammar.{Spells}
 use Rattle.commands.specs.Operator.{operatorAt}
 use Rattle.commands.proofs.Operands.{command-is}
@@ -25,8 +25,8 @@ use Rattle.emit_code.specs.Shape.{leadOf}
 -- What spells an expression lies within the text.
 module _ {text : List ℕ} where
   pub inside : {at n : ℕ} {e : Expr} → Spells leastFactor text at e n → n ≤ length text
-  inside (Spells.constants {at = at} e) = command-sound text at _ e .1
-  inside (Spells.reads {at = at} e a) = command-sound text at _ e .1
+  inside (Spells.constants {at = at} e) = command-sound text at _ (decoded e) .1
+  inside (Spells.reads {at = at} e a) = command-sound text at _ (decoded e) .1
   inside (Spells.two e u v) = inside v
   inside (Spells.one e u) = inside u
   inside (Spells.three e u v w) = inside w
@@ -69,8 +69,8 @@ pub operator-is : {text : List ℕ} {at n : ℕ} {e : Expr} → Spells leastFact
 operator-is {text} {at} u = command-is text at (go u)
   where
     go : {n : ℕ} {e : Expr} → Spells leastFactor text at e n → 0x20 ≤ byteAt text at
-    go (Spells.constants e) = high (command-written text at _ .0 (e, tt)) refl
-    go (Spells.reads e a) = high (command-written text at _ .0 (e, tt)) refl
-    go (Spells.two e u v) = high (command-written text at _ .0 (e, tt)) refl
-    go (Spells.one e u) = high (command-written text at _ .0 (e, tt)) refl
-    go (Spells.three e u v w) = high (command-written text at _ .0 (e, tt)) refl
+    go (Spells.constants e) = high e refl
+    go (Spells.reads e a) = high e refl
+    go (Spells.two e u v) = high e refl
+    go (Spells.one e u) = high e refl
+    go (Spells.three e u v w) = high e refl

@@ -15,7 +15,7 @@ use Rattle.model.proofs.Commands.{command-sound}
 use Rattle.model.proofs.Legal.{SpellsBody, SpellsSignal}
 use Rattle.reader.specs.Tables.{Sums, codeIn}
 use Rattle.emitter.specs.Codes.{codesFrom, CodesAt}
-use Rattle.emitter.proofs.Joined.{joined-cons}
+use Rattle.model.proofs.Stretches.{joined-cons}
 use Rattle.model.proofs.Left.{Parts, parts-length}
 
 dropped : {A : Type 0} (l : List A) (x : ℕ) (d : A) → x < length l → drop x l ≡ getD l x d ∷ drop (x + 1) l

@@ -11,7 +11,7 @@ use Rattle.model.specs.Search.{table, tableFrom, joinFrom}
 use Rattle.model.proofs.Rate.{stored-is, stored-low, stored-high, stored-none}
 use Rattle.model.proofs.Turns.{due-run, run-due}
 use Rattle.emitter.specs.Lists.{rateAt, runOf, listBy, listsBy}
-use Rattle.emitter.proofs.Joined.{joined-cons}
+use Rattle.model.proofs.Stretches.{joined-cons}
 use Rattle.emitter.proofs.Listed.{table-same, listFrom, list-starts, list-step, list-ends}
 use Rattle.model.proofs.Left.{parts-length}
 

@@ -11,6 +11,7 @@ use Rattle.model.specs.Word.{twoBytes}
 use Rattle.model.proofs.Stretches.{table-length}
 use Rattle.emitter.specs.Lists.{isDue, listBy, listsBy, pairs}
 use Rattle.model.proofs.Left.{Parts}
+use Rattle.model.proofs.Stretches.{joined-cons}
 use Rattle.emitter.proofs.Listed.{table-starts, table-step, table-ends}
 
 -- Where the number is not looked at, it does not matter where the count starts.
@@ -18,10 +19,6 @@ pub join-any : {A B : Type 0} (f : A → List B) (i j : ℕ) (xs : List A) → j
 unfolding joinFrom
 join-any f i j [] = refl
 join-any f i j (x ∷ xs) = ap (λ l. f x ++ l) (join-any f (suc i) (suc j) xs)
-
-pub joined-cons : (x : List ℕ) (xs : List (List ℕ)) → joined (x ∷ xs) ≡ x ++ joined xs
-unfolding joinFrom
-joined-cons x xs = ap (λ l. x ++ l) (join-any (λ y. y) 1 0 xs)
 
 pub pairs-cons : (o : ℕ) (os : List ℕ) → pairs (o ∷ os) ≡ twoBytes o ++ pairs os
 unfolding joinFrom

@@ -6,23 +6,10 @@ use Prim.Native.Nat.{ℕ, zero, suc, _+_, _≤_, _<_}
 use native.Mathlib.Nat.{eq-or-lt-of-le, le-of-suc-le-suc, not-suc-le-zero}
 use native.Mathlib.Numerals.{add-one}
 use native.Mathlib.Omega.{arith}
-use borrow.Author.Tests.{ltb-true, ltb-false, lt-ltb, le-ltb}
+use borrow.Author.Tests.{ltb-true, lt-ltb}
 use lib.Dec.{ltb}
 use Rattle.model.specs.Search.{allBelow}
-
-pub never : {X : Type 0} → false ≡ true → X
-never p = absurd (no p)
-  where
-    no : false ≡ true → ⊥
-    no p = let z : _≡_ {A = ℕ} 0 1 = cc in omega arith
-
-pub by : {X : Type 0} (b : Bool) → (b ≡ true → X) → (b ≡ false → X) → X
-by true f g = f refl
-by false f g = g refl
-
-pub both : (a b : Bool) → (a && b) ≡ true → (a ≡ true) × (b ≡ true)
-both true b h = (refl, h)
-both false b h = never h
+use Rattle.model.proofs.Tests.{never, by, both}
 
 pub second-fails : (a b : Bool) → b ≡ false → (a && b) ≡ false
 second-fails true b h = h

@@ -11,7 +11,7 @@ use Rattle.model.specs.Image.{withTail}
 use Rattle.model.specs.Machine.{countOf, statedLength, headOk, wellFormed, imagePart, lengthOk, lentOk}
 use Rattle.model.proofs.Tails.{headed, lent-formed}
 use Rattle.image_check.specs.Lends.{Lends}
-use Rattle.image_check.proofs.All.{never, by}
+use Rattle.model.proofs.Tests.{never, by}
 use Rattle.image_check.proofs.Parts.{without-head}
 
 empty-formed : wellFormed [] ≡ false

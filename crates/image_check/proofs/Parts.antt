@@ -15,7 +15,8 @@ use Rattle.model.specs.Image.{listsAt}
 use Rattle.model.specs.Machine.{stretch, hyperOf, countOf, listOffset, codeOffset, listOf, codeOf, codeOk, headOk, listsOk, entriesOk, codesOk, wellFormed}
 use Rattle.model.specs.Search.{allBelow}
 use Rattle.model.specs.Word.{byteAt, twoAt}
-use Rattle.image_check.proofs.All.{never, by, both, all-none, all-fails, all-same, all-at}
+use Rattle.image_check.proofs.All.{all-none, all-fails, all-same, all-at}
+use Rattle.model.proofs.Tests.{never, by, both}
 
 pub record Head (image : List ℕ) : Type 0 where
   pub four : 4 ≤ length image

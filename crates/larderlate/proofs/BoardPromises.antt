@@ -4,9 +4,10 @@ use mathlib.Core.List.{List, _∷_}
 use mathlib.Core.Path.{_≡_, subst}
 use lib.IntN.{ℤ}
 use lib.ListN.{length}
-use Rattle.model.specs.Calls.{Supplied, Holds}
+use Rattle.model.specs.Calls.{stateBy, logBy, Supplied, Holds}
 use Rattle.model.specs.Compile.{pairOf}
 use Rattle.model.specs.Image.{imageOf}
+use Rattle.model.specs.Lists.{KeptBy}
 use Rattle.model.specs.Machine.{stretch}
 use Rattle.model.specs.Outcome.{accepted}
 use Rattle.model.specs.Program.{Program}
@@ -14,14 +15,13 @@ use Rattle.model.specs.Reads.{settled}
 use Rattle.model.specs.Schedule.{Schedule}
 use Rattle.model.specs.Streams.{Satisfies}
 use Rattle.model.specs.Tail.{Bears}
-use Rattle.model.proofs.Bytes.{stateBy, logBy}
 use Rattle.model.proofs.Commands as Texts
 use Rattle.board.specs.Board.{placeWords}
 use Rattle.board.specs.Events.{Event, load, Scene, loadBy, afterEvent, afterEvents, Throughout, Untouched, ownCycles}
 use Rattle.board.proofs.Promises.{place-alone, place-cycles}
-use Rattle.larderlate.proofs.Promises.{Kept, calls-hold}
+use Rattle.larderlate.proofs.Promises.{calls-hold}
 
--- A place whose stretch keeps demand 3 by itself (`Kept`), with c the number of turns that ran it since its load: word 0 is the
+-- A place whose stretch keeps demand 3 by itself (`KeptBy`), with c the number of turns that ran it since its load: word 0 is the
 -- remainder of c by H, signal x its element floor((c − 1 − p)/P), or its initial word if c ≤ p, of every stream that satisfies the
 -- equations with the samples that these turns were lent for the place; words beyond N are as before the load.
 place-kept : (program schedule : List ℕ) (p : Program) (q : Schedule) (h : ℕ) (s : Scene) (k start size n : ℕ) →
@@ -30,7 +30,7 @@ place-kept : (program schedule : List ℕ) (p : Program) (q : Schedule) (h : ℕ
     let image = stretch (s .images) start (start + size) in
     let cycles = ownCycles k (afterEvent s (load k start size)) es in
     let old = placeWords k (s .state) in
-    Kept program schedule p q h image old cycles → Supplied p q (logBy image old cycles) inputs →
+    KeptBy program schedule p q h image old cycles → Supplied p q (logBy image old cycles) inputs →
     Satisfies p (settled p q) inputs X →
     Holds p q h X old (length cycles) (placeWords k (afterEvents s (load k start size ∷ es) .state))
 place-kept program schedule p q h s k start size n four a es free inputs X kept supplied satisfied =
@@ -56,5 +56,5 @@ module _ (program schedule : List ℕ) (bytes : Texts.Bytes program) (p : Progra
       Holds p q h X old (length cycles) (placeWords k (afterEvents s (load k start size ∷ es) .state))
   place-streams s k start size n four a tail bears es free inputs X =
       place-kept program schedule p q h s k start size n four a es free inputs X
-      (calls-hold program schedule bytes p q h e bears (placeWords k (s .state))
+      (calls-hold program schedule bytes p q h e tail (stretch (s .images) start (start + size)) bears (placeWords k (s .state))
       (place-cycles s k start size n four a es free .0) (ownCycles k (afterEvent s (load k start size)) es))

@@ -2,4 +2,5 @@
 pub mod TailCode
 pub mod Promises
 pub mod BoardPromises
+pub mod BoardCodes
 pub mod BoardCalls

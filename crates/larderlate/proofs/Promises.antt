@@ -4,107 +4,117 @@
 use Prim.Native.Nat.{ℕ, suc, _+_, _*_, _%_, _^_, _≤_, _<_}
 use mathlib.Core.Bool.{Bool, true, false}
 use mathlib.Core.List.{List, [], _∷_, _++_, map}
-use mathlib.Core.Logic.{_↔_}
-use mathlib.Core.Path.{_≡_, refl, sym, ap, subst, subst₂, _∙_}
+use mathlib.Core.Logic.{_↔_, _⊎_}
+use mathlib.Core.Path.{_≡_, refl, sym, ap, ap₂, subst, subst₂, _∙_}
 use native.Mathlib.Nat.{mod-eq-of-lt}
 use native.Mathlib.Omega.{arith}
-use borrow.Author.Tests.{ltb-true, le-leb, lt-leb}
+use borrow.Author.Tests.{le-leb, lt-leb}
 use lib.Dec.{leb, ltb}
 use lib.IntN.{ℤ, pos}
-use lib.ListN.{length, getD, drop}
-use Rattle.model.specs.Accepted.{All, Accepted, Multiple}
-use Rattle.model.specs.Calls.{Call, callOf, after, logAfter, Supplied, Holds}
+use lib.ListN.{length, getD, take, drop}
+use Rattle.model.specs.Accepted.{SettlesAt, Accepted}
+use Rattle.model.specs.Calls.{Call, callOf, stateBy, logBy}
+use Rattle.model.specs.Command.{commandAt}
 use Rattle.model.specs.Compile.{Pair, pairOf, verdictOf, compileOf}
-use Rattle.model.specs.Conditions.{_among_, LegalPairWith, LegalPair}
+use Rattle.model.specs.Conditions.{_among_, ReadIn, LegalPairWith, LegalPair}
 use Rattle.model.specs.Conversion.{earlierFactor, ConvertsExactly, ConversionKeeps}
 use Rattle.model.specs.Decimal.{natural, decimal, lineOf, SaysNumber, SaysWord}
+use Rattle.model.specs.Exactness.{
+  Exactly,
+  sizeOf,
+  Compiles,
+  CompileRefusedAt,
+  Resets,
+  ResetRefusedAt,
+  Cycles,
+  CycleRefusedAt,
+}
 use Rattle.model.specs.Height.{Within}
 use Rattle.model.specs.Image.{lengthOf, imageOf, tailOf, writtenOf, writtenLength}
 use Rattle.model.specs.Latency.{readsBack, backwards, back, source, latencyOf}
-use Rattle.model.specs.Machine.{Effect, Job, effect, isPosition, hyperOf, countOf, statedLength, listOf, codeOf, countSignals}
-use Rattle.model.specs.Machine.{wellFormed, imagePart, lentOk, resetWords, cycleWords, cycleCount, resetOf, cycleOf}
+use Rattle.model.specs.Lists.{Kept, KeptBy, Memory, afterReset, Lent, owns, leftAll, ownAnswers, ownLog, OthersRefused, AsWithout}
+use Rattle.model.specs.Lists.{SettleAlike, Agree, EndsWith}
+use Rattle.model.specs.Machine.{effect, isPosition, hyperOf, countOf, statedLength, listOf, codeOf, countSignals}
+use Rattle.model.specs.Machine.{wellFormed, imagePart, lentOk, cycleWords, cycleCount, resetOf, cycleOf, codeAt}
 use Rattle.model.specs.Outcome.{Outcome, accepted, refused, refuse, fault, _▷_, provided}
-use Rattle.model.specs.Program.{Program, Chain, count, signalAt, bodyReads, parseWith, parseProgram}
+use Rattle.model.specs.Program.{Program, Chain, Read, count, signalAt, parseWith, parseProgram}
 use Rattle.model.specs.Rates.{hypercycle}
 use Rattle.model.specs.Reads.{rateOf, runCycle, settled}
 use Rattle.model.specs.Report.{highest, countsOf, toldOf, reportOf}
 use Rattle.model.specs.Reach.{WidthsListed}
 use Rattle.model.specs.Refusals.{RefusedAt}
 use Rattle.model.specs.Rewrite.{rewrite, convertOf}
-use Rattle.model.specs.Schedule.{Schedule, phaseOf}
+use Rattle.model.specs.Schedule.{Schedule, phaseOf, scheduleCommandAt}
 use Rattle.model.specs.Script.{Action, scriptOf, noSamples, callsFrom, cyclesOf}
 use Rattle.model.specs.Streams.{Satisfies}
 use Rattle.model.specs.Tail.{tailIn, Bears, Tells}
 use Rattle.model.specs.Trial.{trialOf, wordsAfter, inputsOf}
 use Rattle.model.specs.TrialRefusals.{LegalScript, TrialRefusedAt}
-use Rattle.model.specs.Word.{NearestResults}
+use Rattle.model.specs.WellFormed.{WellFormed}
+use Rattle.model.specs.Word.{byteAt, NearestResults}
+use Rattle.model.specs.Written.{
+  Written,
+  Cut,
+  Outside,
+  NoCommandByte,
+  Whole,
+  PutWritten,
+  PutCut,
+  NoPutByte,
+  PutWhole,
+  CodeWritten,
+  CodeWhole,
+}
+use Rattle.model.specs.declared.Code.{Code}
+use Rattle.model.specs.declared.Command.{Command}
+use Rattle.model.specs.declared.Command.the-variants as Command
 use Rattle.model.specs.declared.Fault.{Fault}
 use Rattle.model.specs.declared.Found.the-variants.{At}
-use Rattle.model.specs.declared.Index.the-variants.{Open}
+use Rattle.model.specs.declared.ScheduleCommand.{ScheduleCommand}
+use Rattle.model.specs.declared.ScheduleCommand.the-variants as ScheduleCommand
 use Rattle.model.specs.declared.Sizes.{Sizes}
-use Rattle.model.proofs.Alike.{open-alike, alike-satisfy}
-use Rattle.model.proofs.AlikeBytes.{Agree, Ends, element-alike}
+use Rattle.model.proofs.Among as Among
 use Rattle.model.proofs.Bounds.{Bounded}
-use Rattle.model.proofs.Bytes as Bytes
-use Rattle.model.proofs.Bytes.{answerTo, stateBy, logBy}
+use Rattle.model.proofs.CallsExact as CallsExact
 use Rattle.model.proofs.Commands as Texts
 use Rattle.model.proofs.Counts.{cycle-count, counts-length, counts-at, counts-past, count-fits}
 use Rattle.model.proofs.Conversions as Conversions
 use Rattle.model.proofs.Decimals as Decimals
+use Rattle.model.proofs.Demand as Demand
 use Rattle.model.proofs.Exact as Exact
 use Rattle.model.proofs.Examples as Examples
-use Rattle.model.proofs.Formed.{image-well-formed}
+use Rattle.model.proofs.FormedExactly as FormedExactly
 use Rattle.model.proofs.Heights.{stack-least, stack-31}
 use Rattle.model.proofs.Latency as Latency
 use Rattle.model.proofs.Legal.{signal-label}
 use Rattle.model.proofs.Nearest as Nearest
+use Rattle.model.proofs.Numbers as Numbers
 use Rattle.model.proofs.Outcomes.{accepted≢refused}
 use Rattle.model.proofs.Offsets.{OffsetsFit, offsets-fit}
-use Rattle.model.proofs.Places.{places-small, places-zero}
+use Rattle.model.proofs.Places.{refusal-small, places-small, places-zero}
+use Rattle.model.proofs.Refused as Refused
 use Rattle.model.proofs.Scripts.{script-actions}
-use Rattle.model.proofs.Stretches.{image-length, image-count, length-bytes}
+use Rattle.model.proofs.Settled as Settled
+use Rattle.model.proofs.Stretches.{image-length, length-bytes}
 use Rattle.model.proofs.Tails as Tails
 use Rattle.model.proofs.Tails.{lent-formed, part-bytes, tail-length, tail-tells, written-bears, written-length}
 use Rattle.model.proofs.TrialLines.{tried-count, tried-line}
 use Rattle.model.proofs.Trials.{linesOf, Tried, trial-refused, trial-accepts}
 use Rattle.model.proofs.Unique as Unique
 use Rattle.model.proofs.Widths as Widths
-use Rattle.larderlate.specs.Code.{codeNumber}
+use Rattle.model.proofs.Written as Commands
+use Rattle.larderlate.specs.Code.{codeNumber, Codable, lengthIn, lengthOfTail}
 use Rattle.model.proofs.Verdict.{pair-passed, pair-accepted, pair-multiple, pair-bounded}
 
 -- Demand 1, total. That every call ends, whatever it is lent, is in the contracts: none has a `requires`. A refused call
 -- changes nothing.
-refused-left : {A : Type 0} (lent : List A) (o : Outcome (Job A)) (f : Fault) → effect lent o .answer ≡ refused f →
-    effect lent o .left ≡ lent
-refused-left lent (accepted job) f e = let z : _≡_ {A = ℕ} 0 1 = cc in absurd (omega arith)
-refused-left lent (refused g) f e = refl
-
 pub compile-keeps : (program schedule buffer : List ℕ) (f : Fault) →
     compileOf program schedule buffer .answer ≡ refused f → compileOf program schedule buffer .left ≡ buffer
-unfolding compileOf
-compile-keeps program schedule buffer f e =
-    refused-left buffer
-    (verdictOf program schedule ▷ λ image.
-    provided (leb (length image) (length buffer)) 17 (length image) ▷ λ _.
-    accepted (record { yields = length image; leaves = image ++ drop (length image) buffer })) f e
+compile-keeps = Refused.compile-keeps
 
 pub call-keeps : (lent : List ℕ) (state : List ℤ) (c : Call) (f : Fault) → callOf lent state c .answer ≡ refused f →
     callOf lent state c .left ≡ state
-unfolding callOf resetOf cycleOf
-call-keeps lent state Call.reset f e =
-    let image = imagePart lent in
-    refused-left state
-    (provided (lentOk lent) 20 0 ▷ λ _.
-    provided (ltb (countOf image) (length state)) 21 0 ▷ λ _.
-    accepted (record { yields = 0; leaves = resetWords image state })) f e
-call-keeps lent state (Call.cycle samples) f e =
-    let image = imagePart lent in
-    refused-left state
-    (provided (lentOk lent) 20 0 ▷ λ _.
-    provided (ltb (countOf image) (length state)) 21 0 ▷ λ _.
-    provided (isPosition (hyperOf image) (getD state 0 (pos 0))) 22 0 ▷ λ _.
-    provided (leb (countOf image) (length samples)) 23 0 ▷ λ _.
-    accepted (record { yields = cycleCount image state; leaves = cycleWords image state samples })) f e
+call-keeps = Refused.call-keeps
 
 -- Demand 2, exact. A pair is accepted exactly if it is legal by the paper; each refusal comes under its stated condition, in
 -- the stated order, and under no other.
@@ -305,26 +315,53 @@ tail-alike image tail tail′ lent lent′ formed b b′ state c =
 pub widths-listed : WidthsListed
 widths-listed = Widths.widths-listed
 
--- After a reset that is not refused and any list of resets and cycles, all lent the pair's image with a tail or without: no reset
--- is refused, and a cycle exactly when it is lent fewer than N samples (23); a cycle that is not refused answers the report's count
--- of its position. The position, word 0, is the remainder of c by H, where c is the number of cycles since the latest reset; signal
--- s holds its element floor((c − 1 − p)/P), or its initial word if c ≤ p, of every stream that satisfies the equations with the
--- inputs that the cycles were lent; words beyond N are as before the first reset.
-pub record Kept (program schedule : List ℕ) (p : Program) (s : Schedule) (h : ℕ) (lent : List ℕ) (old : List ℤ) (cs : List Call) :
-    Type 0 where
-  pub answers : (counts : List ℕ) (c : Call) → callOf lent (stateBy lent old cs) c .answer ≡
-      answerTo p (reportOf program schedule counts .left) (length (logBy lent old cs) % h) c
-  pub holds : (inputs X : ℕ → ℕ → ℤ) → Supplied p s (logBy lent old cs) inputs → Satisfies p (settled p s) inputs X →
-      Holds p s h X old (length (logBy lent old cs)) (stateBy lent old cs)
+-- A command is decoded exactly where its bytes are written, each case of the enum with its byte and its operands: in a program
+-- text, in a schedule text and in an image's code.
+pub command-written : (text : List ℕ) (at : ℕ) (c : Command) → ((commandAt text at ≡ c) × Whole c) ↔ Written text at c
+command-written = Commands.command-written
+
+pub put-written : (text : List ℕ) (at : ℕ) (c : ScheduleCommand) →
+    ((scheduleCommandAt text at ≡ c) × PutWhole c) ↔ PutWritten text at c
+put-written = Commands.put-written
+
+pub code-written : (code : List ℕ) (at : ℕ) (c : Code) → ((codeAt code at ≡ c) × CodeWhole c) ↔ CodeWritten code at c
+code-written = Commands.code-written
+
+-- It is decoded as one that ends early exactly if no byte is left or it is cut, as one out of range exactly if an operand is
+-- outside its range, and as unknown exactly if its byte is no command.
+pub command-cut : (text : List ℕ) (at : ℕ) → (commandAt text at ≡ Command.EndsEarly) ↔ ((length text ≤ at) ⊎ Cut text at)
+command-cut = Commands.command-cut
+
+pub command-outside : (text : List ℕ) (at : ℕ) → (commandAt text at ≡ Command.OutOfRange) ↔ Outside text at
+command-outside = Commands.command-outside
+
+pub command-unknown : (text : List ℕ) (at : ℕ) →
+    (commandAt text at ≡ Command.Unknown) ↔ ((at < length text) × NoCommandByte (byteAt text at))
+command-unknown = Commands.command-unknown
+
+pub put-cut : (text : List ℕ) (at : ℕ) →
+    (scheduleCommandAt text at ≡ ScheduleCommand.EndsEarly) ↔ ((length text ≤ at) ⊎ PutCut text at)
+put-cut = Commands.put-cut
+
+pub put-unknown : (text : List ℕ) (at : ℕ) →
+    (scheduleCommandAt text at ≡ ScheduleCommand.Unknown) ↔ ((at < length text) × NoPutByte (byteAt text at))
+put-unknown = Commands.put-unknown
+
+-- The index settled: in an accepted pair a fixed read has its own; of an open read exactly one i from 0 to n − 1 meets its line,
+-- and that is the index settled.
+pub settled-exactly : (program schedule : List ℕ) (q : Pair) → pairOf program schedule ≡ accepted q → (r : ℕ) (ρ : Read) →
+    ReadIn (q .program) r ρ → (i : ℕ) →
+    let p = q .program in
+    let s = q .schedule in
+    let x = ρ .operands in
+    SettlesAt (ρ .kind) (rateOf p s (x .signal)) (rateOf p s r) (x .factor) (x .index) i ↔ (i ≡ settled p s r ρ)
+settled-exactly program schedule q e = Settled.settled-exactly program schedule q (accepted-exactly program schedule q .0 e)
 
 -- An accepted pair.
 module _ (program schedule : List ℕ) (bytes : Texts.Bytes program) (p : Program) (s : Schedule) (h : ℕ)
     (e : pairOf program schedule ≡ accepted (record { program = p; schedule = s; hypercycle = h })) where
   accepts : Accepted p s
   accepts = pair-accepted program schedule _ e
-
-  whole : Multiple p h
-  whole = pair-multiple program schedule _ e
 
   bounded : Bounded p s h
   bounded = pair-bounded program schedule _ e bytes
@@ -333,7 +370,7 @@ module _ (program schedule : List ℕ) (bytes : Texts.Bytes program) (p : Progra
   both-length = written-length p s h ∙ ap (λ (n : ℕ). n + 4 * count p) (sym (image-length p s h))
 
   image-formed : wellFormed (imageOf p s h) ≡ true
-  image-formed = image-well-formed p s h accepts whole bounded
+  image-formed = Demand.image-formed program schedule bytes p s h e
 
   pub one-image : OneImage program schedule p s h (imageOf p s h) (tailOf p s)
   unfolding verdictOf compileOf _▷_ provided writtenOf
@@ -374,126 +411,46 @@ module _ (program schedule : List ℕ) (bytes : Texts.Bytes program) (p : Progra
       (x j : ℕ) → x < count p → X x j ≡ Y x j
   streams-unique inputs = Unique.streams-unique p s accepts inputs
 
-  reset-long : (old : List ℤ) → resetOf (imageOf p s h) old .answer ≡ accepted 0 → count p < length old
-  unfolding resetOf _▷_ provided
-  reset-long old r =
-      let own = Tails.bears-itself (imageOf p s h) in
-      go (ltb (count p) (length old)) refl
-      (rw (Tails.lent-ok image-formed own, Tails.part-is image-formed own, image-count p s h) at r)
-    where
-      go : (b : Bool) → ltb (count p) (length old) ≡ b →
-          effect old (provided b 21 0 ▷ λ _. accepted (record { yields = 0; leaves = resetWords (imageOf p s h) old })) .answer ≡
-          accepted 0 → count p < length old
-      go true q t = ltb-true (count p) (length old) q
-      go false q t = let z : _≡_ {A = ℕ} 0 1 = cc in absurd (omega arith)
+  -- After a reset that is not refused, any list of resets and cycles, all lent the pair's image with a tail or without: no reset
+  -- is refused, and a cycle exactly when it is lent fewer than N samples (23); a cycle that is not refused answers the report's
+  -- count of its position. With c the number of cycles since the latest reset, word 0 is the remainder of c by H; signal s holds
+  -- its element floor((c − 1 − p)/P), or its initial word if c ≤ p, of every stream that satisfies the equations with the inputs
+  -- that the cycles were lent; words beyond N are as before the first reset.
+  pub calls-hold : (tail lent : List ℕ) → Bears (imageOf p s h) tail lent → (old : List ℤ) →
+      resetOf lent old .answer ≡ accepted 0 → (cs : List Call) → KeptBy program schedule p s h lent old cs
+  calls-hold tail lent bears = Demand.calls-hold program schedule bytes p s h e bears
 
-  -- What is lent bears the pair's image.
-  module _ {tail lent : List ℕ} (bears : Bears (imageOf p s h) tail lent) where
-    reset-alike : (old : List ℤ) → resetOf lent old ≡ resetOf (imageOf p s h) old
-    unfolding callOf
-    reset-alike old = Tails.call-alike image-formed bears old Call.reset
+  -- The same with calls in between that are lent something else and are refused: any image with any stretch of the state, or a
+  -- compile or conversion with any stretch of the image's own buffer, whose first `size` bytes the calls of the list are lent.
+  pub calls-among : (size : ℕ) (buffer tail : List ℕ) → Bears (imageOf p s h) tail (take size buffer) → (old : List ℤ) →
+      resetOf (take size buffer) old .answer ≡ accepted 0 → (ls : List Lent) →
+      let m = afterReset size buffer old in
+      OthersRefused size m ls →
+      Kept program schedule p s h old (owns ls) (ownAnswers size m ls) (ownLog size m [] ls) (leftAll size m ls .state)
+  calls-among = Demand.calls-among program schedule bytes p s h e
 
-    lent-long : (old : List ℤ) → resetOf lent old .answer ≡ accepted 0 → count p < length old
-    lent-long old r = reset-long old (sym (ap (λ (x : Effect ℤ). x .answer) (reset-alike old)) ∙ r)
-
-    state-alike : (old : List ℤ) (cs : List Call) → stateBy lent old cs ≡ stateBy (imageOf p s h) old cs
-    state-alike old cs =
-        Tails.list-alike image-formed bears _ cs ∙
-        ap (λ (x : Effect ℤ). after (imageOf p s h) (x .left) cs) (reset-alike old)
-
-    log-alike : (old : List ℤ) (cs : List Call) → logBy lent old cs ≡ logBy (imageOf p s h) old cs
-    log-alike old cs =
-        Tails.log-alike image-formed bears _ [] cs ∙
-        ap (λ (x : Effect ℤ). logAfter (imageOf p s h) (x .left) [] cs) (reset-alike old)
-
-    pub calls-hold : (old : List ℤ) → resetOf lent old .answer ≡ accepted 0 → (cs : List Call) →
-        Kept program schedule p s h lent old cs
-    unfolding reportOf
-    calls-hold old r cs =
-        let long = lent-long old r in
-        let log = log-alike old cs in
-        let state = state-alike old cs in
-        record {
-          answers = λ counts c.
-              ap (λ (x : Effect ℤ). x .answer) (Tails.call-alike image-formed bears (stateBy lent old cs) c) ∙
-              rw (e, log, state) (Bytes.calls-answer p s h accepts whole bounded old long cs c);
-          holds = λ inputs X sup sat.
-              rw (log, state)
-              (Bytes.calls-hold p s h accepts whole bounded old long cs inputs X
-              (subst (λ (l : List (List ℤ)). Supplied p s l inputs) log sup) sat);
-        }
-
--- Calls that are lent another image, or a damaged one, between those of the list.
-pub data Lent : Type 0 where
-  own : Call → Lent
-  other : List ℕ → Call → Lent
-
--- The calls of the list.
-abbrev pub owns : List Lent → List Call
-owns [] = []
-owns (Lent.own c ∷ ls) = c ∷ owns ls
-owns (Lent.other image c ∷ ls) = owns ls
-
--- The state after all of them, and that the others are refused.
-abbrev pub afterAll : List ℕ → List ℤ → List Lent → List ℤ
-afterAll image state [] = state
-afterAll image state (Lent.own c ∷ ls) = afterAll image (callOf image state c .left) ls
-afterAll image state (Lent.other image′ c ∷ ls) = afterAll image (callOf image′ state c .left) ls
-
-abbrev pub OthersRefused : List ℕ → List ℤ → List Lent → Type 0
-OthersRefused image state [] = Unit {0}
-OthersRefused image state (Lent.own c ∷ ls) = OthersRefused image (callOf image state c .left) ls
-OthersRefused image state (Lent.other image′ c ∷ ls) =
-    ((f : Fault) × (callOf image′ state c .answer ≡ refused f)) × OthersRefused image (callOf image′ state c .left) ls
-
--- They change nothing and are no part of the list.
-pub others-nothing : (image : List ℕ) (state : List ℤ) (ls : List Lent) → OthersRefused image state ls →
-    afterAll image state ls ≡ after image state (owns ls)
-unfolding after
-others-nothing image state [] r = refl
-others-nothing image state (Lent.own c ∷ ls) r = others-nothing image (callOf image state c .left) ls r
-others-nothing image state (Lent.other image′ c ∷ ls) (r, rs) =
-    others-nothing image (callOf image′ state c .left) ls rs ∙
-    ap (λ (st : List ℤ). after image st (owns ls)) (call-keeps image′ state c (r .0) (r .1))
-
--- So what is promised of the list holds with such calls in between.
-pub calls-among : (program schedule : List ℕ) → Texts.Bytes program → (p : Program) (s : Schedule) (h : ℕ) →
-    pairOf program schedule ≡ accepted (record { program = p; schedule = s; hypercycle = h }) → (tail lent : List ℕ) →
-    Bears (imageOf p s h) tail lent → (old : List ℤ) → resetOf lent old .answer ≡ accepted 0 → (ls : List Lent) →
-    OthersRefused lent (resetOf lent old .left) ls → (inputs X : ℕ → ℕ → ℤ) → Supplied p s (logBy lent old (owns ls)) inputs →
-    Satisfies p (settled p s) inputs X →
-    Holds p s h X old (length (logBy lent old (owns ls))) (afterAll lent (resetOf lent old .left) ls)
-calls-among program schedule bytes p s h e tail lent bears old r ls others inputs X sup sat =
-    rw (others-nothing lent (resetOf lent old .left) ls others)
-    (calls-hold program schedule bytes p s h e bears old r (owns ls) .holds inputs X sup sat)
+-- Such calls change nothing and are no part of the list.
+pub others-nothing : (size : ℕ) (m : Memory) (log : List (List ℤ)) (ls : List Lent) → OthersRefused size m ls →
+    AsWithout size m log ls
+others-nothing = Among.others-nothing
 
 -- Two accepted schedules of one program that settle alike: each open read has the same index under both.
 module _ (program schedule schedule′ : List ℕ) (bytes : Texts.Bytes program) (p : Program) (s s′ : Schedule) (h : ℕ)
     (e : pairOf program schedule ≡ accepted (record { program = p; schedule = s; hypercycle = h }))
     (e′ : pairOf program schedule′ ≡ accepted (record { program = p; schedule = s′; hypercycle = h }))
-    (alike : (x : ℕ) → x < count p →
-    All (λ ρ. ρ .operands .index ≡ Open → settled p s x ρ ≡ settled p s′ x ρ) (bodyReads (signalAt p x .body))) where
+    (alike : SettleAlike p s s′) where
   -- They have the same streams.
   pub alike-streams : (inputs X : ℕ → ℕ → ℤ) → Satisfies p (settled p s) inputs X → Satisfies p (settled p s′) inputs X
-  alike-streams = alike-satisfy p s s′ (open-alike p s s′ alike)
+  alike-streams = Demand.alike-streams program schedule schedule′ bytes p s s′ h e e′ alike
 
   -- A list of calls on the image of each, lent with a tail or without, with input elements that agree wherever both lists supply
-  -- them: if both end holding element k of signal x, it is the same word.
+  -- them: if both end holding one element of signal x, element −1 included, it is the same word.
   pub alike-words : (tail tail′ lent lent′ : List ℕ) → Bears (imageOf p s h) tail lent → Bears (imageOf p s′ h) tail′ lent′ →
       (old old′ : List ℤ) → resetOf lent old .answer ≡ accepted 0 → resetOf lent′ old′ .answer ≡ accepted 0 →
-      (cs cs′ : List Call) → Agree p s s′ (logBy lent old cs) (logBy lent′ old′ cs′) → (x k : ℕ) → x < count p →
-      Ends p s (length (logBy lent old cs)) x k → Ends p s′ (length (logBy lent′ old′ cs′)) x k →
+      (cs cs′ : List Call) → Agree p s s′ (logBy lent old cs) (logBy lent′ old′ cs′) → (x j : ℕ) → x < count p →
+      EndsWith p s (length (logBy lent old cs)) x j → EndsWith p s′ (length (logBy lent′ old′ cs′)) x j →
       getD (stateBy lent old cs) (suc x) (pos 0) ≡ getD (stateBy lent′ old′ cs′) (suc x) (pos 0)
-  alike-words tail tail′ lent lent′ b b′ old old′ r r′ cs cs′ agree x k lt ends ends′ =
-      let log = log-alike program schedule bytes p s h e b old cs in
-      let log′ = log-alike program schedule′ bytes p s′ h e′ b′ old′ cs′ in
-      rw (state-alike program schedule bytes p s h e b old cs, state-alike program schedule′ bytes p s′ h e′ b′ old′ cs′)
-      (element-alike p s s′ h (accepts program schedule bytes p s h e) (accepts program schedule′ bytes p s′ h e′)
-      (whole program schedule bytes p s h e) (bounded program schedule bytes p s h e) (bounded program schedule′ bytes p s′ h e′)
-      (open-alike p s s′ alike) old old′ (lent-long program schedule bytes p s h e b old r)
-      (lent-long program schedule′ bytes p s′ h e′ b′ old′ r′) cs cs′ (subst₂ (Agree p s s′) log log′ agree) x k lt
-      (subst (λ (l : List (List ℤ)). Ends p s (length l) x k) log ends)
-      (subst (λ (l : List (List ℤ)). Ends p s′ (length l) x k) log′ ends′))
+  alike-words = Demand.alike-words program schedule schedule′ bytes p s s′ h e e′ alike
 
 -- Two pairs of one program text are of one program, and have one hypercycle.
 pub same-program : (program schedule schedule′ : List ℕ) (q q′ : Pair) → pairOf program schedule ≡ accepted q →
@@ -567,3 +524,117 @@ decimal-says = Decimals.decimal-says
 -- The paper's examples marked m: one table, which the definitions answer by computation.
 pub examples : map (λ c. Examples.answerTo (c .question)) Examples.cases ≡ map (λ c. c .answer) Examples.cases
 examples = Examples.examples
+
+-- The calls exact. Well formed is what the paper's sentence says, point by point: the test passes exactly these images.
+pub well-formed-exactly : (image : List ℕ) → (wellFormed image ≡ true) ↔ WellFormed image
+well-formed-exactly = FormedExactly.well-formed-exactly
+
+-- Compile is refused exactly where the pair is, or with 17 where the pair is legal and the buffer shorter than its L + 4N; it
+-- yields exactly the L + 4N of a legal pair that the buffer holds.
+pub compile-exactly : (program schedule buffer : List ℕ) →
+    Exactly buffer (Compiles program schedule buffer) (CompileRefusedAt program schedule buffer)
+    (compileOf program schedule buffer)
+compile-exactly = CallsExact.compile-exactly
+
+-- A reset is refused by 20 or 21, a cycle by 20 to 23, each exactly under its condition with all earlier ones absent; else they
+-- do their job.
+pub reset-exactly : (lent : List ℕ) (state : List ℤ) →
+    Exactly state (Resets lent state) (ResetRefusedAt lent state) (resetOf lent state)
+reset-exactly = CallsExact.reset-exactly
+
+pub cycle-exactly : (lent : List ℕ) (state samples : List ℤ) →
+    Exactly state (Cycles lent state samples) (CycleRefusedAt lent state samples) (cycleOf lent state samples)
+cycle-exactly = CallsExact.cycle-exactly
+
+-- 24,678 bytes, the header's LARDERLATE_IMAGE_BYTES, hold what compile writes for every accepted pair.
+pub image-bytes : (program schedule : List ℕ) → Texts.Bytes program → (q : Pair) → pairOf program schedule ≡ accepted q →
+    (buffer : List ℕ) → 24678 ≤ length buffer → compileOf program schedule buffer .answer ≡ accepted (sizeOf q)
+image-bytes program schedule bytes q e buffer le =
+    compile-exactly program schedule buffer .done (sizeOf q) _ .1
+    (record {
+      pair = q;
+      legal = accepted-exactly program schedule q .0 e;
+      is = refl;
+      fits = omega (arith, Numbers.size-most program schedule bytes q e);
+      leaves = refl;
+    }) .0
+
+-- One number tells all: of two answers that have the same number each is the other, whichever calls gave them ..
+pub code-tells : (o o′ : Outcome ℕ) → Codable o → Codable o′ → codeNumber o ≡ codeNumber o′ → o ≡ o′
+code-tells (accepted n) (accepted m) c d e = ap accepted e
+code-tells (accepted n) (refused g) c d e = absurd (omega arith)
+code-tells (refused f) (accepted m) c d e = absurd (omega arith)
+code-tells (refused f) (refused g) c d e =
+    let p = mod-eq-of-lt (c .1) in
+    let q = mod-eq-of-lt (d .1) in
+    let number : f .number ≡ g .number = omega arith in
+    let place : f .place ≡ g .place = omega arith in
+    ap₂ (λ (n x : ℕ). refused (fault n x)) number place
+
+-- .. since lengths and places are below 2^32 and the numbers of refusals above 0, in every call.
+pub compile-codable : (program schedule buffer : List ℕ) → Texts.Bytes program →
+    Codable (compileOf program schedule buffer .answer)
+compile-codable program schedule buffer bytes = go (compileOf program schedule buffer .answer) refl
+  where
+    go : (o : Outcome ℕ) → compileOf program schedule buffer .answer ≡ o → Codable o
+    go (accepted n) e = omega (arith, Numbers.length-most program schedule buffer bytes n e)
+    go (refused f) e = (
+      Numbers.compile-number (compile-exactly program schedule buffer .refuses (f .number) (f .place) _ .0 (e, refl) .0),
+      omega (arith, places-small program schedule buffer bytes f e),
+    )
+
+pub report-codable : (program schedule counts : List ℕ) → Texts.Bytes program →
+    Codable (lengthIn (reportOf program schedule counts .answer))
+report-codable program schedule counts bytes = go (reportOf program schedule counts .answer) refl
+  where
+    go : (o : Outcome Sizes) → reportOf program schedule counts .answer ≡ o → Codable (lengthIn o)
+    go (accepted sizes) e =
+        let t = report-exactly program schedule counts .tells sizes e in
+        let q = t .0 in
+        let b = pair-bounded program schedule q (t .1) bytes in
+        omega (arith, t .2, image-length (q .program) (q .schedule) (q .hypercycle), b .size)
+    go (refused f) e =
+        let r = report-exactly program schedule counts .refuses f .0 e in
+        let at = refused-exactly program schedule (f .number) (f .place) .0 r in
+        (Numbers.pair-number at, omega (arith, refusal-small at))
+
+pub reset-codable : (lent : List ℕ) (state : List ℤ) → Codable (resetOf lent state .answer)
+unfolding callOf
+reset-codable lent state = go (resetOf lent state .answer) refl
+  where
+    go : (o : Outcome ℕ) → resetOf lent state .answer ≡ o → Codable o
+    go (accepted n) e = omega (arith, reset-exactly lent state .done n _ .0 (e, refl) .is)
+    go (refused f) e = (
+      Numbers.reset-number (reset-exactly lent state .refuses (f .number) (f .place) _ .0 (e, refl) .0),
+      omega (arith, places-zero lent state Call.reset f e),
+    )
+
+pub call-codable : (lent : List ℕ) (state : List ℤ) (c : Call) → Texts.Bytes lent → Codable (callOf lent state c .answer)
+unfolding callOf
+call-codable lent state Call.reset bytes = reset-codable lent state
+call-codable lent state (Call.cycle samples) bytes = go (cycleOf lent state samples .answer) refl
+  where
+    go : (o : Outcome ℕ) → cycleOf lent state samples .answer ≡ o → Codable o
+    go (accepted n) e = count-small lent state samples bytes n e
+    go (refused f) e = (
+      Numbers.cycle-number (cycle-exactly lent state samples .refuses (f .number) (f .place) _ .0 (e, refl) .0),
+      omega (arith, places-zero lent state (Call.cycle samples) f e),
+    )
+
+pub tail-codable : (lent : List ℕ) → Codable (lengthOfTail (tailIn lent))
+tail-codable lent = go (tailIn lent) refl
+  where
+    go : (o : Outcome (List ℕ)) → tailIn lent ≡ o → Codable (lengthOfTail o)
+    go (accepted tail) e =
+        let t = tail-exactly lent .returns tail .0 e in
+        omega (arith, Numbers.tail-most (well-formed-exactly (t .0) .0 (t .1)) (t .2))
+    go (refused f) e = rw (tail-exactly lent .alone f e) (omega arith, omega arith)
+
+pub convert-codable : (program buffer : List ℕ) → Codable (convertOf program buffer .answer)
+convert-codable program buffer = go (convertOf program buffer .answer) refl
+  where
+    go : (o : Outcome ℕ) → convertOf program buffer .answer ≡ o → Codable o
+    go (accepted n) e = omega (arith, Numbers.convert-most (convert-exactly program buffer .done n .0 e))
+    go (refused f) e =
+        let r = convert-exactly program buffer .refused-at (f .number) (f .place) .0 e in
+        (Numbers.convert-number r, omega (arith, Numbers.convert-place r))

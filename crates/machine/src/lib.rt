@@ -9,7 +9,7 @@ ghost use lib.IntN.{pos};
 ghost use lib.ListN.{length};
 ghost use Rattle.model.specs.Machine.{hyperOf, countOf, wellFormed, listOf, runSignals, countSignals, nextPosition, resetWords};
 ghost use Rattle.model.specs.Machine.{cycleWords, cycleCount, ranOf, cycledOf, resetOf, cycleOf};
-ghost use Rattle.machine.specs.Runnable.{Runnable};
+ghost use Rattle.machine.specs.Runnable.{Runnable, JudgesCycle};
 ghost use Rattle.model.specs.Outcome.{refuse};
 ghost use Rattle.model.specs.Word.{byteAt};
 
@@ -132,32 +132,43 @@ pub fn run_cycle(image: &[u8], state: &mut [i32], samples: &[i32]) -> u32
     total
 }
 
-// Runs one cycle: the list of the state's position, and then the position moves on. Yields how many commands it
-// ran.
-pub fn cycle(lent: &[u8], state: &mut [i32], samples: &[i32]) -> Cycled
-    ensures answer { λ r. ⌜ cycledOf r ≡ cycleOf (now (lent .entry)) (now (state .entry)) (now (samples .entry)) .answer ⌝ }
-    ensures left { λ _. ⌜ now (state .exit) ≡ cycleOf (now (lent .entry)) (now (state .entry)) (now (samples .entry)) .left ⌝ }
+// The number of the refusal of a cycle, 20 to 23 in their order, or 0.
+pub fn judge_cycle(lent: &[u8], state: &[i32], samples: &[i32]) -> u8
+    ensures { λ r. ⌜ JudgesCycle (now (lent .entry)) (now (state .entry)) (now (samples .entry)) r ⌝ }
 {
     let image = image_check::image_in(lent);
     if !image_check::well_formed(image) {
-        return stopped(BAD_IMAGE);
+        return BAD_IMAGE;
     }
     let h = wide(image[0]);
     let count = wide(image[1]);
     if state.len() <= count {
-        return stopped(SHORT_STATE);
+        return SHORT_STATE;
     }
     let position = state[0];
     if position < 0 {
-        return stopped(BAD_POSITION);
+        return BAD_POSITION;
     }
     let c = position as usize;
     if h <= c {
-        return stopped(BAD_POSITION);
+        return BAD_POSITION;
     }
     if samples.len() < count {
-        return stopped(FEW_SAMPLES);
+        return FEW_SAMPLES;
     }
-    let total = run_cycle(image, &mut state[..], samples);
+    0
+}
+
+// Runs one cycle, which is a judgement and a run: the list of the state's position, and then the position moves on. Yields how many
+// commands it ran.
+pub fn cycle(lent: &[u8], state: &mut [i32], samples: &[i32]) -> Cycled
+    ensures answer { λ r. ⌜ cycledOf r ≡ cycleOf (now (lent .entry)) (now (state .entry)) (now (samples .entry)) .answer ⌝ }
+    ensures left { λ _. ⌜ now (state .exit) ≡ cycleOf (now (lent .entry)) (now (state .entry)) (now (samples .entry)) .left ⌝ }
+{
+    let number = judge_cycle(lent, &state[..], samples);
+    if 0 < number {
+        return stopped(number);
+    }
+    let total = run_cycle(image_check::image_in(lent), &mut state[..], samples);
     Cycled::Commands(total)
 }

@@ -8,8 +8,9 @@ use lib.Dec.{ltb}
 use lib.IntN.{ℤ}
 use lib.ListN.{length}
 use Rattle.model.specs.Accepted.{All, Accepted, Multiple}
-use Rattle.model.specs.Calls.{Call, lentAt, IsInput, Supplied}
+use Rattle.model.specs.Calls.{Call, Supplied}
 use Rattle.model.specs.Latency.{used}
+use Rattle.model.specs.Lists.{SettleAlike, sample, Agree}
 use Rattle.model.specs.Program.{Program, count, signalAt, bodyReads}
 use Rattle.model.specs.Reads.{Rate, rateOf, runCycle, stored, indexOf, settled}
 use Rattle.model.specs.Schedule.{Schedule}
@@ -17,7 +18,7 @@ use Rattle.model.specs.Streams.{Satisfies}
 use Rattle.model.specs.declared.Index.{Index}
 use Rattle.model.specs.declared.Index.the-variants.{Fixed, Open}
 use Rattle.model.specs.declared.Kind.{Kind}
-use Rattle.model.proofs.Lists.{sampleOf, logOf, stateAfter, calls-follow}
+use Rattle.model.proofs.Lists.{logOf, stateAfter, calls-follow}
 use Rattle.model.proofs.Turns.{State, reset}
 use Rattle.model.proofs.Unique.{streams, streams-satisfy}
 use Rattle.model.proofs.Values.{next-same}
@@ -25,10 +26,6 @@ use Rattle.model.proofs.Values.{next-same}
 -- Each read has the same index under both schedules.
 abbrev pub Alike : Program → Schedule → Schedule → Type 0
 Alike p s s′ = (x : ℕ) → x < count p → All (λ ρ. settled p s x ρ ≡ settled p s′ x ρ) (bodyReads (signalAt p x .body))
-
--- The word that a log supplies for element k of input x.
-abbrev pub sample : Program → Schedule → List (List ℤ) → ℕ → ℕ → ℤ
-sample p s log x k = sampleOf (lentAt log (runCycle (rateOf p s x) k)) x
 
 all-map : {A : Type 0} (Q R : A → Type 0) → ((a : A) → Q a → R a) → (xs : List A) → All Q xs → All R xs
 all-map Q R f [] q = tt
@@ -41,8 +38,7 @@ fixed-alike kind w r w′ r′ n Open h = h refl
 
 module _ (p : Program) (s s′ : Schedule) where
   -- It is enough that each open read has the same index under both.
-  pub open-alike : ((x : ℕ) → x < count p →
-      All (λ ρ. ρ .operands .index ≡ Open → settled p s x ρ ≡ settled p s′ x ρ) (bodyReads (signalAt p x .body))) → Alike p s s′
+  pub open-alike : SettleAlike p s s′ → Alike p s s′
   unfolding settled
   open-alike h x lt =
       all-map _ _ (λ ρ. fixed-alike (ρ .kind) _ _ _ _ (ρ .operands .factor) (ρ .operands .index))
@@ -61,9 +57,8 @@ module _ (p : Program) (s s′ : Schedule) where
   -- Two lists of calls, one under each schedule, whose input elements agree wherever both supply them: where both end holding
   -- one and the same element of x, it is the same word.
   pub alike-words : (h : ℕ) → Accepted p s → Accepted p s′ → Multiple p h → Alike p s s′ → (st st′ : State) (cs cs′ : List Call) →
-      ((x k : ℕ) → x < count p → IsInput (signalAt p x .body) → runCycle (rateOf p s x) k < length (logOf p [] cs) →
-      runCycle (rateOf p s′ x) k < length (logOf p [] cs′) → sample p s (logOf p [] cs) x k ≡ sample p s′ (logOf p [] cs′) x k) →
-      (x : ℕ) → x < count p → stored (rateOf p s x) (length (logOf p [] cs)) ≡ stored (rateOf p s′ x) (length (logOf p [] cs′)) →
+      Agree p s s′ (logOf p [] cs) (logOf p [] cs′) → (x : ℕ) → x < count p →
+      stored (rateOf p s x) (length (logOf p [] cs)) ≡ stored (rateOf p s′ x) (length (logOf p [] cs′)) →
       stateAfter p s h (reset p st) cs .words x ≡ stateAfter p s′ h (reset p st′) cs′ .words x
   alike-words h acc acc′ whole alike st st′ cs cs′ agree x lt e =
       calls-follow p s h acc whole st cs .follows inputs X first sat .words x lt ∙

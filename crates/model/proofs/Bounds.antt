@@ -38,4 +38,5 @@ pub record Bounded (p : Program) (s : Schedule) (h : ℕ) : Type 0 where
   pub initials : (x : ℕ) → x < count p → SFits w32 (signalAt p x .initial)
   pub depths : (x : ℕ) → x < count p → bodyDepth (signalAt p x .body) ≤ 16
   pub constants : (x : ℕ) → x < count p → BodyWords (signalAt p x .body)
-  pub size : lengthOf p s h ≤ 65535
+  -- Head and records, offsets, lists, and code no longer than the program: 4 + 64 × 6 + 241 × 2 + 240 × 64 + 8192.
+  pub size : lengthOf p s h ≤ 24422

@@ -12,7 +12,22 @@ use lib.IntN.{ℤ, pos, negsuc}
 use lib.ListN.{length, getD, set, drop, length-append, length-drop, length-set, List·getD-append}
 use lib.Seq.{getD-append-add, getD-drop, getD-set-same, getD-set-other}
 use Rattle.model.specs.Accepted.{Accepted, Multiple}
-use Rattle.model.specs.Calls.{Call, reset, cycle, callOf, logged, after, logAfter, Supplied, Holds}
+use Rattle.model.specs.Calls.{
+  Call,
+  reset,
+  cycle,
+  callOf,
+  logged,
+  after,
+  logAfter,
+  answersOf,
+  stateBy,
+  logBy,
+  answersBy,
+  Answered,
+  Supplied,
+  Holds,
+}
 use Rattle.model.specs.Image.{runList, imageOf}
 use Rattle.model.specs.Machine.{
   codeOf,
@@ -29,7 +44,7 @@ use Rattle.model.specs.Machine.{
   resetOf,
   cycleOf,
 }
-use Rattle.model.specs.Outcome.{Outcome, accepted, refuse, _▷_, provided}
+use Rattle.model.specs.Outcome.{accepted, refuse, _▷_, provided}
 use Rattle.model.specs.Program.{Program, count, signalAt}
 use Rattle.model.specs.Reads.{rateOf, due, settled}
 use Rattle.model.specs.Report.{countsOf}
@@ -40,7 +55,7 @@ use Rattle.model.specs.Word.{wordAt}
 use Rattle.model.proofs.Bounds.{Bounded}
 use Rattle.model.proofs.Counts.{cycle-count, counts-at}
 use Rattle.model.proofs.Formed.{image-well-formed}
-use Rattle.model.proofs.Lists.{sampleOf, logOf, stateAfter, calls-position, After, machine-holds}
+use Rattle.model.proofs.Lists.{sampleOf, logOf, stateAfter, position-next, After, machine-holds}
 use Rattle.model.proofs.Runs.{run-signal}
 use Rattle.model.proofs.Stretches.{table-length, table-at, image-hyper, image-count, image-initial, list-stretch, code-stretch}
 use Rattle.model.proofs.Tails.{part-is, lent-ok, bears-itself}
@@ -90,22 +105,10 @@ pub cycle-length : (image : List ℕ) (state samples : List ℤ) → length (cyc
 unfolding cycleWords
 cycle-length image state samples = simp (length-set, run-length)
 
--- What a call on the image of a program answers, in a state that is ready: a cycle at position c the count c of the report.
-abbrev pub answerTo : Program → List ℕ → ℕ → Call → Outcome ℕ
-answerTo p counts c reset = accepted 0
-answerTo p counts c (cycle samples) = cond (ltb (length samples) (count p)) (refuse 23 0) (accepted (getD counts c 0))
-
 -- A cycle that is lent too few samples is refused by 23, and changes nothing.
 abbrev pub cycled : ℕ → List ℤ → List ℤ → Bool → Effect ℤ
 cycled n state left true = record { answer = refuse 23 0; left = state }
 cycled n state left false = record { answer = accepted n; left = left }
-
--- The state and the log after a reset and a list of calls.
-abbrev pub stateBy : List ℕ → List ℤ → List Call → List ℤ
-stateBy image old cs = after image (resetOf image old .left) cs
-
-abbrev pub logBy : List ℕ → List ℤ → List Call → List (List ℤ)
-logBy image old cs = logAfter image (resetOf image old .left) [] cs
 
 -- A reset.
 module _ (p : Program) (s : Schedule) (h : ℕ) where
@@ -150,9 +153,6 @@ pub record Shown (p : Program) (h n : ℕ) (state : List ℤ) (st : State) (log 
   pub size : length state ≡ n
   pub shows : view state ≡ st
   pub logs : log ≡ log′
-
-itself : {p : Program} {h : ℕ} {state : List ℤ} → Ready p h state → Shown p h (length state) state (view state) [] []
-itself ready = record { ready = ready; size = refl; shows = refl; logs = refl }
 
 module _ (p : Program) (s : Schedule) (h : ℕ) (acc : Accepted p s) (whole : Multiple p h) (bounded : Bounded p s h) where
   -- A run of the image's lists and codes.
@@ -231,6 +231,12 @@ module _ (p : Program) (s : Schedule) (h : ℕ) (acc : Accepted p s) (whole : Mu
           long = rw cycle-length (ready .long);
           position = rw cycle-first (lt-ltb moved h (next-below h at at-below));
         }
+
+    -- After c cycles its position is the remainder of c by the hypercycle, and after it that of c + 1.
+    cycle-position : (c : ℕ) → positionOf (getD state 0 (pos 0)) ≡ c % h →
+        positionOf (getD (cycleWords (imageOf p s h) state samples) 0 (pos 0)) ≡ suc c % h
+    unfolding at moved
+    cycle-position c e = ap positionOf cycle-first ∙ position-next c (positionOf (getD state 0 (pos 0))) h (whole .positive) e
 
     -- The number of its commands is the report's for its position.
     cycle-counts : cycleCount (imageOf p s h) state ≡ getD (countsOf p s h) (positionOf (getD state 0 (pos 0))) 0
@@ -331,23 +337,45 @@ module _ (p : Program) (s : Schedule) (h : ℕ) (acc : Accepted p s) (whole : Mu
   calls-shown (reset ∷ cs) x = calls-shown cs (reset-shown x)
   calls-shown (cycle samples ∷ cs) x = calls-shown cs (cycle-shown samples x)
 
-  -- In a state that is ready no reset is refused, and a cycle exactly if it is lent too few samples. The state stays ready.
-  pub call-answers : (state : List ℤ) (c : Call) → Ready p h state →
-      callOf (imageOf p s h) state c .answer ≡ answerTo p (countsOf p s h) (positionOf (getD state 0 (pos 0))) c
-  unfolding callOf
-  call-answers state reset ready = rw (reset-call state (ready .long))
-  call-answers state (cycle samples) ready = rw (cycle-call samples state ready) (go (ltb (length samples) (count p)))
+  -- In a state that is ready, after the cycles of the log, no call of a list is refused but a cycle with too few samples.
+  calls-answered : (cs : List Call) (state : List ℤ) (log : List (List ℤ)) → Ready p h state →
+      positionOf (getD state 0 (pos 0)) ≡ length log % h →
+      Answered p h (countsOf p s h) (length log) cs (answersOf (imageOf p s h) state cs)
+      (length (logAfter (imageOf p s h) state log cs))
+  unfolding answersOf logAfter callOf
+  calls-answered [] state log ready e = Answered.none
+  calls-answered (reset ∷ cs) state log ready e =
+      rw (reset-call state (ready .long))
+      (Answered.resets
+      (calls-answered cs (resetWords (imageOf p s h) state) [] (reset-ready state (ready .long))
+      (ap (λ (st : List ℤ). positionOf (getD st 0 (pos 0))) (reset-is p s h state) ∙ sym (zero-mod h))))
+  calls-answered (cycle samples ∷ cs) state log ready e =
+      rw (cycle-call samples state ready, e)
+      (go (ltb (length samples) (count p)) refl (calls-answered cs state log ready e)
+      (calls-answered cs (cycleWords (imageOf p s h) state samples) (samples ∷ log) (cycle-ready samples state ready)
+      (cycle-position samples state ready (length log) e)))
     where
-      go : (b : Bool) →
-          cycled (getD (countsOf p s h) (positionOf (getD state 0 (pos 0))) 0) state (cycleWords (imageOf p s h) state samples) b
-          .answer ≡ cond b (refuse 23 0) (accepted (getD (countsOf p s h) (positionOf (getD state 0 (pos 0))) 0))
-      go true = refl
-      go false = refl
+      image : List ℕ
+      image = imageOf p s h
 
-  pub call-keeps : (state : List ℤ) (c : Call) → Ready p h state → Ready p h (callOf (imageOf p s h) state c .left)
-  unfolding callOf
-  call-keeps state reset ready = reset-shown (itself ready) .ready
-  call-keeps state (cycle samples) ready = cycle-shown samples (itself ready) .ready
+      left : List ℤ
+      left = cycleWords image state samples
+
+      counts : List ℕ
+      counts = countsOf p s h
+
+      counted : ℕ
+      counted = getD counts (length log % h) 0
+
+      go : (b : Bool) → ltb (length samples) (count p) ≡ b →
+          Answered p h counts (length log) cs (answersOf image state cs) (length (logAfter image state log cs)) →
+          Answered p h counts (suc (length log)) cs (answersOf image left cs) (length (logAfter image left (samples ∷ log) cs)) →
+          Answered p h counts (length log) (cycle samples ∷ cs)
+          (cycled counted state left b .answer ∷ answersOf image (cycled counted state left b .left) cs)
+          (length
+          (logAfter image (cycled counted state left b .left) (logged (cycle samples) (cycled counted state left b .answer) log) cs))
+      go true t same next = Answered.few (ltb-true (length samples) (count p) t) same
+      go false t same next = Answered.runs (ltb-false (length samples) (count p) t) next
 
   module _ (old : List ℤ) (long : count p < length old) where
     first-shown : Shown p h (length old) (resetOf (imageOf p s h) old .left) (Turns.reset p (view old)) [] []
@@ -366,26 +394,12 @@ module _ (p : Program) (s : Schedule) (h : ℕ) (acc : Accepted p s) (whole : Mu
         (logBy (imageOf p s h) old cs) (logOf p [] cs)
     list-shown cs = calls-shown cs first-shown
 
-    -- The position is the remainder of the number of cycles since the latest reset.
-    list-position : (cs : List Call) →
-        positionOf (getD (stateBy (imageOf p s h) old cs) 0 (pos 0)) ≡ length (logBy (imageOf p s h) old cs) % h
-    list-position cs =
-        let shown = list-shown cs in
-        ap (λ v. v .position) (shown .shows) ∙
-        calls-position p s h (whole .positive) cs [] (Turns.reset p (view old)) (sym (zero-mod h)) ∙
-        ap (λ l. length l % h) (sym (shown .logs))
-
-    -- Which calls are refused and how: the first reset is not, and of the calls that follow it a cycle with too few samples. A
-    -- cycle that is accepted answers the report's count of its position.
-    pub first-answers : resetOf (imageOf p s h) old .answer ≡ accepted 0
-    first-answers = rw (reset-call old long)
-
-    pub calls-answer : (cs : List Call) (c : Call) →
-        callOf (imageOf p s h) (stateBy (imageOf p s h) old cs) c .answer ≡
-        answerTo p (countsOf p s h) (length (logBy (imageOf p s h) old cs) % h) c
-    calls-answer cs c =
-        call-answers (stateBy (imageOf p s h) old cs) c (list-shown cs .ready) ∙
-        ap (λ q. answerTo p (countsOf p s h) q c) (list-position cs)
+    -- Which calls of a list are refused and how, and what the others answer.
+    pub list-answered : (cs : List Call) →
+        Answered p h (countsOf p s h) 0 cs (answersBy (imageOf p s h) old cs) (length (logBy (imageOf p s h) old cs))
+    list-answered cs =
+        calls-answered cs (resetOf (imageOf p s h) old .left) [] (first-shown .ready)
+        (ap (λ (v : State). v .position) (first-shown .shows) ∙ sym (zero-mod h))
 
     -- What the state is after the list.
     machine-words : (cs : List Call) (X : ℕ → ℕ → ℤ) →

@@ -13,6 +13,7 @@ use mir.Val.{SFits}
 use Rattle.model.specs.Command.{
   whole,
   ranged,
+  firstJudged,
   isPeriod,
   isFactor,
   isIndex,
@@ -30,12 +31,14 @@ use Rattle.model.specs.Word.{byteAt, twoAt, fourAt, wordOf, wordAt}
 use Rattle.model.specs.declared.Command.{Command}
 use Rattle.model.specs.declared.Command.the-variants as Command
 use Rattle.model.specs.declared.Index.{Index}
+use Rattle.model.specs.declared.Index.the-variants as Index
 use Rattle.model.specs.declared.Keyword.{Keyword}
 use Rattle.model.specs.declared.Keyword.the-variants as Keyword
 use Rattle.model.specs.declared.Kind.{Kind}
 use Rattle.model.specs.declared.Kind.the-variants.{Now, Last, When, LastWhen, Current}
 use Rattle.model.specs.declared.Sampled.{Sampled}
 use Rattle.model.proofs.Decide.{InRange}
+use Rattle.model.proofs.Lines.{Indexed}
 
 -- The elements of a text are bytes.
 abbrev pub Bytes : List ℕ → Type 0
@@ -98,7 +101,7 @@ module _ (text : List ℕ) (at : ℕ) where
   Sound (Command.Cap n) = at + inProgram 0x14 ≤ length text
   Sound (Command.Tag label) = (label ≡ twoAt text (at + 1)) × (at + inProgram 0x15 ≤ length text)
   Sound (Command.Constant w) = (w ≡ wordAt text (at + 1)) × (at + inExpression 0x20 ≤ length text)
-  Sound (Command.Read kind x) = ReadSound x × (at + readWidth kind ≤ length text)
+  Sound (Command.Read kind x) = ReadSound x × (at + readWidth kind ≤ length text) × (x .index ≡ Index.Open → Indexed kind)
   Sound (Command.Binary operator) = at + inExpression 0x30 ≤ length text
   Sound Command.Negate = at + inExpression 0x38 ≤ length text
   Sound Command.If = at + inExpression 0x3A ≤ length text
@@ -114,19 +117,26 @@ module _ (text : List ℕ) (at : ℕ) where
   ranged-sound true c h = h refl
   ranged-sound false c h = tt
 
+  judged-sound : (n : ℕ) (b : Bool) (c : Command) → (at + n ≤ length text → b ≡ true → Sound c) →
+      Sound (firstJudged text at n b c)
+  judged-sound n b c h = whole-sound _ _ (λ f. ranged-sound b _ (λ t. whole-sound n c (λ g. h g t)))
+
   plain-sound : (kind : Kind) → readWidth kind ≡ inExpression 0x21 → Sound (plainRead kind text at)
   unfolding plainRead
   plain-sound kind e =
-      whole-sound (inExpression 0x21) _ (λ h.
-      (record { positive = omega arith; bound = omega arith; range = omega arith }, omega arith))
+      whole-sound (inExpression 0x21) _ (λ h. (
+        record { positive = omega arith; bound = omega arith; range = omega arith },
+        omega arith,
+        λ u. let z : _≡_ {A = ℕ} 0 1 = cc in absurd (omega arith),
+      ))
 
-  sampled-sound : (kind : Kind) → readWidth kind ≡ inExpression 0x23 → Sound (sampledRead kind text at)
+  sampled-sound : (kind : Kind) → readWidth kind ≡ inExpression 0x23 → Indexed kind → Sound (sampledRead kind text at)
   unfolding sampledRead
-  sampled-sound kind e =
+  sampled-sound kind e named =
       let i = byteAt text (at + 2) in
       let n = byteAt text (at + 3) in
       whole-sound (inExpression 0x23) _ (λ h.
-      ranged-sound (isFactor n && isIndex i n) _ (λ t. (operands-sound (byteAt text (at + 1)) i n t, omega arith)))
+      ranged-sound (isFactor n && isIndex i n) _ (λ t. (operands-sound (byteAt text (at + 1)) i n t, omega arith, λ u. named)))
 
   keyword-sound : (k : Keyword) → at < length text → Sound (commandOf k text at)
   unfolding commandOf
@@ -134,26 +144,25 @@ module _ (text : List ℕ) (at : ℕ) where
   keyword-sound Keyword.Unknown lt = tt
   keyword-sound Keyword.End lt = omega arith
   keyword-sound Keyword.Input lt =
-      whole-sound 2 _ (λ h. ranged-sound _ _ (λ t. whole-sound (inProgram 0x10) _ (λ g.
-      let f = period-bounds (byteAt text (at + 1)) t in (f .0, f .1, refl, g))))
+      let period = byteAt text (at + 1) in
+      judged-sound (inProgram 0x10) (isPeriod period) (Command.Input period (wordAt text (at + 2))) (λ g t.
+      let f = period-bounds period t in (f .0, f .1, refl, g))
   keyword-sound Keyword.Equation lt =
-      whole-sound 2 _ (λ h. ranged-sound _ _ (λ t. whole-sound (inProgram 0x11) _ (λ g.
-      let f = period-bounds (byteAt text (at + 1)) t in (f .0, f .1, refl, g))))
+      let period = byteAt text (at + 1) in
+      judged-sound (inProgram 0x11) (isPeriod period) (Command.Equation period (wordAt text (at + 2)) (twoAt text (at + 6)))
+      (λ g t. let f = period-bounds period t in (f .0, f .1, refl, g))
   keyword-sound Keyword.Latency lt =
       let mode = byteAt text (at + 1) in
-      let command = Command.Latency (modeOf mode) (twoAt text (at + 2)) in
-      whole-sound 2 _ (λ h.
-      ranged-sound (leb mode 1) (whole text at (inProgram 0x12) command) (λ t.
-      whole-sound (inProgram 0x12) command (λ g. g)))
+      judged-sound (inProgram 0x12) (leb mode 1) (Command.Latency (modeOf mode) (twoAt text (at + 2))) (λ g t. g)
   keyword-sound Keyword.Link lt = whole-sound (inProgram 0x13) _ (λ h. h)
   keyword-sound Keyword.Cap lt = whole-sound (inProgram 0x14) _ (λ h. h)
   keyword-sound Keyword.Tag lt = whole-sound (inProgram 0x15) _ (λ h. (refl, h))
   keyword-sound Keyword.Constant lt = whole-sound (inExpression 0x20) _ (λ h. (refl, h))
   keyword-sound (Keyword.Read Now) lt = plain-sound Now refl
   keyword-sound (Keyword.Read Last) lt = plain-sound Last refl
-  keyword-sound (Keyword.Read When) lt = sampled-sound When refl
-  keyword-sound (Keyword.Read LastWhen) lt = sampled-sound LastWhen refl
-  keyword-sound (Keyword.Read Current) lt = sampled-sound Current refl
+  keyword-sound (Keyword.Read When) lt = sampled-sound When refl tt
+  keyword-sound (Keyword.Read LastWhen) lt = sampled-sound LastWhen refl tt
+  keyword-sound (Keyword.Read Current) lt = sampled-sound Current refl tt
   keyword-sound (Keyword.Binary operator) lt = omega arith
   keyword-sound Keyword.Negate lt = omega arith
   keyword-sound Keyword.If lt = omega arith
@@ -196,10 +205,16 @@ module _ (text : List ℕ) (at : ℕ) where
       KeywordOf (cond a (cond b (cond c x Command.EndsEarly) Command.OutOfRange) Command.EndsEarly) k
   operands-keyword k = operands-all (λ x. KeywordOf x k) tt tt
 
+  whole-keyword : (k : Keyword) (n : ℕ) (x : Command) → KeywordOf x k → KeywordOf (whole text at n x) k
+  whole-keyword k n x h = operands-keyword k (leb (at + n) (length text)) true true x h
+
+  judged-keyword : (k : Keyword) (n : ℕ) (b : Bool) (x : Command) → KeywordOf x k → KeywordOf (firstJudged text at n b x) k
+  judged-keyword k n b x h = whole-keyword k _ _ (operands-keyword k true b (leb (at + n) (length text)) x h)
+
   plain-keyword : (kind : Kind) → KeywordOf (plainRead kind text at) (Keyword.Read kind)
   unfolding plainRead
   plain-keyword kind =
-      operands-keyword (Keyword.Read kind) (leb (at + inExpression 0x21) (length text)) true true
+      whole-keyword (Keyword.Read kind) (inExpression 0x21)
       (Command.Read kind (record { signal = byteAt text (at + 1); factor = 1; index = Index.Fixed 0 })) refl
 
   sampled-keyword : (kind : Kind) → KeywordOf (sampledRead kind text at) (Keyword.Read kind)
@@ -218,30 +233,27 @@ module _ (text : List ℕ) (at : ℕ) where
   command-keyword Keyword.End = refl
   command-keyword Keyword.Input =
       let period = byteAt text (at + 1) in
-      operands-keyword Keyword.Input (leb (at + 2) (length text)) (isPeriod period)
-      (leb (at + inProgram 0x10) (length text))
+      judged-keyword Keyword.Input (inProgram 0x10) (isPeriod period)
       (Command.Input period (wordAt text (at + 2))) refl
   command-keyword Keyword.Equation =
       let period = byteAt text (at + 1) in
-      operands-keyword Keyword.Equation (leb (at + 2) (length text)) (isPeriod period)
-      (leb (at + inProgram 0x11) (length text))
+      judged-keyword Keyword.Equation (inProgram 0x11) (isPeriod period)
       (Command.Equation period (wordAt text (at + 2)) (twoAt text (at + 6))) refl
   command-keyword Keyword.Latency =
       let mode = byteAt text (at + 1) in
-      operands-keyword Keyword.Latency (leb (at + 2) (length text)) (leb mode 1)
-      (leb (at + inProgram 0x12) (length text))
+      judged-keyword Keyword.Latency (inProgram 0x12) (leb mode 1)
       (Command.Latency (modeOf mode) (twoAt text (at + 2))) refl
   command-keyword Keyword.Link =
-      operands-keyword Keyword.Link (leb (at + inProgram 0x13) (length text)) true true
+      whole-keyword Keyword.Link (inProgram 0x13)
       (Command.Link (byteAt text (at + 1))) refl
   command-keyword Keyword.Cap =
-      operands-keyword Keyword.Cap (leb (at + inProgram 0x14) (length text)) true true
+      whole-keyword Keyword.Cap (inProgram 0x14)
       (Command.Cap (fourAt text (at + 1))) refl
   command-keyword Keyword.Tag =
-      operands-keyword Keyword.Tag (leb (at + inProgram 0x15) (length text)) true true
+      whole-keyword Keyword.Tag (inProgram 0x15)
       (Command.Tag (twoAt text (at + 1))) refl
   command-keyword Keyword.Constant =
-      operands-keyword Keyword.Constant (leb (at + inExpression 0x20) (length text)) true true
+      whole-keyword Keyword.Constant (inExpression 0x20)
       (Command.Constant (wordAt text (at + 1))) refl
   command-keyword (Keyword.Read Now) = plain-keyword Now
   command-keyword (Keyword.Read Last) = plain-keyword Last

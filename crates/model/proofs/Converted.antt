@@ -1,18 +1,34 @@
 -- A program and its conversion keep the same conditions with every schedule, have the same streams and the same image.
 -- Assumes nothing.
-use Prim.Native.Nat.{ℕ, zero, suc, _+_, _*_, _-_, _/_, _≤_, _<_, _∣_}
+use Prim.Native.Nat.{ℕ, zero, suc, _+_, _-_, _≤_, _<_}
 use mathlib.Core.Bool.{Bool, true, false, cond, and-eq-true-iff}
-use mathlib.Core.List.{List, [], _∷_, _++_, map, map-map, map-append, reverse}
+use mathlib.Core.List.{List, [], _∷_, _++_, map, map-map, map-append}
 use mathlib.Core.Logic.{_↔_}
 use mathlib.Core.Path.{_≡_, refl, sym, ap, ap₂, subst, _∙_, fun-ext}
-use native.Mathlib.Nat.{one-mul, mul-one, add-zero, sub-zero, div-one}
+use native.Mathlib.Nat.{div-one}
 use native.Mathlib.Omega.{arith}
 use borrow.Author.Tests.{eqb-true, eqb-false}
 use lib.Dec.{eqb}
 use lib.IntN.{ℤ}
 use lib.ListN.{length, getD, length-map, List·getD-map}
-use Rattle.model.specs.Accepted.{PeriodRule, Line, Order, Met, Multiple}
-use Rattle.model.specs.Conditions.{_among_, ReadIn, LinkIn, ReadRule, DeclaredAndRated, Least, linkSignals, Linked, putAt, IsPut, Placed, Over, TimelyFrom, KeepsTime, LegalPairWith, LegalPair}
+use Rattle.model.specs.Accepted.{PeriodRule, Line, LineHolds, PutFor, Met, Multiple}
+use Rattle.model.specs.Conditions.{
+  _among_,
+  ReadIn,
+  LinkIn,
+  ReadRule,
+  DeclaredAndRated,
+  Least,
+  linkSignals,
+  Linked,
+  putAt,
+  IsPut,
+  Placed,
+  TimelyFrom,
+  KeepsTime,
+  LegalPairWith,
+  LegalPair,
+}
 use Rattle.model.specs.Grammar.{LegalProgram}
 use Rattle.model.specs.Compile.{Pair}
 use Rattle.model.specs.Convert.{
@@ -26,8 +42,6 @@ use Rattle.model.specs.Convert.{
   mapSignal,
   mapLink,
   mapChain,
-  convertedRead,
-  converted,
   bareRead,
   bare,
   Renamed,
@@ -86,7 +100,7 @@ use Rattle.model.specs.Program.{
   weightOf,
 }
 use Rattle.model.specs.Rates.{countReads}
-use Rattle.model.specs.Reads.{Rate, rateOf, due, uses, writerFirst, settle, indexOf, settled}
+use Rattle.model.specs.Reads.{Rate, rateOf, due, uses, settle, indexOf, settled}
 use Rattle.model.specs.Search.{first, firstFrom, foundOr, sum, table, chosen, joinFrom}
 use Rattle.model.specs.Schedule.{Schedule, Put, phaseOf, putPhase, scheduleOf}
 use Rattle.model.specs.Streams.{value, next, entry, Satisfies}
@@ -98,6 +112,7 @@ use Rattle.model.specs.declared.Kind.{Kind}
 use Rattle.model.specs.declared.Kind.the-variants.{Now, Last, When, LastWhen, Current}
 use Rattle.model.specs.declared.Mode.{Mode}
 use Rattle.model.specs.declared.Mode.the-variants.{Exists, Backward}
+use Rattle.model.proofs.Decide.{line-settled, settled-line}
 use Rattle.model.proofs.Outcomes.{getD-table}
 
 -- One read.
@@ -143,12 +158,12 @@ single-line When w r u v e = (λ h. omega (arith, h .0), λ h. (omega arith, ome
 single-line LastWhen w r u v e = (λ h. omega (arith, h .0), λ h. (omega arith, omega arith))
 single-line Current w r u v e = (λ h. omega (arith, h .0), λ h. (omega arith, omega arith))
 
-single-first : (kind : Kind) → writerFirst (singleKind kind) ≡ writerFirst kind
-single-first Now = refl
-single-first Last = refl
-single-first When = refl
-single-first LastWhen = refl
-single-first Current = refl
+single-first : (kind : Kind) (s : Schedule) (w r : ℕ) → PutFor (singleKind kind) s w r ↔ PutFor kind s w r
+single-first Now s w r = (λ h. h, λ h. h)
+single-first Last s w r = (λ h. h, λ h. h)
+single-first When s w r = (λ h. h, λ h. h)
+single-first LastWhen s w r = (λ h. h, λ h. h)
+single-first Current s w r = (λ h. h, λ h. h)
 
 -- The same of a read before and after the conversion.
 module _ (kind : Kind) (n : ℕ) (i : Index) where
@@ -172,24 +187,24 @@ module _ (kind : Kind) (n : ℕ) (i : Index) where
       after (λ a j. uses a n (indexOf a w r n j) k ≡ uses kind n (indexOf kind w r n i) k) refl
       (λ e. rw (single-index kind w r n i e, single-factor n i e) (single-uses kind k))
 
-  after-within : (w r : Rate) → indexOf kind w r n i < n ↔ indexOf kind′ w r n index′ < n
-  after-within w r =
-      after (λ a j. indexOf kind w r n i < n ↔ indexOf a w r n j < n) (λ h. h, λ h. h)
-      (λ e. rw (single-index kind w r n i e) (λ h. h, λ h. h))
-
   after-rule : (w r : ℕ) → PeriodRule kind w r n ↔ PeriodRule kind′ w r n
   after-rule w r =
       after (λ a j. PeriodRule kind w r n ↔ PeriodRule a w r n) (λ h. h, λ h. h)
       (λ e. rw (single-factor n i e) (single-rule kind w r))
 
   after-line : (w r : Rate) → w .phase < w .period → r .phase < r .period → PeriodRule kind (w .period) (r .period) n →
-      Line kind w r (indexOf kind w r n i) ↔ Line kind′ w r (indexOf kind′ w r n index′)
+      LineHolds kind w r n i ↔ LineHolds kind′ w r n index′
   after-line w r u v rule =
-      after (λ a j. Line kind w r (indexOf kind w r n i) ↔ Line a w r (indexOf a w r n j)) (λ h. h, λ h. h)
-      (λ e. rw (single-index kind w r n i e) (single-line kind w r u v (rw (single-factor n i e) at rule)))
+      after (λ a j. LineHolds kind w r n i ↔ LineHolds a w r n j) (λ h. h, λ h. h) (λ e.
+      let one = single-factor n i e in
+      let zeroth = single-index kind w r n i e in
+      let same = single-line kind w r u v (rw one at rule) in (
+        λ h. let q = line-settled kind w r n i h in (omega (arith, one), same .0 (rw zeroth at (q .1))),
+        λ h. settled-line kind w r n i (rw zeroth (omega (arith, one))) (rw zeroth (same .1 (h .1))),
+      ))
 
-  after-first : writerFirst kind′ ≡ writerFirst kind
-  after-first = after (λ a j. writerFirst a ≡ writerFirst kind) refl (λ e. single-first kind)
+  after-first : (s : Schedule) (w r : ℕ) → PutFor kind′ s w r ↔ PutFor kind s w r
+  after-first s w r = after (λ a j. PutFor a s w r ↔ PutFor kind s w r) (λ h. h, λ h. h) (λ e. single-first kind s w r)
 
 -- Expressions, signals and chains.
 
@@ -479,20 +494,20 @@ module _ (p : Program) (s : Schedule) where
     λ m.
         record {
           declared = rw (count-bare p) (m .declared);
-          within = rw (period-bare p w, period-bare p r) (after-within kind n i a b .0 (m .within));
           periods = rule-bare p r ρ .0 (m .periods);
           line = rw (period-bare p w, period-bare p r) (after-line kind n i a b (u (m .declared)) v (m .periods) .0 (m .line));
-          order = rw (period-bare p w, period-bare p r, after-first kind n i) (m .order);
+          order = λ j k same.
+              after-first kind n i s w r .1 (m .order j k (rw (period-bare p w, period-bare p r) at same));
         },
     λ m.
         let d : w < count p = rw (count-bare p) at (m .declared) in
         let e = rule-bare p r ρ .1 (m .periods) in
         record {
           declared = d;
-          within = after-within kind n i a b .1 (rw (period-bare p w, period-bare p r) at (m .within));
           periods = e;
           line = after-line kind n i a b (u d) v e .1 (rw (period-bare p w, period-bare p r) at (m .line));
-          order = rw (period-bare p w, period-bare p r, after-first kind n i) at (m .order);
+          order = λ j k same.
+              after-first kind n i s w r .0 (m .order j k (rw (period-bare p w, period-bare p r) same));
         },
   )
     where
@@ -675,63 +690,13 @@ module _ (p : Program) (s : Schedule) where
           ((c : Chain) → c among bare p .chains → KeepsTime (bare p) s c)
       latencies = each-chain p (KeepsTime p s) (KeepsTime (bare p) s) (λ c i. keeps-time-bare c)
 
--- The conversion itself is a renaming: a read that is converted once is not changed again.
+-- A kind that is converted once is not changed again.
 pub single-twice : (kind : Kind) → singleKind (singleKind kind) ≡ singleKind kind
 single-twice Now = refl
 single-twice Last = refl
 single-twice When = refl
 single-twice LastWhen = refl
 single-twice Current = refl
-
-read-twice : (ρ : Read) → bareRead (convertedRead ρ) ≡ bareRead ρ
-read-twice ρ = go (isSingle n i) refl
-  where
-    n : ℕ
-    n = ρ .operands .factor
-
-    i : Index
-    i = ρ .operands .index
-
-    made : ℕ → Kind → Index → Read
-    made m kind index =
-        record { place = 0; kind = kind; operands = record { signal = ρ .operands .signal; factor = m; index = index } }
-
-    go : (b : Bool) → isSingle n i ≡ b →
-        made n (kindAfter (isSingle n (indexAfter b i)) (kindAfter b (ρ .kind)))
-        (indexAfter (isSingle n (indexAfter b i)) (indexAfter b i)) ≡ made n (kindAfter b (ρ .kind)) (indexAfter b i)
-    go true e = rw (single-factor n i e) (ap (λ a. made 1 a (Fixed 0)) (single-twice (ρ .kind)))
-    go false e = rw e
-
-expr-twice : (f g h : Read → Read) → ((ρ : Read) → f (g ρ) ≡ h ρ) → (e : Expr) → mapExpr f (mapExpr g e) ≡ mapExpr h e
-unfolding mapExpr
-expr-twice f g h same (constant w) = refl
-expr-twice f g h same (read ρ) = ap read (same ρ)
-expr-twice f g h same (binary operator x y) = rw (expr-twice f g h same x, expr-twice f g h same y)
-expr-twice f g h same (negate x) = ap negate (expr-twice f g h same x)
-expr-twice f g h same (choose x y z) = rw (expr-twice f g h same x, expr-twice f g h same y, expr-twice f g h same z)
-
-body-twice : (b : Body) → mapBody bareRead (mapBody convertedRead b) ≡ mapBody bareRead b
-body-twice input = refl
-body-twice (equation weight e) = ap (equation weight) (expr-twice bareRead convertedRead bareRead read-twice e)
-
-pub converted-renamed : (p : Program) → Renamed p (converted p)
-converted-renamed p =
-    record { same = ap₂ (λ xs cs. record { signals = xs; chains = cs; cap = p .cap }) (sym signals) (sym chains) }
-  where
-    signals : bare (converted p) .signals ≡ bare p .signals
-    signals =
-        map-map (mapSignal bareRead (λ at. 0)) (mapSignal convertedRead (λ at. at)) (p .signals) ∙
-        ap (λ f. map f (p .signals))
-        (fun-ext (λ x.
-        ap (λ b. record { place = 0; period = x .period; initial = x .initial; body = b; label = x .label }) (body-twice (x .body))))
-
-    chains : bare (converted p) .chains ≡ bare p .chains
-    chains =
-        map-map (mapChain bareRead (λ at. 0)) (mapChain convertedRead (λ at. at)) (p .chains) ∙
-        ap (λ f. map f (p .chains))
-        (fun-ext (λ c.
-        ap (λ ls. record { place = 0; mode = c .mode; bound = c .bound; links = ls })
-        (map-map (mapLink bareRead (λ at. 0)) (mapLink convertedRead (λ at. at)) (c .links))))
 
 -- What a program and its conversion have in common, with every schedule: the conditions 7 to 16 with one hypercycle, the streams,
 -- and the image.

@@ -1,6 +1,8 @@
 -- The tests decide the statements: line, period rule, shared cycles and order of a read, and the searches. Assumes nothing.
 use Prim.Native.Nat.{ℕ, zero, suc, _+_, _*_, _/_, _%_, _≤_, _<_, min}
-use mathlib.Core.Bool.{Bool, true, false, not, _||_, Bool·beq, false≢true, and-eq-true-iff}
+use mathlib.Core.Bool.{Bool, true, false, cond, not, _||_, Bool·beq, false≢true, and-eq-true-iff}
+use mathlib.Core.List.{List, [], _∷_}
+use mathlib.Core.Logic.{_↔_, _⊎_, inl, inr}
 use mathlib.Core.Path.{_≡_, refl, sym, ap, _∙_}
 use native.Mathlib.Decide.{decLe, decLt}
 use native.Mathlib.Nat.{
@@ -13,9 +15,10 @@ use native.Mathlib.Nat.{
   min-eq-right,
 }
 use native.Mathlib.Omega.{arith}
-use borrow.Author.Tests.{leb-true, ltb-true, eqb-true, eq-eqb, le-leb, lt-ltb}
-use lib.Dec.{leb, ltb}
-use Rattle.model.specs.Accepted.{PeriodRule, Between, Line, Order, Met}
+use borrow.Author.Tests.{leb-true, ltb-true, ltb-false, eqb-true, eq-eqb, le-leb, lt-ltb, le-ltb}
+use lib.Dec.{leb, ltb, eqb}
+use lib.ListN.{length, getD}
+use Rattle.model.specs.Accepted.{PeriodRule, Between, Line, LineHolds, SettlesAt, PutFor, Met}
 use Rattle.model.specs.Program.{Program, Read, count, signalAt}
 use Rattle.model.specs.Rates.{periodRule}
 use Rattle.model.specs.Reads.{
@@ -27,6 +30,7 @@ use Rattle.model.specs.Reads.{
   writerFirst,
   share,
   ordered,
+  place,
   before,
   settle,
   lineHolds,
@@ -42,7 +46,7 @@ use Rattle.model.specs.declared.Index.{Index}
 use Rattle.model.specs.declared.Index.the-variants.{Fixed, Open}
 use Rattle.model.specs.declared.Kind.{Kind}
 use Rattle.model.specs.declared.Kind.the-variants.{Now, Last, When, LastWhen, Current}
-use Rattle.model.proofs.Lines.{Indexed, index-once}
+use Rattle.model.proofs.Lines.{First, Indexed, index-once}
 
 -- The line.
 pub between-true : (a x b : ℕ) → between a x b ≡ true → Between a x b
@@ -137,19 +141,61 @@ true-beq true = refl
 true-beq false = refl
 
 pub ordered-true : (kind : Kind) (w r : Rate) (n : ℕ) (before : Bool) → zero < n →
-    PeriodRule kind (w .period) (r .period) n → ordered kind w r before ≡ true → Order kind w r before
+    PeriodRule kind (w .period) (r .period) n → ordered kind w r before ≡ true → First kind w r before
 unfolding ordered
 ordered-true kind w r n before pos p o j k e =
     beq-true before (writerFirst kind) (rw (share-runs kind w r n j k pos p e) at o)
 
 pub true-ordered : (kind : Kind) (w r : Rate) (before : Bool) → w .phase < w .period → r .phase < r .period →
-    Order kind w r before → ordered kind w r before ≡ true
+    First kind w r before → ordered kind w r before ≡ true
 unfolding ordered
 true-ordered kind w r before vw vr h = go (share w r) refl
   where
     go : (b : Bool) → share w r ≡ b → not b || Bool·beq before (writerFirst kind) ≡ true
     go true e = let q = runs-share w r vw vr e in rw (h (q .0) (q .1) (q .2)) (true-beq (writerFirst kind))
     go false e = refl
+
+-- The order by places. w and r are put.
+-- The signal at a place of the order.
+pub place-at : (xs : List ℕ) (x : ℕ) → place xs x < length xs → getD xs (place xs x) 0 ≡ x
+unfolding place
+place-at [] x h = absurd (omega arith)
+place-at (y ∷ ys) x h = go (eqb y x) refl h (place-at ys x)
+  where
+    go : (b : Bool) → eqb y x ≡ b → cond b 0 (suc (place ys x)) < suc (length ys) →
+        (place ys x < length ys → getD ys (place ys x) 0 ≡ x) → getD (y ∷ ys) (cond b 0 (suc (place ys x))) 0 ≡ x
+    go true e h ih = eqb-true y x e
+    go false e h ih = ih (omega arith)
+
+-- r before w, or w itself.
+reader-first : (s : Schedule) (w r : ℕ) → place (s .order) w < length (s .order) → place (s .order) r < length (s .order) →
+    before s w r ≡ false → (place (s .order) r < place (s .order) w) ⊎ (r ≡ w)
+reader-first s w r pw pr e = go (decLt (place (s .order) r) (place (s .order) w))
+  where
+    go : Dec (place (s .order) r < place (s .order) w) → (place (s .order) r < place (s .order) w) ⊎ (r ≡ w)
+    go (yes h) = inl h
+    go (no h) =
+        let q : place (s .order) r ≡ place (s .order) w = omega (arith, ltb-false (place (s .order) w) (place (s .order) r) e) in
+        inr (sym (place-at (s .order) r pr) ∙ ap (λ j. getD (s .order) j 0) q ∙ place-at (s .order) w pw)
+
+not-before : (s : Schedule) (w r : ℕ) → (place (s .order) r < place (s .order) w) ⊎ (r ≡ w) → before s w r ≡ false
+not-before s w r (inl h) = le-ltb (place (s .order) w) (place (s .order) r) (omega arith)
+not-before s w r (inr e) = rw e (le-ltb (place (s .order) w) (place (s .order) w) (omega arith))
+
+put-for : (kind : Kind) (s : Schedule) (w r : ℕ) → place (s .order) w < length (s .order) →
+    place (s .order) r < length (s .order) → before s w r ≡ writerFirst kind → PutFor kind s w r
+put-for Now s w r pw pr e = ltb-true _ _ e
+put-for Last s w r pw pr e = reader-first s w r pw pr e
+put-for When s w r pw pr e = ltb-true _ _ e
+put-for LastWhen s w r pw pr e = reader-first s w r pw pr e
+put-for Current s w r pw pr e = ltb-true _ _ e
+
+pub for-put : (kind : Kind) (s : Schedule) (w r : ℕ) → PutFor kind s w r → before s w r ≡ writerFirst kind
+for-put Now s w r h = lt-ltb _ _ h
+for-put Last s w r h = not-before s w r h
+for-put When s w r h = lt-ltb _ _ h
+for-put LastWhen s w r h = not-before s w r h
+for-put Current s w r h = lt-ltb _ _ h
 
 -- What a search through the n numbers from i on has found: the least that passes, or nothing as none passes.
 abbrev pub IsFirst : ℕ → ℕ → (ℕ → Bool) → Found → Type 0
@@ -223,18 +269,6 @@ unfolding settle
 settle-line kind w r n i e =
     let h = is-first n (line kind w r) (At i) e in (omega arith, line-true kind w r i (h .2))
 
-pub settles : (kind : Kind) (w r : Rate) (n i : ℕ) → Indexed kind → PeriodRule kind (w .period) (r .period) n → i < n →
-    Line kind w r i → settle kind w r n ≡ At i
-unfolding settle
-settles kind w r n i x p lt l = go (first n (line kind w r)) refl
-  where
-    go : (f : Found) → first n (line kind w r) ≡ f → f ≡ At i
-    go (At j) e =
-        let h = is-first n (line kind w r) (At j) e in
-        ap At (index-once kind w r n j i x (omega arith) lt p (line-true kind w r j (h .2)) l)
-    go Nowhere e =
-        absurd (false≢true (sym (is-first n (line kind w r) Nowhere e i (omega arith) (omega arith)) ∙ true-line kind w r i l))
-
 -- A read is met.
 abbrev pub InRange : ℕ → Index → Type 0
 InRange n (Fixed i) = i < n
@@ -249,6 +283,30 @@ holds-line kind w r n Open u e = go (settle kind w r n) refl e
     go (At i) q t = settle-line kind w r n i q
     go Nowhere q t = absurd (false≢true t)
 
+-- What the line of a read says, it says of the index that the search settles.
+pub line-settled : (kind : Kind) (w r : Rate) (n : ℕ) (index : Index) → LineHolds kind w r n index →
+    (indexOf kind w r n index < n) × Line kind w r (indexOf kind w r n index)
+unfolding settle
+line-settled kind w r n (Fixed i) h = h
+line-settled kind w r n Open h =
+    holds-line kind w r n Open tt (true-isFound n (line kind w r) (h .0) (h .1) (true-line kind w r (h .0) (h .2)))
+
+pub settled-line : (kind : Kind) (w r : Rate) (n : ℕ) (index : Index) → indexOf kind w r n index < n →
+    Line kind w r (indexOf kind w r n index) → LineHolds kind w r n index
+settled-line kind w r n (Fixed i) lt l = (lt, l)
+settled-line kind w r n Open lt l = (indexOf kind w r n Open, lt, l)
+
+-- No other index is settled.
+pub settles-once : (kind : Kind) (w r : Rate) (n : ℕ) (index : Index) → (index ≡ Open → Indexed kind) →
+    PeriodRule kind (w .period) (r .period) n → LineHolds kind w r n index → (i : ℕ) →
+    SettlesAt kind w r n index i ↔ (i ≡ indexOf kind w r n index)
+settles-once kind w r n (Fixed j) named rule h i = (λ e. e, λ e. e)
+settles-once kind w r n Open named rule h i =
+    let q = line-settled kind w r n Open h in (
+      λ g. index-once kind w r n i (indexOf kind w r n Open) (named refl) (g .0) (q .0) rule (g .1) (q .1),
+      λ e. (rw e (q .0), rw e (q .1)),
+    )
+
 pub line-holds : (kind : Kind) (w r : Rate) (n : ℕ) (index : Index) → indexOf kind w r n index < n →
     Line kind w r (indexOf kind w r n index) → lineHolds kind w r n index ≡ true
 unfolding settle
@@ -256,21 +314,32 @@ line-holds kind w r n (Fixed i) lt l = true-line kind w r i l
 line-holds kind w r n Open lt l = true-isFound n (line kind w r) _ lt (true-line kind w r _ l)
 
 module _ (p : Program) (s : Schedule) (r : ℕ) (ρ : Read) where
-  pub met-true : ρ .operands .signal < count p → InRange (ρ .operands .factor) (ρ .operands .index) →
+  -- The index of a read that is met is below its factor, and its line holds there.
+  pub met-settled : Met p s r ρ →
+      (settled p s r ρ < ρ .operands .factor) ×
+      Line (ρ .kind) (rateOf p s (ρ .operands .signal)) (rateOf p s r) (settled p s r ρ)
+  unfolding settled
+  met-settled m =
+      line-settled (ρ .kind) (rateOf p s (ρ .operands .signal)) (rateOf p s r) (ρ .operands .factor) (ρ .operands .index) (m .line)
+
+  pub met-true : ρ .operands .signal < count p → place (s .order) (ρ .operands .signal) < length (s .order) →
+      place (s .order) r < length (s .order) → InRange (ρ .operands .factor) (ρ .operands .index) →
       PeriodRule (ρ .kind) (signalAt p (ρ .operands .signal) .period) (signalAt p r .period) (ρ .operands .factor) →
       isMet p s r ρ ≡ true → Met p s r ρ
   unfolding settled isMet
-  met-true lt range rule e =
+  met-true lt pw pr range rule e =
       let w = ρ .operands .signal in
       let f = and-eq-true-iff _ _ .0 e in
       let h = holds-line (ρ .kind) (rateOf p s w) (rateOf p s r) (ρ .operands .factor) (ρ .operands .index) range (f .0) in
       record {
         declared = lt;
-        within = h .0;
         periods = rule;
-        line = h .1;
-        order =
-            ordered-true (ρ .kind) (rateOf p s w) (rateOf p s r) (ρ .operands .factor) (before s w r) (omega (arith, h .0)) rule (f .1);
+        line =
+            settled-line (ρ .kind) (rateOf p s w) (rateOf p s r) (ρ .operands .factor) (ρ .operands .index) (h .0) (h .1);
+        order = λ j k same.
+            put-for (ρ .kind) s w r pw pr
+            (ordered-true (ρ .kind) (rateOf p s w) (rateOf p s r) (ρ .operands .factor) (before s w r) (omega (arith, h .0)) rule
+            (f .1) j k same);
       }
 
   pub true-met : phaseOf s (ρ .operands .signal) < signalAt p (ρ .operands .signal) .period →
@@ -278,7 +347,9 @@ module _ (p : Program) (s : Schedule) (r : ℕ) (ρ : Read) where
   unfolding settled isMet
   true-met vw vr m =
       let w = ρ .operands .signal in
+      let q = met-settled m in
       and-eq-true-iff _ _ .1 (
-        line-holds (ρ .kind) (rateOf p s w) (rateOf p s r) (ρ .operands .factor) (ρ .operands .index) (m .within) (m .line),
-        true-ordered (ρ .kind) (rateOf p s w) (rateOf p s r) (before s w r) vw vr (m .order),
+        line-holds (ρ .kind) (rateOf p s w) (rateOf p s r) (ρ .operands .factor) (ρ .operands .index) (q .0) (q .1),
+        true-ordered (ρ .kind) (rateOf p s w) (rateOf p s r) (before s w r) vw vr
+            (λ j k same. for-put (ρ .kind) s w r (m .order j k same)),
       )

@@ -64,7 +64,7 @@ module _ (program schedule : List ℕ) (p : Program) (h : ℕ) (s : Schedule) (c
   decides : (r : ℕ) (ρ : Read) → ReadIn p r ρ → (isMet p s r ρ ≡ true) ↔ Met p s r ρ
   decides r ρ i =
       let declared = c .rates .rated .reads r ρ i in (
-        met-true p s r ρ declared
+        met-true p s r ρ declared (ordered .put (ρ .operands .signal) declared) (ordered .put r (i .0))
             (read-sound program ρ (read-spelled program p (c .rates .legal) r ρ i) .range) (c .rates .rated .periods r ρ i),
         true-met p s r ρ (ordered .phases (ρ .operands .signal) declared) (ordered .phases r (i .0)),
       )

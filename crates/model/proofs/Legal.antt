@@ -43,6 +43,7 @@ use Rattle.model.proofs.Bounds.{depth, bodyDepth, Words, BodyWords}
 use Rattle.model.proofs.Commands.{Bytes, word-fits, two-fits, ReadSound, command-sound, link-command}
 use Rattle.model.proofs.Outcomes.{joinFrom-append}
 use Rattle.model.proofs.Spelled.{Spells, SpellsLinks, DeclaresOne, Declares, declared}
+use Rattle.model.proofs.Written.{decoded}
 
 -- A signal's command and what stands after it.
 abbrev pub SpellsBody : List ℕ → Signal → Body → Type 0
@@ -95,7 +96,7 @@ module _ {text : List ℕ} where
   expr-reads : {at n : ℕ} {e : Expr} → Spells leastFactor text at e n → All (SpellsRead text) (readsOf e)
   unfolding readsOf
   expr-reads (Spells.constants e) = tt
-  expr-reads (Spells.reads e t) = (e, tt)
+  expr-reads (Spells.reads e t) = (decoded e, tt)
   expr-reads (Spells.two {x = x} {y = y} e u v) =
       all-append (SpellsRead text) (readsOf x) (readsOf y) (expr-reads u) (expr-reads v)
   expr-reads (Spells.one e u) = expr-reads u
@@ -105,7 +106,7 @@ module _ {text : List ℕ} where
 
   -- Constants are words.
   expr-words : Bytes text → {at n : ℕ} {e : Expr} → Spells leastFactor text at e n → Words e
-  expr-words b (Spells.constants {at = at} e) = rw (command-sound text at _ e .0) (word-fits text (at + 1) b)
+  expr-words b (Spells.constants {at = at} e) = rw (command-sound text at _ (decoded e) .0) (word-fits text (at + 1) b)
   expr-words b (Spells.reads e t) = tt
   expr-words b (Spells.two e u v) = (expr-words b u, expr-words b v)
   expr-words b (Spells.one e u) = expr-words b u
@@ -159,11 +160,11 @@ module _ {text : List ℕ} where
 
   one-legal : {at label next given : ℕ} {p q : Program} → DeclaresOne leastFactor text at label p next given q → Legal text at p →
       Legal text next q
-  one-legal (DeclaresOne.inputs room e) l = more-signals _ l room e (omega arith)
+  one-legal (DeclaresOne.inputs room e) l = more-signals _ l room (decoded e) (omega arith)
   one-legal (DeclaresOne.equations room e u d) l =
-      more-signals _ l room (e, _, u, d) (simp length-append (omega (arith, expr-code u)))
+      more-signals _ l room (decoded e, _, u, d) (simp length-append (omega (arith, expr-code u)))
   one-legal (DeclaresOne.chains room e u several few) l =
-      more-chains _ l room (record { command = e; end = _; links = u; several = several; few = few })
+      more-chains _ l room (record { command = decoded e; end = _; links = u; several = several; few = few })
       (omega (arith, links-after u))
   one-legal (DeclaresOne.caps {n = n} room e) l = more-caps n l
   one-legal (DeclaresOne.tags e more s) l =
@@ -177,7 +178,7 @@ module _ {text : List ℕ} where
 
   declares-legal : {at label end : ℕ} {p q : Program} → Declares leastFactor text at label p end q → Legal text at p →
       Legal text end q × (length text ≡ end + 1)
-  declares-legal (Declares.ends {at = at} e le) l = (l, omega (arith, command-sound text at _ e))
+  declares-legal (Declares.ends {at = at} e le) l = (l, omega (arith, command-sound text at _ (decoded e)))
   declares-legal (Declares.onward d r) l = declares-legal r (one-legal d l)
 
   none : Legal text 0 empty
@@ -204,15 +205,15 @@ abbrev Labelled : Signal → Type 0
 Labelled x = x .label < 65536
 
 module _ {text : List ℕ} (bytes : Bytes text) where
-  one-labelled : {at label next given : ℕ} {p q : Program} → DeclaresOne leastFactor text at label p next given q → label < 65536 →
-      All Labelled (p .signals) → (given < 65536) × All Labelled (q .signals)
+  one-labelled : {at label next given : ℕ} {p q : Program} → DeclaresOne leastFactor text at label p next given q →
+      label < 65536 → All Labelled (p .signals) → (given < 65536) × All Labelled (q .signals)
   one-labelled (DeclaresOne.inputs {p = p} room e) lt l = (omega arith, all-append Labelled (p .signals) (_ ∷ []) l (lt, tt))
   one-labelled (DeclaresOne.equations {p = p} room e u d) lt l =
       (omega arith, all-append Labelled (p .signals) (_ ∷ []) l (lt, tt))
   one-labelled (DeclaresOne.chains room e u several few) lt l = (omega arith, l)
   one-labelled (DeclaresOne.caps room e) lt l = (omega arith, l)
   one-labelled (DeclaresOne.tags {at = at} e more s) lt l =
-      (rw (command-sound text at _ e .0) (two-fits text (at + 1) bytes), l)
+      (rw (command-sound text at _ (decoded e) .0) (two-fits text (at + 1) bytes), l)
 
   declares-labelled : {at label end : ℕ} {p q : Program} → Declares leastFactor text at label p end q → label < 65536 →
       All Labelled (p .signals) → All Labelled (q .signals)

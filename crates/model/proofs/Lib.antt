@@ -1,4 +1,5 @@
 -- What is proved of the definitions alone: their laws, and the paper's examples.
+pub mod Tests
 pub mod Widths
 pub mod Nearest
 pub mod Rate
@@ -15,6 +16,7 @@ pub mod Bounds
 pub mod Stretches
 pub mod Left
 pub mod Runs
+pub mod FormedExactly
 pub mod Tails
 pub mod Counts
 pub mod Formed
@@ -26,6 +28,7 @@ pub mod Outcomes
 pub mod Faults
 pub mod Hypercycle
 pub mod Commands
+pub mod Keywords
 pub mod Written
 pub mod Spelled
 pub mod All
@@ -40,11 +43,17 @@ pub mod Judged
 pub mod JudgedPuts
 pub mod JudgedRuns
 pub mod Exact
+pub mod CallsExact
 pub mod Converted
 pub mod Rewritten
 pub mod Unchanged
 pub mod Conversions
 pub mod Places
+pub mod Settled
+pub mod Refused
+pub mod Among
+pub mod Demand
+pub mod Numbers
 pub mod Decimals
 pub mod Scripts
 pub mod Trials

@@ -5,7 +5,7 @@ use mathlib.Core.Bool.{Bool}
 use mathlib.Core.Path.{_≡_, sym, _∙_, ap}
 use native.Mathlib.Nat.{div-one, div-mul-le-self, lt-div-mul-add, mul-le-mul-right, add-mul}
 use native.Mathlib.Omega.{arith}
-use Rattle.model.specs.Accepted.{PeriodRule, Line, Order}
+use Rattle.model.specs.Accepted.{PeriodRule, Line}
 use Rattle.model.specs.Reads.{Rate, runCycle, stored, uses, writerFirst}
 use Rattle.model.specs.declared.Kind.{Kind}
 use Rattle.model.specs.declared.Kind.the-variants.{Now, Last, When, LastWhen, Current}
@@ -51,10 +51,15 @@ line-index Current w r n i k vw vr lt p l =
     let c = parts n i (r .period) lt in
     shared w r (r .period) 1 n (n - i) 1 k (omega arith) ∙ ap (_/ n) (omega arith)
 
+-- Wherever a run of w and a run of r share a cycle, the one comes first that the read wants first.
+abbrev pub First : Kind → Rate → Rate → Bool → Type 0
+First kind w r before = (j k : ℕ) → runCycle w j ≡ runCycle r k → before ≡ writerFirst kind
+
 -- A read that is met uses what is stored when the reader runs: the elements of earlier cycles, and that of the same cycle
 -- if the signal is put before the reader.
 pub met-index : (kind : Kind) (w r : Rate) (n i k : ℕ) (before : Bool) → w .phase < w .period → r .phase < r .period → i < n →
-    PeriodRule kind (w .period) (r .period) n → Line kind w r i → Order kind w r before → stored w (runCycle r k + bit before) ≡ uses kind n i k
+    PeriodRule kind (w .period) (r .period) n → Line kind w r i → First kind w r before →
+    stored w (runCycle r k + bit before) ≡ uses kind n i k
 met-index kind w r n i k before vw vr lt p l o =
     stored-bit w (runCycle r k) before (writerFirst kind) vw (λ j e. o j k e) ∙ line-index kind w r n i k vw vr lt p l
 

@@ -20,7 +20,7 @@ use Rattle.model.proofs.Turns
 use Rattle.model.proofs.Turns.{State, turns-other, cycle-words}
 
 -- The position after a cycle.
-position-next : (c q h : ℕ) → zero < h → q ≡ c % h → cond (eqb (suc q) h) 0 (suc q) ≡ suc c % h
+pub position-next : (c q h : ℕ) → zero < h → q ≡ c % h → cond (eqb (suc q) h) 0 (suc q) ≡ suc c % h
 position-next c q h positive e = go (eqb (suc q) h) refl
   where
     go : (b : Bool) → eqb (suc q) h ≡ b → cond b 0 (suc q) ≡ suc c % h
@@ -46,20 +46,6 @@ module _ (p : Program) (s : Schedule) (h : ℕ) where
   stateAfter st (reset ∷ cs) = stateAfter (Turns.reset p st) cs
   stateAfter st (cycle samples ∷ cs) =
       stateAfter (cond (ltb (length samples) (count p)) st (Turns.cycle p s h (sampleOf samples) st)) cs
-
-  -- The position after it: the remainder of the number of cycles since the latest reset.
-  pub calls-position : zero < h → (cs : List Call) (log : List (List ℤ)) (st : State) → st .position ≡ length log % h →
-      stateAfter st cs .position ≡ length (logOf p log cs) % h
-  calls-position positive [] log st e = e
-  calls-position positive (reset ∷ cs) log st e = calls-position positive cs [] (Turns.reset p st) (sym (zero-mod h))
-  calls-position positive (cycle samples ∷ cs) log st e =
-      calls-position positive cs (cond (ltb (length samples) (count p)) log (samples ∷ log))
-      (cond (ltb (length samples) (count p)) st (Turns.cycle p s h (sampleOf samples) st))
-      (go (ltb (length samples) (count p)))
-    where
-      go : (b : Bool) → cond b st (Turns.cycle p s h (sampleOf samples) st) .position ≡ length (cond b log (samples ∷ log)) % h
-      go true = e
-      go false = position-next (length log) (st .position) h positive e
 
   -- The state holds what the streams X give after c cycles.
   pub record Follows (X : ℕ → ℕ → ℤ) (c : ℕ) (st : State) : Type 0 where

@@ -43,11 +43,12 @@ use Rattle.model.specs.declared.Command.{Command}
 use Rattle.model.specs.declared.Command.the-variants as Command
 use Rattle.model.specs.declared.Kind.{Kind}
 use Rattle.model.specs.declared.Kind.the-variants.{Now, Last, When, LastWhen, Current}
-use Rattle.model.proofs.Commands.{command-sound, keyword-of}
+use Rattle.model.proofs.Commands.{command-sound}
 use Rattle.model.proofs.Legal.{links-end}
 use Rattle.model.proofs.Outcomes.{accepted-then, true-provided}
 use Rattle.model.proofs.Puts.{put-sound, puts-spelled}
 use Rattle.model.proofs.Spelled.{signal-is, declared}
+use Rattle.model.proofs.Written.{decoded, keyword-written, put-decoded}
 
 -- A number with one below it.
 pub one-below : (m d : ℕ) → suc m ≤ d → (e : ℕ) × (d ≡ suc e) × (m ≤ e)
@@ -64,7 +65,8 @@ module _ (least : ℕ) (text : List ℕ) where
   -- A command is judged before its operands are read.
   pub command-step : (left at label : ℕ) (p : Program) (c : Command) → commandAt text at ≡ c →
       commandHere text at p (keywordAt text at) ≡ accepted tt →
-      parseCommands least (suc left) text at label p ≡ declare least (λ n l q. parseCommands least left text n l q) text at label p c
+      parseCommands least (suc left) text at label p ≡
+      declare least (λ n l q. parseCommands least left text n l q) text at label p c
   unfolding parseCommands
   command-step left at label p c e here =
       accepted-then _ _ tt here ∙ ap (declare least (λ n l q. parseCommands least left text n l q) text at label p) e
@@ -89,26 +91,26 @@ module _ {least : ℕ} {text : List ℕ} where
   unfolding node
   parse-expr d (Spells.constants {at = at} {w = w} e) le =
       let q = one-below 0 d le in
-      rw (q .1) (expr-step least text (q .0) at _ e (rw (keyword-of text at _ e)))
+      rw (q .1) (expr-step least text (q .0) at _ (decoded e) (rw (keyword-written e)))
   parse-expr d (Spells.reads {at = at} e t) le =
       let q = one-below 0 d le in
       rw (q .1)
-      (expr-step least text (q .0) at _ e (rw (keyword-of text at _ e)) ∙ accepted-then _ _ tt (true-provided _ 5 at t))
+      (expr-step least text (q .0) at _ (decoded e) (rw (keyword-written e)) ∙ accepted-then _ _ tt (true-provided _ 5 at t))
   parse-expr d (Spells.two {at = at} {x = x} {y = y} e u v) le =
       let q = one-below _ d le in
       rw (q .1)
-      (expr-step least text (q .0) at _ e (rw (keyword-of text at _ e)) ∙
+      (expr-step least text (q .0) at _ (decoded e) (rw (keyword-written e)) ∙
       accepted-then _ _ _ (parse-expr (q .0) u (omega (arith, q .2))) ∙
       accepted-then _ _ _ (parse-expr (q .0) v (omega (arith, q .2))))
   parse-expr d (Spells.one {at = at} e u) le =
       let q = one-below _ d le in
       rw (q .1)
-      (expr-step least text (q .0) at _ e (rw (keyword-of text at _ e)) ∙
+      (expr-step least text (q .0) at _ (decoded e) (rw (keyword-written e)) ∙
       accepted-then _ _ _ (parse-expr (q .0) u (omega (arith, q .2))))
   parse-expr d (Spells.three {at = at} e u v w) le =
       let q = one-below _ d le in
       rw (q .1)
-      (expr-step least text (q .0) at _ e (rw (keyword-of text at _ e)) ∙
+      (expr-step least text (q .0) at _ (decoded e) (rw (keyword-written e)) ∙
       accepted-then _ _ _ (parse-expr (q .0) u (omega (arith, q .2))) ∙
       accepted-then _ _ _ (parse-expr (q .0) v (omega (arith, q .2))) ∙
       accepted-then _ _ _ (parse-expr (q .0) w (omega (arith, q .2))))
@@ -135,32 +137,32 @@ module _ {least : ℕ} {text : List ℕ} where
       (parseCommands least (suc left) text at label p ≡ parseCommands least left text next given q)
   unfolding declare
   command-onward (DeclaresOne.inputs {at = at} {label = label} {p = p} room e) left = (
-    omega (arith, command-sound text at _ e .3),
+    omega (arith, command-sound text at _ (decoded e) .3),
     omega arith,
-    command-step least text left at label p _ e (rw (keyword-of text at _ e) (true-provided _ 4 at (lt-ltb _ _ room))),
+    command-step least text left at label p _ (decoded e) (rw (keyword-written e) (true-provided _ 4 at (lt-ltb _ _ room))),
   )
   command-onward (DeclaresOne.equations {at = at} {label = label} {p = p} room e u d) left = (
-    omega (arith, command-sound text at _ e .3),
+    omega (arith, command-sound text at _ (decoded e) .3),
     omega (arith, spells-after u),
-    command-step least text left at label p _ e (rw (keyword-of text at _ e) (true-provided _ 4 at (lt-ltb _ _ room))) ∙
+    command-step least text left at label p _ (decoded e) (rw (keyword-written e) (true-provided _ 4 at (lt-ltb _ _ room))) ∙
         accepted-then _ _ _ (parse-expr 16 u d),
   )
   command-onward (DeclaresOne.chains {at = at} {label = label} {p = p} room e u several few) left = (
-    omega (arith, command-sound text at _ e),
+    omega (arith, command-sound text at _ (decoded e)),
     omega (arith, links-end u),
-    command-step least text left at label p _ e (rw (keyword-of text at _ e) (true-provided _ 4 at (lt-ltb _ _ room))) ∙
+    command-step least text left at label p _ (decoded e) (rw (keyword-written e) (true-provided _ 4 at (lt-ltb _ _ room))) ∙
         accepted-then _ _ _ (parse-links 16 [] u few) ∙
         accepted-then _ _ tt (true-provided _ 5 at (le-leb _ _ several)),
   )
   command-onward (DeclaresOne.caps {at = at} {label = label} {p = p} room e) left = (
-    omega (arith, command-sound text at _ e),
+    omega (arith, command-sound text at _ (decoded e)),
     omega arith,
-    command-step least text left at label p _ e (rw (keyword-of text at _ e, room) (true-provided true 5 at refl)),
+    command-step least text left at label p _ (decoded e) (rw (keyword-written e, room) (true-provided true 5 at refl)),
   )
   command-onward (DeclaresOne.tags {at = at} {label = label} {p = p} e more s) left = (
     omega (arith, more),
     omega arith,
-    command-step least text left at label p _ e (rw (keyword-of text at _ e)) ∙
+    command-step least text left at label p _ (decoded e) (rw (keyword-written e)) ∙
         accepted-then _ _ tt (true-provided _ _ _ (lt-ltb _ _ more)) ∙
         accepted-then _ _ tt (true-provided _ _ _ (signal-is _ .1 s)),
   )
@@ -178,9 +180,9 @@ module _ {least : ℕ} {text : List ℕ} where
       length text ≤ at + left → parseCommands least left text at label p ≡ accepted q
   unfolding declare
   parse-commands (Declares.ends {at = at} {label = label} {p = p} e le) left enough =
-      let q = one-below 0 left (omega (arith, command-sound text at _ e)) in
+      let q = one-below 0 left (omega (arith, command-sound text at _ (decoded e))) in
       rw (q .1)
-      (command-step least text (q .0) at label p _ e (rw (keyword-of text at _ e)) ∙
+      (command-step least text (q .0) at label p _ (decoded e) (rw (keyword-written e)) ∙
       accepted-then _ _ tt (true-provided _ 6 (at + 1) (le-leb _ _ le)))
   parse-commands (Declares.onward d r) left enough = parse-onward _ d (λ k l. parse-commands r k l) left enough
 
@@ -190,16 +192,16 @@ module _ {text : List ℕ} where
       length text ≤ at + left → parsePuts left text at puts ≡ parsed (puts ++ qs) end
   unfolding parsePuts scheduleCommand
   parse-puts left puts (SpellsPuts.ends {at = at} e le) enough =
-      let q = one-below 0 left (omega (arith, put-sound text at _ e)) in
+      let q = one-below 0 left (omega (arith, put-sound text at _ (put-decoded e))) in
       rw (q .1)
-      (ap (scheduleCommand (λ n qs. parsePuts (q .0) text n qs) text at puts) e ∙
+      (ap (scheduleCommand (λ n qs. parsePuts (q .0) text n qs) text at puts) (put-decoded e) ∙
       accepted-then _ _ tt (true-provided _ 11 (at + 1) (le-leb _ _ le)) ∙
       rw (append-nil puts))
   parse-puts left puts (SpellsPuts.put {at = at} {signal = signal} {phase = phase} {qs = qs} e r) enough =
-      let q = one-below 0 left (omega (arith, put-sound text at _ e .2)) in
+      let q = one-below 0 left (omega (arith, put-sound text at _ (put-decoded e) .2)) in
       let here : Put = record { place = at; signal = signal; phase = phase } in
       rw (q .1)
-      (ap (scheduleCommand (λ n qs. parsePuts (q .0) text n qs) text at puts) e ∙
+      (ap (scheduleCommand (λ n qs. parsePuts (q .0) text n qs) text at puts) (put-decoded e) ∙
       parse-puts (q .0) (puts ++ (here ∷ [])) r (omega (arith, q .1)) ∙
       rw (append-assoc puts (here ∷ []) qs))
 

@@ -31,13 +31,13 @@ use Rattle.model.specs.Outcome.{Outcome, accepted, refused, _▷_, provi
 use Rattle.model.specs.Program.{leastFactor, Program, Read, Chain}
 use Rattle.model.specs.Refusals.{RateFault, ChainFault, PutFault, MetFault, LoadFault, RefusedAt}
 use Rattle.model.specs.Schedule.{Schedule, Put}
-use Rattle.model.specs.Stops.{IsOperator, StopsExpr, StopsLinks, Stops, StopsPuts}
+use Rattle.model.specs.Stops.{StopsExpr, StopsLinks, Stops, StopsPuts}
 use Rattle.model.specs.declared.Fault.{Fault}
-use Rattle.model.specs.declared.Keyword.{Keyword}
 use Rattle.model.proofs.Commands.{Bytes, command-sound}
 use Rattle.model.proofs.Exact.{refused-exactly}
 use Rattle.model.proofs.Judged.{read-spelled, chain-spelled, link-spelled}
 use Rattle.model.proofs.JudgedRuns.{load-repeats}
+use Rattle.model.proofs.Keywords.{byte-inside, signal-inside, operator-inside}
 use Rattle.model.proofs.Outcomes.{accepted≢refused, accepted-same, then-accepted}
 use Rattle.model.proofs.Puts.{put-sound, puts-end}
 use Rattle.model.proofs.Stopped.{
@@ -45,65 +45,55 @@ use Rattle.model.proofs.Stopped.{
   refuses-fault,
   refuses-then,
   refuses-provided,
-  Present,
-  keyword-inside,
-  declaration-present,
-  room-declaration,
-  unknown-inside,
 }
 use Rattle.model.proofs.Tails.{written-length}
 use Rattle.model.proofs.Verdict.{pair-bounded}
-
-operator-present : {k : Keyword} → IsOperator k → Present k
-operator-present IsOperator.constant = tt
-operator-present IsOperator.read = tt
-operator-present IsOperator.binary = tt
-operator-present IsOperator.negate = tt
-operator-present IsOperator.choose = tt
+use Rattle.model.proofs.Written.{outside-inside, decoded, put-decoded}
 
 -- 2 to 6 and 11: a text stops within it or at its end.
 module _ (text : List ℕ) where
-  expr-inside : {d at n x : ℕ} → StopsExpr leastFactor text d at n x → x ≤ length text
+  expr-inside : {least d at n x : ℕ} → StopsExpr least text d at n x → x ≤ length text
   expr-inside (StopsExpr.early le) = omega arith
   expr-inside (StopsExpr.unknown lt u) = omega arith
-  expr-inside (StopsExpr.deep {at = at} i) = omega (arith, keyword-inside text at (operator-present i))
+  expr-inside (StopsExpr.deep {at = at} o) = omega (arith, operator-inside text at o)
   expr-inside (StopsExpr.cut i e) = omega arith
-  expr-inside (StopsExpr.outside {at = at} i e) = omega (arith, keyword-inside text at (operator-present i))
-  expr-inside (StopsExpr.single {at = at} e t) = omega (arith, command-sound text at _ e .1)
-  expr-inside (StopsExpr.operand h lt u s) = expr-inside s
+  expr-inside (StopsExpr.outside {at = at} o u) = omega (arith, operator-inside text at o)
+  expr-inside (StopsExpr.single {at = at} w t) = omega (arith, command-sound text at _ (decoded w) .1)
+  expr-inside (StopsExpr.operand w h lt u s) = expr-inside s
 
   links-inside : {room at n x : ℕ} → at ≤ length text → StopsLinks text room at n x → x ≤ length text
   links-inside le (StopsLinks.many e) = le
   links-inside le (StopsLinks.cut e lt) = omega arith
   links-inside le (StopsLinks.link e next s) = links-inside next s
 
-  commands-inside : {at label n x : ℕ} {p : Program} → Stops leastFactor text at label p n x → x ≤ length text
+  pub commands-inside : {least at label n x : ℕ} {p : Program} → Stops least text at label p n x → x ≤ length text
   commands-inside (Stops.onward d s) = commands-inside s
   commands-inside (Stops.early le) = omega arith
   commands-inside (Stops.unknown lt u) = omega arith
-  commands-inside (Stops.many {at = at} i u r) = omega (arith, keyword-inside text at (declaration-present i))
-  commands-inside (Stops.second {at = at} e u) = omega (arith, keyword-inside text at (rw e tt))
+  commands-inside (Stops.signals {at = at} s many) = omega (arith, signal-inside text at s)
+  commands-inside (Stops.chains {at = at} b many) = omega (arith, byte-inside text at (omega arith))
+  commands-inside (Stops.second {at = at} b u) = omega (arith, byte-inside text at (omega arith))
   commands-inside (Stops.cut r e) = omega arith
-  commands-inside (Stops.outside {at = at} r e) =
-      omega (arith, keyword-inside text at (declaration-present (room-declaration r)))
+  commands-inside (Stops.outside {at = at} r o) = omega (arith, outside-inside text at o)
   commands-inside (Stops.expression room e s) = expr-inside s
-  commands-inside (Stops.links {at = at} room e s) = links-inside (command-sound text at _ e) s
-  commands-inside (Stops.short {at = at} room e u lt) = omega (arith, command-sound text at _ e)
+  commands-inside (Stops.links {at = at} room e s) = links-inside (command-sound text at _ (decoded e)) s
+  commands-inside (Stops.short {at = at} room e u lt) = omega (arith, command-sound text at _ (decoded e))
   commands-inside (Stops.trailing e lt) = omega arith
   commands-inside (Stops.unfollowed e le) = omega arith
   commands-inside (Stops.stray e lt u) = omega arith
 
   puts-inside : {at x : ℕ} → StopsPuts text at x → x ≤ length text
   puts-inside (StopsPuts.onward e s) = puts-inside s
-  puts-inside (StopsPuts.early e) = omega arith
-  puts-inside (StopsPuts.unknown {at = at} e) = omega (arith, unknown-inside leastFactor text at e)
+  puts-inside (StopsPuts.early le) = omega arith
+  puts-inside (StopsPuts.cut c) = omega arith
+  puts-inside (StopsPuts.unknown lt u) = omega arith
   puts-inside (StopsPuts.trailing e lt) = omega arith
 
   -- 12, 13: the PUTs of a legal text stand in it.
   put-inside : {at end : ℕ} {qs : List Put} → SpellsPuts text at qs end → (j : ℕ) → j < length qs →
       putAt qs j .place ≤ length text
   put-inside (SpellsPuts.ends e le) j lt = absurd (omega arith)
-  put-inside (SpellsPuts.put {at = at} e r) zero lt = omega (arith, put-sound text at _ e .2)
+  put-inside (SpellsPuts.put {at = at} e r) zero lt = omega (arith, put-sound text at _ (put-decoded e) .2)
   put-inside (SpellsPuts.put e r) (suc j) lt = put-inside r j (omega arith)
 
   put-fault-inside : {end n x : ℕ} {p : Program} {qs : List Put} → SpellsPuts text 0 qs end → PutFault p qs n x →
@@ -140,7 +130,7 @@ load-below {p} {s} h whole (LoadFault.over c o) least =
     )
 
 -- What the two texts are refused with.
-refusal-small : {program schedule : List ℕ} {n x : ℕ} → RefusedAt program schedule n x → x ≤ 65535
+pub refusal-small : {program schedule : List ℕ} {n x : ℕ} → RefusedAt program schedule n x → x ≤ 65535
 refusal-small (RefusedAt.long u) = omega arith
 refusal-small {program} (RefusedAt.stopped short f) = omega (arith, short .0, commands-inside program f)
 refusal-small {program} (RefusedAt.unrated {p = p} short l f) = omega (arith, short .0, rate-inside program p l (f .fault))

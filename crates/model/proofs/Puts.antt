@@ -42,6 +42,7 @@ use Rattle.model.proofs.Outcomes.{
   append-none,
   getD-table,
 }
+use Rattle.model.proofs.Written.{put-decoded, put-as-written}
 
 -- A command that is read lies within the text.
 module _ (text : List ℕ) (at : ℕ) where
@@ -83,13 +84,13 @@ module _ (text : List ℕ) where
   reads-command next h at puts ScheduleCommand.Unknown e = tt
   reads-command next h at puts ScheduleCommand.End e =
       holds-provided (ReadsPuts at puts) (leb (length text) (at + 1)) 11 (at + 1) (parsed puts at) (λ t.
-      ([], sym (append-nil puts), SpellsPuts.ends e (leb-true (length text) (at + 1) t)))
+      ([], sym (append-nil puts), SpellsPuts.ends (put-as-written _ tt e) (leb-true (length text) (at + 1) t)))
   reads-command next h at puts (ScheduleCommand.Put signal phase) e =
       let here : Put = record { place = at; signal = signal; phase = phase } in
       holds-map (ReadsPuts (at + 3) (puts ++ (here ∷ []))) (ReadsPuts at puts) (next (at + 3) (puts ++ (here ∷ []))) (λ o r. (
         here ∷ r .0,
         r .1 ∙ append-assoc puts (here ∷ []) (r .0),
-        SpellsPuts.put e (r .2),
+        SpellsPuts.put (put-as-written _ tt e) (r .2),
       )) (h (at + 3) (puts ++ (here ∷ [])))
 
   reads-puts : (left at : ℕ) (puts : List Put) → Holds (ReadsPuts at puts) (parsePuts left text at puts)
@@ -108,7 +109,7 @@ module _ (text : List ℕ) where
 -- Each PUT takes three bytes.
 pub puts-end : {text : List ℕ} {at end : ℕ} {qs : List Put} → SpellsPuts text at qs end →
     (end ≡ at + 3 * length qs) × (length text ≡ end + 1)
-puts-end (SpellsPuts.ends {at = at} e le) = (omega arith, omega (arith, put-sound _ at _ e))
+puts-end (SpellsPuts.ends {at = at} e le) = (omega arith, omega (arith, put-sound _ at _ (put-decoded e)))
 puts-end (SpellsPuts.put e r) = let h = puts-end r in (omega arith, h .1)
 
 -- Every PUT is of a declared signal that is not put before, with a phase below its period.

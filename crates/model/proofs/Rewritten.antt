@@ -1,19 +1,17 @@
 -- A legal program text, rewritten, is legal and declares the same program up to places and the conversion. Assumes nothing.
-use Prim.Native.Nat.{ℕ, zero, suc, _+_, _≤_, _<_, min}
+use Prim.Native.Nat.{ℕ, zero, suc, _+_, _≤_, _<_}
 use mathlib.Core.Bool.{Bool, true, false, cond}
 use mathlib.Core.List.{List, [], _∷_, _++_, map, map-append}
-use mathlib.Core.Logic.{_↔_, _⊎_, inl, inr}
+use mathlib.Core.Logic.{_⊎_, inl, inr}
 use mathlib.Core.Path.{_≡_, refl, sym, ap, ap₂, subst, _∙_}
 use native.Mathlib.Omega.{arith}
-use borrow.Author.Tests.{ltb-true, ltb-false, eqb-true, eqb-false, eq-eqb, le-ltb, le-leb}
-use lib.Dec.{ltb, eqb}
+use borrow.Author.Tests.{eqb-true, eqb-false, eq-eqb, le-ltb, le-leb}
+use lib.Dec.{eqb}
 use lib.IntN.{ℤ}
-use lib.ListN.{length, getD, take, drop, length-append, length-drop, length-map, List·getD-append, List·getD-eq-default}
+use lib.ListN.{length, getD, take, drop, length-append, length-drop, length-map, List·getD-append}
 use lib.Seq.{drop-drop, drop-append-seam, getD-drop, getD-take, length-take-le}
 use Rattle.model.specs.Accepted.{All}
 use Rattle.model.specs.Command.{keywordAt, commandOf, commandAt}
-use Rattle.model.specs.Compile.{Pair, pairOf, verdictOf}
-use Rattle.model.specs.Conditions.{LegalPairWith, LegalPair}
 use Rattle.model.specs.Convert.{isSingle, singleKind, mapExpr, mapSignal, mapLink, mapChain, bareRead, bare, Renamed}
 use Rattle.model.specs.Grammar.{depth, Spells, SpellsLinks, IsSignal, DeclaresOne, Declares, LegalWith, LegalProgram}
 use Rattle.model.specs.Program.{
@@ -42,13 +40,9 @@ use Rattle.model.specs.Program.{
   bodyReads,
 }
 use Rattle.model.specs.Rewrite.{widthOf, bytesAfter, rewriteAt, rewriteFrom, rewrite}
-use Rattle.model.specs.Image.{imageOf}
-use Rattle.model.specs.Outcome.{accepted}
-use Rattle.model.specs.Reads.{settled}
-use Rattle.model.specs.Streams.{Satisfies}
 use Rattle.model.specs.Word.{byteAt, twoAt, fourAt, wordOf, wordAt}
-use Rattle.model.specs.Width.{inProgram, inExpression, readWidth}
-use Rattle.model.specs.Written.{readByte, Written, Whole}
+use Rattle.model.specs.Width.{readWidth}
+use Rattle.model.specs.Written.{readByte, Written}
 use Rattle.model.specs.declared.Binary.{Binary}
 use Rattle.model.specs.declared.Command.{Command}
 use Rattle.model.specs.declared.Command.the-variants as Command
@@ -60,11 +54,10 @@ use Rattle.model.specs.declared.Mode.{Mode}
 use Rattle.model.specs.declared.Sampled.{Sampled}
 use Rattle.model.proofs.All.{all-append}
 use Rattle.model.proofs.Commands.{ReadSound, command-sound, link-command}
-use Rattle.model.proofs.Converted.{single-twice, count-bare, Common, renamed-common, renamed-legal}
+use Rattle.model.proofs.Converted.{single-twice, count-bare}
 use Rattle.model.proofs.Decide.{InRange}
-use Rattle.model.proofs.Exact.{accepted-exactly}
-use Rattle.model.proofs.Outcomes.{accepted-then}
-use Rattle.model.proofs.Written.{command-written}
+use Rattle.model.proofs.Keywords.{signal-inside}
+use Rattle.model.proofs.Written.{decoded}
 
 -- A command that is written lies within the text, and takes a byte at least.
 width-some : (kind : Kind) → 1 ≤ readWidth kind
@@ -154,17 +147,6 @@ AllowedIn p = All (λ x. All AllowedRead (bodyReads (x .body))) (p .signals)
 
 allowed-signal : (p : Program) (x : Signal) → AllowedIn p → All AllowedRead (bodyReads (x .body)) → AllowedIn (withSignal p x)
 allowed-signal p x h g = all-append (λ x. All AllowedRead (bodyReads (x .body))) (p .signals) (x ∷ []) h (g, tt)
-
-signal-inside : (text : List ℕ) (at : ℕ) → IsSignal (byteAt text at) → at < length text
-signal-inside text at signal = go (ltb at (length text)) refl
-  where
-    none : byteAt text at ≡ 0 → IsSignal (byteAt text at) → ⊥
-    none e (inl b) = omega arith
-    none e (inr b) = omega arith
-
-    go : (b : Bool) → ltb at (length text) ≡ b → at < length text
-    go true e = ltb-true _ _ e
-    go false e = absurd (none (List·getD-eq-default text 0 (ltb-false _ _ e)) signal)
 
 -- What programs that are the same up to places and the conversion share.
 module _ (p p′ : Program) where
@@ -301,7 +283,7 @@ module _ (text new : List ℕ) where
       P = rewriteAt text at c
 
       here : commandAt text at ≡ c
-      here = command-written text at c .1 w .0
+      here = decoded w
 
       go : (left : ℕ) → length text ≤ left + at → drop at′ new ≡ rewriteFrom left text at → Steps at at′ c
       go zero le e = absurd (omega (arith, written-inside w))
@@ -322,7 +304,7 @@ module _ (text new : List ℕ) where
 
   -- A command whose bytes are kept stands in the new text too.
   pub record Kept (at at′ : ℕ) (c : Command) : Type 0 where
-    pub here : commandAt new at′ ≡ c
+    pub here : Written new at′ c
     pub next : Stands (at + widthOf c) (at′ + widthOf c)
     pub first : byteAt new at′ ≡ byteAt text at
 
@@ -342,35 +324,32 @@ module _ (text new : List ℕ) where
             steps .bytes i (rw (e, wide) lt) ∙ ap (λ l. getD l i 0) e ∙ getD-take n (drop at text) i 0 lt ∙ getD-drop at text i 0;
       } in
       record {
-        here = command-written new at′ c .1 (written-copied w copied) .0;
+        here = written-copied w copied;
         next = next;
         first = first-copied copied (written-inside w .1);
       }
 
-  kept : {at at′ : ℕ} (c : Command) → commandAt text at ≡ c → Whole c →
-      ((bytes : List ℕ) → bytesAfter c bytes ≡ bytes) → Stands at at′ → Kept at at′ c
-  kept c e w same s = steps-kept (command-written text _ c .0 (e, w)) (same _) s
+  kept : {at at′ : ℕ} (c : Command) → Written text at c → ((bytes : List ℕ) → bytesAfter c bytes ≡ bytes) → Stands at at′ →
+      Kept at at′ c
+  kept c w same s = steps-kept w (same _) s
 
   -- A read stands in the new text, converted.
   pub record ReadMoved (at at′ : ℕ) (kind : Kind) (x : Sampled) : Type 0 where
     pub read : Kind
     pub operands : Sampled
-    pub here : commandAt new at′ ≡ Command.Read read operands
+    pub here : Written new at′ (Command.Read read operands)
     pub same : bareRead (record { place = at; kind = kind; operands = x }) ≡
         bareRead (record { place = at′; kind = read; operands = operands })
     pub next : Stands (at + readWidth kind) (at′ + readWidth read)
     pub allowed : Allowed read operands
 
-  read-moved : {at at′ : ℕ} (kind : Kind) (x : Sampled) → commandAt text at ≡ Command.Read kind x → Stands at at′ →
+  read-moved : {at at′ : ℕ} (kind : Kind) (x : Sampled) → Written text at (Command.Read kind x) → Stands at at′ →
       ReadMoved at at′ kind x
   unfolding rewriteAt
-  read-moved {at} {at′} kind x e s = go (eqb (x .factor) 1) refl
+  read-moved {at} {at′} kind x w s = go (eqb (x .factor) 1) refl
     where
-      w : Written text at (Command.Read kind x)
-      w = command-written text at (Command.Read kind x) .0 (e, tt)
-
       sound : ReadSound x
-      sound = command-sound text at (Command.Read kind x) e .0
+      sound = command-sound text at (Command.Read kind x) (decoded w) .0
 
       made : ℕ → Kind → Read
       made n a = record { place = 0; kind = a; operands = record { signal = x .signal; factor = n; index = Fixed 0 } }
@@ -391,7 +370,7 @@ module _ (text new : List ℕ) where
           record {
             read = singleKind kind;
             operands = record { signal = byteAt new (at′ + 1); factor = 1; index = Fixed 0 };
-            here = command-written new at′ _ .1 (Written.plain (singleKind kind) (single-width kind) (next .inside) byte) .0;
+            here = Written.plain (singleKind kind) (single-width kind) (next .inside) byte;
             same = rw (single, signal, one) (ap (λ a. made 1 a) (sym (single-twice kind)));
             next = rw (single-width kind) next;
             allowed = inl (single-width kind);
@@ -420,10 +399,10 @@ module _ (text new : List ℕ) where
   abbrev Moves : (at : ℕ) (e : Expr) (next : ℕ) → Type 0
   Moves at e next = (at′ : ℕ) → Stands at at′ → ExprMoved e next at′
 
-  constant-moves : (at : ℕ) (w : ℤ) → commandAt text at ≡ Command.Constant w → Moves at (constant w) (at + 5)
+  constant-moves : (at : ℕ) (w : ℤ) → Written text at (Command.Constant w) → Moves at (constant w) (at + 5)
   unfolding mapExpr readsOf
   constant-moves at w e at′ s =
-      let k = kept (Command.Constant w) e tt (λ bytes. refl) s in
+      let k = kept (Command.Constant w) e (λ bytes. refl) s in
       record {
         expr = constant w;
         end = at′ + 5;
@@ -433,7 +412,7 @@ module _ (text new : List ℕ) where
         allowed = tt;
       }
 
-  read-moves : (at : ℕ) (kind : Kind) (x : Sampled) → commandAt text at ≡ Command.Read kind x →
+  read-moves : (at : ℕ) (kind : Kind) (x : Sampled) → Written text at (Command.Read kind x) →
       Moves at (read (record { place = at; kind = kind; operands = x })) (at + readWidth kind)
   unfolding mapExpr readsOf
   read-moves at kind x e at′ s =
@@ -447,11 +426,11 @@ module _ (text new : List ℕ) where
         allowed = (k .allowed, tt);
       }
 
-  two-moves : (at m n : ℕ) (operator : Binary) (x y : Expr) → commandAt text at ≡ Command.Binary operator →
+  two-moves : (at m n : ℕ) (operator : Binary) (x y : Expr) → Written text at (Command.Binary operator) →
       Moves (at + 1) x m → Moves m y n → Moves at (binary operator x y) n
   unfolding mapExpr readsOf
   two-moves at m n operator x y e f g at′ s =
-      let k = kept (Command.Binary operator) e tt (λ bytes. refl) s in
+      let k = kept (Command.Binary operator) e (λ bytes. refl) s in
       let a = f (at′ + 1) (k .next) in
       let b = g (a .end) (a .onward) in
       record {
@@ -463,10 +442,10 @@ module _ (text new : List ℕ) where
         allowed = all-append AllowedRead (readsOf (a .expr)) (readsOf (b .expr)) (a .allowed) (b .allowed);
       }
 
-  one-moves : (at n : ℕ) (x : Expr) → commandAt text at ≡ Command.Negate → Moves (at + 1) x n → Moves at (negate x) n
+  one-moves : (at n : ℕ) (x : Expr) → Written text at Command.Negate → Moves (at + 1) x n → Moves at (negate x) n
   unfolding mapExpr readsOf
   one-moves at n x e f at′ s =
-      let k = kept Command.Negate e tt (λ bytes. refl) s in
+      let k = kept Command.Negate e (λ bytes. refl) s in
       let a = f (at′ + 1) (k .next) in
       record {
         expr = negate (a .expr);
@@ -477,11 +456,11 @@ module _ (text new : List ℕ) where
         allowed = a .allowed;
       }
 
-  three-moves : (at m n o : ℕ) (x y z : Expr) → commandAt text at ≡ Command.If → Moves (at + 1) x m → Moves m y n →
+  three-moves : (at m n o : ℕ) (x y z : Expr) → Written text at Command.If → Moves (at + 1) x m → Moves m y n →
       Moves n z o → Moves at (choose x y z) o
   unfolding mapExpr readsOf
   three-moves at m n o x y z e f g h at′ s =
-      let k = kept Command.If e tt (λ bytes. refl) s in
+      let k = kept Command.If e (λ bytes. refl) s in
       let a = f (at′ + 1) (k .next) in
       let b = g (a .end) (a .onward) in
       let c = h (b .end) (b .onward) in
@@ -526,11 +505,11 @@ module _ (text new : List ℕ) where
       ((at′ : ℕ) → Stands (at + 2) at′ → LinksMoved ls n at′) → (at′ : ℕ) → Stands at at′ →
       LinksMoved (record { place = at; signal = byteAt text (at + 1) } ∷ ls) n at′
   link-moves at n ls e le f at′ s =
-      let k = kept (Command.Link (byteAt text (at + 1))) (link-command text at e le) tt (λ bytes. refl) s in
+      let k = kept (Command.Link (byteAt text (at + 1))) (Written.link le e) (λ bytes. refl) s in
       let b : byteAt new at′ ≡ 0x13 = k .first ∙ e in
       let i : at′ + 2 ≤ length new = k .next .inside in
       let same : Command.Link (byteAt text (at + 1)) ≡ Command.Link (byteAt new (at′ + 1)) =
-      sym (k .here) ∙ link-command new at′ b i in
+      sym (decoded (k .here)) ∙ link-command new at′ b i in
       let signal : byteAt text (at + 1) ≡ byteAt new (at′ + 1) = cc in
       let m = f (at′ + 2) (k .next) in
       record {
@@ -565,9 +544,9 @@ module _ (text new : List ℕ) where
   none-after zero at le = refl
   none-after (suc left) at le = rw (le-ltb at (length text) le) (none-after left (at + 0) (omega arith))
 
-  end-moves : (at label : ℕ) (p : Program) → commandAt text at ≡ Command.End → length text ≤ at + 1 → Declaring at label p p
+  end-moves : (at label : ℕ) (p : Program) → Written text at Command.End → length text ≤ at + 1 → Declaring at label p p
   end-moves at label p e le at′ p′ same allowed s =
-      let k = kept Command.End e tt (λ bytes. refl) s in
+      let k = kept Command.End e (λ bytes. refl) s in
       let n = k .next in
       let g : length new ≤ at′ + 1 =
       omega (arith, length-drop (at′ + 1) new, ap length (n .rest ∙ none-after (n .left) (at + 1) le)) in
@@ -577,16 +556,16 @@ module _ (text new : List ℕ) where
         declares = Declares.ends (k .here) g;
         same = same;
         allowed = allowed;
-        short = omega (arith, s .shorter, written-inside (command-written text at Command.End .0 (e, tt)) .0);
+        short = omega (arith, s .shorter, written-inside e .0);
       }
 
   input-moves : (at label period : ℕ) (initial : ℤ) (p q : Program) → count p < 64 →
-      commandAt text at ≡ Command.Input period initial →
+      Written text at (Command.Input period initial) →
       Declaring (at + 6) 0
       (withSignal p (record { place = at; period = period; initial = initial; body = input; label = label })) q →
       Declaring at label p q
   input-moves at label period initial p q room e f at′ p′ same allowed s =
-      let k = kept (Command.Input period initial) e tt (λ bytes. refl) s in
+      let k = kept (Command.Input period initial) e (λ bytes. refl) s in
       let fits : count p′ < 64 = omega (arith, count-same p p′ same) in
       let x′ : Signal = record { place = at′; period = period; initial = initial; body = input; label = label } in
       let m =
@@ -601,16 +580,19 @@ module _ (text new : List ℕ) where
       }
 
   equation-moves : (at label next period weight : ℕ) (initial : ℤ) (x : Expr) (p q : Program) → count p < 64 →
-      commandAt text at ≡ Command.Equation period initial weight → Moves (at + 8) x next → depth x ≤ 16 →
+      Written text at (Command.Equation period initial weight) → Moves (at + 8) x next → depth x ≤ 16 →
       Declaring next 0
       (withSignal p (record { place = at; period = period; initial = initial; body = equation weight x; label = label })) q →
       Declaring at label p q
   equation-moves at label next period weight initial x p q room e g deep f at′ p′ same allowed s =
-      let k = kept (Command.Equation period initial weight) e tt (λ bytes. refl) s in
+      let k = kept (Command.Equation period initial weight) e (λ bytes. refl) s in
       let a = g (at′ + 8) (k .next) in
       let fits : count p′ < 64 = omega (arith, count-same p p′ same) in
-      let x′ : Signal = record { place = at′; period = period; initial = initial; body = equation weight (a .expr); label = label } in
-      let eq : mapSignal bareRead (λ at. 0) (record { place = at; period = period; initial = initial; body = equation weight x; label = label }) ≡
+      let x′ : Signal =
+      record { place = at′; period = period; initial = initial; body = equation weight (a .expr); label = label } in
+      let eq :
+      mapSignal bareRead (λ at. 0)
+      (record { place = at; period = period; initial = initial; body = equation weight x; label = label }) ≡
       mapSignal bareRead (λ at. 0) x′ =
       ap (λ b. record { place = 0; period = period; initial = initial; body = equation weight b; label = label }) (a .same) in
       let m =
@@ -627,11 +609,11 @@ module _ (text new : List ℕ) where
       }
 
   chain-moves : (at label next bound : ℕ) (mode : Mode) (ls : List Link) (p q : Program) → length (p .chains) < 16 →
-      commandAt text at ≡ Command.Latency mode bound → ((b : ℕ) → Stands (at + 4) b → LinksMoved ls next b) → 2 ≤ length ls →
+      Written text at (Command.Latency mode bound) → ((b : ℕ) → Stands (at + 4) b → LinksMoved ls next b) → 2 ≤ length ls →
       length ls ≤ 16 → Declaring next 0 (withChain p (record { place = at; mode = mode; bound = bound; links = ls })) q →
       Declaring at label p q
   chain-moves at label next bound mode ls p q room e g low high f at′ p′ same allowed s =
-      let k = kept (Command.Latency mode bound) e tt (λ bytes. refl) s in
+      let k = kept (Command.Latency mode bound) e (λ bytes. refl) s in
       let a = g (at′ + 4) (k .next) in
       let fits : length (p′ .chains) < 16 = omega (arith, chains-same p p′ same) in
       let c′ : Chain = record { place = at′; mode = mode; bound = bound; links = a .links } in
@@ -640,7 +622,8 @@ module _ (text new : List ℕ) where
       ap (λ l. record { place = 0; mode = mode; bound = bound; links = l }) (a .same) in
       let m = f (a .end) (withChain p′ c′) (chain-same p p′ _ c′ same eq) allowed (a .onward) in
       let long : length ls ≡ length (a .links) =
-      sym (length-map ls (mapLink bareRead (λ at. 0))) ∙ ap length (a .same) ∙ length-map (a .links) (mapLink bareRead (λ at. 0)) in
+      sym (length-map ls (mapLink bareRead (λ at. 0))) ∙ ap length (a .same) ∙
+      length-map (a .links) (mapLink bareRead (λ at. 0)) in
       record {
         program = m .program;
         end = m .end;
@@ -651,10 +634,10 @@ module _ (text new : List ℕ) where
         short = m .short;
       }
 
-  cap-moves : (at label n : ℕ) (p q : Program) → p .cap ≡ unlimited → commandAt text at ≡ Command.Cap n →
+  cap-moves : (at label n : ℕ) (p q : Program) → p .cap ≡ unlimited → Written text at (Command.Cap n) →
       Declaring (at + 5) 0 (withCap p n) q → Declaring at label p q
   cap-moves at label n p q room e f at′ p′ same allowed s =
-      let k = kept (Command.Cap n) e tt (λ bytes. refl) s in
+      let k = kept (Command.Cap n) e (λ bytes. refl) s in
       let m = f (at′ + 5) (withCap p′ n) (ap (λ b. withCap b n) same) allowed (k .next) in
       record {
         program = m .program;
@@ -666,10 +649,10 @@ module _ (text new : List ℕ) where
       }
 
   -- A TAG stands where it stood, and IN or EQ after it.
-  tag-moves : (at label given : ℕ) (p q : Program) → commandAt text at ≡ Command.Tag given → IsSignal (byteAt text (at + 3)) →
+  tag-moves : (at label given : ℕ) (p q : Program) → Written text at (Command.Tag given) → IsSignal (byteAt text (at + 3)) →
       Follows (at + 3) → Declaring (at + 3) given p q → Declaring at label p q
   tag-moves at label given p q e signal follows f at′ p′ same allowed s =
-      let k = kept (Command.Tag given) e tt (λ bytes. refl) s in
+      let k = kept (Command.Tag given) e (λ bytes. refl) s in
       let stays = follows (at′ + 3) (k .next) in
       let m = f (at′ + 3) p′ same allowed (k .next) in
       let here : IsSignal (byteAt new (at′ + 3)) = rw stays signal in
@@ -684,20 +667,22 @@ module _ (text new : List ℕ) where
 
   -- A declaration keeps its first byte, so that a chain ends where it ended.
   one-follows : {at label next given : ℕ} {p q : Program} → DeclaresOne 1 text at label p next given q → Follows at
-  one-follows (DeclaresOne.inputs room e) b s = kept (Command.Input _ _) e tt (λ bytes. refl) s .first
-  one-follows (DeclaresOne.equations room e x deep) b s = kept (Command.Equation _ _ _) e tt (λ bytes. refl) s .first
-  one-follows (DeclaresOne.chains room e l low high) b s = kept (Command.Latency _ _) e tt (λ bytes. refl) s .first
-  one-follows (DeclaresOne.caps room e) b s = kept (Command.Cap _) e tt (λ bytes. refl) s .first
-  one-follows (DeclaresOne.tags e more signal) b s = kept (Command.Tag _) e tt (λ bytes. refl) s .first
+  one-follows (DeclaresOne.inputs room e) b s = kept (Command.Input _ _) e (λ bytes. refl) s .first
+  one-follows (DeclaresOne.equations room e x deep) b s = kept (Command.Equation _ _ _) e (λ bytes. refl) s .first
+  one-follows (DeclaresOne.chains room e l low high) b s = kept (Command.Latency _ _) e (λ bytes. refl) s .first
+  one-follows (DeclaresOne.caps room e) b s = kept (Command.Cap _) e (λ bytes. refl) s .first
+  one-follows (DeclaresOne.tags e more signal) b s = kept (Command.Tag _) e (λ bytes. refl) s .first
 
   declares-follows : {at label end : ℕ} {p q : Program} → Declares 1 text at label p end q → Follows at
-  declares-follows (Declares.ends e le) b s = kept Command.End e tt (λ bytes. refl) s .first
+  declares-follows (Declares.ends e le) b s = kept Command.End e (λ bytes. refl) s .first
   declares-follows (Declares.onward d r) b s = one-follows d b s
 
-  declared-moves : {at label next given : ℕ} {p r : Program} (q : Program) → DeclaresOne 1 text at label p next given r → Follows next →
+  declared-moves : {at label next given : ℕ} {p r : Program} (q : Program) → DeclaresOne 1 text at label p next given r →
+      Follows next →
       Declaring next given r q → Declaring at label p q
   declared-moves q (DeclaresOne.inputs {p = p} room e) follows r = input-moves _ _ _ _ p q room e r
-  declared-moves q (DeclaresOne.equations {p = p} room e x deep) follows r = equation-moves _ _ _ _ _ _ _ p q room e (expr-moves x) deep r
+  declared-moves q (DeclaresOne.equations {p = p} room e x deep) follows r =
+      equation-moves _ _ _ _ _ _ _ p q room e (expr-moves x) deep r
   declared-moves q (DeclaresOne.chains {p = p} room e l low high) follows r =
       chain-moves _ _ _ _ _ _ p q room e (links-move l follows) low high r
   declared-moves q (DeclaresOne.caps {p = p} room e) follows r = cap-moves _ _ _ p q room e r

@@ -34,7 +34,6 @@ use Rattle.model.specs.Program.{
   parseWith,
   isAllowed,
 }
-use Rattle.model.specs.Stops.{HasRoom}
 use Rattle.model.specs.Width.{inProgram}
 use Rattle.model.specs.Word.{byteAt}
 use Rattle.model.specs.declared.Binary.{Binary}
@@ -54,6 +53,7 @@ use Rattle.model.proofs.Outcomes.{
   provided-true,
   accepted≢refused,
 }
+use Rattle.model.proofs.Written.{as-written}
 
 -- IN or EQ, as a test.
 pub signal-is : (b : ℕ) → (isSignal b ≡ true) ↔ IsSignal b
@@ -72,46 +72,38 @@ no-limit : (l : Limit) → isUnlimited l ≡ true → l ≡ unlimited
 no-limit unlimited e = refl
 no-limit (limit n) e = absurd (false≢true e)
 
--- The room that a keyword asks for.
+-- The room that the keyword of a declaration asks for; others are none.
 module _ (p : Program) where
   abbrev pub RoomFor : Keyword → Type 0
-  RoomFor Keyword.Missing = Unit {0}
-  RoomFor Keyword.Unknown = Unit {0}
+  RoomFor Keyword.Missing = ⊥
+  RoomFor Keyword.Unknown = ⊥
   RoomFor Keyword.End = Unit {0}
   RoomFor Keyword.Input = count p < 64
   RoomFor Keyword.Equation = count p < 64
   RoomFor Keyword.Latency = length (p .chains) < 16
-  RoomFor Keyword.Link = Unit {0}
+  RoomFor Keyword.Link = ⊥
   RoomFor Keyword.Cap = p .cap ≡ unlimited
   RoomFor Keyword.Tag = Unit {0}
-  RoomFor Keyword.Constant = Unit {0}
-  RoomFor (Keyword.Read kind) = Unit {0}
-  RoomFor (Keyword.Binary operator) = Unit {0}
-  RoomFor Keyword.Negate = Unit {0}
-  RoomFor Keyword.If = Unit {0}
+  RoomFor Keyword.Constant = ⊥
+  RoomFor (Keyword.Read kind) = ⊥
+  RoomFor (Keyword.Binary operator) = ⊥
+  RoomFor Keyword.Negate = ⊥
+  RoomFor Keyword.If = ⊥
 
-  room-for : {k : Keyword} → HasRoom p k → RoomFor k
-  room-for HasRoom.end = tt
-  room-for (HasRoom.input h) = h
-  room-for (HasRoom.equation h) = h
-  room-for (HasRoom.latency h) = h
-  room-for (HasRoom.cap h) = h
-  room-for HasRoom.tag = tt
-
-  pub room-of : {k : Keyword} (j : Keyword) → k ≡ j → HasRoom p k → RoomFor j
-  room-of j e r = subst RoomFor e (room-for r)
+  pub room-of : {k : Keyword} (j : Keyword) → k ≡ j → RoomFor k → RoomFor j
+  room-of j e r = subst RoomFor e r
 
   -- A command that is judged fit, before its operands, has room.
-  pub here-room : (text : List ℕ) (at : ℕ) (k : Keyword) → commandHere text at p k ≡ accepted tt → HasRoom p k
+  pub here-room : (text : List ℕ) (at : ℕ) (k : Keyword) → commandHere text at p k ≡ accepted tt → RoomFor k
   here-room text at Keyword.Missing e = absurd (accepted≢refused _ tt _ e refl)
   here-room text at Keyword.Unknown e = absurd (accepted≢refused _ tt _ e refl)
-  here-room text at Keyword.End e = HasRoom.end
-  here-room text at Keyword.Input e = HasRoom.input (ltb-true _ _ (provided-true _ 4 at e))
-  here-room text at Keyword.Equation e = HasRoom.equation (ltb-true _ _ (provided-true _ 4 at e))
-  here-room text at Keyword.Latency e = HasRoom.latency (ltb-true _ _ (provided-true _ 4 at e))
+  here-room text at Keyword.End e = tt
+  here-room text at Keyword.Input e = ltb-true _ _ (provided-true _ 4 at e)
+  here-room text at Keyword.Equation e = ltb-true _ _ (provided-true _ 4 at e)
+  here-room text at Keyword.Latency e = ltb-true _ _ (provided-true _ 4 at e)
   here-room text at Keyword.Link e = absurd (accepted≢refused _ tt _ e refl)
-  here-room text at Keyword.Cap e = HasRoom.cap (no-limit (p .cap) (provided-true _ 5 at e))
-  here-room text at Keyword.Tag e = HasRoom.tag
+  here-room text at Keyword.Cap e = no-limit (p .cap) (provided-true _ 5 at e)
+  here-room text at Keyword.Tag e = tt
   here-room text at Keyword.Constant e = absurd (accepted≢refused _ tt _ e refl)
   here-room text at (Keyword.Read kind) e = absurd (accepted≢refused _ tt _ e refl)
   here-room text at (Keyword.Binary operator) e = absurd (accepted≢refused _ tt _ e refl)
@@ -136,20 +128,21 @@ module _ (least : ℕ) (text : List ℕ) where
   reads-node d sub h at (Command.Link signal) e = tt
   reads-node d sub h at (Command.Cap n) e = tt
   reads-node d sub h at (Command.Tag label) e = tt
-  reads-node d sub h at (Command.Constant w) e = (Spells.constants e, omega arith)
+  reads-node d sub h at (Command.Constant w) e = (Spells.constants (as-written _ tt e), omega arith)
   reads-node d sub h at (Command.Read kind x) e =
-      holds-provided (Reads (suc d) at) (isAllowed least kind x) 5 at _ (λ t. (Spells.reads e t, omega arith))
+      holds-provided (Reads (suc d) at) (isAllowed least kind x) 5 at _ (λ t. (Spells.reads (as-written _ tt e) t, omega arith))
   reads-node d sub h at (Command.Binary operator) e =
       holds-then (Reads d (at + 1)) (Reads (suc d) at) (sub (at + 1)) _ (h (at + 1)) (λ x u.
       holds-then (Reads d (x .next)) (Reads (suc d) at) (sub (x .next)) _ (h (x .next)) (λ y v.
-      (Spells.two e (u .0) (v .0), omega arith)))
+      (Spells.two (as-written _ tt e) (u .0) (v .0), omega arith)))
   reads-node d sub h at Command.Negate e =
-      holds-then (Reads d (at + 1)) (Reads (suc d) at) (sub (at + 1)) _ (h (at + 1)) (λ x u. (Spells.one e (u .0), omega arith))
+      holds-then (Reads d (at + 1)) (Reads (suc d) at) (sub (at + 1)) _ (h (at + 1)) (λ x u.
+      (Spells.one (as-written _ tt e) (u .0), omega arith))
   reads-node d sub h at Command.If e =
       holds-then (Reads d (at + 1)) (Reads (suc d) at) (sub (at + 1)) _ (h (at + 1)) (λ x u.
       holds-then (Reads d (x .next)) (Reads (suc d) at) (sub (x .next)) _ (h (x .next)) (λ y v.
       holds-then (Reads d (y .next)) (Reads (suc d) at) (sub (y .next)) _ (h (y .next)) (λ z w.
-      (Spells.three e (u .0) (v .0) (w .0), omega arith))))
+      (Spells.three (as-written _ tt e) (u .0) (v .0) (w .0), omega arith))))
 
   reads-expr : (d at : ℕ) → Holds (Reads d at) (parseExpr least d text at)
   unfolding parseExpr
@@ -162,7 +155,8 @@ module _ (least : ℕ) (text : List ℕ) where
       reads-node d (λ n. parseExpr least d text n) (λ a. reads-expr d a) at (commandAt text at) refl)
 
   -- An accepted expression is spelled, and nests at most d deep.
-  pub spelled : (d at : ℕ) (e : Expr) (next : ℕ) → parseExpr least d text at ≡ parsed e next → Spells least text at e next × (depth e ≤ d)
+  pub spelled : (d at : ℕ) (e : Expr) (next : ℕ) → parseExpr least d text at ≡ parsed e next →
+      Spells least text at e next × (depth e ≤ d)
   spelled d at e next q =
       holds-value (Reads d at) (parseExpr least d text at) (record { value = e; next = next }) (reads-expr d at) q
 
@@ -226,7 +220,7 @@ module _ (least : ℕ) (text : List ℕ) where
       onward {a} {l} {r} d =
           holds-map (Ended a l r) (Ended at label p) (next a l r) (λ q x. (x .0, Declares.onward d (x .1))) (h a l r)
 
-      declares : (c : Command) → commandAt text at ≡ c → HasRoom p (keywordAt text at) →
+      declares : (c : Command) → commandAt text at ≡ c → RoomFor p (keywordAt text at) →
           Holds (Ended at label p) (declare least next text at label p c)
       unfolding declare
       declares Command.EndsEarly e room = tt
@@ -234,27 +228,27 @@ module _ (least : ℕ) (text : List ℕ) where
       declares Command.OutOfRange e room = tt
       declares Command.End e room =
           holds-provided (Ended at label p) (leb (length text) (at + 1)) 6 (at + 1) (accepted p) (λ t.
-          (at, Declares.ends e (leb-true _ _ t)))
+          (at, Declares.ends (as-written _ tt e) (leb-true _ _ t)))
       declares (Command.Input period initial) e room =
-          onward (DeclaresOne.inputs (room-of p _ (keyword-of text at _ e) room) e)
+          onward (DeclaresOne.inputs (room-of p _ (keyword-of text at _ e) room) (as-written _ tt e))
       declares (Command.Equation period initial weight) e room =
           holds-then (Reads 16 (at + inProgram 0x11)) (Ended at label p) (parseExpr least 16 text (at + inProgram 0x11)) _
           (reads-expr 16 (at + inProgram 0x11)) (λ x u.
-          onward (DeclaresOne.equations (room-of p _ (keyword-of text at _ e) room) e (u .0) (u .1)))
+          onward (DeclaresOne.equations (room-of p _ (keyword-of text at _ e) room) (as-written _ tt e) (u .0) (u .1)))
       declares (Command.Latency mode bound) e room =
           holds-then (ReadsLinks 16 (at + 4) []) (Ended at label p) (parseLinks 16 text (at + 4) []) _
           (reads-links 16 (at + 4) []) (λ x u.
           holds-provided (Ended at label p) (leb 2 (length (x .value))) 5 at _ (λ t.
           onward
-          (DeclaresOne.chains (room-of p _ (keyword-of text at _ e) room) e (rw (u .1) (u .2))
+          (DeclaresOne.chains (room-of p _ (keyword-of text at _ e) room) (as-written _ tt e) (rw (u .1) (u .2))
           (leb-true 2 (length (x .value)) t) (rw (u .1) (u .3)))))
       declares (Command.Link signal) e room = tt
-      declares (Command.Cap n) e room = onward (DeclaresOne.caps (room-of p _ (keyword-of text at _ e) room) e)
+      declares (Command.Cap n) e room = onward (DeclaresOne.caps (room-of p _ (keyword-of text at _ e) room) (as-written _ tt e))
       declares (Command.Tag given) e room =
           let next = at + inProgram 0x15 in
           holds-provided (Ended at label p) (ltb next (length text)) _ _ _ (λ t.
           holds-provided (Ended at label p) (isSignal (byteAt text next)) _ _ _ (λ u.
-          onward (DeclaresOne.tags e (ltb-true next (length text) t) (signal-is (byteAt text next) .0 u))))
+          onward (DeclaresOne.tags (as-written _ tt e) (ltb-true next (length text) t) (signal-is (byteAt text next) .0 u))))
       declares (Command.Constant w) e room = tt
       declares (Command.Read kind x) e room = tt
       declares (Command.Binary operator) e room = tt
@@ -267,11 +261,12 @@ module _ (least : ℕ) (text : List ℕ) where
   declares-commands (suc left) at label p =
       let here = commandHere text at p (keywordAt text at) in
       holds-then (λ u. here ≡ accepted u) (Ended at label p) here _ (value-holds here) (λ u e.
-      declares (λ n l q. parseCommands least left text n l q) (λ a l q. declares-commands left a l q) at label p (commandAt text at)
-      refl (here-room p text at (keywordAt text at) e))
+      declares (λ n l q. parseCommands least left text n l q) (λ a l q. declares-commands left a l q) at label p
+      (commandAt text at) refl (here-room p text at (keywordAt text at) e))
 
   -- An accepted text declares its program.
   pub declared : (p : Program) → parseWith least text ≡ accepted p → (end : ℕ) × Declares least text 0 0 empty end p
   unfolding parseWith
   declared p e =
-      holds-value (Ended 0 0 empty) (parseCommands least (length text) text 0 0 empty) p (declares-commands (length text) 0 0 empty) e
+      holds-value (Ended 0 0 empty) (parseCommands least (length text) text 0 0 empty) p
+      (declares-commands (length text) 0 0 empty) e

@@ -374,7 +374,7 @@ module _ (p : Program) (s : Schedule) (h : ℕ) where
   module _ (bounded : Bounded p s h) where
     pub length-bytes : twoAt (imageOf p s h) 2 ≡ length (imageOf p s h)
     length-bytes =
-        two-at (lengthOf p s h) (bounded .size)
+        two-at (lengthOf p s h) (omega (arith, bounded .size))
         (behind (h ∷ count p ∷ []) _ (front (h ∷ count p ∷ twoBytes (lengthOf p s h)) _ head-on)) ∙
         sym image-length
 

@@ -5,8 +5,8 @@ use mathlib.Core.List.{List, [], _∷_, _++_, append-nil}
 use mathlib.Core.Logic.{_⊎_, inl, inr, ⊎-elim, _↔_}
 use mathlib.Core.Path.{_≡_, refl, sym, ap, ap₂, subst, _∙_}
 use native.Mathlib.Omega.{arith}
-use borrow.Author.Tests.{leb-true, ltb-true, ltb-false, eqb-true, eq-eqb}
-use lib.Dec.{leb, ltb, eqb}
+use borrow.Author.Tests.{ltb-true, ltb-false, eqb-true, eq-eqb}
+use lib.Dec.{ltb, eqb}
 use lib.IntN.{ℤ}
 use lib.ListN.{
   length,
@@ -21,16 +21,11 @@ use lib.ListN.{
   List·getD-eq-default,
 }
 use lib.Seq.{getD-take, take-all, take-append-seam, drop-append-seam}
-use Rattle.model.specs.Calls.{Call, reset, cycle, callOf, logged, after, logAfter}
+use Rattle.model.specs.Calls.{Call, reset, cycle, callOf, logged, after, logAfter, answersOf}
 use Rattle.model.specs.Image.{joined, listsAt, withTail, imageOf, tailEntry, tailOf, writtenOf, writtenLength}
 use Rattle.model.specs.Machine.{
-  hyperOf,
   countOf,
   statedLength,
-  headOk,
-  listsOk,
-  entriesOk,
-  codesOk,
   wellFormed,
   imagePart,
   lengthOk,
@@ -39,13 +34,14 @@ use Rattle.model.specs.Machine.{
   resetOf,
   cycleOf,
 }
-use Rattle.model.specs.Outcome.{accepted, _▷_, provided}
+use Rattle.model.specs.Outcome.{Outcome, accepted, _▷_, provided}
 use Rattle.model.specs.Program.{Program, count, signalAt}
 use Rattle.model.specs.Schedule.{Schedule, phaseOf}
 use Rattle.model.specs.Search.{table, joinFrom}
 use Rattle.model.specs.Tail.{tailIn, Bears, Tells}
 use Rattle.model.specs.Word.{byteAt, twoAt, twoBytes}
 use Rattle.model.proofs.Commands.{Bytes}
+use Rattle.model.proofs.FormedExactly.{well-formed-exactly, lists-within}
 use Rattle.model.proofs.Stretches.{
   Stands,
   front,
@@ -71,29 +67,10 @@ pub record Headed (image : List ℕ) : Type 0 where
   pub four : 4 ≤ length image
   pub stated : statedLength image ≡ length image
 
-head-headed : (image : List ℕ) → headOk image ≡ true → Headed image
-unfolding headOk
-head-headed image h =
-    let a = leb 4 (length image) in
-    let b = eqb (statedLength image) (length image) in
-    let c = leb 1 (hyperOf image) in
-    let d = leb (hyperOf image) 240 in
-    let e = leb (countOf image) 64 in
-    let f = leb (listsAt (countOf image) (hyperOf image)) (length image) in
-    let upTo-e = both (a && b && c && d && e) f h .0 in
-    let upTo-c = both (a && b && c) d (both (a && b && c && d) e upTo-e .0) .0 in
-    let first = both a b (both (a && b) c upTo-c .0) in
-    record { four = leb-true 4 (length image) (first .0); stated = eqb-true _ _ (first .1) }
-
 pub headed : (image : List ℕ) → wellFormed image ≡ true → Headed image
-unfolding wellFormed
-headed image h = go (headOk image) refl h
-  where
-    go : (b : Bool) → headOk image ≡ b →
-        elim b [ true ↦ elim (listsOk image) [ true ↦ entriesOk image && codesOk image | false ↦ false ] | false ↦ false ] ≡
-        true → Headed image
-    go true e t = head-headed image e
-    go false e t = never t
+headed image h =
+    let w = well-formed-exactly image .0 h in
+    record { four = omega (arith, lists-within image w); stated = w .stated }
 
 -- A well-formed image in what bears it.
 module _ {image tail lent : List ℕ} (formed : wellFormed image ≡ true) (bears : Bears image tail lent) where
@@ -229,6 +206,14 @@ log-alike f b state log [] = refl
 log-alike {image} f b state log (c ∷ cs) =
     log-alike f b _ _ cs ∙
     ap (λ (e : Effect ℤ). logAfter image (e .left) (logged c (e .answer) log) cs) (call-alike f b state c)
+
+pub answers-alike : {image tail lent : List ℕ} → wellFormed image ≡ true → Bears image tail lent → (state : List ℤ)
+    (cs : List Call) → answersOf lent state cs ≡ answersOf image state cs
+unfolding answersOf
+answers-alike f b state [] = refl
+answers-alike {image} {lent = lent} f b state (c ∷ cs) =
+    ap (λ (rest : List (Outcome ℕ)). callOf lent state c .answer ∷ rest) (answers-alike f b _ cs) ∙
+    ap (λ (e : Effect ℤ). e .answer ∷ answersOf image (e .left) cs) (call-alike f b state c)
 
 -- Parts of four bytes each, joined.
 four-parts : (xs : List (List ℕ)) → ((x : ℕ) → x < length xs → length (getD xs x []) ≡ 4) → (x : ℕ) → x ≤ length xs →

@@ -10,7 +10,7 @@ use lib.IntN.{ℤ, pos}
 use lib.ListN.{length, getD, take, drop, set, replicate, length-take, length-drop, length-set, length-replicate}
 use lib.Seq.{getD-take, getD-drop, ext-getD}
 use Rattle.model.specs.Accepted.{Accepted, Multiple}
-use Rattle.model.specs.Calls.{Call, reset, cycle, callOf, after, lentAt, Supplied, Holds}
+use Rattle.model.specs.Calls.{Call, reset, cycle, callOf, after, stateBy, logBy, lentAt, Supplied, Holds}
 use Rattle.model.specs.Compile.{pairOf}
 use Rattle.model.specs.Decimal.{lineOf}
 use Rattle.model.specs.Image.{imageOf}
@@ -22,7 +22,7 @@ use Rattle.model.specs.Script.{Action, alter, run, scriptOf, callsFrom, 
 use Rattle.model.specs.Streams.{Satisfies}
 use Rattle.model.specs.Trial.{signalsOf, linesFrom, startOf, heldAt, wordsAfter, samplesAt, inputsOf}
 use Rattle.model.proofs.Bounds.{Bounded}
-use Rattle.model.proofs.Bytes.{stateBy, logBy, list-shown, calls-hold}
+use Rattle.model.proofs.Bytes.{list-shown, calls-hold}
 use Rattle.model.proofs.Commands.{Bytes}
 use Rattle.model.proofs.Exact.{accepted-exactly}
 use Rattle.model.proofs.Lists.{logOf}

@@ -17,6 +17,7 @@ use Rattle.model.specs.Program.{Program, count, signalAt}
 use Rattle.model.specs.Reads.{Rate, rateOf, runCycle, due, stored, place, settled}
 use Rattle.model.specs.Schedule.{Schedule}
 use Rattle.model.specs.Streams.{next, Satisfies}
+use Rattle.model.proofs.Decide.{place-at}
 use Rattle.model.proofs.Rate.{stored-is, stored-bit, bit}
 use Rattle.model.proofs.Unique.{used-is}
 use Rattle.model.proofs.Values.{next-same, next-given}
@@ -89,17 +90,6 @@ other-place x y h = go (ltb x y) refl
     go : (b : Bool) → ltb x y ≡ b → b ≡ ltb x (suc y)
     go true e = let f = ltb-true x y e in sym (lt-ltb x (suc y) (omega arith))
     go false e = let f = ltb-false x y e in sym (le-ltb x (suc y) (omega arith))
-
--- The signal at a place of the order.
-pub place-at : (xs : List ℕ) (x : ℕ) → place xs x < length xs → getD xs (place xs x) 0 ≡ x
-unfolding place
-place-at [] x h = absurd (omega arith)
-place-at (y ∷ ys) x h = go (eqb y x) refl h (place-at ys x)
-  where
-    go : (b : Bool) → eqb y x ≡ b → cond b 0 (suc (place ys x)) < suc (length ys) →
-        (place ys x < length ys → getD ys (place ys x) 0 ≡ x) → getD (y ∷ ys) (cond b 0 (suc (place ys x))) 0 ≡ x
-    go true e h ih = eqb-true y x e
-    go false e h ih = ih (omega arith)
 
 module _ (p : Program) (s : Schedule) (acc : Accepted p s) (inputs X : ℕ → ℕ → ℤ) (sat : Satisfies p (settled p s) inputs X) where
   -- Before the signal at place i has its turn in cycle t, each signal holds what is stored of its stream.

@@ -1,31 +1,29 @@
 -- A legal text with no factor of 1, rewritten, is what it was; so that a text rewritten twice is the text rewritten once.
 -- Assumes nothing.
-use Prim.Native.Nat.{ℕ, zero, suc, _+_, _≤_, _<_}
-use mathlib.Core.Bool.{Bool, true, false, cond}
+use Prim.Native.Nat.{ℕ, zero, suc, _+_, _≤_}
+use mathlib.Core.Bool.{true, false}
 use mathlib.Core.List.{List, [], _∷_, _++_}
 use mathlib.Core.Path.{_≡_, refl, sym, ap, _∙_}
 use native.Mathlib.Numerals.{add-one}
 use native.Mathlib.Omega.{arith}
 use borrow.Author.Tests.{leb-true, ne-eqb}
-use lib.Dec.{leb, eqb}
+use lib.Dec.{eqb}
 use lib.ListN.{length, take, drop, take-append-drop, drop-of-length-le}
 use lib.Seq.{drop-cons, drop-drop}
-use Rattle.model.specs.Command.{commandAt}
 use Rattle.model.specs.Convert.{singleKind}
 use Rattle.model.specs.Grammar.{Spells, SpellsLinks, DeclaresOne, Declares, LegalWith, LegalProgram}
 use Rattle.model.specs.Program.{Program, Expr, Link, leastFactor, isAllowed}
 use Rattle.model.specs.Rewrite.{widthOf, bytesAfter, rewriteAt, rewriteFrom, rewrite}
 use Rattle.model.specs.Width.{readWidth}
 use Rattle.model.specs.Word.{byteAt}
-use Rattle.model.specs.Written.{readByte, Written, Whole}
+use Rattle.model.specs.Written.{readByte, Written}
 use Rattle.model.specs.declared.Command.{Command}
 use Rattle.model.specs.declared.Command.the-variants as Command
 use Rattle.model.specs.declared.Kind.{Kind}
 use Rattle.model.specs.declared.Kind.the-variants.{Now, Last, When, LastWhen, Current}
 use Rattle.model.specs.declared.Sampled.{Sampled}
-use Rattle.model.proofs.Commands.{link-command}
 use Rattle.model.proofs.Rewritten.{written-inside, none-after, rewrite-legal}
-use Rattle.model.proofs.Written.{command-written}
+use Rattle.model.proofs.Written.{decoded}
 
 module _ (text : List ℕ) where
   -- From `at` on nothing is changed.
@@ -44,14 +42,14 @@ module _ (text : List ℕ) where
       go : (left : ℕ) → length text ≤ left + at → rewriteFrom left text at ≡ drop at text
       go zero le = absurd (omega (arith, written-inside w))
       go (suc left) le =
-          ap (λ d. rewriteAt text at d ++ rewriteFrom left text (at + widthOf d)) (command-written text at c .1 w .0) ∙
+          ap (λ d. rewriteAt text at d ++ rewriteFrom left text (at + widthOf d)) (decoded w) ∙
           ap (λ l. l ++ rewriteFrom left text (at + n)) e ∙
           ap (λ l. take n (drop at text) ++ l) (f .holds left (omega (arith, written-inside w .1)) ∙ sym (drop-drop n at text)) ∙
           take-append-drop n (drop at text)
 
-  kept-same : {at : ℕ} (c : Command) → commandAt text at ≡ c → Whole c → ((bytes : List ℕ) → bytesAfter c bytes ≡ bytes) →
+  kept-same : {at : ℕ} (c : Command) → Written text at c → ((bytes : List ℕ) → bytesAfter c bytes ≡ bytes) →
       Same (at + widthOf c) → Same at
-  kept-same {at} c e w same f = command-same (command-written text at c .0 (e, w)) (same _) f
+  kept-same c w same f = command-same w (same _) f
 
   -- NOW and LAST are written as they stand; the others have a factor of 2 at least.
   two-bytes : (at : ℕ) → at + 2 ≤ length text → byteAt text at ∷ byteAt text (at + 1) ∷ [] ≡ take 2 (drop at text)
@@ -106,37 +104,37 @@ module _ (text : List ℕ) where
   read-bytes (Written.negate h b) a = absurd a
   read-bytes (Written.choose h b) a = absurd a
 
-  read-same : {at : ℕ} (kind : Kind) (x : Sampled) → commandAt text at ≡ Command.Read kind x →
+  read-same : {at : ℕ} (kind : Kind) (x : Sampled) → Written text at (Command.Read kind x) →
       isAllowed leastFactor kind x ≡ true → Same (at + readWidth kind) → Same at
-  read-same {at} kind x e a f =
-      let w = command-written text at (Command.Read kind x) .0 (e, tt) in command-same w (read-bytes w a) f
+  read-same kind x w a f = command-same w (read-bytes w a) f
 
   expr-same : {at n : ℕ} {e : Expr} → Spells leastFactor text at e n → Same n → Same at
-  expr-same (Spells.constants e) f = kept-same (Command.Constant _) e tt (λ bytes. refl) f
+  expr-same (Spells.constants e) f = kept-same (Command.Constant _) e (λ bytes. refl) f
   expr-same (Spells.reads {kind = kind} {x = x} e a) f = read-same kind x e a f
-  expr-same (Spells.two e u v) f = kept-same (Command.Binary _) e tt (λ bytes. refl) (expr-same u (expr-same v f))
-  expr-same (Spells.one e u) f = kept-same Command.Negate e tt (λ bytes. refl) (expr-same u f)
+  expr-same (Spells.two e u v) f = kept-same (Command.Binary _) e (λ bytes. refl) (expr-same u (expr-same v f))
+  expr-same (Spells.one e u) f = kept-same Command.Negate e (λ bytes. refl) (expr-same u f)
   expr-same (Spells.three e u v w) f =
-      kept-same Command.If e tt (λ bytes. refl) (expr-same u (expr-same v (expr-same w f)))
+      kept-same Command.If e (λ bytes. refl) (expr-same u (expr-same v (expr-same w f)))
 
   links-same : {at n : ℕ} {ls : List Link} → SpellsLinks text at ls n → Same n → Same at
   links-same (SpellsLinks.ends e) f = f
   links-same (SpellsLinks.link {at = at} e le r) f =
-      kept-same (Command.Link (byteAt text (at + 1))) (link-command text at e le) tt (λ bytes. refl) (links-same r f)
+      kept-same (Command.Link (byteAt text (at + 1))) (Written.link le e) (λ bytes. refl) (links-same r f)
 
-  one-same : {at label next given : ℕ} {p q : Program} → DeclaresOne leastFactor text at label p next given q → Same next → Same at
-  one-same (DeclaresOne.inputs room e) f = kept-same (Command.Input _ _) e tt (λ bytes. refl) f
-  one-same (DeclaresOne.equations room e u d) f = kept-same (Command.Equation _ _ _) e tt (λ bytes. refl) (expr-same u f)
-  one-same (DeclaresOne.chains room e u low high) f = kept-same (Command.Latency _ _) e tt (λ bytes. refl) (links-same u f)
-  one-same (DeclaresOne.caps room e) f = kept-same (Command.Cap _) e tt (λ bytes. refl) f
-  one-same (DeclaresOne.tags e more s) f = kept-same (Command.Tag _) e tt (λ bytes. refl) f
+  one-same : {at label next given : ℕ} {p q : Program} → DeclaresOne leastFactor text at label p next given q → Same next →
+      Same at
+  one-same (DeclaresOne.inputs room e) f = kept-same (Command.Input _ _) e (λ bytes. refl) f
+  one-same (DeclaresOne.equations room e u d) f = kept-same (Command.Equation _ _ _) e (λ bytes. refl) (expr-same u f)
+  one-same (DeclaresOne.chains room e u low high) f = kept-same (Command.Latency _ _) e (λ bytes. refl) (links-same u f)
+  one-same (DeclaresOne.caps room e) f = kept-same (Command.Cap _) e (λ bytes. refl) f
+  one-same (DeclaresOne.tags e more s) f = kept-same (Command.Tag _) e (λ bytes. refl) f
 
   -- Nothing stands after END.
   end-same : {at : ℕ} → length text ≤ at → Same at
   end-same {at} le = record { holds = λ left enough. none-after text (rewrite text) left at le ∙ sym (drop-of-length-le text le) }
 
   declares-same : {at label end : ℕ} {p q : Program} → Declares leastFactor text at label p end q → Same at
-  declares-same (Declares.ends e le) = kept-same Command.End e tt (λ bytes. refl) (end-same le)
+  declares-same (Declares.ends e le) = kept-same Command.End e (λ bytes. refl) (end-same le)
   declares-same (Declares.onward d r) = one-same d (declares-same r)
 
 pub rewrite-same : (text : List ℕ) (p : Program) → LegalProgram text p → rewrite text ≡ text

@@ -15,6 +15,7 @@ use Rattle.model.specs.Program.{Program, Read, count, signalAt}
 use Rattle.model.specs.Reads.{Rate, rateOf, runCycle, stored, place, before, settled}
 use Rattle.model.specs.Schedule.{Schedule}
 use Rattle.model.specs.Streams.{entry, Satisfies}
+use Rattle.model.proofs.Decide.{met-settled, for-put}
 use Rattle.model.proofs.Fix
 use Rattle.model.proofs.Lines.{met-index}
 use Rattle.model.proofs.Rate.{stored-high, bit}
@@ -56,8 +57,10 @@ module _ (p : Program) (s : Schedule) where
     unfolding used
     used-is r ρ k lt m =
         let w = ρ .operands .signal in
+        let q = met-settled p s r ρ m in
         met-index (ρ .kind) (rateOf p s w) (rateOf p s r) (ρ .operands .factor) (settled p s r ρ) k (before s w r)
-        (acc .phases w (m .declared)) (acc .phases r lt) (m .within) (m .periods) (m .line) (m .order)
+        (acc .phases w (m .declared)) (acc .phases r lt) (q .0) (m .periods) (q .1)
+        (λ j i same. for-put (ρ .kind) s w r (m .order j i same))
 
     -- What it uses was computed before.
     used-lower : (r : ℕ) (ρ : Read) (k : ℕ) → r < count p → Met p s r ρ →

@@ -210,7 +210,8 @@ steps-accepted text p s parses rated ordered meets =
     all-met x lt =
         let ρs = bodyReads (signalAt p x .body) in
         all-map (λ ρ. SpellsRead text ρ × (Rated p x ρ × (isMet p s x ρ ≡ true))) (Met p s x) (λ ρ h.
-        met-true p s x ρ (h .1 .0 .0) (read-sound text ρ (h .0) .range) (h .1 .0 .1) (h .1 .1)) ρs
+        met-true p s x ρ (h .1 .0 .0) (ordered .put _ (h .1 .0 .0)) (ordered .put x lt)
+        (read-sound text ρ (h .0) .range) (h .1 .0 .1) (h .1 .1)) ρs
         (all-both (SpellsRead text) (λ ρ. Rated p x ρ × (isMet p s x ρ ≡ true)) ρs
         (signal-reads (legal text p parses .1) x lt)
         (all-both (Rated p x) (λ ρ. isMet p s x ρ ≡ true) ρs (reads-rated p rated x lt) (reads-met p s meets x lt)))

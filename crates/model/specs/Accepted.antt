@@ -1,12 +1,14 @@
 -- What an accepted pair keeps, as statements over all runs. The tests of the other modules decide them.
 use Prim.Native.Nat.{ℕ, zero, suc, _+_, _*_, _≤_, _<_, _∣_}
-use mathlib.Core.Bool.{Bool}
 use mathlib.Core.List.{List, [], _∷_}
+use mathlib.Core.Logic.{_⊎_}
 use mathlib.Core.Path.{_≡_}
 use lib.ListN.{length, getD}
 use Rattle.model.specs.Program.{Program, Read, count, signalAt, bodyReads}
-use Rattle.model.specs.Reads.{Rate, rateOf, runCycle, writerFirst, before, place, settled}
+use Rattle.model.specs.Reads.{Rate, rateOf, runCycle, place}
 use Rattle.model.specs.Schedule.{Schedule, phaseOf}
+use Rattle.model.specs.declared.Index.{Index}
+use Rattle.model.specs.declared.Index.the-variants.{Fixed, Open}
 use Rattle.model.specs.declared.Kind.{Kind}
 use Rattle.model.specs.declared.Kind.the-variants.{Now, Last, When, LastWhen, Current}
 
@@ -33,18 +35,40 @@ Line When w r i = Between (i * w .period + w .phase) (r .phase) (suc i * w .peri
 Line LastWhen w r i = Between (r .phase) (i * w .period + w .phase) (r .phase + w .period)
 Line Current w r i = Between (w .phase) (i * r .period + r .phase) (w .phase + r .period)
 
--- Wherever a run of w and a run of r share a cycle, the one comes first that the read wants first.
-abbrev pub Order : Kind → Rate → Rate → Bool → Type 0
-Order kind w r before = (j k : ℕ) → runCycle w j ≡ runCycle r k → before ≡ writerFirst kind
+-- The line of a read with factor n holds: with a fixed index at i; with an open one if some i from 0 to n − 1 meets its line.
+abbrev pub LineHolds : Kind → Rate → Rate → ℕ → Index → Type 0
+LineHolds kind w r n (Fixed i) = (i < n) × Line kind w r i
+LineHolds kind w r n Open = (i : ℕ) × (i < n) × Line kind w r i
+
+-- The index settled is i: a fixed one is itself; an open one is from 0 to n − 1 and meets its line.
+abbrev pub SettlesAt : Kind → Rate → Rate → ℕ → Index → ℕ → Type 0
+SettlesAt kind w r n (Fixed j) i = i ≡ j
+SettlesAt kind w r n Open i = (i < n) × Line kind w r i
+
+-- w is put before r.
+abbrev pub PutBefore : Schedule → ℕ → ℕ → Type 0
+PutBefore s w r = place (s .order) w < place (s .order) r
+
+-- w is put before r for NOW, WHEN and CURRENT; r is put before w, or is w, for LAST and LASTWHEN.
+abbrev pub PutFor : Kind → Schedule → ℕ → ℕ → Type 0
+PutFor Now s w r = PutBefore s w r
+PutFor Last s w r = PutBefore s r w ⊎ (r ≡ w)
+PutFor When s w r = PutBefore s w r
+PutFor LastWhen s w r = PutBefore s r w ⊎ (r ≡ w)
+PutFor Current s w r = PutBefore s w r
 
 module _ (p : Program) (s : Schedule) where
+  -- Wherever a run of w and a run of r share a cycle, they are put as the read wants it.
+  abbrev pub Order : Kind → ℕ → ℕ → Type 0
+  Order kind w r = (j k : ℕ) → runCycle (rateOf p s w) j ≡ runCycle (rateOf p s r) k → PutFor kind s w r
+
   -- A read in the equation of r is met.
   pub record Met (r : ℕ) (ρ : Read) : Type 0 where
     pub declared : ρ .operands .signal < count p
-    pub within : settled p s r ρ < ρ .operands .factor
     pub periods : PeriodRule (ρ .kind) (signalAt p (ρ .operands .signal) .period) (signalAt p r .period) (ρ .operands .factor)
-    pub line : Line (ρ .kind) (rateOf p s (ρ .operands .signal)) (rateOf p s r) (settled p s r ρ)
-    pub order : Order (ρ .kind) (rateOf p s (ρ .operands .signal)) (rateOf p s r) (before s (ρ .operands .signal) r)
+    pub line :
+        LineHolds (ρ .kind) (rateOf p s (ρ .operands .signal)) (rateOf p s r) (ρ .operands .factor) (ρ .operands .index)
+    pub order : Order (ρ .kind) (ρ .operands .signal) r
 
   -- Phases are below periods, every read is met, and every signal is put once.
   pub record Accepted : Type 0 where

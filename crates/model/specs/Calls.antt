@@ -7,7 +7,7 @@ use lib.Dec.{eqb}
 use lib.IntN.{ℤ, pos}
 use lib.ListN.{length, getD}
 use Rattle.model.specs.Machine.{Effect, resetOf, cycleOf}
-use Rattle.model.specs.Outcome.{Outcome, accepted, refused}
+use Rattle.model.specs.Outcome.{Outcome, accepted, refused, refuse}
 use Rattle.model.specs.Program.{Program, Body, input, equation, count, signalAt}
 use Rattle.model.specs.Reads.{rateOf, runCycle}
 use Rattle.model.specs.Schedule.{Schedule, phaseOf}
@@ -38,6 +38,34 @@ unfoldable pub logAfter : List ℕ → List ℤ → List (List ℤ) → List Cal
 logAfter image state log [] = log
 logAfter image state log (c ∷ cs) =
     logAfter image (callOf image state c .left) (logged c (callOf image state c .answer) log) cs
+
+-- Its answers, in order.
+unfoldable pub answersOf : List ℕ → List ℤ → List Call → List (Outcome ℕ)
+answersOf image state [] = []
+answersOf image state (c ∷ cs) = callOf image state c .answer ∷ answersOf image (callOf image state c .left) cs
+
+-- State, log and answers of a list that starts from what a reset of `old` leaves.
+abbrev pub stateBy : List ℕ → List ℤ → List Call → List ℤ
+stateBy image old cs = after image (resetOf image old .left) cs
+
+abbrev pub logBy : List ℕ → List ℤ → List Call → List (List ℤ)
+logBy image old cs = logAfter image (resetOf image old .left) [] cs
+
+abbrev pub answersBy : List ℕ → List ℤ → List Call → List (Outcome ℕ)
+answersBy image old cs = answersOf image (resetOf image old .left) cs
+
+-- A list of calls after c cycles since the latest reset, its answers, and c after it. No reset is refused. A cycle is refused
+-- exactly when it is lent fewer than N samples (23), and is then not counted; else it answers the count of its position, the
+-- remainder of c by H.
+pub data Answered (p : Program) (h : ℕ) (counts : List ℕ) : ℕ → List Call → List (Outcome ℕ) → ℕ → Type 0 where
+  none : {c : ℕ} → Answered p h counts c [] [] c
+  resets : {c c′ : ℕ} {cs : List Call} {answers : List (Outcome ℕ)} → Answered p h counts 0 cs answers c′ →
+      Answered p h counts c (reset ∷ cs) (accepted 0 ∷ answers) c′
+  few : {c c′ : ℕ} {cs : List Call} {answers : List (Outcome ℕ)} {samples : List ℤ} → length samples < count p →
+      Answered p h counts c cs answers c′ → Answered p h counts c (cycle samples ∷ cs) (refuse 23 0 ∷ answers) c′
+  runs : {c c′ : ℕ} {cs : List Call} {answers : List (Outcome ℕ)} {samples : List ℤ} → count p ≤ length samples →
+      Answered p h counts (suc c) cs answers c′ →
+      Answered p h counts c (cycle samples ∷ cs) (accepted (getD counts (c % h) 0) ∷ answers) c′
 
 -- The samples of the cycle that found c = t.
 unfoldable pub lentAt : List (List ℤ) → ℕ → List ℤ

@@ -60,6 +60,10 @@ whole text at n command = cond (leb (at + n) (length text)) command Command.Ends
 abbrev pub ranged : Bool → Command → Command
 ranged inRange command = cond inRange command Command.OutOfRange
 
+-- A command of n bytes whose first operand is a byte that is judged before the rest is looked for. The 2 is no width.
+abbrev pub firstJudged : List ℕ → ℕ → ℕ → Bool → Command → Command
+firstJudged text at n inRange command = whole text at 2 (ranged inRange (whole text at n command))
+
 -- Periods and n go from 1 to 240; i is below n, or 255.
 abbrev pub isPeriod : ℕ → Bool
 isPeriod n = leb 1 n && leb n 240
@@ -97,25 +101,20 @@ readOf When text at = sampledRead When text at
 readOf LastWhen text at = sampledRead LastWhen text at
 readOf Current text at = sampledRead Current text at
 
--- The command of a keyword, with the operands that stand after it. The 2 of IN, EQ and LAT are no width: the byte after the
--- command is judged before the rest is looked for.
+-- The command of a keyword, with the operands that stand after it.
 unfoldable pub commandOf : Keyword → List ℕ → ℕ → Command
 commandOf Keyword.Missing text at = Command.EndsEarly
 commandOf Keyword.Unknown text at = Command.Unknown
 commandOf Keyword.End text at = Command.End
 commandOf Keyword.Input text at =
-    whole text at 2
-    (ranged (isPeriod (byteAt text (at + 1)))
-    (whole text at (inProgram 0x10) (Command.Input (byteAt text (at + 1)) (wordAt text (at + 2)))))
+    firstJudged text at (inProgram 0x10) (isPeriod (byteAt text (at + 1)))
+    (Command.Input (byteAt text (at + 1)) (wordAt text (at + 2)))
 commandOf Keyword.Equation text at =
-    whole text at 2
-    (ranged (isPeriod (byteAt text (at + 1)))
-    (whole text at (inProgram 0x11)
-    (Command.Equation (byteAt text (at + 1)) (wordAt text (at + 2)) (twoAt text (at + 6)))))
+    firstJudged text at (inProgram 0x11) (isPeriod (byteAt text (at + 1)))
+    (Command.Equation (byteAt text (at + 1)) (wordAt text (at + 2)) (twoAt text (at + 6)))
 commandOf Keyword.Latency text at =
-    whole text at 2
-    (ranged (leb (byteAt text (at + 1)) 1)
-    (whole text at (inProgram 0x12) (Command.Latency (modeOf (byteAt text (at + 1))) (twoAt text (at + 2)))))
+    firstJudged text at (inProgram 0x12) (leb (byteAt text (at + 1)) 1)
+    (Command.Latency (modeOf (byteAt text (at + 1))) (twoAt text (at + 2)))
 commandOf Keyword.Link text at = whole text at (inProgram 0x13) (Command.Link (byteAt text (at + 1)))
 commandOf Keyword.Cap text at = whole text at (inProgram 0x14) (Command.Cap (fourAt text (at + 1)))
 commandOf Keyword.Tag text at = whole text at (inProgram 0x15) (Command.Tag (twoAt text (at + 1)))

@@ -1,5 +1,5 @@
 -- The grammar of both texts, as relations: which bytes are a legal program text, which a legal schedule text, and what they
--- say. No parser is named here; a command and its operands are those of `commandAt` and `scheduleCommandAt`.
+-- say. No parser and no decoder is named here; a command and its operands are those that stand written.
 use Prim.Native.Nat.{ℕ, suc, _+_, _≤_, _<_, max}
 use mathlib.Core.Bool.{true, false}
 use mathlib.Core.List.{List, [], _∷_}
@@ -8,7 +8,6 @@ use mathlib.Core.Path.{_≡_}
 use lib.Dec.{eqb}
 use lib.IntN.{ℤ}
 use lib.ListN.{length}
-use Rattle.model.specs.Command.{commandAt}
 use Rattle.model.specs.Outcome.{Parsed}
 use Rattle.model.specs.Program.{
   Expr,
@@ -30,9 +29,10 @@ use Rattle.model.specs.Program.{
   leastFactor,
   isAllowed,
 }
-use Rattle.model.specs.Schedule.{scheduleCommandAt, Put}
+use Rattle.model.specs.Schedule.{Put}
 use Rattle.model.specs.Width.{inProgram, inExpression, inSchedule, readWidth}
 use Rattle.model.specs.Word.{byteAt}
+use Rattle.model.specs.Written.{Written, PutWritten}
 use Rattle.model.specs.declared.Binary.{Binary}
 use Rattle.model.specs.declared.Command.the-variants as Command
 use Rattle.model.specs.declared.Kind.{Kind}
@@ -50,17 +50,18 @@ depth (choose x y z) = suc (max (depth x) (max (depth y) (depth z)))
 
 -- The bytes from `at` up to `next` spell the expression, operator first.
 pub data Spells (least : ℕ) (text : List ℕ) : ℕ → Expr → ℕ → Type 0 where
-  constants : {at : ℕ} {w : ℤ} → commandAt text at ≡ Command.Constant w →
+  constants : {at : ℕ} {w : ℤ} → Written text at (Command.Constant w) →
       Spells least text at (constant w) (at + inExpression 0x20)
-  reads : {at : ℕ} {kind : Kind} {x : Sampled} → commandAt text at ≡ Command.Read kind x →
+  reads : {at : ℕ} {kind : Kind} {x : Sampled} → Written text at (Command.Read kind x) →
       isAllowed least kind x ≡ true →
       Spells least text at (read (record { place = at; kind = kind; operands = x })) (at + readWidth kind)
-  two : {at m n : ℕ} {operator : Binary} {x y : Expr} → commandAt text at ≡ Command.Binary operator →
+  two : {at m n : ℕ} {operator : Binary} {x y : Expr} → Written text at (Command.Binary operator) →
       Spells least text (at + inExpression 0x30) x m → Spells least text m y n → Spells least text at (binary operator x y) n
-  one : {at n : ℕ} {x : Expr} → commandAt text at ≡ Command.Negate → Spells least text (at + inExpression 0x38) x n →
+  one : {at n : ℕ} {x : Expr} → Written text at Command.Negate → Spells least text (at + inExpression 0x38) x n →
       Spells least text at (negate x) n
-  three : {at m n o : ℕ} {x y z : Expr} → commandAt text at ≡ Command.If →
-      Spells least text (at + inExpression 0x3A) x m → Spells least text m y n → Spells least text n z o → Spells least text at (choose x y z) o
+  three : {at m n o : ℕ} {x y z : Expr} → Written text at Command.If →
+      Spells least text (at + inExpression 0x3A) x m → Spells least text m y n → Spells least text n z o →
+      Spells least text at (choose x y z) o
 
 -- The LINKs from `at` up to `next`; after them stands no other. Past its end a text reads 0.
 pub data SpellsLinks (text : List ℕ) : ℕ → List Link → ℕ → Type 0 where
@@ -78,27 +79,27 @@ IsSignal b = (b ≡ 0x10) ⊎ (b ≡ 0x11)
 -- there is none; IN and EQ take it.
 pub data DeclaresOne (least : ℕ) (text : List ℕ) : ℕ → ℕ → Program → ℕ → ℕ → Program → Type 0 where
   inputs : {at label period : ℕ} {initial : ℤ} {p : Program} → count p < 64 →
-      commandAt text at ≡ Command.Input period initial →
+      Written text at (Command.Input period initial) →
       DeclaresOne least text at label p (at + inProgram 0x10) 0
       (withSignal p (record { place = at; period = period; initial = initial; body = input; label = label }))
   equations : {at label next period weight : ℕ} {initial : ℤ} {e : Expr} {p : Program} → count p < 64 →
-      commandAt text at ≡ Command.Equation period initial weight → Spells least text (at + inProgram 0x11) e next →
+      Written text at (Command.Equation period initial weight) → Spells least text (at + inProgram 0x11) e next →
       depth e ≤ 16 →
       DeclaresOne least text at label p next 0
       (withSignal p (record { place = at; period = period; initial = initial; body = equation weight e; label = label }))
   chains : {at label next bound : ℕ} {mode : Mode} {ls : List Link} {p : Program} → length (p .chains) < 16 →
-      commandAt text at ≡ Command.Latency mode bound → SpellsLinks text (at + inProgram 0x12) ls next →
+      Written text at (Command.Latency mode bound) → SpellsLinks text (at + inProgram 0x12) ls next →
       2 ≤ length ls → length ls ≤ 16 →
       DeclaresOne least text at label p next 0 (withChain p (record { place = at; mode = mode; bound = bound; links = ls }))
-  caps : {at label n : ℕ} {p : Program} → p .cap ≡ unlimited → commandAt text at ≡ Command.Cap n →
+  caps : {at label n : ℕ} {p : Program} → p .cap ≡ unlimited → Written text at (Command.Cap n) →
       DeclaresOne least text at label p (at + inProgram 0x14) 0 (withCap p n)
-  tags : {at label given : ℕ} {p : Program} → commandAt text at ≡ Command.Tag given →
+  tags : {at label given : ℕ} {p : Program} → Written text at (Command.Tag given) →
       at + inProgram 0x15 < length text → IsSignal (byteAt text (at + inProgram 0x15)) →
       DeclaresOne least text at label p (at + inProgram 0x15) given p
 
 -- The commands from `at` up to END at `end`, the last byte, make q of p.
 pub data Declares (least : ℕ) (text : List ℕ) : ℕ → ℕ → Program → ℕ → Program → Type 0 where
-  ends : {at label : ℕ} {p : Program} → commandAt text at ≡ Command.End → length text ≤ at + inProgram 0x00 →
+  ends : {at label : ℕ} {p : Program} → Written text at Command.End → length text ≤ at + inProgram 0x00 →
       Declares least text at label p at p
   onward : {at label next given end : ℕ} {p q r : Program} → DeclaresOne least text at label p next given q →
       Declares least text next given q end r → Declares least text at label p end r
@@ -112,9 +113,9 @@ LegalProgram text p = LegalWith leastFactor text p
 
 -- The PUTs from `at` up to END, the last byte.
 pub data SpellsPuts (text : List ℕ) : ℕ → List Put → ℕ → Type 0 where
-  ends : {at : ℕ} → scheduleCommandAt text at ≡ ScheduleCommand.End → length text ≤ at + inSchedule 0x00 →
+  ends : {at : ℕ} → PutWritten text at ScheduleCommand.End → length text ≤ at + inSchedule 0x00 →
       SpellsPuts text at [] at
-  put : {at end signal phase : ℕ} {qs : List Put} → scheduleCommandAt text at ≡ ScheduleCommand.Put signal phase →
+  put : {at end signal phase : ℕ} {qs : List Put} → PutWritten text at (ScheduleCommand.Put signal phase) →
       SpellsPuts text (at + inSchedule 0x40) qs end →
       SpellsPuts text at (record { place = at; signal = signal; phase = phase } ∷ qs) end
 

@@ -33,3 +33,6 @@ pub mod Trial
 pub mod TrialRefusals
 pub mod Writing
 pub mod Conversion
+pub mod Lists
+pub mod WellFormed
+pub mod Exactness

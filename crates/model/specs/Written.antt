@@ -1,5 +1,5 @@
--- One command of a text or a code, byte for byte: it lies within the text, its first byte is its own, and its operands are in
--- their ranges. The grammar takes a command from `commandAt` and `scheduleCommandAt`; these relations say the same of the bytes.
+-- One command of a text or a code, byte for byte: written (it lies within the text, its first byte is its own, and its operands
+-- are in their ranges), cut, or with an operand outside its range. Grammar and stops rest on these; no decoder is named.
 use Prim.Native.Nat.{ℕ, _+_, _≤_, _<_}
 use mathlib.Core.List.{List}
 use mathlib.Core.Logic.{_⊎_}
@@ -23,6 +23,10 @@ use Rattle.model.specs.declared.ScheduleCommand.the-variants as Schedule
 -- Periods and n go from 1 to 240.
 abbrev pub InPeriods : ℕ → Type 0
 InPeriods n = (1 ≤ n) × (n ≤ 240)
+
+-- i is below n, or 255.
+abbrev pub InIndices : ℕ → ℕ → Type 0
+InIndices i n = (i < n) ⊎ (i ≡ 255)
 
 -- 21 NOW, 22 LAST, 23 WHEN, 24 LASTWHEN, 25 CURRENT.
 abbrev pub readByte : Kind → ℕ
@@ -56,7 +60,7 @@ pub data Written (text : List ℕ) (at : ℕ) : Command → Type 0 where
   -- WHEN, LASTWHEN and CURRENT: a signal, i and n; i is below n, or 255.
   sampled : (kind : Kind) → readWidth kind ≡ inExpression 0x23 → at + inExpression 0x23 ≤ length text →
       byteAt text at ≡ readByte kind → InPeriods (byteAt text (at + 3)) →
-      (byteAt text (at + 2) < byteAt text (at + 3)) ⊎ (byteAt text (at + 2) ≡ 255) →
+      InIndices (byteAt text (at + 2)) (byteAt text (at + 3)) →
       Written text at (Command.Read kind
       (record { signal = byteAt text (at + 1); factor = byteAt text (at + 3); index = indexOf (byteAt text (at + 2)) }))
   -- 30 ADD to 36 MAX, 38 NEG, 3A IF.
@@ -65,11 +69,69 @@ pub data Written (text : List ℕ) (at : ℕ) : Command → Type 0 where
   negate : at + inExpression 0x38 ≤ length text → byteAt text at ≡ 0x38 → Written text at Command.Negate
   choose : at + inExpression 0x3A ≤ length text → byteAt text at ≡ 0x3A → Written text at Command.If
 
+-- The command at an offset of the program text is cut: its byte stands there, the text ends before its last operand, and the
+-- operand that is judged before the others are looked for is in its range, if it is there. Past its end a text reads 0.
+pub data Cut (text : List ℕ) (at : ℕ) : Type 0 where
+  -- IN and EQ: the period comes first.
+  input : byteAt text at ≡ 0x10 → length text < at + inProgram 0x10 →
+      (at + 2 ≤ length text → InPeriods (byteAt text (at + 1))) → Cut text at
+  equation : byteAt text at ≡ 0x11 → length text < at + inProgram 0x11 →
+      (at + 2 ≤ length text → InPeriods (byteAt text (at + 1))) → Cut text at
+  -- LAT: the mode comes first.
+  latency : byteAt text at ≡ 0x12 → length text < at + inProgram 0x12 →
+      (at + 2 ≤ length text → byteAt text (at + 1) ≤ 1) → Cut text at
+  link : byteAt text at ≡ 0x13 → length text < at + inProgram 0x13 → Cut text at
+  cap : byteAt text at ≡ 0x14 → length text < at + inProgram 0x14 → Cut text at
+  tag : byteAt text at ≡ 0x15 → length text < at + inProgram 0x15 → Cut text at
+  constant : byteAt text at ≡ 0x20 → length text < at + inExpression 0x20 → Cut text at
+  -- The five reads: a signal takes any byte, and i is judged with n, the last.
+  read : (kind : Kind) → byteAt text at ≡ readByte kind → length text < at + readWidth kind → Cut text at
+
+-- The command at an offset of the program text has an operand outside its range, whatever stands after that operand.
+pub data Outside (text : List ℕ) (at : ℕ) : Type 0 where
+  -- IN and EQ: the period.
+  input : byteAt text at ≡ 0x10 → at + 2 ≤ length text → ¬ InPeriods (byteAt text (at + 1)) → Outside text at
+  equation : byteAt text at ≡ 0x11 → at + 2 ≤ length text → ¬ InPeriods (byteAt text (at + 1)) → Outside text at
+  -- LAT: the mode.
+  latency : byteAt text at ≡ 0x12 → at + 2 ≤ length text → 1 < byteAt text (at + 1) → Outside text at
+  -- WHEN, LASTWHEN and CURRENT: i and n.
+  sampled : (kind : Kind) → readWidth kind ≡ inExpression 0x23 → at + inExpression 0x23 ≤ length text →
+      byteAt text at ≡ readByte kind →
+      ¬ (InPeriods (byteAt text (at + 3)) × InIndices (byteAt text (at + 2)) (byteAt text (at + 3))) → Outside text at
+
+-- The bytes of expressions: 20 CONST, 21 NOW to 25 CURRENT, 30 ADD to 36 MAX, 38 NEG, 3A IF.
+pub data OperatorByte (b : ℕ) : Type 0 where
+  constant : b ≡ 0x20 → OperatorByte b
+  read : (kind : Kind) → b ≡ readByte kind → OperatorByte b
+  binary : (operator : Binary) → b ≡ binaryByte operator → OperatorByte b
+  negate : b ≡ 0x38 → OperatorByte b
+  choose : b ≡ 0x3A → OperatorByte b
+
+-- The bytes of the commands that are none of an expression. A LINK stands after LAT only.
+pub data DeclarationByte (b : ℕ) : Type 0 where
+  end : b ≡ 0x00 → DeclarationByte b
+  input : b ≡ 0x10 → DeclarationByte b
+  equation : b ≡ 0x11 → DeclarationByte b
+  latency : b ≡ 0x12 → DeclarationByte b
+  cap : b ≡ 0x14 → DeclarationByte b
+  tag : b ≡ 0x15 → DeclarationByte b
+
+-- A byte that is no command of a program text, wherever it stands.
+abbrev pub NoCommandByte : ℕ → Type 0
+NoCommandByte b = ¬ DeclarationByte b × ¬ (b ≡ 0x13) × ¬ OperatorByte b
+
 -- The command at an offset of the schedule text.
 pub data PutWritten (text : List ℕ) (at : ℕ) : ScheduleCommand → Type 0 where
   end : at + inSchedule 0x00 ≤ length text → byteAt text at ≡ 0x00 → PutWritten text at ScheduleCommand.End
   put : at + inSchedule 0x40 ≤ length text → byteAt text at ≡ 0x40 →
       PutWritten text at (ScheduleCommand.Put (byteAt text (at + 1)) (byteAt text (at + 2)))
+
+-- It is cut: a PUT whose signal or phase is missing. It is none: neither END nor PUT.
+abbrev pub PutCut : List ℕ → ℕ → Type 0
+PutCut text at = (byteAt text at ≡ 0x40) × (length text < at + inSchedule 0x40)
+
+abbrev pub NoPutByte : ℕ → Type 0
+NoPutByte b = ¬ (b ≡ 0x00) × ¬ (b ≡ 0x40)
 
 -- The command at an offset of an image's code.
 pub data CodeWritten (code : List ℕ) (at : ℕ) : Code → Type 0 where

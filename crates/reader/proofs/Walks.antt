@@ -31,6 +31,7 @@ use Rattle.model.specs.declared.Kind.{Kind}
 use Rattle.model.specs.declared.Kind.the-variants.{Now, Last, When, LastWhen, Current}
 use Rattle.model.proofs.Commands.{command-sound}
 use Rattle.model.proofs.Spelled.{spelled}
+use Rattle.model.proofs.Written.{decoded}
 use Rattle.model.proofs.Stretches.{sets-append}
 use Rattle.reader.specs.Walks.{placesOf, Room, Moves, WalksBy, Walks, EquationBy, WalksEquation, deepOf}
 use Rattle.reader.specs.declared.Entry.{Entry}
@@ -168,12 +169,12 @@ module _ {text : List ℕ} where
   pub spans : {least at n : ℕ} {e : Expr} → Spells least text at e n → Spans (length text) at e n
   unfolding readsOf exprCode wordBytes fourBytes
   spans (Spells.constants {at = at} e) =
-      record { few = omega arith; small = omega arith; inside = command-sound text at _ e .1 }
+      record { few = omega arith; small = omega arith; inside = command-sound text at _ (decoded e) .1 }
   spans (Spells.reads {at = at} {kind = kind} e a) =
       record {
         few = omega (arith, read-least kind);
         small = omega (arith, read-least kind);
-        inside = command-sound text at _ e .1;
+        inside = command-sound text at _ (decoded e) .1;
       }
   spans (Spells.two e u v) =
       let a = spans u in

@@ -34,6 +34,7 @@ use Rattle.model.proofs.Decide.{all-true, true-all}
 use Rattle.model.proofs.Outcomes.{lowest-sorted, getD-table}
 use Rattle.model.specs.Grammar.{SpellsPuts}
 use Rattle.model.proofs.Puts.{puts-end, puts-spelled, placed-ordered}
+use Rattle.model.proofs.Written.{put-decoded}
 use Rattle.reader.specs.Tables.{PeriodsOf, SlotsOf}
 use Rattle.reader.specs.declared.Judged.{Judged}
 use Rattle.reader.specs.declared.Judged.the-variants as Judged
@@ -207,7 +208,7 @@ pub record NextPut (text : List ℕ) (at end : ℕ) (rest : List Put) : Type 0 w
 pub next-put : {text : List ℕ} {at end : ℕ} {rest : List Put} → SpellsPuts text at rest end → at < end → NextPut text at end rest
 next-put (SpellsPuts.ends e le) lt = absurd (omega arith)
 next-put (SpellsPuts.put {signal = s} {phase = f} {qs = qs} e r) lt =
-    record { signal = s; phase = f; more = qs; command = e; is = refl; spelled = r }
+    record { signal = s; phase = f; more = qs; command = put-decoded e; is = refl; spelled = r }
 
 pub no-put : {text : List ℕ} {at end : ℕ} {rest : List Put} → SpellsPuts text at rest end → end ≤ at → rest ≡ []
 no-put (SpellsPuts.ends e le) lt = refl

@@ -26,6 +26,7 @@ use Rattle.model.specs.declared.Command.the-variants as Command
 use Rattle.model.specs.declared.Mode.{Mode}
 use Rattle.model.proofs.All.{all-at}
 use Rattle.model.proofs.Command.{enum}
+use Rattle.model.proofs.Decide.{met-settled}
 use Rattle.model.proofs.Legal.{legal, SpellsChain}
 use Rattle.model.proofs.Links.{LinkedBack, linked-backwards, declared-backwards, chain-met}
 use Rattle.model.proofs.Verdict.{links-declared, chains-linked}
@@ -63,7 +64,7 @@ sound-is p s hops r (ρ ∷ ρs) ch h j lt = go (eqb j (length ρs)) refl (λ l.
   where
     go : (b : Bool) → eqb j (length ρs) ≡ b → (j < length ρs → getD hops j noHop .index < getD hops j noHop .factor) →
         getD hops j noHop .index < getD hops j noHop .factor
-    go true e ih = rw (eqb-true j (length ρs) e, h .0) (ch .0 .within)
+    go true e ih = rw (eqb-true j (length ρs) e, h .0) (met-settled p s r ρ (ch .0) .0)
     go false e ih = let n = eqb-false j (length ρs) e in ih (omega arith)
 
 -- A run in the window is early.

@@ -5,7 +5,8 @@ use borrow.Author.Needs.{needs}
 use Rattle.model.proofs.Outcomes.{accepted-then, refused-then}
 use Rattle.model.proofs.Puts.{puts-spelled, puts-end}
 use Rattle.checks.specs.Steps.{scheduleFor}
-use Rattle.checks.proofs.Laws.{ended-at, ended-refused, scheduled-refused}
+use Rattle.checks.proofs.Laws.{ended-at, ended-refused}
+use Rattle.schedule.proofs.Puts.{scheduled-refused}
 use Rattle.checks.proofs.check_schedule.Statement.{statement}
 use Rattle.checks.proofs.check_schedule.Tie as tie
 

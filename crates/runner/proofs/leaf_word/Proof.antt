@@ -9,8 +9,9 @@ use lib.ListN.{length, getD}
 use Rattle.model.specs.Machine.{codeAt}
 use Rattle.model.specs.Word.{byteAt, wordAt}
 use Rattle.model.specs.declared.Code.the-variants as Code
+use Rattle.model.proofs.Tests.{by}
 use Rattle.word.proofs.Laws.{kept}
-use Rattle.runner.proofs.Laws.{by, within, push-leaf, load-leaf, fetch-leaf}
+use Rattle.runner.proofs.Laws.{within, push-leaf, load-leaf, fetch-leaf}
 use borrow.Author.Needs.{needs}
 use Rattle.runner.proofs.leaf_word.Statement.{statement}
 use Rattle.runner.proofs.leaf_word.Tie as tie
