@@ -62,7 +62,10 @@ fn judged_cycles(cycles: Cycles) -> Judged
     ensures { λ r. ⌜ ((f : Fault) → cycles ≡ Cycles.Refused f → r ≡ Judged.Refused f) ⌝ }
 {
     match cycles {
-        Cycles::Least(_) => Judged::Fine,
+        Cycles::Least(_) => Judged::Refused(Fault {
+            number: 9,
+            place: 0,
+        }),
         Cycles::Refused(fault) => Judged::Refused(fault),
     }
 }
@@ -100,7 +103,10 @@ fn judged_end(ended: Ended) -> Judged
     ensures { λ r. ⌜ ((f : Fault) → ended ≡ Ended.Refused f → r ≡ Judged.Refused f) ⌝ }
 {
     match ended {
-        Ended::At(_) => Judged::Fine,
+        Ended::At(_) => Judged::Refused(Fault {
+            number: 11,
+            place: 0,
+        }),
         Ended::Refused(fault) => Judged::Refused(fault),
     }
 }

@@ -13,7 +13,10 @@ fn refused(judged: Judged) -> Compiled
     ensures { λ r. ⌜ ((f : Fault) → judged ≡ Judged.Refused f → r ≡ Compiled.Refused f) ⌝ }
 {
     match judged {
-        Judged::Fine => Compiled::Length(0),
+        Judged::Fine => Compiled::Refused(Fault {
+            number: SHORT_BUFFER,
+            place: 0,
+        }),
         Judged::Refused(fault) => Compiled::Refused(fault),
     }
 }

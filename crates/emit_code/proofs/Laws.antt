@@ -10,7 +10,7 @@ use lib.ListN.{length, length-append, set}
 use lib.Seq.{sets, length-sets}
 use types.Run.{OneOf, miss}
 use denote.Enum.Declared.{tagOf, declared}
-use Rattle.model.specs.Accepted.{All}
+use Rattle.model.specs.Feasible.{All}
 use Rattle.model.specs.Command.{commandAt}
 use Rattle.model.specs.Image.{exprCode}
 use Rattle.model.specs.Program.{leastFactor, Expr}

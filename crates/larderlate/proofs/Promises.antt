@@ -12,13 +12,14 @@ use borrow.Author.Tests.{le-leb, lt-leb}
 use lib.Dec.{leb, ltb}
 use lib.IntN.{ℤ, pos}
 use lib.ListN.{length, getD, take, drop}
-use Rattle.model.specs.Accepted.{SettlesAt, Accepted}
+use Rattle.model.specs.Feasible.{SettlesAt, Feasible}
 use Rattle.model.specs.Calls.{Call, callOf, stateBy, logBy}
 use Rattle.model.specs.Command.{commandAt}
 use Rattle.model.specs.Compile.{Pair, pairOf, verdictOf, compileOf}
 use Rattle.model.specs.Conditions.{_among_, ReadIn, LegalPairWith, LegalPair}
 use Rattle.model.specs.Conversion.{earlierFactor, ConvertsExactly, ConversionKeeps}
 use Rattle.model.specs.Decimal.{natural, decimal, lineOf, SaysNumber, SaysWord}
+use Rattle.model.specs.Enums.{Ranged, CodeRanged, BytesAt, commandBytes, putBytes, codeBytes}
 use Rattle.model.specs.Exactness.{
   Exactly,
   sizeOf,
@@ -81,6 +82,7 @@ use Rattle.model.proofs.Counts.{cycle-count, counts-length, counts-at, counts-p
 use Rattle.model.proofs.Conversions as Conversions
 use Rattle.model.proofs.Decimals as Decimals
 use Rattle.model.proofs.Demand as Demand
+use Rattle.model.proofs.Enums as Enums
 use Rattle.model.proofs.Exact as Exact
 use Rattle.model.proofs.Examples as Examples
 use Rattle.model.proofs.FormedExactly as FormedExactly
@@ -327,6 +329,16 @@ put-written = Commands.put-written
 pub code-written : (code : List ℕ) (at : ℕ) (c : Code) → ((codeAt code at ≡ c) × CodeWhole c) ↔ CodeWritten code at c
 code-written = Commands.code-written
 
+-- Each case of an enum has the paper's byte and values: where these bytes stand, the command is written.
+pub command-bytes : (text : List ℕ) (at : ℕ) (c : Command) → Ranged c → BytesAt text at (commandBytes c) → Written text at c
+command-bytes = Enums.command-bytes
+
+pub put-bytes : (text : List ℕ) (at : ℕ) (c : ScheduleCommand) → PutWhole c → BytesAt text at (putBytes c) → PutWritten text at c
+put-bytes = Enums.put-bytes
+
+pub code-bytes : (code : List ℕ) (at : ℕ) (c : Code) → CodeRanged c → BytesAt code at (codeBytes c) → CodeWritten code at c
+code-bytes = Enums.code-bytes
+
 -- It is decoded as one that ends early exactly if no byte is left or it is cut, as one out of range exactly if an operand is
 -- outside its range, and as unknown exactly if its byte is no command.
 pub command-cut : (text : List ℕ) (at : ℕ) → (commandAt text at ≡ Command.EndsEarly) ↔ ((length text ≤ at) ⊎ Cut text at)
@@ -360,7 +372,7 @@ settled-exactly program schedule q e = Settled.settled-exactly program schedule 
 -- An accepted pair.
 module _ (program schedule : List ℕ) (bytes : Texts.Bytes program) (p : Program) (s : Schedule) (h : ℕ)
     (e : pairOf program schedule ≡ accepted (record { program = p; schedule = s; hypercycle = h })) where
-  accepts : Accepted p s
+  accepts : Feasible p s
   accepts = pair-accepted program schedule _ e
 
   bounded : Bounded p s h

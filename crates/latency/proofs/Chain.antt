@@ -6,7 +6,7 @@ use mathlib.Core.Path.{_≡_, refl, sym, ap, _∙_}
 use native.Mathlib.Nat.{le-trans, mul-le-mul-left}
 use native.Mathlib.Omega.{arith}
 use lib.ListN.{length, getD}
-use Rattle.model.specs.Accepted.{Met, Accepted}
+use Rattle.model.specs.Feasible.{Met, Feasible}
 use Rattle.model.specs.Latency.{onward, used, back, source, latencyFrom, runLatency, isLate, isInTime, isTimely}
 use Rattle.model.specs.Program.{Program, Read, count, signalAt}
 use Rattle.model.specs.Reads.{rateOf, runCycle, stored, before, settled}
@@ -77,7 +77,7 @@ module _ (p : Program) (s : Schedule) where
       ap (λ t. isFound (first window t))
       (λ j i. (in-time-is bound (runLatency p s r ρs (from + i)) ∙ ap (inTimeBy bound) (run-is hops r (from + i) ρs h)) j)
 
-  module _ (acc : Accepted p s) where
+  module _ (acc : Feasible p s) where
     one : (b : Bool) → bit b ≤ 1
     one true = omega arith
     one false = omega arith

@@ -7,7 +7,7 @@ use borrow.Author.Tests.{lt-ltb, ltb-true}
 use lib.Dec.{ltb}
 use lib.IntN.{ℤ}
 use lib.ListN.{length}
-use Rattle.model.specs.Accepted.{All, Accepted, Multiple}
+use Rattle.model.specs.Feasible.{All, Feasible, Multiple}
 use Rattle.model.specs.Calls.{Call, Supplied}
 use Rattle.model.specs.Latency.{used}
 use Rattle.model.specs.Lists.{SettleAlike, sample, Agree}
@@ -56,7 +56,7 @@ module _ (p : Program) (s s′ : Schedule) where
 
   -- Two lists of calls, one under each schedule, whose input elements agree wherever both supply them: where both end holding
   -- one and the same element of x, it is the same word.
-  pub alike-words : (h : ℕ) → Accepted p s → Accepted p s′ → Multiple p h → Alike p s s′ → (st st′ : State) (cs cs′ : List Call) →
+  pub alike-words : (h : ℕ) → Feasible p s → Feasible p s′ → Multiple p h → Alike p s s′ → (st st′ : State) (cs cs′ : List Call) →
       Agree p s s′ (logOf p [] cs) (logOf p [] cs′) → (x : ℕ) → x < count p →
       stored (rateOf p s x) (length (logOf p [] cs)) ≡ stored (rateOf p s′ x) (length (logOf p [] cs′)) →
       stateAfter p s h (reset p st) cs .words x ≡ stateAfter p s′ h (reset p st′) cs′ .words x

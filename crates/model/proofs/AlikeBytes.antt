@@ -4,7 +4,7 @@ use mathlib.Core.List.{List}
 use mathlib.Core.Path.{_≡_, sym, ap, subst₂, _∙_}
 use lib.IntN.{ℤ, pos}
 use lib.ListN.{length, getD}
-use Rattle.model.specs.Accepted.{Accepted, Multiple}
+use Rattle.model.specs.Feasible.{Feasible, Multiple}
 use Rattle.model.specs.Calls.{Call, stateBy, logBy}
 use Rattle.model.specs.Image.{imageOf}
 use Rattle.model.specs.Lists.{Agree, EndsWith}
@@ -16,12 +16,12 @@ use Rattle.model.proofs.Bounds.{Bounded}
 use Rattle.model.proofs.Bytes.{wordsOf, view, list-shown}
 use Rattle.model.proofs.Rate.{stored-none, stored-some}
 
-ends-stored : (p : Program) (s : Schedule) → Accepted p s → (c x j : ℕ) → x < count p → EndsWith p s c x j →
+ends-stored : (p : Program) (s : Schedule) → Feasible p s → (c x j : ℕ) → x < count p → EndsWith p s c x j →
     stored (rateOf p s x) c ≡ j
 ends-stored p s acc c x zero lt e = stored-none (rateOf p s x) c (acc .phases x lt) e
 ends-stored p s acc c x (suc k) lt e = stored-some (rateOf p s x) c (acc .phases x lt) (e .0) ∙ ap suc (e .1)
 
-module _ (p : Program) (s s′ : Schedule) (h : ℕ) (acc : Accepted p s) (acc′ : Accepted p s′) (whole : Multiple p h)
+module _ (p : Program) (s s′ : Schedule) (h : ℕ) (acc : Feasible p s) (acc′ : Feasible p s′) (whole : Multiple p h)
     (bounded : Bounded p s h) (bounded′ : Bounded p s′ h) (alike : Alike p s s′) (old old′ : List ℤ)
     (long : count p < length old) (long′ : count p < length old′) (cs cs′ : List Call)
     (agree : Agree p s s′ (logBy (imageOf p s h) old cs) (logBy (imageOf p s′ h) old′ cs′)) where

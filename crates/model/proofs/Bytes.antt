@@ -11,7 +11,7 @@ use lib.Dec.{leb, ltb, eqb}
 use lib.IntN.{ℤ, pos, negsuc}
 use lib.ListN.{length, getD, set, drop, length-append, length-drop, length-set, List·getD-append}
 use lib.Seq.{getD-append-add, getD-drop, getD-set-same, getD-set-other}
-use Rattle.model.specs.Accepted.{Accepted, Multiple}
+use Rattle.model.specs.Feasible.{Feasible, Multiple}
 use Rattle.model.specs.Calls.{
   Call,
   reset,
@@ -154,7 +154,7 @@ pub record Shown (p : Program) (h n : ℕ) (state : List ℤ) (st : State) (log 
   pub shows : view state ≡ st
   pub logs : log ≡ log′
 
-module _ (p : Program) (s : Schedule) (h : ℕ) (acc : Accepted p s) (whole : Multiple p h) (bounded : Bounded p s h) where
+module _ (p : Program) (s : Schedule) (h : ℕ) (acc : Feasible p s) (whole : Multiple p h) (bounded : Bounded p s h) where
   -- A run of the image's lists and codes.
   run-word : (samples state : List ℤ) (x : ℕ) → x < count p →
       runCode (codeOf (imageOf p s h) x) state samples ≡

@@ -11,7 +11,7 @@ use borrow.Author.Tests.{eqb-true, eqb-false}
 use lib.Dec.{eqb}
 use lib.IntN.{ℤ}
 use lib.ListN.{length, getD, length-map, List·getD-map}
-use Rattle.model.specs.Accepted.{PeriodRule, Line, LineHolds, PutFor, Met, Multiple}
+use Rattle.model.specs.Feasible.{PeriodRule, Line, LineHolds, PutFor, Met, Multiple}
 use Rattle.model.specs.Conditions.{
   _among_,
   ReadIn,

@@ -18,7 +18,7 @@ use native.Mathlib.Omega.{arith}
 use borrow.Author.Tests.{leb-true, ltb-true, ltb-false, eqb-true, eq-eqb, le-leb, lt-ltb, le-ltb}
 use lib.Dec.{leb, ltb, eqb}
 use lib.ListN.{length, getD}
-use Rattle.model.specs.Accepted.{PeriodRule, Between, Line, LineHolds, SettlesAt, PutFor, Met}
+use Rattle.model.specs.Feasible.{PeriodRule, Between, Line, LineHolds, SettlesAt, PutFor, Met}
 use Rattle.model.specs.Program.{Program, Read, count, signalAt}
 use Rattle.model.specs.Rates.{periodRule}
 use Rattle.model.specs.Reads.{

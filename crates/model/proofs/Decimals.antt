@@ -9,7 +9,7 @@ use lib.Dec.{ltb}
 use lib.IntN.{ℤ, pos, negsuc}
 use lib.ListN.{length, getD, length-append, List·getD-append}
 use lib.Signed.{mag}
-use Rattle.model.specs.Accepted.{All}
+use Rattle.model.specs.Feasible.{All}
 use Rattle.model.specs.Decimal.{digit, digitsUpTo, natural, decimal, valueOf, SaysNumber, SaysWord}
 use Rattle.model.proofs.All.{all-append}
 

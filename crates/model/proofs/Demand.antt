@@ -8,7 +8,7 @@ use borrow.Author.Tests.{ltb-true}
 use lib.Dec.{ltb}
 use lib.IntN.{ℤ, pos}
 use lib.ListN.{length, getD, take}
-use Rattle.model.specs.Accepted.{Accepted, Multiple}
+use Rattle.model.specs.Feasible.{Feasible, Multiple}
 use Rattle.model.specs.Calls.{Call, callOf, after, logAfter, answersOf, stateBy, logBy, answersBy, Supplied}
 use Rattle.model.specs.Compile.{Pair, pairOf}
 use Rattle.model.specs.Image.{imageOf}
@@ -35,7 +35,7 @@ use Rattle.model.proofs.Verdict.{pair-accepted, pair-multiple, pair-bou
 
 module _ (program schedule : List ℕ) (bytes : Texts.Bytes program) (p : Program) (s : Schedule) (h : ℕ)
     (e : pairOf program schedule ≡ accepted (record { program = p; schedule = s; hypercycle = h })) where
-  accepts : Accepted p s
+  accepts : Feasible p s
   accepts = pair-accepted program schedule _ e
 
   whole : Multiple p h

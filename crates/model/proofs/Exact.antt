@@ -4,7 +4,7 @@ use Prim.Native.Nat.{ℕ, _≤_}
 use mathlib.Core.List.{List}
 use mathlib.Core.Logic.{_↔_}
 use mathlib.Core.Path.{_≡_, refl, _∙_}
-use Rattle.model.specs.Accepted.{Multiple}
+use Rattle.model.specs.Feasible.{Multiple}
 use Rattle.model.specs.Compile.{shortEnough, Pair, pairOf}
 use Rattle.model.specs.Conditions.{ShortEnough, DeclaredAndRated, LegalRates, LegalPlaces, LegalPair}
 use Rattle.model.specs.Grammar.{LegalWith, LegalProgram, LegalSchedule}

@@ -7,7 +7,7 @@ use native.Mathlib.Omega.{arith}
 use borrow.Author.Tests.{lt-ltb, le-leb, eq-eqb}
 use lib.ListN.{length, getD, length-append}
 use lib.Seq.{take-all}
-use Rattle.model.specs.Accepted.{All, Met, Accepted, Multiple}
+use Rattle.model.specs.Feasible.{All, Met, Feasible, Multiple}
 use Rattle.model.specs.Image.{
   exprCode,
   signalCode,
@@ -189,7 +189,7 @@ module _ (Q : ℕ → Type 0) where
       subst Every (sym (joined-cons x xs))
       (append-every x (joined xs) (f 0 (omega arith)) (joined-every xs (λ i l. f (suc i) (omega arith))))
 
-module _ (p : Program) (s : Schedule) (h : ℕ) (acc : Accepted p s) (whole : Multiple p h) (bounded : Bounded p s h) where
+module _ (p : Program) (s : Schedule) (h : ℕ) (acc : Feasible p s) (whole : Multiple p h) (bounded : Bounded p s h) where
   head-ok : headOk (imageOf p s h) ≡ true
   unfolding headOk lengthOf codesAt
   head-ok =

@@ -10,7 +10,7 @@ use native.Mathlib.Omega.{arith}
 use borrow.Author.Tests.{eqb-true, eq-eqb}
 use lib.Dec.{eqb}
 use lib.ListN.{length, getD}
-use Rattle.model.specs.Accepted.{Multiple}
+use Rattle.model.specs.Feasible.{Multiple}
 use Rattle.model.specs.Conditions.{Least}
 use Rattle.model.specs.Outcome.{accepted, refuse}
 use Rattle.model.specs.Program.{Program, Signal, noSignal}

@@ -9,7 +9,7 @@ use native.Mathlib.Omega.{arith}
 use borrow.Author.Tests.{leb-true, ltb-true, le-leb, lt-ltb, eqb-true, eq-eqb}
 use lib.Dec.{leb, ltb, eqb}
 use lib.ListN.{length, getD}
-use Rattle.model.specs.Accepted.{All, Multiple}
+use Rattle.model.specs.Feasible.{All, Multiple}
 use Rattle.model.specs.Command.{commandAt}
 use Rattle.model.specs.Compile.{shortEnough}
 use Rattle.model.specs.Conditions.{_among_, ShortEnough, ReadIn, LinkIn, DeclaredAndRated, Least, Linked}

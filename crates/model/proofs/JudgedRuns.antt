@@ -11,7 +11,7 @@ use native.Mathlib.Omega.{arith}
 use borrow.Author.Tests.{ltb-true, lt-ltb}
 use lib.Dec.{eqb}
 use lib.ListN.{getD}
-use Rattle.model.specs.Accepted.{Met, Accepted, Multiple}
+use Rattle.model.specs.Feasible.{Met, Feasible, Multiple}
 use Rattle.model.specs.Conditions.{_among_, ReadIn, LegalPlaces, Over, KeepsTime}
 use Rattle.model.specs.Latency.{noRead, keeps, timely}
 use Rattle.model.specs.Load.{load, isOver, loadedOf, loaded}
@@ -121,7 +121,7 @@ module _ (program schedule : List ℕ) (p : Program) (h : ℕ) (s : Schedule) (c
       met-sound met-complete met-single met-none met-holds
 
   -- The statements over all runs that the latency rests on.
-  pub places-accepted : ((r : ℕ) (ρ : Read) → ReadIn p r ρ → Met p s r ρ) → Accepted p s
+  pub places-accepted : ((r : ℕ) (ρ : Read) → ReadIn p r ρ → Met p s r ρ) → Feasible p s
   places-accepted g =
       record {
         phases = ordered .phases;

@@ -4,7 +4,7 @@ use mathlib.Core.List.{List, [], _∷_, map, reverseAux}
 use mathlib.Core.Path.{_≡_, refl, subst}
 use native.Mathlib.Omega.{arith}
 use lib.ListN.{length}
-use Rattle.model.specs.Accepted.{All}
+use Rattle.model.specs.Feasible.{All}
 use Rattle.model.specs.Compile.{Pair, pairOf}
 use Rattle.model.specs.Conditions.{_among_, TimelyFrom, KeepsTime}
 use Rattle.model.specs.Latency.{readsBack, backwards, back, source, latencyOf}

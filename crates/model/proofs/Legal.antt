@@ -6,7 +6,7 @@ use native.Mathlib.Omega.{arith}
 use lib.ListN.{length, getD, length-append}
 use mir.Syntax.{w32}
 use mir.Val.{SFits}
-use Rattle.model.specs.Accepted.{All}
+use Rattle.model.specs.Feasible.{All}
 use Rattle.model.specs.Command.{commandAt}
 use Rattle.model.specs.Image.{exprCode, signalCode, codes, joined}
 use Rattle.model.specs.Outcome.{accepted}

@@ -30,6 +30,7 @@ pub mod Hypercycle
 pub mod Commands
 pub mod Keywords
 pub mod Written
+pub mod Enums
 pub mod Spelled
 pub mod All
 pub mod Legal

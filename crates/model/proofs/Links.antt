@@ -8,7 +8,7 @@ use mathlib.Core.Path.{_≡_, refl}
 use native.Mathlib.Omega.{arith}
 use borrow.Author.Tests.{eqb-true}
 use lib.Dec.{eqb}
-use Rattle.model.specs.Accepted.{All, Met, Accepted, Multiple}
+use Rattle.model.specs.Feasible.{All, Met, Feasible, Multiple}
 use Rattle.model.specs.Conditions.{TimelyFrom, KeepsTime}
 use Rattle.model.specs.Latency.{readOf, readsBack, backwards, keepsFrom, keeps}
 use Rattle.model.specs.Program.{Program, Link, Chain, Read, count, signalAt, bodyReads}
@@ -58,7 +58,7 @@ module _ (p : Program) where
       (all-of-map (λ w. w < count p) (λ l. l .signal) (c .links) h) tt
 
 module _ (p : Program) (s : Schedule) where
-  module _ (acc : Accepted p s) where
+  module _ (acc : Feasible p s) where
     pub chain-met : (ws : List ℕ) (r : ℕ) → All (λ w. w < count p) (r ∷ ws) → LinkedBack p (r ∷ ws) →
         ChainMet p s r (readsBack p r ws)
     unfolding readsBack

@@ -9,7 +9,7 @@ use borrow.Author.Tests.{lt-ltb, le-ltb, ne-eqb, eqb-true, eqb-false, eq-eqb}
 use lib.Dec.{eqb, ltb}
 use lib.IntN.{ℤ, pos}
 use lib.ListN.{length, getD}
-use Rattle.model.specs.Accepted.{Accepted, Multiple}
+use Rattle.model.specs.Feasible.{Feasible, Multiple}
 use Rattle.model.specs.Calls.{Call, reset, cycle, lentAt, IsInput, Supplied}
 use Rattle.model.specs.Program.{Program, count, signalAt}
 use Rattle.model.specs.Reads.{rateOf, runCycle, due, stored, settled}
@@ -58,7 +58,7 @@ module _ (p : Program) (s : Schedule) (h : ℕ) where
         Follows X (length log) st
     pub beyond : (v : ℕ) → count p ≤ v → st .words v ≡ old v
 
-  module _ (acc : Accepted p s) (whole : Multiple p h) (old : ℕ → ℤ) where
+  module _ (acc : Feasible p s) (whole : Multiple p h) (old : ℕ → ℤ) where
     reset-right : (st : State) → ((v : ℕ) → count p ≤ v → st .words v ≡ old v) → Right old [] (Turns.reset p st)
     reset-right st g =
         record {
@@ -119,7 +119,7 @@ module _ (p : Program) (s : Schedule) (h : ℕ) where
         (cycle-right (ltb (length samples) (count p)) log samples st r)
 
   -- After any list of calls the state is what the streams give after the cycles since the latest reset.
-  pub calls-follow : Accepted p s → Multiple p h → (st : State) (cs : List Call) →
+  pub calls-follow : Feasible p s → Multiple p h → (st : State) (cs : List Call) →
       Right (st .words) (logOf p [] cs) (stateAfter (Turns.reset p st) cs)
   calls-follow acc whole st cs =
       calls-right acc whole (st .words) cs [] (Turns.reset p st) (reset-right acc whole (st .words) st (λ v lv. refl))
@@ -133,7 +133,7 @@ module _ (p : Program) (s : Schedule) (h : ℕ) where
         st .words x ≡ X x (suc ((c - 1 - phaseOf s x) / signalAt p x .period))
     pub beyond : (v : ℕ) → count p ≤ v → st .words v ≡ old .words v
 
-  pub machine-holds : Accepted p s → Multiple p h → (old : State) (cs : List Call) (inputs X : ℕ → ℕ → ℤ) →
+  pub machine-holds : Feasible p s → Multiple p h → (old : State) (cs : List Call) (inputs X : ℕ → ℕ → ℤ) →
       Supplied p s (logOf p [] cs) inputs → Satisfies p (settled p s) inputs X →
       After X old (length (logOf p [] cs)) (stateAfter (Turns.reset p old) cs)
   machine-holds acc whole old cs inputs X sup sat =

@@ -8,7 +8,7 @@ use native.Mathlib.Omega.{arith}
 use lib.Dec.{leb, ltb}
 use lib.IntN.{ℤ, pos}
 use lib.ListN.{length, getD, drop}
-use Rattle.model.specs.Accepted.{Multiple}
+use Rattle.model.specs.Feasible.{Multiple}
 use Rattle.model.specs.Calls.{Call, callOf}
 use Rattle.model.specs.Compile.{Pair, pairOf, verdictOf, compileOf}
 use Rattle.model.specs.Conditions.{ReadIn, putAt}

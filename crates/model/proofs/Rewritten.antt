@@ -10,7 +10,7 @@ use lib.Dec.{eqb}
 use lib.IntN.{ℤ}
 use lib.ListN.{length, getD, take, drop, length-append, length-drop, length-map, List·getD-append}
 use lib.Seq.{drop-drop, drop-append-seam, getD-drop, getD-take, length-take-le}
-use Rattle.model.specs.Accepted.{All}
+use Rattle.model.specs.Feasible.{All}
 use Rattle.model.specs.Command.{keywordAt, commandOf, commandAt}
 use Rattle.model.specs.Convert.{isSingle, singleKind, mapExpr, mapSignal, mapLink, mapChain, bareRead, bare, Renamed}
 use Rattle.model.specs.Grammar.{depth, Spells, SpellsLinks, IsSignal, DeclaresOne, Declares, LegalWith, LegalProgram}

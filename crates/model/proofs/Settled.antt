@@ -3,7 +3,7 @@ use Prim.Native.Nat.{ℕ}
 use mathlib.Core.List.{List}
 use mathlib.Core.Logic.{_↔_}
 use mathlib.Core.Path.{_≡_}
-use Rattle.model.specs.Accepted.{SettlesAt}
+use Rattle.model.specs.Feasible.{SettlesAt}
 use Rattle.model.specs.Compile.{Pair}
 use Rattle.model.specs.Conditions.{ReadIn, LegalPair}
 use Rattle.model.specs.Program.{Read}

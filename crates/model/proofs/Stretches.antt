@@ -107,6 +107,11 @@ four-number n h =
     let b : n / 16777216 ≡ n / 256 / 256 / 256 = omega arith in
     rw (a, b) (four-digits n _ _ _ _ _ _ (low n) (low (n / 256)) (low (n / 256 / 256)) h)
 
+pub four-at : {s : List ℕ} {at : ℕ} (n : ℕ) → n < 2 ^ 32 → Stands s at (fourBytes n) → fourAt s at ≡ n
+unfolding fourAt fourBytes
+four-at n lt h =
+    rw (byte-here h, byte-from 1 (omega arith) h, byte-from 2 (omega arith) h, byte-from 3 (omega arith) h) (four-number n lt)
+
 word-bits : (w : ℤ) → SFits w32 w → wordOf (bitsOf w) ≡ w
 unfolding wordOf bitsOf
 word-bits (pos n) f = ap (toZ w32) (less n (f .sfits)) ∙ toZ-pos w32 n (f .sfits)
@@ -119,10 +124,8 @@ word-bits (negsuc n) f = ap (toZ w32) (less n (f .sfits)) ∙ toZ-neg w32 n (f .
     less n h = omega arith
 
 pub word-at : {s : List ℕ} {at : ℕ} (w : ℤ) → SFits w32 w → Stands s at (wordBytes w) → wordAt s at ≡ w
-unfolding wordAt fourAt wordBytes fourBytes
-word-at w f h =
-    rw (byte-here h, byte-from 1 (omega arith) h, byte-from 2 (omega arith) h, byte-from 3 (omega arith) h)
-    (ap wordOf (four-number (bitsOf w) (bits-below w)) ∙ word-bits w f)
+unfolding wordAt wordBytes
+word-at w f h = ap wordOf (four-at (bitsOf w) (bits-below w) h) ∙ word-bits w f
 
 -- A table holds the values of its function.
 tableFrom-length : {A : Type 0} (i n : ℕ) (f : ℕ → A) → length (tableFrom i n f) ≡ n

@@ -9,7 +9,7 @@ use lib.Dec.{leb, ltb, eqb}
 use lib.IntN.{ℤ, pos}
 use lib.ListN.{length, getD, take, drop, set, replicate, length-take, length-drop, length-set, length-replicate}
 use lib.Seq.{getD-take, getD-drop, ext-getD}
-use Rattle.model.specs.Accepted.{Accepted, Multiple}
+use Rattle.model.specs.Feasible.{Feasible, Multiple}
 use Rattle.model.specs.Calls.{Call, reset, cycle, callOf, after, stateBy, logBy, lentAt, Supplied, Holds}
 use Rattle.model.specs.Compile.{pairOf}
 use Rattle.model.specs.Decimal.{lineOf}
@@ -138,7 +138,7 @@ samples-take (cycle samples ∷ cs) (suc k) zero h = refl
 samples-take (reset ∷ cs) (suc k) (suc t) h = samples-take cs k t (omega arith)
 samples-take (cycle samples ∷ cs) (suc k) (suc t) h = samples-take cs k t (omega arith)
 
-module _ (p : Program) (s : Schedule) (h : ℕ) (acc : Accepted p s) (whole : Multiple p h) (bounded : Bounded p s h)
+module _ (p : Program) (s : Schedule) (h : ℕ) (acc : Feasible p s) (whole : Multiple p h) (bounded : Bounded p s h)
     (old : List ℤ) (long : count p < length old) (cs : List Call) (full : Full (count p) cs) (j : ℕ) (lt : j < length cs) where
   first : List Call
   first = take (suc j) cs

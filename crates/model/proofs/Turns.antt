@@ -10,7 +10,7 @@ use borrow.Author.Tests.{ltb-true, ltb-false, lt-ltb, le-ltb, ne-eqb, eqb-true, 
 use lib.Dec.{eqb, ltb}
 use lib.IntN.{ℤ}
 use lib.ListN.{length, getD}
-use Rattle.model.specs.Accepted.{Met, Accepted}
+use Rattle.model.specs.Feasible.{Met, Feasible}
 use Rattle.model.specs.Calls.{IsInput}
 use Rattle.model.specs.Latency.{used}
 use Rattle.model.specs.Program.{Program, count, signalAt}
@@ -91,7 +91,7 @@ other-place x y h = go (ltb x y) refl
     go true e = let f = ltb-true x y e in sym (lt-ltb x (suc y) (omega arith))
     go false e = let f = ltb-false x y e in sym (le-ltb x (suc y) (omega arith))
 
-module _ (p : Program) (s : Schedule) (acc : Accepted p s) (inputs X : ℕ → ℕ → ℤ) (sat : Satisfies p (settled p s) inputs X) where
+module _ (p : Program) (s : Schedule) (acc : Feasible p s) (inputs X : ℕ → ℕ → ℤ) (sat : Satisfies p (settled p s) inputs X) where
   -- Before the signal at place i has its turn in cycle t, each signal holds what is stored of its stream.
   abbrev Midway : ℕ → ℕ → (ℕ → ℤ) → Type 0
   Midway t i σ = (x : ℕ) → x < count p → σ x ≡ X x (stored (rateOf p s x) (t + bit (ltb (place (s .order) x) i)))

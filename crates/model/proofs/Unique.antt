@@ -9,7 +9,7 @@ use borrow.Author.Tests.{ltb-true}
 use lib.Dec.{ltb, eqb}
 use lib.IntN.{ℤ}
 use lib.ListN.{length}
-use Rattle.model.specs.Accepted.{Met, Accepted}
+use Rattle.model.specs.Feasible.{Met, Feasible}
 use Rattle.model.specs.Latency.{used}
 use Rattle.model.specs.Program.{Program, Read, count, signalAt}
 use Rattle.model.specs.Reads.{Rate, rateOf, runCycle, stored, place, before, settled}
@@ -49,7 +49,7 @@ module _ (p : Program) (s : Schedule) where
   rank x zero = zero
   rank x (suc k) = suc (runCycle (rateOf p s x) k * suc (length (s .order)) + place (s .order) x)
 
-  module _ (acc : Accepted p s) where
+  module _ (acc : Feasible p s) where
     -- A read that is met uses what is stored when the reader runs.
     pub used-is : (r : ℕ) (ρ : Read) (k : ℕ) → r < count p → Met p s r ρ →
         stored (rateOf p s (ρ .operands .signal)) (runCycle (rateOf p s r) k + bit (before s (ρ .operands .signal) r)) ≡

@@ -2,7 +2,7 @@
 use mathlib.Core.List.{List, [], _∷_, _++_}
 use mathlib.Core.Path.{_≡_, refl, ap, ap₂}
 use lib.IntN.{ℤ}
-use Rattle.model.specs.Accepted.{All}
+use Rattle.model.specs.Feasible.{All}
 use Rattle.model.specs.Calls.{IsInput}
 use Rattle.model.specs.Program.{
   Body,

@@ -8,7 +8,7 @@ use native.Mathlib.Omega.{arith}
 use borrow.Author.Tests.{leb-true, ltb-true}
 use lib.Dec.{leb, ltb}
 use lib.ListN.{length}
-use Rattle.model.specs.Accepted.{All, PeriodRule, Met, Accepted, Multiple}
+use Rattle.model.specs.Feasible.{All, PeriodRule, Met, Feasible, Multiple}
 use Rattle.model.specs.Compile.{shortEnough, Pair, pairOf}
 use Rattle.model.specs.Conditions.{KeepsTime}
 use Rattle.model.specs.Image.{runList, runLists, joined, codesAt, lengthOf}
@@ -196,7 +196,7 @@ lists-length p s h =
 
 -- A program and its schedule that have passed 1 to 14.
 pub steps-accepted : (text : List ℕ) (p : Program) (s : Schedule) → parseProgram text ≡ accepted p →
-    declaredAndRated p ≡ accepted tt → Ordered p s → met p s ≡ accepted tt → Accepted p s
+    declaredAndRated p ≡ accepted tt → Ordered p s → met p s ≡ accepted tt → Feasible p s
 steps-accepted text p s parses rated ordered meets =
     record {
       phases = ordered .phases;
@@ -230,7 +230,7 @@ module _ (program schedule : List ℕ) (q : Pair) (e : pairOf program schedule �
   lawful : (end : ℕ) × Legal program end (q .program) × (length program ≡ end + 1)
   lawful = legal program (q .program) (passed .parses)
 
-  pub pair-accepted : Accepted (q .program) (q .schedule)
+  pub pair-accepted : Feasible (q .program) (q .schedule)
   pair-accepted =
       steps-accepted program (q .program) (q .schedule) (passed .parses) (passed .rated) (ordered .0) (passed .meets)
 

@@ -9,7 +9,7 @@ use native.Mathlib.Nat.{suc-add, div-mul-cancel, div-add-mod', mod-lt}
 use native.Mathlib.Omega.{arith}
 use borrow.Author.Tests.{leb-true, ltb-false, le-leb, le-ltb, not-true}
 use lib.ListN.{length}
-use Rattle.model.specs.Accepted.{Met, Accepted, Multiple}
+use Rattle.model.specs.Feasible.{Met, Feasible, Multiple}
 use Rattle.model.specs.Latency.{
   onward,
   used,
@@ -70,7 +70,7 @@ module _ (p : Program) (s : Schedule) where
   in-time bound (At l) e = (l, refl, leb-true l bound e)
   in-time bound Nowhere e = absurd (false≢true e)
 
-  module _ (acc : Accepted p s) (h : ℕ) (hyper : Multiple p h) where
+  module _ (acc : Feasible p s) (h : ℕ) (hyper : Multiple p h) where
     -- The runs of x fill the hypercycle, and there is one.
     pub whole : (x : ℕ) → x < count p → runs p h x * signalAt p x .period ≡ h
     whole x lt = div-mul-cancel (signalAt p x .period) (hyper .divides x lt)

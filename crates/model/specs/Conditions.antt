@@ -4,7 +4,7 @@ use Prim.Native.Nat.{ℕ, suc, _≤_, _<_}
 use mathlib.Core.List.{List, [], _∷_, map}
 use mathlib.Core.Path.{_≡_}
 use lib.ListN.{length, getD}
-use Rattle.model.specs.Accepted.{PeriodRule, Met, Multiple}
+use Rattle.model.specs.Feasible.{PeriodRule, Met, Multiple}
 use Rattle.model.specs.Compile.{Pair}
 use Rattle.model.specs.Grammar.{LegalWith, LegalSchedule}
 use Rattle.model.specs.Latency.{readsBack, backwards, Timely}

@@ -9,9 +9,10 @@ pub mod Rates
 pub mod Schedule
 pub mod Grammar
 pub mod Written
+pub mod Enums
 pub mod Stops
 pub mod Reads
-pub mod Accepted
+pub mod Feasible
 pub mod Streams
 pub mod Load
 pub mod Latency

@@ -4,7 +4,7 @@ use Prim.Native.Nat.{ℕ, _≤_, _<_}
 use mathlib.Core.List.{List}
 use mathlib.Core.Path.{_≡_}
 use lib.ListN.{length}
-use Rattle.model.specs.Accepted.{Met, Multiple}
+use Rattle.model.specs.Feasible.{Met, Multiple}
 use Rattle.model.specs.Conditions.{
   _among_,
   ShortEnough,

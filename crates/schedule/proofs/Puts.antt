@@ -8,7 +8,7 @@ use lib.Dec.{ltb, eqb}
 use lib.ListN.{length, getD, set, length-append, length-set, length-map, replicate, getD-replicate}
 use lib.Seq.{getD-set-same, getD-set-other}
 use borrow.Author.Tests.{eqb-true, eqb-false, eq-eqb, ne-eqb, lt-ltb, le-ltb, ltb-true, ltb-false}
-use Rattle.model.specs.Accepted.{All}
+use Rattle.model.specs.Feasible.{All}
 use Rattle.model.specs.Outcome.{Outcome, accepted, refused, fault, _▷_, provided, lowest, Parsed}
 use Rattle.model.specs.Program.{Program, count, signalAt}
 use Rattle.model.specs.Reads.{place}

@@ -14,7 +14,7 @@ use Rattle.latency.specs.Back.{noHop, Sound, Small, timelyBy}
 use Rattle.latency.specs.Hops.{HopsOf}
 use Rattle.latency.specs.declared.Hop.{Hop}
 use Rattle.latency.proofs.Chain.{timely-is, small-is}
-use Rattle.model.specs.Accepted.{All}
+use Rattle.model.specs.Feasible.{All}
 use Rattle.model.specs.Command.{commandAt}
 use Rattle.model.specs.Latency.{readsBack, backwards, source, fromOf, windowOf, keepsFrom, keeps}
 use Rattle.model.specs.Program.{Program, Read, count, signalAt}

@@ -10,7 +10,7 @@ use lib.Seq.{getD-set-same, getD-set-other}
 use Rattle.latency.specs.Back.{noHop}
 use Rattle.latency.specs.Hops.{hopOf, HopsOf}
 use Rattle.latency.specs.declared.Hop.{Hop}
-use Rattle.model.specs.Accepted.{All}
+use Rattle.model.specs.Feasible.{All}
 use Rattle.model.specs.Latency.{readOf, readsBack, backwards, source}
 use Rattle.model.specs.Program.{Program, Link, Read, count, signalAt, bodyReads}
 use Rattle.model.specs.Rates.{countReads, isLinked}

@@ -6,7 +6,7 @@ use native.Mathlib.Omega.{arith}
 use borrow.Author.Tests.{lt-ltb}
 use lib.ListN.{getD}
 use mathlib.Core.List.{List, [], _∷_}
-use Rattle.model.specs.Accepted.{All}
+use Rattle.model.specs.Feasible.{All}
 use Rattle.model.specs.Latency.{readOf}
 use Rattle.model.specs.Rates.{countReads}
 use Rattle.model.proofs.Links.{read-of}

@@ -1,17 +1,14 @@
 -- What is known of a pair whose latencies are judged.
 use Prim.Native.Nat.{ℕ, _/_, _≤_, _<_}
-use mathlib.Core.List.{List, [], _∷_}
-use mathlib.Core.Logic.{_↔_}
+use mathlib.Core.List.{List, _∷_}
 use mathlib.Core.Path.{_≡_}
 use lib.ListN.{length, getD}
 use Rattle.latency.specs.Hops.{HopsOf}
-use Rattle.model.specs.Accepted.{Accepted, Multiple}
-use Rattle.model.specs.Conditions.{_among_, KeepsTime}
-use Rattle.model.specs.Latency.{readsBack, source, timely}
-use Rattle.model.specs.Outcome.{accepted, fault}
-use Rattle.model.specs.Program.{Program, Chain, count, parseProgram}
+use Rattle.model.specs.Feasible.{Feasible, Multiple}
+use Rattle.model.specs.Latency.{readsBack, source}
+use Rattle.model.specs.Outcome.{accepted}
+use Rattle.model.specs.Program.{Program, count, parseProgram}
 use Rattle.model.specs.Rates.{declaredAndRated, linked}
-use Rattle.model.specs.Refusals.{LowestFault, ChainFault}
 use Rattle.model.specs.Schedule.{Schedule, phaseOf}
 use Rattle.model.specs.declared.Found.{Found}
 use Rattle.model.specs.declared.Found.the-variants.{At, Nowhere}
@@ -45,7 +42,7 @@ Joinable text tables periods phases = (p : Program) × (s : Schedule) × Joined 
 -- All its reads are met, and h is its hypercycle.
 pub record Timed (text : List ℕ) (tables : Tables) (periods phases : List ℕ) (h : ℕ) (p : Program) (s : Schedule) : Type 0 where
   pub joined : Joined text tables periods phases p s
-  pub accepted : Accepted p s
+  pub accepted : Feasible p s
   pub multiple : Multiple p h
   pub hyper : h ≤ 240
 
@@ -65,9 +62,3 @@ RouteOf p s route back = (ws : List ℕ) × (back ≡ route .last ∷ ws) × (ro
 -- How many runs of the last link decide a chain: those of one hypercycle.
 abbrev pub windowBy : ℕ → ℕ → ℕ
 windowBy h period = h / period
-
--- An answer, as a statement over all runs: it is fine exactly if every chain keeps its limit, and 16 at the lowest LAT of those that
--- do not.
-pub record OverAllRuns (p : Program) (s : Schedule) (r : Judged) : Type 0 where
-  pub fine : (r ≡ Judged.Fine) ↔ ((c : Chain) → c among p .chains → KeepsTime p s c)
-  pub refused : (n x : ℕ) → (r ≡ Judged.Refused (fault n x)) ↔ LowestFault (ChainFault p (KeepsTime p s) 16) n x

@@ -23,7 +23,7 @@ ghost use Rattle.rates.specs.Answers.{periodAt, TabledAs};
 ghost use Rattle.reader.specs.Results.{judgementOf};
 ghost use Rattle.reader.specs.Tables.{chainAt};
 ghost use Rattle.reads.specs.Reads.{rateIn};
-ghost use Rattle.timely.specs.Timely.{ByteFound, Known, Joined, Joinable, Timed, Judgeable, RouteOf, windowBy, OverAllRuns};
+ghost use Rattle.timely.specs.Timely.{ByteFound, Known, Joined, Joinable, Timed, Judgeable, RouteOf, windowBy};
 
 // The index found, or 0.
 fn index_found(found: Found) -> u8
@@ -211,8 +211,7 @@ pub fn check_latency(
     h: usize,
 ) -> Judged
     requires { ⌜ Judgeable (now text) tables (now periods) (now phases) h × TabledAs (now text) (now reads) tables ⌝ }
-    ensures answer { λ r. ⌜ ((p : Program) (s : Schedule) → Timed (now (text .entry)) tables (now (periods .entry)) (now (phases .entry)) h p s → r ≡ judgementOf (timely p s h)) ⌝ }
-    ensures runs { λ r. ⌜ ((p : Program) (s : Schedule) → Timed (now (text .entry)) tables (now (periods .entry)) (now (phases .entry)) h p s → OverAllRuns p s r) ⌝ }
+    ensures { λ r. ⌜ ((p : Program) (s : Schedule) → Timed (now (text .entry)) tables (now (periods .entry)) (now (phases .entry)) h p s → r ≡ judgementOf (timely p s h)) ⌝ }
 {
     let starts = tables.starts;
     let mut chain: usize = 0;

@@ -144,7 +144,7 @@ returns-3 c p s g =
     answers-judgement _ _
     (answers-then _ _ _ _ _ m
     (answers-then _ _ _ _ _ (judgement-fine _ _ (load-judged l p s g) (c .before .before .before .enum-told3 .given .1))
-    (judgement-answers _ _ _ (c .check-latency .ensures .0 p s (timed (start (reads l)) p s g m)) (λ _. tt))))
+    (judgement-answers _ _ _ (c .check-latency .ensures p s (timed (start (reads l)) p s g m)) (λ _. tt))))
 
 pub check-runs-spec : {M : Type 1} → statement M
 check-runs-spec =

@@ -13,7 +13,6 @@ use Rattle.rates.proofs.Linking.{few-chains}
 use Rattle.reader.specs.Results.{judgementOf}
 use Rattle.reader.specs.declared.Judged.the-variants as Judged
 use Rattle.timely.specs.Timely.{Timed}
-use Rattle.timely.proofs.Runs.{both}
 use Rattle.timely.proofs.check_latency.Statement.{statement}
 use Rattle.timely.proofs.check_latency.Tie as tie
 
@@ -52,7 +51,7 @@ unfolding judgementOf
 returns c =
     let b = c .before .before in
     let l = b .before .before .loop in
-    both _ _ _ _ _ _ λ p s t.
+    λ p s t.
     let k = t .joined .known in
     let lt : l .chain < length (p .chains) = omega (arith, b .if1 .taken, k .tables-are .counts .chains-are) in
     ap (λ n. Judged.Refused (fault 16 n)) (k .tables-are .starts (l .chain) lt) ∙
@@ -76,7 +75,7 @@ returns-2 : tie.Need-returns-2 Inv-loop μ-loop
 unfolding judgementOf
 returns-2 c =
     let l = c .before .before .loop in
-    both _ _ _ _ _ _ λ p s t.
+    λ p s t.
     let le : length (p .chains) ≤ l .chain = omega (arith, c .if1 .left, t .joined .known .tables-are .counts .chains-are) in
     sym (ap judgementOf (l .inv p s t ∙ rest-over p 16 (keeps p s _) (l .chain) le))
 

@@ -71,7 +71,7 @@ module _ (p : Program) (s : Schedule) where
     pub order : Order (ρ .kind) (ρ .operands .signal) r
 
   -- Phases are below periods, every read is met, and every signal is put once.
-  pub record Accepted : Type 0 where
+  pub record Feasible : Type 0 where
     pub phases : (x : ℕ) → x < count p → phaseOf s x < signalAt p x .period
     pub met : (x : ℕ) → x < count p → All (Met x) (bodyReads (signalAt p x .body))
     pub put : (x : ℕ) → x < count p → place (s .order) x < length (s .order)
