@@ -10,10 +10,10 @@ use lib.Dec.{eqb}
 use lib.IntN.{ℤ}
 use lib.ListN.{length, getD, set}
 use lib.Seq.{getD-set-same, set-out}
-use Rattle.model.specs.Calls.{Call, cycle, callOf, logged}
-use Rattle.model.specs.Calls as Calls
-use Rattle.model.specs.Machine.{Effect, stretch, cycleOf, resetOf}
-use Rattle.model.specs.Outcome.{Outcome, accepted, refused}
+use Rattle.model.specs.Says.Calls.{Call, cycle, callOf, logged}
+use Rattle.model.specs.Says.Calls as Calls
+use Rattle.model.specs.Rules.Machine.{Effect, stretch, cycleOf, resetOf}
+use Rattle.model.specs.Rules.Outcome.{Outcome, accepted, refused}
 use Rattle.model.specs.declared.Fault.{Fault}
 use Rattle.board.specs.Board.{
   vacant,

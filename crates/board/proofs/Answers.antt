@@ -6,7 +6,7 @@ use mathlib.Core.Path.{_≡_, sym, ap, _∙_}
 use lib.Dec.{leb, ltb}
 use lib.IntN.{ℤ}
 use lib.ListN.{length}
-use Rattle.model.specs.Outcome.{Outcome, accepted, refused, _▷_, provided}
+use Rattle.model.specs.Rules.Outcome.{Outcome, accepted, refused, _▷_, provided}
 use Rattle.model.specs.declared.Fault.{Fault}
 use Rattle.model.specs.declared.Found.{Found}
 use Rattle.board.specs.Board.{

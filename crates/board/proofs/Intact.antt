@@ -10,10 +10,10 @@ use lib.Dec.{leb}
 use lib.IntN.{ℤ}
 use lib.ListN.{length, take, drop, length-take, length-drop}
 use lib.Seq.{getD-set-same}
-use Rattle.model.specs.Machine.{Effect, stretch, resetOf, cycleOf}
-use Rattle.model.specs.Outcome.{accepted, refused}
+use Rattle.model.specs.Rules.Machine.{Effect, stretch, resetOf, cycleOf}
+use Rattle.model.specs.Rules.Outcome.{accepted, refused}
 use Rattle.model.specs.declared.Fault.{Fault}
-use Rattle.image_check.proofs.Parts.{stretch-length}
+use Rattle.image_valid.proofs.Parts.{stretch-length}
 use Rattle.board.specs.Board.{
   vacant,
   placeAt,

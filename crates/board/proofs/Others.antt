@@ -5,7 +5,7 @@ use mathlib.Core.Path.{_≡_, refl, sym, ap, _∙_}
 use borrow.Author.Tests.{leb-true}
 use lib.IntN.{ℤ}
 use lib.ListN.{length}
-use Rattle.model.specs.Outcome.{Outcome, accepted}
+use Rattle.model.specs.Rules.Outcome.{Outcome, accepted}
 use Rattle.board.specs.Board.{loadedAt, markedAt, takenAt, took}
 use Rattle.board.specs.Events.{Event, load, mark, turn, change, Scene, turnIn, afterEvent, OfPlace, Elsewhere}
 use Rattle.board.proofs.Alone.{reset-in-length, run-length}

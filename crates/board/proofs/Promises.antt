@@ -6,9 +6,9 @@ use mathlib.Core.Path.{_≡_, refl, sym, ap, _∙_}
 use native.Mathlib.Omega.{arith}
 use lib.IntN.{ℤ}
 use lib.ListN.{length}
-use Rattle.model.specs.Calls as Calls
-use Rattle.model.specs.Machine.{stretch, resetOf}
-use Rattle.model.specs.Outcome.{accepted, refused}
+use Rattle.model.specs.Says.Calls as Calls
+use Rattle.model.specs.Rules.Machine.{stretch, resetOf}
+use Rattle.model.specs.Rules.Outcome.{accepted, refused}
 use Rattle.model.specs.declared.Fault.{Fault}
 use Rattle.board.specs.Board.{placeAt, placeWords, idle, took}
 use Rattle.board.specs.Events.{

@@ -10,7 +10,7 @@ use lib.Dec.{eqb}
 use lib.IntN.{ℤ}
 use lib.ListN.{length, getD, set}
 use lib.Seq.{getD-set-same, getD-set-other, set-out}
-use Rattle.model.specs.Outcome.{Outcome, accepted}
+use Rattle.model.specs.Rules.Outcome.{Outcome, accepted}
 use Rattle.board.specs.Board.{
   vacant,
   placeAt,

@@ -9,7 +9,7 @@ use borrow.Author.Tests.{ltb-true, ltb-false, leb-true, leb-false, lt-ltb, le-le
 use lib.Dec.{leb, ltb}
 use lib.IntN.{ℤ, pos}
 use lib.ListN.{length, getD, take, replicate, length-take, length-append, length-drop}
-use Rattle.model.specs.Machine.{
+use Rattle.model.specs.Rules.Machine.{
   Effect,
   stretch,
   hyperOf,
@@ -26,13 +26,13 @@ use Rattle.model.specs.Machine.{
   resetOf,
   cycleOf,
 }
-use Rattle.model.specs.Outcome.{Outcome, accepted, refused, fault}
+use Rattle.model.specs.Rules.Outcome.{Outcome, accepted, refused, fault}
 use Rattle.model.specs.declared.Fault.{Fault}
 use Rattle.model.proofs.Bytes.{cycle-length}
 use Rattle.model.proofs.Stretches.{table-length}
 use Rattle.model.proofs.Tails.{lent-formed}
-use Rattle.image_check.proofs.Parts.{head, formed}
-use Rattle.image_check.specs.Lends.{Lends}
+use Rattle.image_valid.proofs.Parts.{head, formed}
+use Rattle.image_valid.specs.Lends.{Lends}
 use Rattle.machine.specs.Runnable.{Runnable}
 use Rattle.machine.proofs.Answers.{done}
 use Rattle.machine.proofs.Answers as Answers

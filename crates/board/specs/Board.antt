@@ -6,9 +6,9 @@ use mathlib.Core.List.{List, [], _∷_, _++_}
 use lib.Dec.{leb, ltb}
 use lib.IntN.{ℤ}
 use lib.ListN.{length, getD, take, drop, set}
-use Rattle.model.specs.Machine.{Effect, stretch, resetOf, cycleOf, cycledOf}
-use Rattle.model.specs.Outcome.{Outcome, accepted, refused, refuse, _▷_, provided}
-use Rattle.model.specs.Search.{first}
+use Rattle.model.specs.Rules.Machine.{Effect, stretch, resetOf, cycleOf, cycledOf}
+use Rattle.model.specs.Rules.Outcome.{Outcome, accepted, refused, refuse, _▷_, provided}
+use Rattle.model.specs.Rules.Search.{first}
 use Rattle.model.specs.declared.Found.{Found}
 use Rattle.model.specs.declared.Found.the-variants.{At, Nowhere}
 use Rattle.board.specs.declared.Board.{Board}

@@ -7,9 +7,9 @@ use mathlib.Core.Path.{_≡_}
 use lib.Dec.{leb, eqb}
 use lib.IntN.{ℤ, pos}
 use lib.ListN.{length, getD}
-use Rattle.model.specs.Calls.{Call, cycle}
-use Rattle.model.specs.Machine.{stretch}
-use Rattle.model.specs.Outcome.{Outcome, accepted, refused, fault}
+use Rattle.model.specs.Says.Calls.{Call, cycle}
+use Rattle.model.specs.Rules.Machine.{stretch}
+use Rattle.model.specs.Rules.Outcome.{Outcome, accepted, refused, fault}
 use Rattle.model.specs.declared.Fault.{Fault}
 use Rattle.board.specs.Board.{
   placeAt,

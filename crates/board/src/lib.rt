@@ -8,8 +8,8 @@ ghost use mathlib.Core.Path.{_≡_};
 ghost use Prim.Native.Nat.{_+_, _≤_, _<_};
 ghost use lib.Dec.{leb};
 ghost use lib.ListN.{length};
-ghost use Rattle.model.specs.Machine.{ranOf, cycledOf};
-ghost use Rattle.model.specs.Outcome.{refuse};
+ghost use Rattle.model.specs.Rules.Machine.{ranOf, cycledOf};
+ghost use Rattle.model.specs.Rules.Outcome.{refuse};
 ghost use Rattle.board.specs.Board.{countUp, takenPlace, withDue, withWords, nextDue, newBoard};
 ghost use Rattle.board.specs.Board.{loadedAt, markedAt, takenAt, resetIn, cycleIn, runOf, loadOf, markPlaceOf, turnOf, turnedOf};
 
@@ -245,7 +245,7 @@ fn cycle_place(
     if 0 < number {
         return stopped(number);
     }
-    let total = machine::run_cycle(image_check::image_in(lent), &mut words[..], samples);
+    let total = machine::run_cycle(image_valid::image_in(lent), &mut words[..], samples);
     Cycled::Commands(total)
 }
 

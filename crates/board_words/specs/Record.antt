@@ -4,7 +4,7 @@ use mathlib.Core.Bool.{cond}
 use mathlib.Core.List.{List, [], _∷_}
 use lib.Dec.{eqb}
 use lib.ListN.{getD}
-use Rattle.model.specs.Outcome.{Outcome, accepted, refused}
+use Rattle.model.specs.Rules.Outcome.{Outcome, accepted, refused}
 use Rattle.board.specs.Board.{placeAt, BoardEffect, Yield, idle, took}
 use Rattle.board.specs.declared.Board.{Board}
 use Rattle.board.specs.declared.Place.{Place}

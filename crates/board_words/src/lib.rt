@@ -5,7 +5,7 @@ use board::Place;
 use model::Cycled;
 ghost use mathlib.Core.Path.{_≡_};
 ghost use Prim.Native.Nat.{_<_};
-ghost use Rattle.model.specs.Machine.{cycledOf};
+ghost use Rattle.model.specs.Rules.Machine.{cycledOf};
 ghost use Rattle.board_words.specs.Record.{flagsOf, placeFrom, boardOf, packed, runOutcome};
 
 fn flags(p: Place) -> usize

@@ -6,9 +6,9 @@ use native.Mathlib.Omega.{arith}
 use borrow.Author.Tests.{le-leb, lt-leb}
 use lib.ListN.{length, take, drop, length-append, length-drop}
 use lib.Seq.{sets, sets-eq, take-append-seam, drop-append-add, drop-drop}
-use Rattle.model.specs.Compile.{Pair, pairOf, verdictOf, compileOf}
-use Rattle.model.specs.Image.{lengthOf, imageOf, tailOf, writtenOf, writtenLength}
-use Rattle.model.specs.Outcome.{accepted, refused, refuse, _▷_, provided}
+use Rattle.model.specs.Rules.Compile.{Pair, pairOf, verdictOf, compileOf}
+use Rattle.model.specs.Rules.Image.{lengthOf, imageOf, tailOf, writtenOf, writtenLength}
+use Rattle.model.specs.Rules.Outcome.{accepted, refused, refuse, _▷_, provided}
 use Rattle.model.specs.declared.Fault.{Fault}
 use Rattle.model.proofs.Stretches.{image-length}
 use Rattle.model.proofs.Tails.{tail-length, written-length}

@@ -1,9 +1,9 @@
 // The compiler: a program and a schedule to an image with its tail, or the first refusal.
 use model::Compiled;
 use model::Fault;
-use reader::Judged;
+use text_program::Judged;
 ghost use mathlib.Core.Path.{_≡_};
-ghost use Rattle.model.specs.Compile.{compiledOf, compileOf};
+ghost use Rattle.model.specs.Rules.Compile.{compiledOf, compileOf};
 ghost use Rattle.model.specs.declared.Fault.{Fault};
 
 // The number of the refusal of a buffer.
@@ -26,7 +26,7 @@ pub fn compile(program: &[u8], schedule: &[u8], image: &mut [u8]) -> Compiled
     ensures answer { λ r. ⌜ compiledOf r ≡ compileOf (now (program .entry)) (now (schedule .entry)) (now (image .entry)) .answer ⌝ }
     ensures left { λ _. ⌜ now (image .exit) ≡ compileOf (now (program .entry)) (now (schedule .entry)) (now (image .entry)) .left ⌝ }
 {
-    let checked = checks::check_pair(program, schedule);
+    let checked = check_pair::check_pair(program, schedule);
     let judged = checked.judged;
     let Judged::Fine = judged else {
         return refused(judged);
@@ -37,7 +37,7 @@ pub fn compile(program: &[u8], schedule: &[u8], image: &mut [u8]) -> Compiled
     let order = slots.order;
     let phases = slots.phases;
     let h = checked.hypercycle;
-    let layout = emitter::lay_out(tables, &periods, &order, &phases, h);
+    let layout = image_write::lay_out(tables, &periods, &order, &phases, h);
     let written = layout.written;
     if image.len() < written {
         return Compiled::Refused(Fault {
@@ -45,7 +45,7 @@ pub fn compile(program: &[u8], schedule: &[u8], image: &mut [u8]) -> Compiled
             place: written,
         });
     }
-    emitter::emit(
+    image_write::emit(
         program,
         tables,
         &periods,
@@ -57,6 +57,6 @@ pub fn compile(program: &[u8], schedule: &[u8], image: &mut [u8]) -> Compiled
     );
     let n = tables.signals;
     let labels = tables.labels;
-    emitter::emit_tail(&labels, &periods, &phases, n, &mut image[..], layout.end);
+    image_write::emit_tail(&labels, &periods, &phases, n, &mut image[..], layout.end);
     Compiled::Length(written)
 }

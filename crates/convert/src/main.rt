@@ -53,7 +53,7 @@ fn main() {
     let mut program = [0u8; 8193];
     let mut result = [0u8; 8192];
     let size = read_file(&mut program);
-    let converted = converter::convert(&program[..size], &mut result);
+    let converted = text_convert::convert(&program[..size], &mut result);
     match converted {
         Compiled::Length(n) => {
             io::write_all(STDOUT_FILENO, &result[..n]);

@@ -13,8 +13,8 @@ use lib.Seq.{sets, length-sets, take-suc}
 use lib.Signed.{mag, ltZ}
 use mir.Syntax.{w32}
 use mir.Val.{toZ, ofZ}
-use Rattle.model.specs.Decimal.{natural, decimal, spaced, lineOf}
-use Rattle.model.specs.Word.{bitsOf}
+use Rattle.model.specs.Rules.Decimal.{natural, decimal, spaced, lineOf}
+use Rattle.model.specs.Rules.Word.{bitsOf}
 use Rattle.model.proofs.Stretches.{sets-append}
 use Rattle.word.proofs.Laws.{kept}
 use Rattle.decimal.specs.Put.{Put}

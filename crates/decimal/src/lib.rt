@@ -3,7 +3,7 @@ ghost use mathlib.Core.Path.{_≡_};
 ghost use Prim.Native.Nat.{_+_, _≤_, _<_};
 ghost use lib.ListN.{length};
 ghost use Rattle.decimal.specs.Put.{Put};
-ghost use Rattle.model.specs.Decimal.{natural, decimal, lineOf};
+ghost use Rattle.model.specs.Rules.Decimal.{natural, decimal, lineOf};
 
 // Writes the digits of n from `at` on, and answers where they end.
 pub fn put_natural(out: &mut [u8], at: usize, n: u32) -> usize

@@ -3,8 +3,8 @@ use Prim.Native.Nat.{ℕ}
 use mathlib.Core.List.{List}
 use mathlib.Core.Path.{_≡_, sym, ap, _∙_}
 use lib.IntN.{ℤ}
-use Rattle.model.specs.Machine.{ranOf}
-use Rattle.model.specs.Outcome.{Outcome}
+use Rattle.model.specs.Rules.Machine.{ranOf}
+use Rattle.model.specs.Rules.Outcome.{Outcome}
 use Rattle.model.specs.declared.Fault.{Fault}
 use Rattle.model.specs.declared.Ran.{Ran}
 use Rattle.model.specs.declared.Ran.the-variants as Ran

@@ -8,8 +8,8 @@ use native.Mathlib.Omega.{arith}
 use lib.Dec.{leb, ltb}
 use lib.IntN.{ℤ}
 use lib.ListN.{length}
-use Rattle.model.specs.Machine.{stretch, resetOf}
-use Rattle.model.specs.Outcome.{Outcome, accepted, refused, refuse}
+use Rattle.model.specs.Rules.Machine.{stretch, resetOf}
+use Rattle.model.specs.Rules.Outcome.{Outcome, accepted, refused, refuse}
 use Rattle.board.specs.Board.{placeAt, placeWords, nextDue, onStretch, resetIn, BoardEffect, Yield, loadOf, markPlaceOf, turnOf}
 use Rattle.board.specs.declared.Board.{Board}
 use Rattle.board.proofs.Answers.{

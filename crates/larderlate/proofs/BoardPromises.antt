@@ -4,17 +4,17 @@ use mathlib.Core.List.{List, _∷_}
 use mathlib.Core.Path.{_≡_, subst}
 use lib.IntN.{ℤ}
 use lib.ListN.{length}
-use Rattle.model.specs.Calls.{stateBy, logBy, Supplied, Holds}
-use Rattle.model.specs.Compile.{pairOf}
-use Rattle.model.specs.Image.{imageOf}
-use Rattle.model.specs.Lists.{KeptBy}
-use Rattle.model.specs.Machine.{stretch}
-use Rattle.model.specs.Outcome.{accepted}
-use Rattle.model.specs.Program.{Program}
-use Rattle.model.specs.Reads.{settled}
-use Rattle.model.specs.Schedule.{Schedule}
-use Rattle.model.specs.Streams.{Satisfies}
-use Rattle.model.specs.Tail.{Bears}
+use Rattle.model.specs.Says.Calls.{stateBy, logBy, Supplied, Holds}
+use Rattle.model.specs.Rules.Compile.{pairOf}
+use Rattle.model.specs.Rules.Image.{imageOf}
+use Rattle.model.specs.Says.Lists.{KeptBy}
+use Rattle.model.specs.Rules.Machine.{stretch}
+use Rattle.model.specs.Rules.Outcome.{accepted}
+use Rattle.model.specs.Rules.Program.{Program}
+use Rattle.model.specs.Rules.Reads.{settled}
+use Rattle.model.specs.Rules.Schedule.{Schedule}
+use Rattle.model.specs.Says.Streams.{Satisfies}
+use Rattle.model.specs.Rules.Tail.{Bears}
 use Rattle.model.proofs.Commands as Texts
 use Rattle.board.specs.Board.{placeWords}
 use Rattle.board.specs.Events.{Event, load, Scene, loadBy, afterEvent, afterEvents, Throughout, Untouched, ownCycles}

@@ -12,15 +12,15 @@ use borrow.Author.Tests.{le-leb, lt-leb}
 use lib.Dec.{leb, ltb}
 use lib.IntN.{ℤ, pos}
 use lib.ListN.{length, getD, take, drop}
-use Rattle.model.specs.Feasible.{SettlesAt, Feasible}
-use Rattle.model.specs.Calls.{Call, callOf, stateBy, logBy}
-use Rattle.model.specs.Command.{commandAt}
-use Rattle.model.specs.Compile.{Pair, pairOf, verdictOf, compileOf}
-use Rattle.model.specs.Conditions.{_among_, ReadIn, LegalPairWith, LegalPair}
-use Rattle.model.specs.Conversion.{earlierFactor, ConvertsExactly, ConversionKeeps}
-use Rattle.model.specs.Decimal.{natural, decimal, lineOf, SaysNumber, SaysWord}
-use Rattle.model.specs.Enums.{Ranged, CodeRanged, BytesAt, commandBytes, putBytes, codeBytes}
-use Rattle.model.specs.Exactness.{
+use Rattle.model.specs.Says.Feasible.{SettlesAt, Feasible}
+use Rattle.model.specs.Says.Calls.{Call, callOf, stateBy, logBy}
+use Rattle.model.specs.Rules.Command.{commandAt}
+use Rattle.model.specs.Rules.Compile.{Pair, pairOf, verdictOf, compileOf}
+use Rattle.model.specs.Says.Conditions.{_among_, ReadIn, LegalPairWith, LegalPair}
+use Rattle.model.specs.Says.Conversion.{earlierFactor, ConvertsExactly, ConversionKeeps}
+use Rattle.model.specs.Rules.Decimal.{natural, decimal, lineOf, SaysNumber, SaysWord}
+use Rattle.model.specs.Says.Enums.{Ranged, CodeRanged, BytesAt, commandBytes, putBytes, codeBytes}
+use Rattle.model.specs.Says.Exactness.{
   Exactly,
   sizeOf,
   Compiles,
@@ -30,30 +30,30 @@ use Rattle.model.specs.Exactness.{
   Cycles,
   CycleRefusedAt,
 }
-use Rattle.model.specs.Height.{Within}
-use Rattle.model.specs.Image.{lengthOf, imageOf, tailOf, writtenOf, writtenLength}
-use Rattle.model.specs.Latency.{readsBack, backwards, back, source, latencyOf}
-use Rattle.model.specs.Lists.{Kept, KeptBy, Memory, afterReset, Lent, owns, leftAll, ownAnswers, ownLog, OthersRefused, AsWithout}
-use Rattle.model.specs.Lists.{SettleAlike, Agree, EndsWith}
-use Rattle.model.specs.Machine.{effect, isPosition, hyperOf, countOf, statedLength, listOf, codeOf, countSignals}
-use Rattle.model.specs.Machine.{wellFormed, imagePart, lentOk, cycleWords, cycleCount, resetOf, cycleOf, codeAt}
-use Rattle.model.specs.Outcome.{Outcome, accepted, refused, refuse, fault, _▷_, provided}
-use Rattle.model.specs.Program.{Program, Chain, Read, count, signalAt, parseWith, parseProgram}
-use Rattle.model.specs.Rates.{hypercycle}
-use Rattle.model.specs.Reads.{rateOf, runCycle, settled}
-use Rattle.model.specs.Report.{highest, countsOf, toldOf, reportOf}
-use Rattle.model.specs.Reach.{WidthsListed}
-use Rattle.model.specs.Refusals.{RefusedAt}
-use Rattle.model.specs.Rewrite.{rewrite, convertOf}
-use Rattle.model.specs.Schedule.{Schedule, phaseOf, scheduleCommandAt}
-use Rattle.model.specs.Script.{Action, scriptOf, noSamples, callsFrom, cyclesOf}
-use Rattle.model.specs.Streams.{Satisfies}
-use Rattle.model.specs.Tail.{tailIn, Bears, Tells}
-use Rattle.model.specs.Trial.{trialOf, wordsAfter, inputsOf}
-use Rattle.model.specs.TrialRefusals.{LegalScript, TrialRefusedAt}
-use Rattle.model.specs.WellFormed.{WellFormed}
-use Rattle.model.specs.Word.{byteAt, NearestResults}
-use Rattle.model.specs.Written.{
+use Rattle.model.specs.Says.Height.{Within}
+use Rattle.model.specs.Rules.Image.{lengthOf, imageOf, tailOf, writtenOf, writtenLength}
+use Rattle.model.specs.Rules.Latency.{readsBack, backwards, back, source, latencyOf}
+use Rattle.model.specs.Says.Lists.{Kept, KeptBy, Memory, afterReset, Lent, owns, leftAll, ownAnswers, ownLog, OthersRefused, AsWithout}
+use Rattle.model.specs.Says.Lists.{SettleAlike, Agree, EndsWith}
+use Rattle.model.specs.Rules.Machine.{effect, isPosition, hyperOf, countOf, statedLength, listOf, codeOf, countSignals}
+use Rattle.model.specs.Rules.Machine.{wellFormed, imagePart, lentOk, cycleWords, cycleCount, resetOf, cycleOf, codeAt}
+use Rattle.model.specs.Rules.Outcome.{Outcome, accepted, refused, refuse, fault, _▷_, provided}
+use Rattle.model.specs.Rules.Program.{Program, Chain, Read, count, signalAt, parseWith, parseProgram}
+use Rattle.model.specs.Rules.Rates.{hypercycle}
+use Rattle.model.specs.Rules.Reads.{rateOf, runCycle, settled}
+use Rattle.model.specs.Rules.Report.{highest, countsOf, toldOf, reportOf}
+use Rattle.model.specs.Says.Reach.{WidthsListed}
+use Rattle.model.specs.Says.Refusals.{RefusedAt}
+use Rattle.model.specs.Rules.Rewrite.{rewrite, convertOf}
+use Rattle.model.specs.Rules.Schedule.{Schedule, phaseOf, scheduleCommandAt}
+use Rattle.model.specs.Rules.Script.{Action, scriptOf, noSamples, callsFrom, cyclesOf}
+use Rattle.model.specs.Says.Streams.{Satisfies}
+use Rattle.model.specs.Rules.Tail.{tailIn, Bears, Tells}
+use Rattle.model.specs.Rules.Trial.{trialOf, wordsAfter, inputsOf}
+use Rattle.model.specs.Says.TrialRefusals.{LegalScript, TrialRefusedAt}
+use Rattle.model.specs.Says.WellFormed.{WellFormed}
+use Rattle.model.specs.Rules.Word.{byteAt, NearestResults}
+use Rattle.model.specs.Says.Written.{
   Written,
   Cut,
   Outside,

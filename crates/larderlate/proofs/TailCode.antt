@@ -5,9 +5,9 @@ use mathlib.Core.List.{List}
 use mathlib.Core.Path.{_≡_, refl, sym, ap, _∙_}
 use native.Mathlib.Omega.{arith}
 use lib.ListN.{length, drop, length-append}
-use Rattle.model.specs.Machine.{statedLength, imagePart, lentOk}
-use Rattle.model.specs.Outcome.{accepted, refused, refuse, fault, _▷_, provided}
-use Rattle.model.specs.Tail.{tailIn, numberIn, stretchIn, ReadsTail}
+use Rattle.model.specs.Rules.Machine.{statedLength, imagePart, lentOk}
+use Rattle.model.specs.Rules.Outcome.{accepted, refused, refuse, fault, _▷_, provided}
+use Rattle.model.specs.Rules.Tail.{tailIn, numberIn, stretchIn, ReadsTail}
 use Rattle.model.proofs.Tails.{lent-formed, lent-bears, stated-length}
 
 module _ {lent tail : List ℕ} {number : ℕ} (r : ReadsTail lent number tail) where

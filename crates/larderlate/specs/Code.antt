@@ -2,8 +2,8 @@
 use Prim.Native.Nat.{ℕ, _+_, _*_, _%_, _≤_, _<_}
 use mathlib.Core.List.{List}
 use lib.ListN.{length}
-use Rattle.model.specs.Machine.{statedLength}
-use Rattle.model.specs.Outcome.{Outcome, accepted, refused}
+use Rattle.model.specs.Rules.Machine.{statedLength}
+use Rattle.model.specs.Rules.Outcome.{Outcome, accepted, refused}
 use Rattle.model.specs.declared.Sizes.{Sizes}
 
 -- What the call yields; or the refusal's number × 2^32 + its place, which is always below 2^32 (`compile-code`, `call-code` of

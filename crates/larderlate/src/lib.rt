@@ -7,12 +7,12 @@ use model::Fault;
 use model::Ran;
 use model::Reported;
 ghost use mathlib.Core.Path.{_≡_};
-ghost use Rattle.model.specs.Compile.{compiledOf, compileOf};
-ghost use Rattle.model.specs.Machine.{ranOf, cycledOf, resetOf, cycleOf};
-ghost use Rattle.model.specs.Outcome.{refused};
-ghost use Rattle.model.specs.Report.{reportedOf, reportOf};
-ghost use Rattle.model.specs.Rewrite.{convertOf};
-ghost use Rattle.model.specs.Tail.{tailIn, ReadsTail};
+ghost use Rattle.model.specs.Rules.Compile.{compiledOf, compileOf};
+ghost use Rattle.model.specs.Rules.Machine.{ranOf, cycledOf, resetOf, cycleOf};
+ghost use Rattle.model.specs.Rules.Outcome.{refused};
+ghost use Rattle.model.specs.Rules.Report.{reportedOf, reportOf};
+ghost use Rattle.model.specs.Rules.Rewrite.{convertOf};
+ghost use Rattle.model.specs.Rules.Tail.{tailIn, ReadsTail};
 ghost use Rattle.board.specs.Board.{newBoard, loadOf, markPlaceOf, turnOf};
 ghost use Rattle.board_words.specs.Record.{boardOf, packed, callRecord, turnRecord, turnDone, outcomeIn};
 ghost use Rattle.larderlate.specs.Code.{codeNumber, lengthIn, writtenIn, stackIn, lengthOfTail, startIn};
@@ -54,7 +54,7 @@ pub fn cycle(image: &[u8], state: &mut [i32], samples: &[i32]) -> Cycled
 pub fn tail<'a>(image: &'a [u8], number: &mut u8) -> &'a [u8]
     ensures { λ r. ⌜ ReadsTail (now (image .entry)) (now (number .exit)) (now r) ⌝ }
 {
-    tail::tail(image, number)
+    image_tail::tail(image, number)
 }
 
 // Rewrites a program text of the earlier rule, with a sampling factor of 1, to the start of `result`, and yields its new length.
@@ -62,7 +62,7 @@ pub fn convert(program: &[u8], result: &mut [u8]) -> Compiled
     ensures answer { λ r. ⌜ compiledOf r ≡ convertOf (now (program .entry)) (now (result .entry)) .answer ⌝ }
     ensures left { λ _. ⌜ now (result .exit) ≡ convertOf (now (program .entry)) (now (result .entry)) .left ⌝ }
 {
-    converter::convert(program, &mut result[..])
+    text_convert::convert(program, &mut result[..])
 }
 
 // A refusal as one number.

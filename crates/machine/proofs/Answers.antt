@@ -6,10 +6,10 @@ use Prim.Native.Nat.{ℕ}
 use lib.Dec.{leb, ltb}
 use lib.IntN.{ℤ, pos}
 use lib.ListN.{length, getD}
-use Rattle.model.specs.Machine.{hyperOf, countOf, wellFormed, isPosition, resetWords, cycleWords, cycleCount, Effect, effect, resetOf, cycleOf}
-use Rattle.model.specs.Outcome.{Outcome, accepted, refuse, _▷_, provided}
+use Rattle.model.specs.Rules.Machine.{hyperOf, countOf, wellFormed, isPosition, resetWords, cycleWords, cycleCount, Effect, effect, resetOf, cycleOf}
+use Rattle.model.specs.Rules.Outcome.{Outcome, accepted, refuse, _▷_, provided}
 use Rattle.model.proofs.Tails.{part-is, lent-ok, bears-itself}
-use Rattle.image_check.specs.Lends.{Lends}
+use Rattle.image_valid.specs.Lends.{Lends}
 
 -- a refusal leaves the state as it was
 abbrev pub refusal : ℕ → List ℤ → Effect ℤ

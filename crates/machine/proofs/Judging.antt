@@ -7,8 +7,8 @@ use native.Mathlib.Omega.{arith}
 use borrow.Author.Tests.{lt-ltb, le-leb}
 use lib.IntN.{ℤ}
 use lib.ListN.{length}
-use Rattle.model.specs.Machine.{countOf, wellFormed, cycleWords, cycleCount, cycleOf}
-use Rattle.image_check.specs.Lends.{Lends}
+use Rattle.model.specs.Rules.Machine.{countOf, wellFormed, cycleWords, cycleCount, cycleOf}
+use Rattle.image_valid.specs.Lends.{Lends}
 use Rattle.machine.specs.Runnable.{Runnable, JudgesCycle}
 use Rattle.machine.proofs.Answers.{refusal, done, cycle-done}
 

@@ -14,9 +14,9 @@ use lib.Seq.{drop-cons, set-at, append-snoc}
 use lib.Signed.{mag, ltZ}
 use mir.Syntax.{w32}
 use mir.Val.{toZ, ofZ}
-use Rattle.model.specs.Machine.{countOf, codeOf, runCode, runSignals, countCode, countSignals, resetWords, isPosition, positionOf}
-use Rattle.model.specs.Search.{table, tableFrom}
-use Rattle.model.specs.Word.{byteAt, wordAt}
+use Rattle.model.specs.Rules.Machine.{countOf, codeOf, runCode, runSignals, countCode, countSignals, resetWords, isPosition, positionOf}
+use Rattle.model.specs.Rules.Search.{table, tableFrom}
+use Rattle.model.specs.Rules.Word.{byteAt, wordAt}
 use Rattle.word.proofs.Laws.{kept}
 
 module _ (image list : List ℕ) (i : ℕ) (samples state : List ℤ) where

@@ -10,12 +10,12 @@ use lib.Dec.{ltb}
 use lib.IntN.{ℤ, pos}
 use lib.ListN.{length, getD, set, length-append, length-drop}
 use lib.Seq.{getD-set-same}
-use Rattle.model.specs.Calls.{cycle, callOf}
-use Rattle.model.specs.Machine.{hyperOf, countOf, wellFormed, positionOf, nextPosition, listOf, runSignals, cycleWords, resetWords, Effect, effect, resetOf}
-use Rattle.model.specs.Outcome.{accepted, _▷_, provided}
+use Rattle.model.specs.Says.Calls.{cycle, callOf}
+use Rattle.model.specs.Rules.Machine.{hyperOf, countOf, wellFormed, positionOf, nextPosition, listOf, runSignals, cycleWords, resetWords, Effect, effect, resetOf}
+use Rattle.model.specs.Rules.Outcome.{accepted, _▷_, provided}
 use Rattle.model.proofs.Bytes.{position-is, next-below, run-length, cycle-length}
 use Rattle.model.proofs.Stretches.{table-length}
-use Rattle.image_check.proofs.Parts.{head, formed}
+use Rattle.image_valid.proofs.Parts.{head, formed}
 use Rattle.machine.specs.Runnable.{Runnable}
 use Rattle.machine.proofs.Answers.{cycle-done, lends-itself}
 

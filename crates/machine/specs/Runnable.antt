@@ -5,9 +5,9 @@ use mathlib.Core.List.{List}
 use mathlib.Core.Path.{_≡_}
 use lib.IntN.{ℤ, pos}
 use lib.ListN.{length, getD}
-use Rattle.model.specs.Machine.{hyperOf, countOf, wellFormed, isPosition, cycleOf}
-use Rattle.model.specs.Outcome.{refuse}
-use Rattle.image_check.specs.Lends.{Lends}
+use Rattle.model.specs.Rules.Machine.{hyperOf, countOf, wellFormed, isPosition, cycleOf}
+use Rattle.model.specs.Rules.Outcome.{refuse}
+use Rattle.image_valid.specs.Lends.{Lends}
 
 pub record Runnable (image : List ℕ) (state samples : List ℤ) : Type 0 where
   pub formed : wellFormed image ≡ true

@@ -7,11 +7,11 @@ ghost use mathlib.Core.Bool.{true};
 ghost use Prim.Native.Nat.{ℕ, _<_, _≤_};
 ghost use lib.IntN.{pos};
 ghost use lib.ListN.{length};
-ghost use Rattle.model.specs.Machine.{hyperOf, countOf, wellFormed, listOf, runSignals, countSignals, nextPosition, resetWords};
-ghost use Rattle.model.specs.Machine.{cycleWords, cycleCount, ranOf, cycledOf, resetOf, cycleOf};
+ghost use Rattle.model.specs.Rules.Machine.{hyperOf, countOf, wellFormed, listOf, runSignals, countSignals, nextPosition, resetWords};
+ghost use Rattle.model.specs.Rules.Machine.{cycleWords, cycleCount, ranOf, cycledOf, resetOf, cycleOf};
 ghost use Rattle.machine.specs.Runnable.{Runnable, JudgesCycle};
-ghost use Rattle.model.specs.Outcome.{refuse};
-ghost use Rattle.model.specs.Word.{byteAt};
+ghost use Rattle.model.specs.Rules.Outcome.{refuse};
+ghost use Rattle.model.specs.Rules.Word.{byteAt};
 
 // The numbers of the refusals, in their order.
 const BAD_IMAGE: u8 = 20;
@@ -46,8 +46,8 @@ pub fn run_list(image: &[u8], c: usize) -> &[u8]
     ensures { λ r. ⌜ now r ≡ listOf (now (image .entry)) c ⌝ }
 {
     let n = wide(image[1]);
-    let from = image_check::list_offset(image, n, c);
-    let to = image_check::list_offset(image, n, c + 1);
+    let from = image_valid::list_offset(image, n, c);
+    let to = image_valid::list_offset(image, n, c + 1);
     &image[from..to]
 }
 
@@ -65,9 +65,9 @@ fn run_signals(list: &[u8], image: &[u8], n: u8, state: &mut [i32], samples: &[i
     while i < list.len() {
         let x = list[i];
         let own = wide(x);
-        let from = image_check::code_offset(image, count, own);
-        let to = image_check::code_offset(image, count, own + 1);
-        let run = runner::run_code(&image[from..to], n, x, &state[..], samples);
+        let from = image_valid::code_offset(image, count, own);
+        let to = image_valid::code_offset(image, count, own + 1);
+        let run = run_code::run_code(&image[from..to], n, x, &state[..], samples);
         let w = run.word;
         state[own + 1] = w;
         total = total + run.count;
@@ -103,8 +103,8 @@ pub fn reset(lent: &[u8], state: &mut [i32]) -> Ran
     ensures answer { λ r. ⌜ ranOf r ≡ resetOf (now (lent .entry)) (now (state .entry)) .answer ⌝ }
     ensures left { λ _. ⌜ now (state .exit) ≡ resetOf (now (lent .entry)) (now (state .entry)) .left ⌝ }
 {
-    let image = image_check::image_in(lent);
-    if !image_check::well_formed(image) {
+    let image = image_valid::image_in(lent);
+    if !image_valid::well_formed(image) {
         return refused(BAD_IMAGE);
     }
     let n = wide(image[1]);
@@ -136,8 +136,8 @@ pub fn run_cycle(image: &[u8], state: &mut [i32], samples: &[i32]) -> u32
 pub fn judge_cycle(lent: &[u8], state: &[i32], samples: &[i32]) -> u8
     ensures { λ r. ⌜ JudgesCycle (now (lent .entry)) (now (state .entry)) (now (samples .entry)) r ⌝ }
 {
-    let image = image_check::image_in(lent);
-    if !image_check::well_formed(image) {
+    let image = image_valid::image_in(lent);
+    if !image_valid::well_formed(image) {
         return BAD_IMAGE;
     }
     let h = wide(image[0]);
@@ -169,6 +169,6 @@ pub fn cycle(lent: &[u8], state: &mut [i32], samples: &[i32]) -> Cycled
     if 0 < number {
         return stopped(number);
     }
-    let total = run_cycle(image_check::image_in(lent), &mut state[..], samples);
+    let total = run_cycle(image_valid::image_in(lent), &mut state[..], samples);
     Cycled::Commands(total)
 }

@@ -7,14 +7,14 @@ use borrow.Author.Tests.{lt-ltb, ltb-true}
 use lib.Dec.{ltb}
 use lib.IntN.{ℤ}
 use lib.ListN.{length}
-use Rattle.model.specs.Feasible.{All, Feasible, Multiple}
-use Rattle.model.specs.Calls.{Call, Supplied}
-use Rattle.model.specs.Latency.{used}
-use Rattle.model.specs.Lists.{SettleAlike, sample, Agree}
-use Rattle.model.specs.Program.{Program, count, signalAt, bodyReads}
-use Rattle.model.specs.Reads.{Rate, rateOf, runCycle, stored, indexOf, settled}
-use Rattle.model.specs.Schedule.{Schedule}
-use Rattle.model.specs.Streams.{Satisfies}
+use Rattle.model.specs.Says.Feasible.{All, Feasible, Multiple}
+use Rattle.model.specs.Says.Calls.{Call, Supplied}
+use Rattle.model.specs.Rules.Latency.{used}
+use Rattle.model.specs.Says.Lists.{SettleAlike, sample, Agree}
+use Rattle.model.specs.Rules.Program.{Program, count, signalAt, bodyReads}
+use Rattle.model.specs.Rules.Reads.{Rate, rateOf, runCycle, stored, indexOf, settled}
+use Rattle.model.specs.Rules.Schedule.{Schedule}
+use Rattle.model.specs.Says.Streams.{Satisfies}
 use Rattle.model.specs.declared.Index.{Index}
 use Rattle.model.specs.declared.Index.the-variants.{Fixed, Open}
 use Rattle.model.specs.declared.Kind.{Kind}

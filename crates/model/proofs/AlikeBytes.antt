@@ -4,13 +4,13 @@ use mathlib.Core.List.{List}
 use mathlib.Core.Path.{_≡_, sym, ap, subst₂, _∙_}
 use lib.IntN.{ℤ, pos}
 use lib.ListN.{length, getD}
-use Rattle.model.specs.Feasible.{Feasible, Multiple}
-use Rattle.model.specs.Calls.{Call, stateBy, logBy}
-use Rattle.model.specs.Image.{imageOf}
-use Rattle.model.specs.Lists.{Agree, EndsWith}
-use Rattle.model.specs.Program.{Program, count}
-use Rattle.model.specs.Reads.{rateOf, stored}
-use Rattle.model.specs.Schedule.{Schedule}
+use Rattle.model.specs.Says.Feasible.{Feasible, Multiple}
+use Rattle.model.specs.Says.Calls.{Call, stateBy, logBy}
+use Rattle.model.specs.Rules.Image.{imageOf}
+use Rattle.model.specs.Says.Lists.{Agree, EndsWith}
+use Rattle.model.specs.Rules.Program.{Program, count}
+use Rattle.model.specs.Rules.Reads.{rateOf, stored}
+use Rattle.model.specs.Rules.Schedule.{Schedule}
 use Rattle.model.proofs.Alike.{Alike, alike-words}
 use Rattle.model.proofs.Bounds.{Bounded}
 use Rattle.model.proofs.Bytes.{wordsOf, view, list-shown}

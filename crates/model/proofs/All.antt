@@ -4,8 +4,8 @@ use mathlib.Core.List.{List, [], _∷_, _++_, map, reverseAux}
 use mathlib.Core.Path.{_≡_}
 use native.Mathlib.Omega.{arith}
 use lib.ListN.{length, getD, length-append}
-use Rattle.model.specs.Feasible.{All}
-use Rattle.model.specs.Search.{joinFrom}
+use Rattle.model.specs.Says.Feasible.{All}
+use Rattle.model.specs.Rules.Search.{joinFrom}
 use Rattle.model.proofs.Outcomes.{append-none}
 
 module _ {A : Type 0} (Q : A → Type 0) where

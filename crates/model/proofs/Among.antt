@@ -4,10 +4,10 @@ use mathlib.Core.List.{List, [], _∷_, _++_}
 use mathlib.Core.Path.{_≡_, refl, ap, _∙_}
 use lib.IntN.{ℤ}
 use lib.ListN.{take, drop, take-append-drop}
-use Rattle.model.specs.Calls.{Call, callOf, logged, after, logAfter, answersOf}
-use Rattle.model.specs.Lists.{Memory, Lent, Writer, partOf, withPart, writerOf, owns, answerIn, leftIn, leftAll}
-use Rattle.model.specs.Lists.{ownAnswers, ownLog, OthersRefused, AsWithout}
-use Rattle.model.specs.Outcome.{Outcome, refused}
+use Rattle.model.specs.Says.Calls.{Call, callOf, logged, after, logAfter, answersOf}
+use Rattle.model.specs.Says.Lists.{Memory, Lent, Writer, partOf, withPart, writerOf, owns, answerIn, leftIn, leftAll}
+use Rattle.model.specs.Says.Lists.{ownAnswers, ownLog, OthersRefused, AsWithout}
+use Rattle.model.specs.Rules.Outcome.{Outcome, refused}
 use Rattle.model.specs.declared.Fault.{Fault}
 use Rattle.model.proofs.Refused.{call-keeps, writer-keeps}
 

@@ -4,10 +4,10 @@ use native.Mathlib.Omega.{arith}
 use lib.IntN.{ℤ}
 use mir.Syntax.{w32}
 use mir.Val.{SFits}
-pub use Rattle.model.specs.Grammar.{depth}
-use Rattle.model.specs.Image.{lengthOf}
-use Rattle.model.specs.Program.{Program, Body, input, equation, Expr, constant, read, binary, negate, choose, count, signalAt}
-use Rattle.model.specs.Schedule.{Schedule}
+pub use Rattle.model.specs.Says.Grammar.{depth}
+use Rattle.model.specs.Rules.Image.{lengthOf}
+use Rattle.model.specs.Rules.Program.{Program, Body, input, equation, Expr, constant, read, binary, negate, choose, count, signalAt}
+use Rattle.model.specs.Rules.Schedule.{Schedule}
 
 pub depth-some : (e : Expr) → 1 ≤ depth e
 depth-some (constant w) = omega arith

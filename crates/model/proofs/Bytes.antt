@@ -11,8 +11,8 @@ use lib.Dec.{leb, ltb, eqb}
 use lib.IntN.{ℤ, pos, negsuc}
 use lib.ListN.{length, getD, set, drop, length-append, length-drop, length-set, List·getD-append}
 use lib.Seq.{getD-append-add, getD-drop, getD-set-same, getD-set-other}
-use Rattle.model.specs.Feasible.{Feasible, Multiple}
-use Rattle.model.specs.Calls.{
+use Rattle.model.specs.Says.Feasible.{Feasible, Multiple}
+use Rattle.model.specs.Says.Calls.{
   Call,
   reset,
   cycle,
@@ -28,8 +28,8 @@ use Rattle.model.specs.Calls.{
   Supplied,
   Holds,
 }
-use Rattle.model.specs.Image.{runList, imageOf}
-use Rattle.model.specs.Machine.{
+use Rattle.model.specs.Rules.Image.{runList, imageOf}
+use Rattle.model.specs.Rules.Machine.{
   codeOf,
   runCode,
   runSignals,
@@ -44,14 +44,14 @@ use Rattle.model.specs.Machine.{
   resetOf,
   cycleOf,
 }
-use Rattle.model.specs.Outcome.{accepted, refuse, _▷_, provided}
-use Rattle.model.specs.Program.{Program, count, signalAt}
-use Rattle.model.specs.Reads.{rateOf, due, settled}
-use Rattle.model.specs.Report.{countsOf}
-use Rattle.model.specs.Schedule.{Schedule}
-use Rattle.model.specs.Search.{chosen, table}
-use Rattle.model.specs.Streams.{next, Satisfies}
-use Rattle.model.specs.Word.{wordAt}
+use Rattle.model.specs.Rules.Outcome.{accepted, refuse, _▷_, provided}
+use Rattle.model.specs.Rules.Program.{Program, count, signalAt}
+use Rattle.model.specs.Rules.Reads.{rateOf, due, settled}
+use Rattle.model.specs.Rules.Report.{countsOf}
+use Rattle.model.specs.Rules.Schedule.{Schedule}
+use Rattle.model.specs.Rules.Search.{chosen, table}
+use Rattle.model.specs.Says.Streams.{next, Satisfies}
+use Rattle.model.specs.Rules.Word.{wordAt}
 use Rattle.model.proofs.Bounds.{Bounded}
 use Rattle.model.proofs.Counts.{cycle-count, counts-at}
 use Rattle.model.proofs.Formed.{image-well-formed}

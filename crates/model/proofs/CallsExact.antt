@@ -10,9 +10,9 @@ use borrow.Author.Tests.{leb-true, leb-false, ltb-true, ltb-false, le-leb, lt-lt
 use lib.Dec.{leb, ltb}
 use lib.IntN.{ℤ, pos, negsuc}
 use lib.ListN.{length, getD, drop}
-use Rattle.model.specs.Compile.{Pair, pairOf, verdictOf, compileOf}
-use Rattle.model.specs.Conditions.{LegalPair}
-use Rattle.model.specs.Exactness.{
+use Rattle.model.specs.Rules.Compile.{Pair, pairOf, verdictOf, compileOf}
+use Rattle.model.specs.Says.Conditions.{LegalPair}
+use Rattle.model.specs.Says.Exactness.{
   Exactly,
   sizeOf,
   Compiles,
@@ -24,8 +24,8 @@ use Rattle.model.specs.Exactness.{
   Cycles,
   CycleRefusedAt,
 }
-use Rattle.model.specs.Image.{writtenOf}
-use Rattle.model.specs.Machine.{
+use Rattle.model.specs.Rules.Image.{writtenOf}
+use Rattle.model.specs.Rules.Machine.{
   Job,
   effect,
   hyperOf,
@@ -40,9 +40,9 @@ use Rattle.model.specs.Machine.{
   resetOf,
   cycleOf,
 }
-use Rattle.model.specs.Outcome.{Outcome, accepted, refused, fault, _▷_, provided}
-use Rattle.model.specs.Refusals.{RefusedAt}
-use Rattle.model.specs.WellFormed.{WellLent}
+use Rattle.model.specs.Rules.Outcome.{Outcome, accepted, refused, fault, _▷_, provided}
+use Rattle.model.specs.Says.Refusals.{RefusedAt}
+use Rattle.model.specs.Says.WellFormed.{WellLent}
 use Rattle.model.proofs.Exact.{accepted-exactly, refused-exactly}
 use Rattle.model.proofs.FormedExactly.{well-formed-exactly}
 use Rattle.model.proofs.Judged.{Judged, Only, provided-judged, Answers, answers-then, answers-accepted, answers-refused}

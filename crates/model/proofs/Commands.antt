@@ -10,7 +10,7 @@ use lib.ListN.{length, getD}
 use mir.Facts.{sfits-toZ}
 use mir.Syntax.{w32}
 use mir.Val.{SFits}
-use Rattle.model.specs.Command.{
+use Rattle.model.specs.Rules.Command.{
   whole,
   ranged,
   firstJudged,
@@ -26,8 +26,8 @@ use Rattle.model.specs.Command.{
   commandOf,
   commandAt,
 }
-use Rattle.model.specs.Width.{inProgram, inExpression, readWidth}
-use Rattle.model.specs.Word.{byteAt, twoAt, fourAt, wordOf, wordAt}
+use Rattle.model.specs.Rules.Width.{inProgram, inExpression, readWidth}
+use Rattle.model.specs.Rules.Word.{byteAt, twoAt, fourAt, wordOf, wordAt}
 use Rattle.model.specs.declared.Command.{Command}
 use Rattle.model.specs.declared.Command.the-variants as Command
 use Rattle.model.specs.declared.Index.{Index}

@@ -9,15 +9,15 @@ use native.Mathlib.Omega.{arith}
 use borrow.Author.Tests.{leb-true, leb-false, le-leb, lt-leb}
 use lib.Dec.{leb}
 use lib.ListN.{length, drop}
-use Rattle.model.specs.Compile.{Pair, pairOf}
-use Rattle.model.specs.Conditions.{LegalPairWith}
-use Rattle.model.specs.Conversion.{earlierFactor, ConvertsTo, ConvertRefusedAt, ConvertsExactly, ConversionKeeps}
-use Rattle.model.specs.Grammar.{LegalWith, LegalProgram}
-use Rattle.model.specs.Machine.{Job, Effect, effect}
-use Rattle.model.specs.Outcome.{Outcome, accepted, refused, refuse, fault, _▷_, provided}
-use Rattle.model.specs.Program.{Program, empty, parseWith, parseProgram}
-use Rattle.model.specs.Rewrite.{rewrite, convertOf}
-use Rattle.model.specs.Stops.{Stops}
+use Rattle.model.specs.Rules.Compile.{Pair, pairOf}
+use Rattle.model.specs.Says.Conditions.{LegalPairWith}
+use Rattle.model.specs.Says.Conversion.{earlierFactor, ConvertsTo, ConvertRefusedAt, ConvertsExactly, ConversionKeeps}
+use Rattle.model.specs.Says.Grammar.{LegalWith, LegalProgram}
+use Rattle.model.specs.Rules.Machine.{Job, Effect, effect}
+use Rattle.model.specs.Rules.Outcome.{Outcome, accepted, refused, refuse, fault, _▷_, provided}
+use Rattle.model.specs.Rules.Program.{Program, empty, parseWith, parseProgram}
+use Rattle.model.specs.Rules.Rewrite.{rewrite, convertOf}
+use Rattle.model.specs.Says.Stops.{Stops}
 use Rattle.model.proofs.Converted.{Common, renamed-common, renamed-legal}
 use Rattle.model.proofs.Exact.{text-judged, accepted-exactly}
 use Rattle.model.proofs.Judged.{Judged, Only, provided-judged, Answers, answers-then, answers-accepted, answers-refused}

@@ -11,8 +11,8 @@ use borrow.Author.Tests.{eqb-true, eqb-false}
 use lib.Dec.{eqb}
 use lib.IntN.{ℤ}
 use lib.ListN.{length, getD, length-map, List·getD-map}
-use Rattle.model.specs.Feasible.{PeriodRule, Line, LineHolds, PutFor, Met, Multiple}
-use Rattle.model.specs.Conditions.{
+use Rattle.model.specs.Says.Feasible.{PeriodRule, Line, LineHolds, PutFor, Met, Multiple}
+use Rattle.model.specs.Says.Conditions.{
   _among_,
   ReadIn,
   LinkIn,
@@ -29,9 +29,9 @@ use Rattle.model.specs.Conditions.{
   LegalPairWith,
   LegalPair,
 }
-use Rattle.model.specs.Grammar.{LegalProgram}
-use Rattle.model.specs.Compile.{Pair}
-use Rattle.model.specs.Convert.{
+use Rattle.model.specs.Says.Grammar.{LegalProgram}
+use Rattle.model.specs.Rules.Compile.{Pair}
+use Rattle.model.specs.Says.Convert.{
   isFirst,
   isSingle,
   singleKind,
@@ -47,7 +47,7 @@ use Rattle.model.specs.Convert.{
   Renamed,
   Keeps,
 }
-use Rattle.model.specs.Image.{
+use Rattle.model.specs.Rules.Image.{
   exprCode,
   signalCode,
   codes,
@@ -63,7 +63,7 @@ use Rattle.model.specs.Image.{
   tailOf,
   writtenOf,
 }
-use Rattle.model.specs.Latency.{
+use Rattle.model.specs.Rules.Latency.{
   readOf,
   readsBack,
   backwards,
@@ -76,8 +76,8 @@ use Rattle.model.specs.Latency.{
   runLatency,
   Timely,
 }
-use Rattle.model.specs.Load.{load}
-use Rattle.model.specs.Program.{
+use Rattle.model.specs.Rules.Load.{load}
+use Rattle.model.specs.Rules.Program.{
   Program,
   Signal,
   Chain,
@@ -99,11 +99,11 @@ use Rattle.model.specs.Program.{
   bodyReads,
   weightOf,
 }
-use Rattle.model.specs.Rates.{countReads}
-use Rattle.model.specs.Reads.{Rate, rateOf, due, uses, settle, indexOf, settled}
-use Rattle.model.specs.Search.{first, firstFrom, foundOr, sum, table, chosen, joinFrom}
-use Rattle.model.specs.Schedule.{Schedule, Put, phaseOf, putPhase, scheduleOf}
-use Rattle.model.specs.Streams.{value, next, entry, Satisfies}
+use Rattle.model.specs.Rules.Rates.{countReads}
+use Rattle.model.specs.Rules.Reads.{Rate, rateOf, due, uses, settle, indexOf, settled}
+use Rattle.model.specs.Rules.Search.{first, firstFrom, foundOr, sum, table, chosen, joinFrom}
+use Rattle.model.specs.Rules.Schedule.{Schedule, Put, phaseOf, putPhase, scheduleOf}
+use Rattle.model.specs.Says.Streams.{value, next, entry, Satisfies}
 use Rattle.model.specs.declared.Found.{Found}
 use Rattle.model.specs.declared.Found.the-variants.{At, Nowhere}
 use Rattle.model.specs.declared.Index.{Index}

@@ -18,10 +18,10 @@ use native.Mathlib.Omega.{arith}
 use borrow.Author.Tests.{leb-true, ltb-true, ltb-false, eqb-true, eq-eqb, le-leb, lt-ltb, le-ltb}
 use lib.Dec.{leb, ltb, eqb}
 use lib.ListN.{length, getD}
-use Rattle.model.specs.Feasible.{PeriodRule, Between, Line, LineHolds, SettlesAt, PutFor, Met}
-use Rattle.model.specs.Program.{Program, Read, count, signalAt}
-use Rattle.model.specs.Rates.{periodRule}
-use Rattle.model.specs.Reads.{
+use Rattle.model.specs.Says.Feasible.{PeriodRule, Between, Line, LineHolds, SettlesAt, PutFor, Met}
+use Rattle.model.specs.Rules.Program.{Program, Read, count, signalAt}
+use Rattle.model.specs.Rules.Rates.{periodRule}
+use Rattle.model.specs.Rules.Reads.{
   Rate,
   rateOf,
   runCycle,
@@ -38,8 +38,8 @@ use Rattle.model.specs.Reads.{
   settled,
   isMet,
 }
-use Rattle.model.specs.Schedule.{Schedule, phaseOf}
-use Rattle.model.specs.Search.{firstFrom, first, isFound, foundOr, allBelow}
+use Rattle.model.specs.Rules.Schedule.{Schedule, phaseOf}
+use Rattle.model.specs.Rules.Search.{firstFrom, first, isFound, foundOr, allBelow}
 use Rattle.model.specs.declared.Found.{Found}
 use Rattle.model.specs.declared.Found.the-variants.{At, Nowhere}
 use Rattle.model.specs.declared.Index.{Index}

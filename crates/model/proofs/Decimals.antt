@@ -9,8 +9,8 @@ use lib.Dec.{ltb}
 use lib.IntN.{ℤ, pos, negsuc}
 use lib.ListN.{length, getD, length-append, List·getD-append}
 use lib.Signed.{mag}
-use Rattle.model.specs.Feasible.{All}
-use Rattle.model.specs.Decimal.{digit, digitsUpTo, natural, decimal, valueOf, SaysNumber, SaysWord}
+use Rattle.model.specs.Says.Feasible.{All}
+use Rattle.model.specs.Rules.Decimal.{digit, digitsUpTo, natural, decimal, valueOf, SaysNumber, SaysWord}
 use Rattle.model.proofs.All.{all-append}
 
 -- The digits of n by the test whether it is below 10, where f more are allowed.

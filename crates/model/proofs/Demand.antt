@@ -8,20 +8,20 @@ use borrow.Author.Tests.{ltb-true}
 use lib.Dec.{ltb}
 use lib.IntN.{ℤ, pos}
 use lib.ListN.{length, getD, take}
-use Rattle.model.specs.Feasible.{Feasible, Multiple}
-use Rattle.model.specs.Calls.{Call, callOf, after, logAfter, answersOf, stateBy, logBy, answersBy, Supplied}
-use Rattle.model.specs.Compile.{Pair, pairOf}
-use Rattle.model.specs.Image.{imageOf}
-use Rattle.model.specs.Lists.{Kept, KeptBy, Memory, afterReset, Lent, owns, leftAll, ownAnswers, ownLog, OthersRefused}
-use Rattle.model.specs.Lists.{SettleAlike, Agree, EndsWith}
-use Rattle.model.specs.Machine.{Effect, effect, wellFormed, resetWords, resetOf}
-use Rattle.model.specs.Outcome.{accepted, _▷_, provided}
-use Rattle.model.specs.Program.{Program, count}
-use Rattle.model.specs.Reads.{settled}
-use Rattle.model.specs.Report.{reportOf}
-use Rattle.model.specs.Schedule.{Schedule}
-use Rattle.model.specs.Streams.{Satisfies}
-use Rattle.model.specs.Tail.{Bears}
+use Rattle.model.specs.Says.Feasible.{Feasible, Multiple}
+use Rattle.model.specs.Says.Calls.{Call, callOf, after, logAfter, answersOf, stateBy, logBy, answersBy, Supplied}
+use Rattle.model.specs.Rules.Compile.{Pair, pairOf}
+use Rattle.model.specs.Rules.Image.{imageOf}
+use Rattle.model.specs.Says.Lists.{Kept, KeptBy, Memory, afterReset, Lent, owns, leftAll, ownAnswers, ownLog, OthersRefused}
+use Rattle.model.specs.Says.Lists.{SettleAlike, Agree, EndsWith}
+use Rattle.model.specs.Rules.Machine.{Effect, effect, wellFormed, resetWords, resetOf}
+use Rattle.model.specs.Rules.Outcome.{accepted, _▷_, provided}
+use Rattle.model.specs.Rules.Program.{Program, count}
+use Rattle.model.specs.Rules.Reads.{settled}
+use Rattle.model.specs.Rules.Report.{reportOf}
+use Rattle.model.specs.Rules.Schedule.{Schedule}
+use Rattle.model.specs.Says.Streams.{Satisfies}
+use Rattle.model.specs.Rules.Tail.{Bears}
 use Rattle.model.proofs.Alike.{open-alike, alike-satisfy}
 use Rattle.model.proofs.AlikeBytes.{entry-alike}
 use Rattle.model.proofs.Among.{others-nothing}

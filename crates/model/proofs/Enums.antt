@@ -9,8 +9,8 @@ use mir.Syntax.{w32}
 use mir.Val.{SFits}
 use lib.IntN.{ℤ, pos, negsuc}
 use lib.ListN.{length, take, drop, take-append-drop}
-use Rattle.model.specs.Command.{indexOf, modeOf}
-use Rattle.model.specs.Enums.{
+use Rattle.model.specs.Rules.Command.{indexOf, modeOf}
+use Rattle.model.specs.Says.Enums.{
   modeByte,
   indexByte,
   operandBytes,
@@ -23,9 +23,9 @@ use Rattle.model.specs.Enums.{
   CodeRanged,
   BytesAt,
 }
-use Rattle.model.specs.Width.{readWidth}
-use Rattle.model.specs.Word.{IsWord, byteAt, twoAt, fourAt, wordAt, twoBytes, fourBytes, wordBytes}
-use Rattle.model.specs.Written.{InPeriods, InIndices, readByte, Written, PutWritten, PutWhole, CodeWritten}
+use Rattle.model.specs.Rules.Width.{readWidth}
+use Rattle.model.specs.Rules.Word.{IsWord, byteAt, twoAt, fourAt, wordAt, twoBytes, fourBytes, wordBytes}
+use Rattle.model.specs.Says.Written.{InPeriods, InIndices, readByte, Written, PutWritten, PutWhole, CodeWritten}
 use Rattle.model.specs.declared.Code.{Code}
 use Rattle.model.specs.declared.Code.the-variants as Code
 use Rattle.model.specs.declared.Command.{Command}

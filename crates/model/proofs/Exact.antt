@@ -4,19 +4,19 @@ use Prim.Native.Nat.{ℕ, _≤_}
 use mathlib.Core.List.{List}
 use mathlib.Core.Logic.{_↔_}
 use mathlib.Core.Path.{_≡_, refl, _∙_}
-use Rattle.model.specs.Feasible.{Multiple}
-use Rattle.model.specs.Compile.{shortEnough, Pair, pairOf}
-use Rattle.model.specs.Conditions.{ShortEnough, DeclaredAndRated, LegalRates, LegalPlaces, LegalPair}
-use Rattle.model.specs.Grammar.{LegalWith, LegalProgram, LegalSchedule}
-use Rattle.model.specs.Latency.{timely}
-use Rattle.model.specs.Load.{loaded}
-use Rattle.model.specs.Outcome.{Outcome, accepted, refused, fault, _▷_, Parsed}
-use Rattle.model.specs.Program.{leastFactor, Program, empty, parseWith, parseProgram}
-use Rattle.model.specs.Rates.{declaredAndRated, hypercycle, linked}
-use Rattle.model.specs.Reads.{met}
-use Rattle.model.specs.Refusals.{RefusedAt}
-use Rattle.model.specs.Schedule.{Schedule, Put, parseSchedule, placed}
-use Rattle.model.specs.Stops.{Stops, StopsPuts}
+use Rattle.model.specs.Says.Feasible.{Multiple}
+use Rattle.model.specs.Rules.Compile.{shortEnough, Pair, pairOf}
+use Rattle.model.specs.Says.Conditions.{ShortEnough, DeclaredAndRated, LegalRates, LegalPlaces, LegalPair}
+use Rattle.model.specs.Says.Grammar.{LegalWith, LegalProgram, LegalSchedule}
+use Rattle.model.specs.Rules.Latency.{timely}
+use Rattle.model.specs.Rules.Load.{loaded}
+use Rattle.model.specs.Rules.Outcome.{Outcome, accepted, refused, fault, _▷_, Parsed}
+use Rattle.model.specs.Rules.Program.{leastFactor, Program, empty, parseWith, parseProgram}
+use Rattle.model.specs.Rules.Rates.{declaredAndRated, hypercycle, linked}
+use Rattle.model.specs.Rules.Reads.{met}
+use Rattle.model.specs.Says.Refusals.{RefusedAt}
+use Rattle.model.specs.Rules.Schedule.{Schedule, Put, parseSchedule, placed}
+use Rattle.model.specs.Says.Stops.{Stops, StopsPuts}
 use Rattle.model.proofs.Judged.{
   Judged,
   Answers,

@@ -4,31 +4,31 @@ use mathlib.Core.List.{List, [], _∷_, _++_, map}
 use mathlib.Core.Path.{_≡_, refl}
 use lib.IntN.{ℤ, pos, negsuc}
 use lib.ListN.{length, getD, replicate}
-use Rattle.model.specs.Outcome.{_▷_, provided, lowest}
-use Rattle.model.specs.Search.{firstFrom, first, allBelow, tableFrom, table, chosen, joinFrom, sum}
-use Rattle.model.specs.Word.{bitsOf, wordOf, nearest, addWord, subWord, mulWord, negWord, lessWord, sameWord, minWord, maxWord, ifWord, twoAt, fourAt, wordAt, twoBytes, fourBytes, wordBytes}
-use Rattle.model.specs.Command.{operatorOf, keywordOf, keywordAt, plainRead, sampledRead, commandOf, commandAt}
-use Rattle.model.specs.Program.{node, parseExpr, parseLinks, declare, parseCommands, parseWith, readsOf}
-use Rattle.model.specs.Rates.{readFaults, linkFaults, declaredAndRated, isMultiple, hypercycle, countReads, isLinked, linked}
-use Rattle.model.specs.Schedule.{scheduleCommandAt, scheduleCommand, parsePuts, parseSchedule, isPut, putFaults, putsFaults, putPhase, scheduleOf, placed}
-use Rattle.model.specs.Reads.{due, stored, between, share, ordered, place, settle, settled, isMet, met}
-use Rattle.model.specs.Streams.{value}
-use Rattle.model.specs.Load.{load, loaded}
-use Rattle.model.specs.Latency.{readOf, readsBack, used, back, source, latencyOf, runLatency, fromOf, windowOf, keeps, timely}
-use Rattle.model.specs.Image.{exprCode, codes, runList, runLists, offsets, records, codesAt, lengthOf, head, imageOf, tailOf, writtenOf}
-use Rattle.model.specs.Machine.{operatorCode, codeAt, listOffset, codeOffset, listOf, codeOf, commandOk, codeOkFrom, codeOk, headOk, listsOk, entriesOk, codesOk, wellFormed, imagePart, lentOk, runCommand, runFrom, runCode, runSignals, nextPosition, resetWords, cycleWords, resetOf, cycleOf}
-use Rattle.model.specs.Compile.{shortEnough, pairOf, verdictOf, compileOf}
-use Rattle.model.specs.Report.{listCommands, cycleCommands, highest, countsOf, Told, reportOf}
-use Rattle.model.specs.Calls.{callOf, after, logAfter, lentAt}
-use Rattle.model.specs.Decimal.{digitsUpTo, natural, decimal, spaced, lineOf}
-use Rattle.model.specs.Script.{scriptCommandAt, scriptCommand, scriptFrom, scriptAt, isInputOf, inputsOnly, checkOf, callsFrom}
-use Rattle.model.specs.Trial.{linesFrom, trialOf}
-use Rattle.model.specs.Calls.{Call, reset, cycle}
-use Rattle.model.specs.Compile.{Pair}
-use Rattle.model.specs.Outcome.{Outcome, accepted, refused}
-use Rattle.model.specs.Machine.{hyperOf, countOf, statedLength}
-use Rattle.model.specs.Program.{bodyReads}
-use Rattle.model.specs.Word.{binaryWord}
+use Rattle.model.specs.Rules.Outcome.{_▷_, provided, lowest}
+use Rattle.model.specs.Rules.Search.{firstFrom, first, allBelow, tableFrom, table, chosen, joinFrom, sum}
+use Rattle.model.specs.Rules.Word.{bitsOf, wordOf, nearest, addWord, subWord, mulWord, negWord, lessWord, sameWord, minWord, maxWord, ifWord, twoAt, fourAt, wordAt, twoBytes, fourBytes, wordBytes}
+use Rattle.model.specs.Rules.Command.{operatorOf, keywordOf, keywordAt, plainRead, sampledRead, commandOf, commandAt}
+use Rattle.model.specs.Rules.Program.{node, parseExpr, parseLinks, declare, parseCommands, parseWith, readsOf}
+use Rattle.model.specs.Rules.Rates.{readFaults, linkFaults, declaredAndRated, isMultiple, hypercycle, countReads, isLinked, linked}
+use Rattle.model.specs.Rules.Schedule.{scheduleCommandAt, scheduleCommand, parsePuts, parseSchedule, isPut, putFaults, putsFaults, putPhase, scheduleOf, placed}
+use Rattle.model.specs.Rules.Reads.{due, stored, between, share, ordered, place, settle, settled, isMet, met}
+use Rattle.model.specs.Says.Streams.{value}
+use Rattle.model.specs.Rules.Load.{load, loaded}
+use Rattle.model.specs.Rules.Latency.{readOf, readsBack, used, back, source, latencyOf, runLatency, fromOf, windowOf, keeps, timely}
+use Rattle.model.specs.Rules.Image.{exprCode, codes, runList, runLists, offsets, records, codesAt, lengthOf, head, imageOf, tailOf, writtenOf}
+use Rattle.model.specs.Rules.Machine.{operatorCode, codeAt, listOffset, codeOffset, listOf, codeOf, commandOk, codeOkFrom, codeOk, headOk, listsOk, entriesOk, codesOk, wellFormed, imagePart, lentOk, runCommand, runFrom, runCode, runSignals, nextPosition, resetWords, cycleWords, resetOf, cycleOf}
+use Rattle.model.specs.Rules.Compile.{shortEnough, pairOf, verdictOf, compileOf}
+use Rattle.model.specs.Rules.Report.{listCommands, cycleCommands, highest, countsOf, Told, reportOf}
+use Rattle.model.specs.Says.Calls.{callOf, after, logAfter, lentAt}
+use Rattle.model.specs.Rules.Decimal.{digitsUpTo, natural, decimal, spaced, lineOf}
+use Rattle.model.specs.Rules.Script.{scriptCommandAt, scriptCommand, scriptFrom, scriptAt, isInputOf, inputsOnly, checkOf, callsFrom}
+use Rattle.model.specs.Rules.Trial.{linesFrom, trialOf}
+use Rattle.model.specs.Says.Calls.{Call, reset, cycle}
+use Rattle.model.specs.Rules.Compile.{Pair}
+use Rattle.model.specs.Rules.Outcome.{Outcome, accepted, refused}
+use Rattle.model.specs.Rules.Machine.{hyperOf, countOf, statedLength}
+use Rattle.model.specs.Rules.Program.{bodyReads}
+use Rattle.model.specs.Rules.Word.{binaryWord}
 use Rattle.model.specs.declared.Binary.{Binary}
 use Rattle.model.specs.declared.Sizes.{Sizes}
 use Rattle.model.specs.declared.Binary.the-variants.{Add, Sub, Mul}

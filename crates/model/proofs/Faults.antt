@@ -8,11 +8,11 @@ use mathlib.Core.Path.{_≡_, refl, sym, ap, subst}
 use native.Mathlib.Nat.{add-zero, add-suc, suc-add}
 use native.Mathlib.Omega.{arith}
 use lib.ListN.{length, getD}
-use Rattle.model.specs.Feasible.{All}
-use Rattle.model.specs.Conditions.{_among_}
-use Rattle.model.specs.Outcome.{accepted, refused, fault, lowest}
-use Rattle.model.specs.Refusals.{LowestFault}
-use Rattle.model.specs.Search.{joinFrom}
+use Rattle.model.specs.Says.Feasible.{All}
+use Rattle.model.specs.Says.Conditions.{_among_}
+use Rattle.model.specs.Rules.Outcome.{accepted, refused, fault, lowest}
+use Rattle.model.specs.Says.Refusals.{LowestFault}
+use Rattle.model.specs.Rules.Search.{joinFrom}
 use Rattle.model.specs.declared.Fault.{Fault}
 use Rattle.model.proofs.Outcomes.{Lowest, lowest-none, none-lowest, lowest-least, lowest-is}
 

@@ -7,8 +7,8 @@ use native.Mathlib.Omega.{arith}
 use borrow.Author.Tests.{lt-ltb, le-leb, eq-eqb}
 use lib.ListN.{length, getD, length-append}
 use lib.Seq.{take-all}
-use Rattle.model.specs.Feasible.{All, Met, Feasible, Multiple}
-use Rattle.model.specs.Image.{
+use Rattle.model.specs.Says.Feasible.{All, Met, Feasible, Multiple}
+use Rattle.model.specs.Rules.Image.{
   exprCode,
   signalCode,
   codes,
@@ -20,7 +20,7 @@ use Rattle.model.specs.Image.{
   lengthOf,
   imageOf,
 }
-use Rattle.model.specs.Machine.{
+use Rattle.model.specs.Rules.Machine.{
   codeAt,
   listOffset,
   codeOffset,
@@ -33,7 +33,7 @@ use Rattle.model.specs.Machine.{
   codesOk,
   wellFormed,
 }
-use Rattle.model.specs.Program.{
+use Rattle.model.specs.Rules.Program.{
   Program,
   Body,
   input,
@@ -50,11 +50,11 @@ use Rattle.model.specs.Program.{
   readsOf,
   bodyReads,
 }
-use Rattle.model.specs.Reads.{rateOf, due}
-use Rattle.model.specs.Report.{exprCommands}
-use Rattle.model.specs.Schedule.{Schedule}
-use Rattle.model.specs.Search.{chosen, joinFrom}
-use Rattle.model.specs.Word.{byteAt, fourBytes, wordBytes}
+use Rattle.model.specs.Rules.Reads.{rateOf, due}
+use Rattle.model.specs.Rules.Report.{exprCommands}
+use Rattle.model.specs.Rules.Schedule.{Schedule}
+use Rattle.model.specs.Rules.Search.{chosen, joinFrom}
+use Rattle.model.specs.Rules.Word.{byteAt, fourBytes, wordBytes}
 use Rattle.model.specs.declared.Code.{Code}
 use Rattle.model.specs.declared.Code.the-variants as Code
 use Rattle.model.proofs.Bounds.{depth, bodyDepth, Words, BodyWords, Bounded}

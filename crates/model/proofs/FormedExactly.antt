@@ -9,9 +9,9 @@ use native.Mathlib.Omega.{arith}
 use borrow.Author.Tests.{leb-true, ltb-true, eqb-true, le-leb, lt-ltb, le-ltb, eq-eqb}
 use lib.Dec.{leb, ltb}
 use lib.ListN.{length}
-use Rattle.model.specs.Height.{Changes}
-use Rattle.model.specs.Image.{listsAt}
-use Rattle.model.specs.Machine.{
+use Rattle.model.specs.Says.Height.{Changes}
+use Rattle.model.specs.Rules.Image.{listsAt}
+use Rattle.model.specs.Rules.Machine.{
   codeAt,
   hyperOf,
   countOf,
@@ -27,10 +27,10 @@ use Rattle.model.specs.Machine.{
   codesOk,
   wellFormed,
 }
-use Rattle.model.specs.Search.{allBelow}
-use Rattle.model.specs.WellFormed.{BeforeStore, FormedFrom, WellFormed}
-use Rattle.model.specs.Word.{byteAt}
-use Rattle.model.specs.Written.{CodeWritten, CodeWhole}
+use Rattle.model.specs.Rules.Search.{allBelow}
+use Rattle.model.specs.Says.WellFormed.{BeforeStore, FormedFrom, WellFormed}
+use Rattle.model.specs.Rules.Word.{byteAt}
+use Rattle.model.specs.Says.Written.{CodeWritten, CodeWhole}
 use Rattle.model.specs.declared.Code.{Code}
 use Rattle.model.specs.declared.Code.the-variants as Code
 use Rattle.model.proofs.Decide.{all-true, true-all}

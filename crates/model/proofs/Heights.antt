@@ -6,10 +6,10 @@ use mathlib.Core.Logic.{_↔_}
 use mathlib.Core.Path.{_≡_, refl, sym, ap, subst, _∙_}
 use native.Mathlib.Omega.{arith}
 use lib.ListN.{length, getD, length-append}
-use Rattle.model.specs.Height.{Changes, Within}
-use Rattle.model.specs.Image.{exprCode, signalCode, imageOf}
-use Rattle.model.specs.Machine.{codeAt, codeOf}
-use Rattle.model.specs.Program.{
+use Rattle.model.specs.Says.Height.{Changes, Within}
+use Rattle.model.specs.Rules.Image.{exprCode, signalCode, imageOf}
+use Rattle.model.specs.Rules.Machine.{codeAt, codeOf}
+use Rattle.model.specs.Rules.Program.{
   Program,
   Signal,
   Body,
@@ -25,9 +25,9 @@ use Rattle.model.specs.Program.{
   noSignal,
   signalAt,
 }
-use Rattle.model.specs.Report.{exprHeight, bodyHeight, highest}
-use Rattle.model.specs.Schedule.{Schedule}
-use Rattle.model.specs.Word.{fourBytes, wordBytes}
+use Rattle.model.specs.Rules.Report.{exprHeight, bodyHeight, highest}
+use Rattle.model.specs.Rules.Schedule.{Schedule}
+use Rattle.model.specs.Rules.Word.{fourBytes, wordBytes}
 use Rattle.model.specs.declared.Code.{Code}
 use Rattle.model.specs.declared.Code.the-variants as Code
 use Rattle.model.proofs.Bounds.{depth, bodyDepth, Words, BodyWords, Bounded}

@@ -10,12 +10,12 @@ use native.Mathlib.Omega.{arith}
 use borrow.Author.Tests.{eqb-true, eq-eqb}
 use lib.Dec.{eqb}
 use lib.ListN.{length, getD}
-use Rattle.model.specs.Feasible.{Multiple}
-use Rattle.model.specs.Conditions.{Least}
-use Rattle.model.specs.Outcome.{accepted, refuse}
-use Rattle.model.specs.Program.{Program, Signal, noSignal}
-use Rattle.model.specs.Rates.{isMultiple, hypercycleOf, hypercycle}
-use Rattle.model.specs.Search.{first}
+use Rattle.model.specs.Says.Feasible.{Multiple}
+use Rattle.model.specs.Says.Conditions.{Least}
+use Rattle.model.specs.Rules.Outcome.{accepted, refuse}
+use Rattle.model.specs.Rules.Program.{Program, Signal, noSignal}
+use Rattle.model.specs.Rules.Rates.{isMultiple, hypercycleOf, hypercycle}
+use Rattle.model.specs.Rules.Search.{first}
 use Rattle.model.specs.declared.Found.{Found}
 use Rattle.model.specs.declared.Found.the-variants.{At, Nowhere}
 use Rattle.model.proofs.Decide.{is-first}

@@ -9,15 +9,15 @@ use native.Mathlib.Omega.{arith}
 use borrow.Author.Tests.{leb-true, ltb-true, le-leb, lt-ltb, eqb-true, eq-eqb}
 use lib.Dec.{leb, ltb, eqb}
 use lib.ListN.{length, getD}
-use Rattle.model.specs.Feasible.{All, Multiple}
-use Rattle.model.specs.Command.{commandAt}
-use Rattle.model.specs.Compile.{shortEnough}
-use Rattle.model.specs.Conditions.{_among_, ShortEnough, ReadIn, LinkIn, DeclaredAndRated, Least, Linked}
-use Rattle.model.specs.Grammar.{LegalProgram}
-use Rattle.model.specs.Latency.{noRead}
-use Rattle.model.specs.Outcome.{Outcome, accepted, refused, fault, _▷_, provided, lowest}
-use Rattle.model.specs.Program.{Program, Signal, Read, Link, Chain, noSignal, count, signalAt, bodyReads}
-use Rattle.model.specs.Rates.{
+use Rattle.model.specs.Says.Feasible.{All, Multiple}
+use Rattle.model.specs.Rules.Command.{commandAt}
+use Rattle.model.specs.Rules.Compile.{shortEnough}
+use Rattle.model.specs.Says.Conditions.{_among_, ShortEnough, ReadIn, LinkIn, DeclaredAndRated, Least, Linked}
+use Rattle.model.specs.Says.Grammar.{LegalProgram}
+use Rattle.model.specs.Rules.Latency.{noRead}
+use Rattle.model.specs.Rules.Outcome.{Outcome, accepted, refused, fault, _▷_, provided, lowest}
+use Rattle.model.specs.Rules.Program.{Program, Signal, Read, Link, Chain, noSignal, count, signalAt, bodyReads}
+use Rattle.model.specs.Rules.Rates.{
   periodRule,
   readFaults,
   linkFaults,
@@ -29,8 +29,8 @@ use Rattle.model.specs.Rates.{
   isMultiple,
   linked,
 }
-use Rattle.model.specs.Refusals.{LowestFault, RateFault, ChainFault}
-use Rattle.model.specs.Search.{first, joinFrom}
+use Rattle.model.specs.Says.Refusals.{LowestFault, RateFault, ChainFault}
+use Rattle.model.specs.Rules.Search.{first, joinFrom}
 use Rattle.model.specs.declared.Command.the-variants as Command
 use Rattle.model.specs.declared.Fault.{Fault}
 use Rattle.model.specs.declared.Found.{Found}

@@ -9,13 +9,13 @@ use native.Mathlib.Omega.{arith}
 use borrow.Author.Tests.{ltb-true, lt-ltb, eqb-true, eq-eqb}
 use lib.Dec.{ltb, eqb}
 use lib.ListN.{length, length-append, List·getD-append}
-use Rattle.model.specs.Conditions.{_among_, noPut, putAt, Fresh, PhaseBelow, PutsLegal, IsPut, Placed}
-use Rattle.model.specs.Grammar.{SpellsPuts, LegalSchedule}
-use Rattle.model.specs.Outcome.{accepted, refused, fault, provided, lowest, Parsed}
-use Rattle.model.specs.Program.{Program, count, signalAt}
-use Rattle.model.specs.Refusals.{LowestFault, PutFault}
-use Rattle.model.specs.Schedule.{Put, Schedule, isPut, putFaults, putsFaults, scheduleOf, placed}
-use Rattle.model.specs.Search.{allBelow}
+use Rattle.model.specs.Says.Conditions.{_among_, noPut, putAt, Fresh, PhaseBelow, PutsLegal, IsPut, Placed}
+use Rattle.model.specs.Says.Grammar.{SpellsPuts, LegalSchedule}
+use Rattle.model.specs.Rules.Outcome.{accepted, refused, fault, provided, lowest, Parsed}
+use Rattle.model.specs.Rules.Program.{Program, count, signalAt}
+use Rattle.model.specs.Says.Refusals.{LowestFault, PutFault}
+use Rattle.model.specs.Rules.Schedule.{Put, Schedule, isPut, putFaults, putsFaults, scheduleOf, placed}
+use Rattle.model.specs.Rules.Search.{allBelow}
 use Rattle.model.specs.declared.Fault.{Fault}
 use Rattle.model.proofs.Decide.{all-true, true-all}
 use Rattle.model.proofs.Faults.{among-append, append-left, append-right, fault-none}

@@ -11,12 +11,12 @@ use native.Mathlib.Omega.{arith}
 use borrow.Author.Tests.{ltb-true, lt-ltb}
 use lib.Dec.{eqb}
 use lib.ListN.{getD}
-use Rattle.model.specs.Feasible.{Met, Feasible, Multiple}
-use Rattle.model.specs.Conditions.{_among_, ReadIn, LegalPlaces, Over, KeepsTime}
-use Rattle.model.specs.Latency.{noRead, keeps, timely}
-use Rattle.model.specs.Load.{load, isOver, loadedOf, loaded}
-use Rattle.model.specs.Outcome.{Outcome, accepted, refused, fault, lowest}
-use Rattle.model.specs.Program.{
+use Rattle.model.specs.Says.Feasible.{Met, Feasible, Multiple}
+use Rattle.model.specs.Says.Conditions.{_among_, ReadIn, LegalPlaces, Over, KeepsTime}
+use Rattle.model.specs.Rules.Latency.{noRead, keeps, timely}
+use Rattle.model.specs.Rules.Load.{load, isOver, loadedOf, loaded}
+use Rattle.model.specs.Rules.Outcome.{Outcome, accepted, refused, fault, lowest}
+use Rattle.model.specs.Rules.Program.{
   Program,
   Signal,
   Read,
@@ -30,10 +30,10 @@ use Rattle.model.specs.Program.{
   bodyReads,
   weightOf,
 }
-use Rattle.model.specs.Reads.{rateOf, due, isMet, met}
-use Rattle.model.specs.Refusals.{LowestFault, MetFault, LoadFault, ChainFault}
-use Rattle.model.specs.Schedule.{Schedule, placed}
-use Rattle.model.specs.Search.{first, sum, tableFrom, table, joinFrom}
+use Rattle.model.specs.Rules.Reads.{rateOf, due, isMet, met}
+use Rattle.model.specs.Says.Refusals.{LowestFault, MetFault, LoadFault, ChainFault}
+use Rattle.model.specs.Rules.Schedule.{Schedule, placed}
+use Rattle.model.specs.Rules.Search.{first, sum, tableFrom, table, joinFrom}
 use Rattle.model.specs.declared.Fault.{Fault}
 use Rattle.model.specs.declared.Found.{Found}
 use Rattle.model.specs.declared.Found.the-variants.{At, Nowhere}

@@ -8,11 +8,11 @@ use native.Mathlib.Omega.{arith}
 use borrow.Author.Tests.{ltb-true, ltb-false, lt-ltb, le-ltb, eqb-true}
 use lib.Dec.{ltb, eqb}
 use lib.ListN.{length, List·getD-eq-default}
-use Rattle.model.specs.Command.{operatorOf, keywordOf, keywordAt}
-use Rattle.model.specs.Grammar.{IsSignal}
-use Rattle.model.specs.Image.{binaryByte}
-use Rattle.model.specs.Word.{byteAt}
-use Rattle.model.specs.Written.{readByte, OperatorByte, DeclarationByte, NoCommandByte}
+use Rattle.model.specs.Rules.Command.{operatorOf, keywordOf, keywordAt}
+use Rattle.model.specs.Says.Grammar.{IsSignal}
+use Rattle.model.specs.Rules.Image.{binaryByte}
+use Rattle.model.specs.Rules.Word.{byteAt}
+use Rattle.model.specs.Says.Written.{readByte, OperatorByte, DeclarationByte, NoCommandByte}
 use Rattle.model.specs.declared.Binary.{Binary}
 use Rattle.model.specs.declared.Binary.the-variants.{Add, Sub, Mul, Less, Same, Min, Max}
 use Rattle.model.specs.declared.Keyword.{Keyword}

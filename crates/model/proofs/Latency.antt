@@ -4,14 +4,14 @@ use mathlib.Core.List.{List, [], _∷_, map, reverseAux}
 use mathlib.Core.Path.{_≡_, refl, subst}
 use native.Mathlib.Omega.{arith}
 use lib.ListN.{length}
-use Rattle.model.specs.Feasible.{All}
-use Rattle.model.specs.Compile.{Pair, pairOf}
-use Rattle.model.specs.Conditions.{_among_, TimelyFrom, KeepsTime}
-use Rattle.model.specs.Latency.{readsBack, backwards, back, source, latencyOf}
-use Rattle.model.specs.Outcome.{accepted}
-use Rattle.model.specs.Program.{Program, Link, Chain, count}
-use Rattle.model.specs.Reads.{rateOf, runCycle}
-use Rattle.model.specs.Schedule.{Schedule}
+use Rattle.model.specs.Says.Feasible.{All}
+use Rattle.model.specs.Rules.Compile.{Pair, pairOf}
+use Rattle.model.specs.Says.Conditions.{_among_, TimelyFrom, KeepsTime}
+use Rattle.model.specs.Rules.Latency.{readsBack, backwards, back, source, latencyOf}
+use Rattle.model.specs.Rules.Outcome.{accepted}
+use Rattle.model.specs.Rules.Program.{Program, Link, Chain, count}
+use Rattle.model.specs.Rules.Reads.{rateOf, runCycle}
+use Rattle.model.specs.Rules.Schedule.{Schedule}
 use Rattle.model.specs.declared.Found.the-variants.{At}
 use Rattle.model.proofs.Faults.{all-among}
 use Rattle.model.proofs.Legal.{SpellsChain, legal}

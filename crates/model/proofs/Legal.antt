@@ -6,11 +6,11 @@ use native.Mathlib.Omega.{arith}
 use lib.ListN.{length, getD, length-append}
 use mir.Syntax.{w32}
 use mir.Val.{SFits}
-use Rattle.model.specs.Feasible.{All}
-use Rattle.model.specs.Command.{commandAt}
-use Rattle.model.specs.Image.{exprCode, signalCode, codes, joined}
-use Rattle.model.specs.Outcome.{accepted}
-use Rattle.model.specs.Program.{
+use Rattle.model.specs.Says.Feasible.{All}
+use Rattle.model.specs.Rules.Command.{commandAt}
+use Rattle.model.specs.Rules.Image.{exprCode, signalCode, codes, joined}
+use Rattle.model.specs.Rules.Outcome.{accepted}
+use Rattle.model.specs.Rules.Program.{
   leastFactor,
   Read,
   Expr,
@@ -32,9 +32,9 @@ use Rattle.model.specs.Program.{
   readsOf,
   bodyReads,
 }
-use Rattle.model.specs.Search.{joinFrom}
-use Rattle.model.specs.Width.{inProgram, readWidth}
-use Rattle.model.specs.Word.{wordBytes, fourBytes}
+use Rattle.model.specs.Rules.Search.{joinFrom}
+use Rattle.model.specs.Rules.Width.{inProgram, readWidth}
+use Rattle.model.specs.Rules.Word.{wordBytes, fourBytes}
 use Rattle.model.specs.declared.Command.the-variants as Command
 use Rattle.model.specs.declared.Kind.{Kind}
 use Rattle.model.specs.declared.Kind.the-variants.{Now, Last, When, LastWhen, Current}

@@ -5,8 +5,8 @@ use mathlib.Core.Bool.{Bool}
 use mathlib.Core.Path.{_≡_, sym, _∙_, ap}
 use native.Mathlib.Nat.{div-one, div-mul-le-self, lt-div-mul-add, mul-le-mul-right, add-mul}
 use native.Mathlib.Omega.{arith}
-use Rattle.model.specs.Feasible.{PeriodRule, Line}
-use Rattle.model.specs.Reads.{Rate, runCycle, stored, uses, writerFirst}
+use Rattle.model.specs.Says.Feasible.{PeriodRule, Line}
+use Rattle.model.specs.Rules.Reads.{Rate, runCycle, stored, uses, writerFirst}
 use Rattle.model.specs.declared.Kind.{Kind}
 use Rattle.model.specs.declared.Kind.the-variants.{Now, Last, When, LastWhen, Current}
 use Rattle.model.proofs.Rate.{stored-is, stored-bit, bit}

@@ -8,12 +8,12 @@ use mathlib.Core.Path.{_≡_, refl}
 use native.Mathlib.Omega.{arith}
 use borrow.Author.Tests.{eqb-true}
 use lib.Dec.{eqb}
-use Rattle.model.specs.Feasible.{All, Met, Feasible, Multiple}
-use Rattle.model.specs.Conditions.{TimelyFrom, KeepsTime}
-use Rattle.model.specs.Latency.{readOf, readsBack, backwards, keepsFrom, keeps}
-use Rattle.model.specs.Program.{Program, Link, Chain, Read, count, signalAt, bodyReads}
-use Rattle.model.specs.Rates.{countReads, isLinked}
-use Rattle.model.specs.Schedule.{Schedule}
+use Rattle.model.specs.Says.Feasible.{All, Met, Feasible, Multiple}
+use Rattle.model.specs.Says.Conditions.{TimelyFrom, KeepsTime}
+use Rattle.model.specs.Rules.Latency.{readOf, readsBack, backwards, keepsFrom, keeps}
+use Rattle.model.specs.Rules.Program.{Program, Link, Chain, Read, count, signalAt, bodyReads}
+use Rattle.model.specs.Rules.Rates.{countReads, isLinked}
+use Rattle.model.specs.Rules.Schedule.{Schedule}
 use Rattle.model.proofs.All.{all-reverseAux, all-of-map}
 use Rattle.model.proofs.Window.{ChainMet, window-decides}
 

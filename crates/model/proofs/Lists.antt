@@ -9,12 +9,12 @@ use borrow.Author.Tests.{lt-ltb, le-ltb, ne-eqb, eqb-true, eqb-false, eq-eqb}
 use lib.Dec.{eqb, ltb}
 use lib.IntN.{ℤ, pos}
 use lib.ListN.{length, getD}
-use Rattle.model.specs.Feasible.{Feasible, Multiple}
-use Rattle.model.specs.Calls.{Call, reset, cycle, lentAt, IsInput, Supplied}
-use Rattle.model.specs.Program.{Program, count, signalAt}
-use Rattle.model.specs.Reads.{rateOf, runCycle, due, stored, settled}
-use Rattle.model.specs.Schedule.{Schedule, phaseOf}
-use Rattle.model.specs.Streams.{Satisfies}
+use Rattle.model.specs.Says.Feasible.{Feasible, Multiple}
+use Rattle.model.specs.Says.Calls.{Call, reset, cycle, lentAt, IsInput, Supplied}
+use Rattle.model.specs.Rules.Program.{Program, count, signalAt}
+use Rattle.model.specs.Rules.Reads.{rateOf, runCycle, due, stored, settled}
+use Rattle.model.specs.Rules.Schedule.{Schedule, phaseOf}
+use Rattle.model.specs.Says.Streams.{Satisfies}
 use Rattle.model.proofs.Rate.{stored-none, stored-some}
 use Rattle.model.proofs.Turns
 use Rattle.model.proofs.Turns.{State, turns-other, cycle-words}

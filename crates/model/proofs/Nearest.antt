@@ -5,7 +5,7 @@ use mathlib.Core.Path.{_≡_, refl, ap}
 use native.Mathlib.Omega.{arith}
 use lib.Dec.{T, ltb, ltb→lt, nltb→le}
 use lib.IntN.{ℤ, pos, negsuc, natAbs, negℤ, _+ℤ_, _-ℤ_, _*ℤ_, subℕ}
-use Rattle.model.specs.Word.{
+use Rattle.model.specs.Rules.Word.{
   IsWord,
   distance,
   NearestWord,

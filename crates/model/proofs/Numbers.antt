@@ -7,17 +7,17 @@ use mathlib.Core.Path.{_≡_, refl}
 use native.Mathlib.Omega.{arith}
 use lib.IntN.{ℤ}
 use lib.ListN.{length}
-use Rattle.model.specs.Compile.{Pair, pairOf, compileOf}
-use Rattle.model.specs.Conversion.{ConvertsTo, ConvertRefusedAt}
-use Rattle.model.specs.Exactness.{sizeOf, CompileRefusedAt, ResetRefusedAt, CycleRefusedAt}
-use Rattle.model.specs.Machine.{countOf}
-use Rattle.model.specs.Outcome.{accepted, fault}
-use Rattle.model.specs.Program.{Program, Chain}
-use Rattle.model.specs.Refusals.{RateFault, ChainFault, PutFault, MetFault, LoadFault, RefusedAt}
-use Rattle.model.specs.Schedule.{Schedule, Put}
-use Rattle.model.specs.Stops.{StopsExpr, StopsLinks, Stops}
-use Rattle.model.specs.Tail.{Bears}
-use Rattle.model.specs.WellFormed.{WellFormed}
+use Rattle.model.specs.Rules.Compile.{Pair, pairOf, compileOf}
+use Rattle.model.specs.Says.Conversion.{ConvertsTo, ConvertRefusedAt}
+use Rattle.model.specs.Says.Exactness.{sizeOf, CompileRefusedAt, ResetRefusedAt, CycleRefusedAt}
+use Rattle.model.specs.Rules.Machine.{countOf}
+use Rattle.model.specs.Rules.Outcome.{accepted, fault}
+use Rattle.model.specs.Rules.Program.{Program, Chain}
+use Rattle.model.specs.Says.Refusals.{RateFault, ChainFault, PutFault, MetFault, LoadFault, RefusedAt}
+use Rattle.model.specs.Rules.Schedule.{Schedule, Put}
+use Rattle.model.specs.Says.Stops.{StopsExpr, StopsLinks, Stops}
+use Rattle.model.specs.Rules.Tail.{Bears}
+use Rattle.model.specs.Says.WellFormed.{WellFormed}
 use Rattle.model.proofs.CallsExact.{compile-exactly}
 use Rattle.model.proofs.Commands.{Bytes}
 use Rattle.model.proofs.Exact.{accepted-exactly}

@@ -4,10 +4,10 @@ use mathlib.Core.List.{List}
 use mathlib.Core.Path.{_≡_, sym, _∙_}
 use native.Mathlib.Omega.{arith}
 use lib.ListN.{length, getD}
-use Rattle.model.specs.Image.{codes, runLists, offsets, listsAt, codesAt, lengthOf, imageOf}
-use Rattle.model.specs.Machine.{listOffset, codeOffset}
-use Rattle.model.specs.Program.{Program, count}
-use Rattle.model.specs.Schedule.{Schedule}
+use Rattle.model.specs.Rules.Image.{codes, runLists, offsets, listsAt, codesAt, lengthOf, imageOf}
+use Rattle.model.specs.Rules.Machine.{listOffset, codeOffset}
+use Rattle.model.specs.Rules.Program.{Program, count}
+use Rattle.model.specs.Rules.Schedule.{Schedule}
 use Rattle.model.proofs.Bounds.{Bounded}
 use Rattle.model.proofs.Stretches.{
   parts-most,

@@ -8,8 +8,8 @@ use native.Mathlib.Omega.{arith}
 use borrow.Author.Tests.{ltb-true, ltb-false, le-ltb}
 use lib.Dec.{ltb}
 use lib.ListN.{length, getD}
-use Rattle.model.specs.Outcome.{Outcome, accepted, refused, refuse, _▷_, provided, lower, lowest}
-use Rattle.model.specs.Search.{tableFrom, table, joinFrom}
+use Rattle.model.specs.Rules.Outcome.{Outcome, accepted, refused, refuse, _▷_, provided, lower, lowest}
+use Rattle.model.specs.Rules.Search.{tableFrom, table, joinFrom}
 use Rattle.model.specs.declared.Fault.{Fault}
 
 -- Tests that fail.

@@ -8,8 +8,8 @@ use mathlib.Core.Path.{_≡_, refl, ap, _∙_}
 use native.Mathlib.Omega.{arith}
 use borrow.Author.Tests.{le-leb, lt-ltb, eq-eqb}
 use lib.ListN.{length}
-use Rattle.model.specs.Command.{keywordAt, commandAt}
-use Rattle.model.specs.Grammar.{
+use Rattle.model.specs.Rules.Command.{keywordAt, commandAt}
+use Rattle.model.specs.Says.Grammar.{
   depth,
   Spells,
   SpellsLinks,
@@ -20,8 +20,8 @@ use Rattle.model.specs.Grammar.{
   SpellsPuts,
   LegalSchedule,
 }
-use Rattle.model.specs.Outcome.{Outcome, accepted, Parsed, parsed}
-use Rattle.model.specs.Program.{
+use Rattle.model.specs.Rules.Outcome.{Outcome, accepted, Parsed, parsed}
+use Rattle.model.specs.Rules.Program.{
   leastFactor,
   Expr,
   Link,
@@ -36,9 +36,9 @@ use Rattle.model.specs.Program.{
   parseWith,
   parseProgram,
 }
-use Rattle.model.specs.Schedule.{Put, scheduleCommand, parsePuts, parseSchedule}
-use Rattle.model.specs.Width.{readWidth}
-use Rattle.model.specs.Word.{byteAt}
+use Rattle.model.specs.Rules.Schedule.{Put, scheduleCommand, parsePuts, parseSchedule}
+use Rattle.model.specs.Rules.Width.{readWidth}
+use Rattle.model.specs.Rules.Word.{byteAt}
 use Rattle.model.specs.declared.Command.{Command}
 use Rattle.model.specs.declared.Command.the-variants as Command
 use Rattle.model.specs.declared.Kind.{Kind}

@@ -8,12 +8,12 @@ use native.Mathlib.Omega.{arith}
 use lib.Dec.{leb, ltb}
 use lib.IntN.{ℤ, pos}
 use lib.ListN.{length, getD, drop}
-use Rattle.model.specs.Feasible.{Multiple}
-use Rattle.model.specs.Calls.{Call, callOf}
-use Rattle.model.specs.Compile.{Pair, pairOf, verdictOf, compileOf}
-use Rattle.model.specs.Conditions.{ReadIn, putAt}
-use Rattle.model.specs.Grammar.{LegalProgram, SpellsPuts}
-use Rattle.model.specs.Machine.{
+use Rattle.model.specs.Says.Feasible.{Multiple}
+use Rattle.model.specs.Says.Calls.{Call, callOf}
+use Rattle.model.specs.Rules.Compile.{Pair, pairOf, verdictOf, compileOf}
+use Rattle.model.specs.Says.Conditions.{ReadIn, putAt}
+use Rattle.model.specs.Says.Grammar.{LegalProgram, SpellsPuts}
+use Rattle.model.specs.Rules.Machine.{
   hyperOf,
   countOf,
   imagePart,
@@ -27,11 +27,11 @@ use Rattle.model.specs.Machine.{
   resetOf,
   cycleOf,
 }
-use Rattle.model.specs.Outcome.{Outcome, accepted, refused, _▷_, provided}
-use Rattle.model.specs.Program.{leastFactor, Program, Read, Chain}
-use Rattle.model.specs.Refusals.{RateFault, ChainFault, PutFault, MetFault, LoadFault, RefusedAt}
-use Rattle.model.specs.Schedule.{Schedule, Put}
-use Rattle.model.specs.Stops.{StopsExpr, StopsLinks, Stops, StopsPuts}
+use Rattle.model.specs.Rules.Outcome.{Outcome, accepted, refused, _▷_, provided}
+use Rattle.model.specs.Rules.Program.{leastFactor, Program, Read, Chain}
+use Rattle.model.specs.Says.Refusals.{RateFault, ChainFault, PutFault, MetFault, LoadFault, RefusedAt}
+use Rattle.model.specs.Rules.Schedule.{Schedule, Put}
+use Rattle.model.specs.Says.Stops.{StopsExpr, StopsLinks, Stops, StopsPuts}
 use Rattle.model.specs.declared.Fault.{Fault}
 use Rattle.model.proofs.Commands.{Bytes, command-sound}
 use Rattle.model.proofs.Exact.{refused-exactly}

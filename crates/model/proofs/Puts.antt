@@ -7,11 +7,11 @@ use native.Mathlib.Omega.{arith}
 use borrow.Author.Tests.{leb-true, ltb-true, eqb-true, eq-eqb}
 use lib.Dec.{leb, ltb, eqb}
 use lib.ListN.{length, getD, length-map}
-pub use Rattle.model.specs.Grammar.{SpellsPuts}
-use Rattle.model.specs.Outcome.{Outcome, accepted, fault, lowest, Parsed, parsed}
-use Rattle.model.specs.Program.{Program, count, signalAt}
-use Rattle.model.specs.Reads.{place}
-use Rattle.model.specs.Schedule.{
+pub use Rattle.model.specs.Says.Grammar.{SpellsPuts}
+use Rattle.model.specs.Rules.Outcome.{Outcome, accepted, fault, lowest, Parsed, parsed}
+use Rattle.model.specs.Rules.Program.{Program, count, signalAt}
+use Rattle.model.specs.Rules.Reads.{place}
+use Rattle.model.specs.Rules.Schedule.{
   scheduleCommandAt,
   Put,
   scheduleCommand,
@@ -26,8 +26,8 @@ use Rattle.model.specs.Schedule.{
   scheduleOf,
   placed,
 }
-use Rattle.model.specs.Search.{allBelow}
-use Rattle.model.specs.Word.{byteAt}
+use Rattle.model.specs.Rules.Search.{allBelow}
+use Rattle.model.specs.Rules.Word.{byteAt}
 use Rattle.model.specs.declared.ScheduleCommand.{ScheduleCommand}
 use Rattle.model.specs.declared.ScheduleCommand.the-variants as ScheduleCommand
 use Rattle.model.proofs.Decide.{all-true}

@@ -4,7 +4,7 @@ use mathlib.Core.Bool.{Bool, true, false, true≢false, false≢true}
 use mathlib.Core.Path.{_≡_, refl, sym}
 use native.Mathlib.Nat.{div-eq-of-lt-le, div-mul-le-self, lt-div-mul-add}
 use native.Mathlib.Omega.{arith}
-use Rattle.model.specs.Reads.{Rate, runCycle, stored}
+use Rattle.model.specs.Rules.Reads.{Rate, runCycle, stored}
 
 -- j elements are stored before cycle t where run j is the first at or after t.
 pub stored-is : (a : Rate) (t j : ℕ) → t ≤ runCycle a j → runCycle a j < t + a .period → stored a t ≡ j

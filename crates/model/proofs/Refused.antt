@@ -6,14 +6,14 @@ use native.Mathlib.Omega.{arith}
 use lib.Dec.{leb, ltb}
 use lib.IntN.{ℤ, pos}
 use lib.ListN.{length, getD, drop}
-use Rattle.model.specs.Calls.{Call, reset, cycle, callOf}
-use Rattle.model.specs.Compile.{verdictOf, compileOf}
-use Rattle.model.specs.Lists.{Writer, writerOf}
-use Rattle.model.specs.Machine.{Job, effect, isPosition, hyperOf, countOf}
-use Rattle.model.specs.Machine.{imagePart, lentOk, resetWords, cycleWords, cycleCount, resetOf, cycleOf}
-use Rattle.model.specs.Outcome.{Outcome, accepted, refused, _▷_, provided}
-use Rattle.model.specs.Program.{parseWith}
-use Rattle.model.specs.Rewrite.{rewrite, convertOf}
+use Rattle.model.specs.Says.Calls.{Call, reset, cycle, callOf}
+use Rattle.model.specs.Rules.Compile.{verdictOf, compileOf}
+use Rattle.model.specs.Says.Lists.{Writer, writerOf}
+use Rattle.model.specs.Rules.Machine.{Job, effect, isPosition, hyperOf, countOf}
+use Rattle.model.specs.Rules.Machine.{imagePart, lentOk, resetWords, cycleWords, cycleCount, resetOf, cycleOf}
+use Rattle.model.specs.Rules.Outcome.{Outcome, accepted, refused, _▷_, provided}
+use Rattle.model.specs.Rules.Program.{parseWith}
+use Rattle.model.specs.Rules.Rewrite.{rewrite, convertOf}
 use Rattle.model.specs.declared.Fault.{Fault}
 
 refused-left : {A : Type 0} (lent : List A) (o : Outcome (Job A)) (f : Fault) → effect lent o .answer ≡ refused f →

@@ -10,11 +10,11 @@ use lib.Dec.{eqb}
 use lib.IntN.{ℤ}
 use lib.ListN.{length, getD, take, drop, length-append, length-drop, length-map, List·getD-append}
 use lib.Seq.{drop-drop, drop-append-seam, getD-drop, getD-take, length-take-le}
-use Rattle.model.specs.Feasible.{All}
-use Rattle.model.specs.Command.{keywordAt, commandOf, commandAt}
-use Rattle.model.specs.Convert.{isSingle, singleKind, mapExpr, mapSignal, mapLink, mapChain, bareRead, bare, Renamed}
-use Rattle.model.specs.Grammar.{depth, Spells, SpellsLinks, IsSignal, DeclaresOne, Declares, LegalWith, LegalProgram}
-use Rattle.model.specs.Program.{
+use Rattle.model.specs.Says.Feasible.{All}
+use Rattle.model.specs.Rules.Command.{keywordAt, commandOf, commandAt}
+use Rattle.model.specs.Says.Convert.{isSingle, singleKind, mapExpr, mapSignal, mapLink, mapChain, bareRead, bare, Renamed}
+use Rattle.model.specs.Says.Grammar.{depth, Spells, SpellsLinks, IsSignal, DeclaresOne, Declares, LegalWith, LegalProgram}
+use Rattle.model.specs.Rules.Program.{
   leastFactor,
   Program,
   Signal,
@@ -39,10 +39,10 @@ use Rattle.model.specs.Program.{
   readsOf,
   bodyReads,
 }
-use Rattle.model.specs.Rewrite.{widthOf, bytesAfter, rewriteAt, rewriteFrom, rewrite}
-use Rattle.model.specs.Word.{byteAt, twoAt, fourAt, wordOf, wordAt}
-use Rattle.model.specs.Width.{readWidth}
-use Rattle.model.specs.Written.{readByte, Written}
+use Rattle.model.specs.Rules.Rewrite.{widthOf, bytesAfter, rewriteAt, rewriteFrom, rewrite}
+use Rattle.model.specs.Rules.Word.{byteAt, twoAt, fourAt, wordOf, wordAt}
+use Rattle.model.specs.Rules.Width.{readWidth}
+use Rattle.model.specs.Says.Written.{readByte, Written}
 use Rattle.model.specs.declared.Binary.{Binary}
 use Rattle.model.specs.declared.Command.{Command}
 use Rattle.model.specs.declared.Command.the-variants as Command

@@ -11,12 +11,12 @@ use lib.IntN.{ℤ, pos}
 use lib.ListN.{length, getD, length-append}
 use mir.Syntax.{w32}
 use mir.Val.{SFits}
-use Rattle.model.specs.Image.{binaryByte, exprCode, signalCode}
-use Rattle.model.specs.Machine.{operatorCode, codeAt, runCommand, runFrom, runCode}
-use Rattle.model.specs.Program.{Body, input, equation, Expr, constant, read, binary, negate, choose, Read}
-use Rattle.model.specs.Report.{exprCommands}
-use Rattle.model.specs.Streams.{value, next}
-use Rattle.model.specs.Word.{fourBytes, wordBytes, binaryWord, negWord, ifWord}
+use Rattle.model.specs.Rules.Image.{binaryByte, exprCode, signalCode}
+use Rattle.model.specs.Rules.Machine.{operatorCode, codeAt, runCommand, runFrom, runCode}
+use Rattle.model.specs.Rules.Program.{Body, input, equation, Expr, constant, read, binary, negate, choose, Read}
+use Rattle.model.specs.Rules.Report.{exprCommands}
+use Rattle.model.specs.Says.Streams.{value, next}
+use Rattle.model.specs.Rules.Word.{fourBytes, wordBytes, binaryWord, negWord, ifWord}
 use Rattle.model.specs.declared.Binary.{Binary}
 use Rattle.model.specs.declared.Binary.the-variants.{Add, Sub, Mul, Less, Same, Min, Max}
 use Rattle.model.specs.declared.Code.{Code}

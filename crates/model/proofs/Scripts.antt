@@ -10,11 +10,11 @@ use borrow.Author.Tests.{ltb-true, ltb-false, leb-true, leb-false, lt-ltb, le-lt
 use lib.Dec.{leb, ltb, eqb}
 use lib.IntN.{ℤ}
 use lib.ListN.{length, replicate, length-append, length-replicate}
-use Rattle.model.specs.Calls.{IsInput, cycle}
-use Rattle.model.specs.Conditions.{_among_}
-use Rattle.model.specs.Outcome.{Outcome, accepted, refused, refuse, fault, _▷_, provided}
-use Rattle.model.specs.Program.{Program, Body, input, equation, count, signalAt}
-use Rattle.model.specs.Script.{
+use Rattle.model.specs.Says.Calls.{IsInput, cycle}
+use Rattle.model.specs.Says.Conditions.{_among_}
+use Rattle.model.specs.Rules.Outcome.{Outcome, accepted, refused, refuse, fault, _▷_, provided}
+use Rattle.model.specs.Rules.Program.{Program, Body, input, equation, count, signalAt}
+use Rattle.model.specs.Rules.Script.{
   scriptCommandAt,
   Action,
   alter,
@@ -33,7 +33,7 @@ use Rattle.model.specs.Script.{
   callsFrom,
   cyclesOf,
 }
-use Rattle.model.specs.TrialRefusals.{
+use Rattle.model.specs.Says.TrialRefusals.{
   SetAt,
   RunAt,
   EndAt,
@@ -44,7 +44,7 @@ use Rattle.model.specs.TrialRefusals.{
   WrongSet,
   LegalScript,
 }
-use Rattle.model.specs.Word.{byteAt, wordAt}
+use Rattle.model.specs.Rules.Word.{byteAt, wordAt}
 use Rattle.model.specs.declared.Fault.{Fault}
 use Rattle.model.specs.declared.ScriptCommand.{ScriptCommand}
 use Rattle.model.specs.declared.ScriptCommand.the-variants as ScriptCommand

@@ -3,11 +3,11 @@ use Prim.Native.Nat.{ℕ}
 use mathlib.Core.List.{List}
 use mathlib.Core.Logic.{_↔_}
 use mathlib.Core.Path.{_≡_}
-use Rattle.model.specs.Feasible.{SettlesAt}
-use Rattle.model.specs.Compile.{Pair}
-use Rattle.model.specs.Conditions.{ReadIn, LegalPair}
-use Rattle.model.specs.Program.{Read}
-use Rattle.model.specs.Reads.{rateOf, settled}
+use Rattle.model.specs.Says.Feasible.{SettlesAt}
+use Rattle.model.specs.Rules.Compile.{Pair}
+use Rattle.model.specs.Says.Conditions.{ReadIn, LegalPair}
+use Rattle.model.specs.Rules.Program.{Read}
+use Rattle.model.specs.Rules.Reads.{rateOf, settled}
 use Rattle.model.proofs.Commands.{command-sound}
 use Rattle.model.proofs.Decide.{settles-once}
 use Rattle.model.proofs.Judged.{read-spelled}

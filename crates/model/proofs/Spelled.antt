@@ -9,10 +9,10 @@ use native.Mathlib.Omega.{arith}
 use borrow.Author.Tests.{leb-true, ltb-true, eqb-true}
 use lib.Dec.{leb, ltb, eqb}
 use lib.ListN.{length}
-use Rattle.model.specs.Command.{keywordAt, commandAt}
-pub use Rattle.model.specs.Grammar.{Spells, SpellsLinks, IsSignal, DeclaresOne, Declares}
-use Rattle.model.specs.Outcome.{Outcome, accepted, refuse, _▷_, provided, Parsed, parsed}
-use Rattle.model.specs.Program.{
+use Rattle.model.specs.Rules.Command.{keywordAt, commandAt}
+pub use Rattle.model.specs.Says.Grammar.{Spells, SpellsLinks, IsSignal, DeclaresOne, Declares}
+use Rattle.model.specs.Rules.Outcome.{Outcome, accepted, refuse, _▷_, provided, Parsed, parsed}
+use Rattle.model.specs.Rules.Program.{
   Read,
   Expr,
   Link,
@@ -34,8 +34,8 @@ use Rattle.model.specs.Program.{
   parseWith,
   isAllowed,
 }
-use Rattle.model.specs.Width.{inProgram}
-use Rattle.model.specs.Word.{byteAt}
+use Rattle.model.specs.Rules.Width.{inProgram}
+use Rattle.model.specs.Rules.Word.{byteAt}
 use Rattle.model.specs.declared.Binary.{Binary}
 use Rattle.model.specs.declared.Command.{Command}
 use Rattle.model.specs.declared.Command.the-variants as Command

@@ -8,10 +8,10 @@ use native.Mathlib.Omega.{arith}
 use borrow.Author.Tests.{leb-true, leb-false, ltb-true, ltb-false, le-leb, lt-leb, lt-ltb, le-ltb, eqb-true, eq-eqb}
 use lib.Dec.{leb, ltb, eqb}
 use lib.ListN.{length}
-use Rattle.model.specs.Command.{keywordOf, keywordAt, commandAt}
-use Rattle.model.specs.Grammar.{IsSignal, DeclaresOne}
-use Rattle.model.specs.Outcome.{Outcome, accepted, refused, refuse, fault, _▷_, provided, Parsed, parsed}
-use Rattle.model.specs.Program.{
+use Rattle.model.specs.Rules.Command.{keywordOf, keywordAt, commandAt}
+use Rattle.model.specs.Says.Grammar.{IsSignal, DeclaresOne}
+use Rattle.model.specs.Rules.Outcome.{Outcome, accepted, refused, refuse, fault, _▷_, provided, Parsed, parsed}
+use Rattle.model.specs.Rules.Program.{
   Expr,
   Link,
   Program,
@@ -32,8 +32,8 @@ use Rattle.model.specs.Program.{
   parseWith,
   isAllowed,
 }
-use Rattle.model.specs.Schedule.{Put, scheduleCommandAt, scheduleCommand, parsePuts, parseSchedule}
-use Rattle.model.specs.Stops.{
+use Rattle.model.specs.Rules.Schedule.{Put, scheduleCommandAt, scheduleCommand, parsePuts, parseSchedule}
+use Rattle.model.specs.Says.Stops.{
   HasOperands,
   SpellsOperands,
   StopsExpr,
@@ -42,9 +42,9 @@ use Rattle.model.specs.Stops.{
   Stops,
   StopsPuts,
 }
-use Rattle.model.specs.Width.{inProgram}
-use Rattle.model.specs.Word.{byteAt}
-use Rattle.model.specs.Written.{Written, Cut, OperatorByte, DeclarationByte, PutCut}
+use Rattle.model.specs.Rules.Width.{inProgram}
+use Rattle.model.specs.Rules.Word.{byteAt}
+use Rattle.model.specs.Says.Written.{Written, Cut, OperatorByte, DeclarationByte, PutCut}
 use Rattle.model.specs.declared.Command.{Command}
 use Rattle.model.specs.declared.Command.the-variants as Command
 use Rattle.model.specs.declared.Fault.{Fault}

@@ -14,7 +14,7 @@ use lib.Seq.{sets, getD-drop, drop-drop, drop-append-seam, drop-append-le, drop-
 use mir.Syntax.{w32}
 use mir.Val.{toZ, SFits}
 use mir.ValLaws.{toZ-pos, toZ-neg}
-use Rattle.model.specs.Image.{
+use Rattle.model.specs.Rules.Image.{
   signalCode,
   codes,
   runList,
@@ -28,11 +28,11 @@ use Rattle.model.specs.Image.{
   head,
   imageOf,
 }
-use Rattle.model.specs.Machine.{stretch, hyperOf, countOf, listOffset, codeOffset, listOf, codeOf}
-use Rattle.model.specs.Program.{Program, Signal, count, signalAt, noSignal}
-use Rattle.model.specs.Schedule.{Schedule}
-use Rattle.model.specs.Search.{tableFrom, table, joinFrom}
-use Rattle.model.specs.Word.{bitsOf, wordOf, byteAt, twoAt, fourAt, wordAt, twoBytes, fourBytes, wordBytes}
+use Rattle.model.specs.Rules.Machine.{stretch, hyperOf, countOf, listOffset, codeOffset, listOf, codeOf}
+use Rattle.model.specs.Rules.Program.{Program, Signal, count, signalAt, noSignal}
+use Rattle.model.specs.Rules.Schedule.{Schedule}
+use Rattle.model.specs.Rules.Search.{tableFrom, table, joinFrom}
+use Rattle.model.specs.Rules.Word.{bitsOf, wordOf, byteAt, twoAt, fourAt, wordAt, twoBytes, fourBytes, wordBytes}
 use Rattle.model.proofs.Bounds.{Bounded}
 
 -- A part stands in a list at a place.

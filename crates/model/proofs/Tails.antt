@@ -21,9 +21,9 @@ use lib.ListN.{
   List·getD-eq-default,
 }
 use lib.Seq.{getD-take, take-all, take-append-seam, drop-append-seam}
-use Rattle.model.specs.Calls.{Call, reset, cycle, callOf, logged, after, logAfter, answersOf}
-use Rattle.model.specs.Image.{joined, listsAt, withTail, imageOf, tailEntry, tailOf, writtenOf, writtenLength}
-use Rattle.model.specs.Machine.{
+use Rattle.model.specs.Says.Calls.{Call, reset, cycle, callOf, logged, after, logAfter, answersOf}
+use Rattle.model.specs.Rules.Image.{joined, listsAt, withTail, imageOf, tailEntry, tailOf, writtenOf, writtenLength}
+use Rattle.model.specs.Rules.Machine.{
   countOf,
   statedLength,
   wellFormed,
@@ -34,12 +34,12 @@ use Rattle.model.specs.Machine.{
   resetOf,
   cycleOf,
 }
-use Rattle.model.specs.Outcome.{Outcome, accepted, _▷_, provided}
-use Rattle.model.specs.Program.{Program, count, signalAt}
-use Rattle.model.specs.Schedule.{Schedule, phaseOf}
-use Rattle.model.specs.Search.{table, joinFrom}
-use Rattle.model.specs.Tail.{tailIn, Bears, Tells}
-use Rattle.model.specs.Word.{byteAt, twoAt, twoBytes}
+use Rattle.model.specs.Rules.Outcome.{Outcome, accepted, _▷_, provided}
+use Rattle.model.specs.Rules.Program.{Program, count, signalAt}
+use Rattle.model.specs.Rules.Schedule.{Schedule, phaseOf}
+use Rattle.model.specs.Rules.Search.{table, joinFrom}
+use Rattle.model.specs.Rules.Tail.{tailIn, Bears, Tells}
+use Rattle.model.specs.Rules.Word.{byteAt, twoAt, twoBytes}
 use Rattle.model.proofs.Commands.{Bytes}
 use Rattle.model.proofs.FormedExactly.{well-formed-exactly, lists-within}
 use Rattle.model.proofs.Stretches.{

@@ -9,18 +9,18 @@ use lib.Dec.{leb, ltb, eqb}
 use lib.IntN.{ℤ, pos}
 use lib.ListN.{length, getD, take, drop, set, replicate, length-take, length-drop, length-set, length-replicate}
 use lib.Seq.{getD-take, getD-drop, ext-getD}
-use Rattle.model.specs.Feasible.{Feasible, Multiple}
-use Rattle.model.specs.Calls.{Call, reset, cycle, callOf, after, stateBy, logBy, lentAt, Supplied, Holds}
-use Rattle.model.specs.Compile.{pairOf}
-use Rattle.model.specs.Decimal.{lineOf}
-use Rattle.model.specs.Image.{imageOf}
-use Rattle.model.specs.Outcome.{accepted}
-use Rattle.model.specs.Program.{Program, count, signalAt}
-use Rattle.model.specs.Reads.{rateOf, runCycle, settled}
-use Rattle.model.specs.Schedule.{Schedule, phaseOf}
-use Rattle.model.specs.Script.{Action, alter, run, scriptOf, callsFrom, noSamples, callsOf, cyclesOf}
-use Rattle.model.specs.Streams.{Satisfies}
-use Rattle.model.specs.Trial.{signalsOf, linesFrom, startOf, heldAt, wordsAfter, samplesAt, inputsOf}
+use Rattle.model.specs.Says.Feasible.{Feasible, Multiple}
+use Rattle.model.specs.Says.Calls.{Call, reset, cycle, callOf, after, stateBy, logBy, lentAt, Supplied, Holds}
+use Rattle.model.specs.Rules.Compile.{pairOf}
+use Rattle.model.specs.Rules.Decimal.{lineOf}
+use Rattle.model.specs.Rules.Image.{imageOf}
+use Rattle.model.specs.Rules.Outcome.{accepted}
+use Rattle.model.specs.Rules.Program.{Program, count, signalAt}
+use Rattle.model.specs.Rules.Reads.{rateOf, runCycle, settled}
+use Rattle.model.specs.Rules.Schedule.{Schedule, phaseOf}
+use Rattle.model.specs.Rules.Script.{Action, alter, run, scriptOf, callsFrom, noSamples, callsOf, cyclesOf}
+use Rattle.model.specs.Says.Streams.{Satisfies}
+use Rattle.model.specs.Rules.Trial.{signalsOf, linesFrom, startOf, heldAt, wordsAfter, samplesAt, inputsOf}
 use Rattle.model.proofs.Bounds.{Bounded}
 use Rattle.model.proofs.Bytes.{list-shown, calls-hold}
 use Rattle.model.proofs.Commands.{Bytes}

@@ -5,15 +5,15 @@ use mathlib.Core.Logic.{_↔_}
 use mathlib.Core.Path.{_≡_, refl, _∙_}
 use lib.IntN.{ℤ}
 use lib.ListN.{length}
-use Rattle.model.specs.Compile.{Pair, pairOf}
-use Rattle.model.specs.Conditions.{_among_, LegalPair}
-use Rattle.model.specs.Image.{imageOf}
-use Rattle.model.specs.Outcome.{Outcome, accepted, refused, fault, _▷_}
-use Rattle.model.specs.Program.{Program}
-use Rattle.model.specs.Script.{Action, alter, scriptOf, isInputOf, inputsOnly, checkOf, callsOf}
-use Rattle.model.specs.Trial.{linesFrom, startOf, trialOf}
-use Rattle.model.specs.TrialRefusals.{SpellsScript, StopsScript, InputOf, WrongSet, LegalScript, TrialRefusedAt}
-use Rattle.model.specs.Refusals.{RefusedAt}
+use Rattle.model.specs.Rules.Compile.{Pair, pairOf}
+use Rattle.model.specs.Says.Conditions.{_among_, LegalPair}
+use Rattle.model.specs.Rules.Image.{imageOf}
+use Rattle.model.specs.Rules.Outcome.{Outcome, accepted, refused, fault, _▷_}
+use Rattle.model.specs.Rules.Program.{Program}
+use Rattle.model.specs.Rules.Script.{Action, alter, scriptOf, isInputOf, inputsOnly, checkOf, callsOf}
+use Rattle.model.specs.Rules.Trial.{linesFrom, startOf, trialOf}
+use Rattle.model.specs.Says.TrialRefusals.{SpellsScript, StopsScript, InputOf, WrongSet, LegalScript, TrialRefusedAt}
+use Rattle.model.specs.Says.Refusals.{RefusedAt}
 use Rattle.model.proofs.Exact.{accepted-exactly, refused-exactly}
 use Rattle.model.proofs.Judged.{Judged, Answers, answers-then, answers-accepted, answers-refused, Only}
 use Rattle.model.proofs.Outcomes.{accepted-then, refused-then}

@@ -10,13 +10,13 @@ use borrow.Author.Tests.{ltb-true, ltb-false, lt-ltb, le-ltb, ne-eqb, eqb-true, 
 use lib.Dec.{eqb, ltb}
 use lib.IntN.{ℤ}
 use lib.ListN.{length, getD}
-use Rattle.model.specs.Feasible.{Met, Feasible}
-use Rattle.model.specs.Calls.{IsInput}
-use Rattle.model.specs.Latency.{used}
-use Rattle.model.specs.Program.{Program, count, signalAt}
-use Rattle.model.specs.Reads.{Rate, rateOf, runCycle, due, stored, place, settled}
-use Rattle.model.specs.Schedule.{Schedule}
-use Rattle.model.specs.Streams.{next, Satisfies}
+use Rattle.model.specs.Says.Feasible.{Met, Feasible}
+use Rattle.model.specs.Says.Calls.{IsInput}
+use Rattle.model.specs.Rules.Latency.{used}
+use Rattle.model.specs.Rules.Program.{Program, count, signalAt}
+use Rattle.model.specs.Rules.Reads.{Rate, rateOf, runCycle, due, stored, place, settled}
+use Rattle.model.specs.Rules.Schedule.{Schedule}
+use Rattle.model.specs.Says.Streams.{next, Satisfies}
 use Rattle.model.proofs.Decide.{place-at}
 use Rattle.model.proofs.Rate.{stored-is, stored-bit, bit}
 use Rattle.model.proofs.Unique.{used-is}

@@ -10,13 +10,13 @@ use borrow.Author.Tests.{leb-true, ne-eqb}
 use lib.Dec.{eqb}
 use lib.ListN.{length, take, drop, take-append-drop, drop-of-length-le}
 use lib.Seq.{drop-cons, drop-drop}
-use Rattle.model.specs.Convert.{singleKind}
-use Rattle.model.specs.Grammar.{Spells, SpellsLinks, DeclaresOne, Declares, LegalWith, LegalProgram}
-use Rattle.model.specs.Program.{Program, Expr, Link, leastFactor, isAllowed}
-use Rattle.model.specs.Rewrite.{widthOf, bytesAfter, rewriteAt, rewriteFrom, rewrite}
-use Rattle.model.specs.Width.{readWidth}
-use Rattle.model.specs.Word.{byteAt}
-use Rattle.model.specs.Written.{readByte, Written}
+use Rattle.model.specs.Says.Convert.{singleKind}
+use Rattle.model.specs.Says.Grammar.{Spells, SpellsLinks, DeclaresOne, Declares, LegalWith, LegalProgram}
+use Rattle.model.specs.Rules.Program.{Program, Expr, Link, leastFactor, isAllowed}
+use Rattle.model.specs.Rules.Rewrite.{widthOf, bytesAfter, rewriteAt, rewriteFrom, rewrite}
+use Rattle.model.specs.Rules.Width.{readWidth}
+use Rattle.model.specs.Rules.Word.{byteAt}
+use Rattle.model.specs.Says.Written.{readByte, Written}
 use Rattle.model.specs.declared.Command.{Command}
 use Rattle.model.specs.declared.Command.the-variants as Command
 use Rattle.model.specs.declared.Kind.{Kind}

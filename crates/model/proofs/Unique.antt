@@ -9,12 +9,12 @@ use borrow.Author.Tests.{ltb-true}
 use lib.Dec.{ltb, eqb}
 use lib.IntN.{ℤ}
 use lib.ListN.{length}
-use Rattle.model.specs.Feasible.{Met, Feasible}
-use Rattle.model.specs.Latency.{used}
-use Rattle.model.specs.Program.{Program, Read, count, signalAt}
-use Rattle.model.specs.Reads.{Rate, rateOf, runCycle, stored, place, before, settled}
-use Rattle.model.specs.Schedule.{Schedule}
-use Rattle.model.specs.Streams.{entry, Satisfies}
+use Rattle.model.specs.Says.Feasible.{Met, Feasible}
+use Rattle.model.specs.Rules.Latency.{used}
+use Rattle.model.specs.Rules.Program.{Program, Read, count, signalAt}
+use Rattle.model.specs.Rules.Reads.{Rate, rateOf, runCycle, stored, place, before, settled}
+use Rattle.model.specs.Rules.Schedule.{Schedule}
+use Rattle.model.specs.Says.Streams.{entry, Satisfies}
 use Rattle.model.proofs.Decide.{met-settled, for-put}
 use Rattle.model.proofs.Fix
 use Rattle.model.proofs.Lines.{met-index}

@@ -2,9 +2,9 @@
 use mathlib.Core.List.{List, [], _∷_, _++_}
 use mathlib.Core.Path.{_≡_, refl, ap, ap₂}
 use lib.IntN.{ℤ}
-use Rattle.model.specs.Feasible.{All}
-use Rattle.model.specs.Calls.{IsInput}
-use Rattle.model.specs.Program.{
+use Rattle.model.specs.Says.Feasible.{All}
+use Rattle.model.specs.Says.Calls.{IsInput}
+use Rattle.model.specs.Rules.Program.{
   Body,
   input,
   equation,
@@ -18,8 +18,8 @@ use Rattle.model.specs.Program.{
   readsOf,
   bodyReads,
 }
-use Rattle.model.specs.Streams.{value, next}
-use Rattle.model.specs.Word.{binaryWord, negWord}
+use Rattle.model.specs.Says.Streams.{value, next}
+use Rattle.model.specs.Rules.Word.{binaryWord, negWord}
 
 pub all-split : {A : Type 0} (Q : A → Type 0) (xs ys : List A) → All Q (xs ++ ys) → All Q xs × All Q ys
 all-split Q [] ys q = (tt, q)

@@ -8,18 +8,18 @@ use native.Mathlib.Omega.{arith}
 use borrow.Author.Tests.{leb-true, ltb-true}
 use lib.Dec.{leb, ltb}
 use lib.ListN.{length}
-use Rattle.model.specs.Feasible.{All, PeriodRule, Met, Feasible, Multiple}
-use Rattle.model.specs.Compile.{shortEnough, Pair, pairOf}
-use Rattle.model.specs.Conditions.{KeepsTime}
-use Rattle.model.specs.Image.{runList, runLists, joined, codesAt, lengthOf}
-use Rattle.model.specs.Latency.{keeps, timely}
-use Rattle.model.specs.Load.{load, isOver, loadedOf, loaded}
-use Rattle.model.specs.Outcome.{Outcome, accepted, fault, _▷_, Parsed}
-use Rattle.model.specs.Program.{Program, Read, Chain, parseProgram, noSignal, count, signalAt, bodyReads}
-use Rattle.model.specs.Rates.{periodRule, readFaults, linkFaults, declaredAndRated, hypercycle, isLinked, linked}
-use Rattle.model.specs.Reads.{isMet, met}
-use Rattle.model.specs.Schedule.{Put, parseSchedule, Schedule, placed}
-use Rattle.model.specs.Search.{first, chosen, table, joinFrom}
+use Rattle.model.specs.Says.Feasible.{All, PeriodRule, Met, Feasible, Multiple}
+use Rattle.model.specs.Rules.Compile.{shortEnough, Pair, pairOf}
+use Rattle.model.specs.Says.Conditions.{KeepsTime}
+use Rattle.model.specs.Rules.Image.{runList, runLists, joined, codesAt, lengthOf}
+use Rattle.model.specs.Rules.Latency.{keeps, timely}
+use Rattle.model.specs.Rules.Load.{load, isOver, loadedOf, loaded}
+use Rattle.model.specs.Rules.Outcome.{Outcome, accepted, fault, _▷_, Parsed}
+use Rattle.model.specs.Rules.Program.{Program, Read, Chain, parseProgram, noSignal, count, signalAt, bodyReads}
+use Rattle.model.specs.Rules.Rates.{periodRule, readFaults, linkFaults, declaredAndRated, hypercycle, isLinked, linked}
+use Rattle.model.specs.Rules.Reads.{isMet, met}
+use Rattle.model.specs.Rules.Schedule.{Put, parseSchedule, Schedule, placed}
+use Rattle.model.specs.Rules.Search.{first, chosen, table, joinFrom}
 use Rattle.model.specs.declared.Found.{Found}
 use Rattle.model.specs.declared.Found.the-variants.{At, Nowhere}
 use Rattle.model.proofs.All.{at-all, all-both, all-map, all-joined, joined-length}

@@ -10,11 +10,11 @@ use borrow.Author.Tests.{eqb-true}
 use lib.Dec.{eqb}
 use lib.ListN.{length, take, length-take}
 use lib.Seq.{getD-take}
-use Rattle.model.specs.Command.{operatorOf, keywordOf, commandAt}
-use Rattle.model.specs.Image.{binaryByte}
-use Rattle.model.specs.Machine.{operatorCode, codeAt}
-use Rattle.model.specs.Outcome.{provided}
-use Rattle.model.specs.Reach.{
+use Rattle.model.specs.Rules.Command.{operatorOf, keywordOf, commandAt}
+use Rattle.model.specs.Rules.Image.{binaryByte}
+use Rattle.model.specs.Rules.Machine.{operatorCode, codeAt}
+use Rattle.model.specs.Rules.Outcome.{provided}
+use Rattle.model.specs.Says.Reach.{
   isListed,
   knownInProgram,
   knownInExpression,
@@ -23,9 +23,9 @@ use Rattle.model.specs.Reach.{
   Reaches,
   WidthsListed,
 }
-use Rattle.model.specs.Schedule.{scheduleCommandAt}
-use Rattle.model.specs.Search.{allBelow}
-use Rattle.model.specs.Width.{
+use Rattle.model.specs.Rules.Schedule.{scheduleCommandAt}
+use Rattle.model.specs.Rules.Search.{allBelow}
+use Rattle.model.specs.Rules.Width.{
   programWidth,
   expressionWidth,
   scheduleWidth,
@@ -36,8 +36,8 @@ use Rattle.model.specs.Width.{
   inCode,
   readWidth,
 }
-use Rattle.model.specs.Word.{byteAt, twoAt, fourAt, wordAt}
-use Rattle.model.specs.Written.{readByte, Written, PutWritten, CodeWritten, Whole, PutWhole, CodeWhole}
+use Rattle.model.specs.Rules.Word.{byteAt, twoAt, fourAt, wordAt}
+use Rattle.model.specs.Says.Written.{readByte, Written, PutWritten, CodeWritten, Whole, PutWhole, CodeWhole}
 use Rattle.model.specs.declared.Binary.{Binary}
 use Rattle.model.specs.declared.Binary.the-variants.{Add, Sub, Mul, Less, Same, Min, Max}
 use Rattle.model.specs.declared.Code.{Code}

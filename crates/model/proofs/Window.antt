@@ -9,8 +9,8 @@ use native.Mathlib.Nat.{suc-add, div-mul-cancel, div-add-mod', mod-lt}
 use native.Mathlib.Omega.{arith}
 use borrow.Author.Tests.{leb-true, ltb-false, le-leb, le-ltb, not-true}
 use lib.ListN.{length}
-use Rattle.model.specs.Feasible.{Met, Feasible, Multiple}
-use Rattle.model.specs.Latency.{
+use Rattle.model.specs.Says.Feasible.{Met, Feasible, Multiple}
+use Rattle.model.specs.Rules.Latency.{
   onward,
   used,
   back,
@@ -25,9 +25,9 @@ use Rattle.model.specs.Latency.{
   fromOf,
   windowOf,
 }
-use Rattle.model.specs.Program.{Program, Read, count, signalAt}
-use Rattle.model.specs.Reads.{rateOf, runCycle, stored, before}
-use Rattle.model.specs.Schedule.{Schedule}
+use Rattle.model.specs.Rules.Program.{Program, Read, count, signalAt}
+use Rattle.model.specs.Rules.Reads.{rateOf, runCycle, stored, before}
+use Rattle.model.specs.Rules.Schedule.{Schedule}
 use Rattle.model.specs.declared.Found.{Found}
 use Rattle.model.specs.declared.Found.the-variants.{At, Nowhere}
 use Rattle.model.specs.declared.Mode.{Mode}

@@ -22,7 +22,7 @@ use borrow.Author.Tests.{
 }
 use lib.Dec.{leb, ltb, eqb}
 use lib.ListN.{length}
-use Rattle.model.specs.Command.{
+use Rattle.model.specs.Rules.Command.{
   whole,
   ranged,
   firstJudged,
@@ -37,12 +37,12 @@ use Rattle.model.specs.Command.{
   commandOf,
   commandAt,
 }
-use Rattle.model.specs.Image.{binaryByte}
-use Rattle.model.specs.Width.{inProgram, inExpression, inSchedule, inCode, readWidth}
-use Rattle.model.specs.Machine.{operatorCode, wholeCode, codeAt}
-use Rattle.model.specs.Schedule.{scheduleCommandAt}
-use Rattle.model.specs.Word.{byteAt, twoAt}
-use Rattle.model.specs.Written.{
+use Rattle.model.specs.Rules.Image.{binaryByte}
+use Rattle.model.specs.Rules.Width.{inProgram, inExpression, inSchedule, inCode, readWidth}
+use Rattle.model.specs.Rules.Machine.{operatorCode, wholeCode, codeAt}
+use Rattle.model.specs.Rules.Schedule.{scheduleCommandAt}
+use Rattle.model.specs.Rules.Word.{byteAt, twoAt}
+use Rattle.model.specs.Says.Written.{
   InPeriods,
   InIndices,
   readByte,

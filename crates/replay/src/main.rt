@@ -7,10 +7,10 @@ use model::Cycled;
 use model::Ran;
 use model::Reported;
 use model::Width;
-use reader::Judged;
+use text_program::Judged;
 ghost use Prim.Native.Nat.{_*_, _≤_};
 ghost use lib.ListN.{length};
-ghost use Rattle.stepper.specs.Steps.{atStart, Underway};
+ghost use Rattle.trial_step.specs.Steps.{atStart, Underway};
 
 // A number read, or none.
 enum Number {
@@ -402,11 +402,11 @@ fn hash_lines(image: &[u8], text: &[u8], samples: &mut [i32], state: &mut [i32])
     requires { ⌜ Underway (now image) (now text) atStart (now samples) (now state) ⌝ }
 {
     let mut block = io::large_buffer();
-    let mut progress = stepper::at_start();
+    let mut progress = trial_step::at_start();
     let mut ended = false;
     let mut hash: u32 = 2166136261;
     while !ended {
-        let filled = stepper::next_block(
+        let filled = trial_step::next_block(
             image,
             text,
             progress,
@@ -423,7 +423,7 @@ fn hash_lines(image: &[u8], text: &[u8], samples: &mut [i32], state: &mut [i32])
 }
 
 fn trial(program: &[u8], schedule: &[u8], text: &[u8]) {
-    let start = bench_trial::prepare(program, schedule, text);
+    let start = trial_prepare::prepare(program, schedule, text);
     let ready = start.ready;
     let judged = ready.judged;
     if let Judged::Refused(fault) = judged {

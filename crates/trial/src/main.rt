@@ -4,10 +4,10 @@
 use libc::STDERR_FILENO;
 use libc::STDOUT_FILENO;
 use model::Fault;
-use reader::Judged;
-use stepper::Progress;
+use text_program::Judged;
+use trial_step::Progress;
 ghost use Rattle.io.specs.Counts.{Counts};
-ghost use Rattle.stepper.specs.Steps.{atStart, Underway};
+ghost use Rattle.trial_step.specs.Steps.{atStart, Underway};
 
 // Reads the file that argument i names to the start of the space; one that is missing or can't be opened counts as empty.
 fn read_file(i: usize, space: &mut [u8]) -> usize
@@ -44,10 +44,10 @@ fn print_lines(image: &[u8], text: &[u8], lines: usize, samples: &mut [i32], sta
     requires { ⌜ Underway (now image) (now text) atStart (now samples) (now state) ⌝ }
 {
     let mut block = io::large_buffer();
-    let mut progress = stepper::at_start();
+    let mut progress = trial_step::at_start();
     let mut ended = false;
     while !ended {
-        let filled = stepper::next_block(
+        let filled = trial_step::next_block(
             image,
             text,
             progress,
@@ -66,7 +66,7 @@ fn print_lines(image: &[u8], text: &[u8], lines: usize, samples: &mut [i32], sta
 
 // The whole trial, from memory.
 fn run(program: &[u8], schedule: &[u8], text: &[u8]) {
-    let start = bench_trial::prepare(program, schedule, text);
+    let start = trial_prepare::prepare(program, schedule, text);
     let ready = start.ready;
     let judged = ready.judged;
     if let Judged::Refused(fault) = judged {

@@ -5,7 +5,7 @@ use Prim.Native.Nat.{ℕ, _≤_, _<_}
 use borrow.Author.Tests.{le-leb, lt-leb, ne-eqb}
 use lib.Dec.{eqb}
 use native.Mathlib.Omega.{arith}
-use Rattle.model.specs.Width.{within}
+use Rattle.model.specs.Rules.Width.{within}
 
 module _ (b : ℕ) where
   pub inside : (low high : ℕ) → low ≤ b → b ≤ high → within low high b ≡ true

@@ -12,7 +12,7 @@ use mir.Val.{toZ, ofZ, SFits}
 use mir.Facts.{toZ-ofZ}
 use mir.ValLaws.{toZ-pos, toZ-neg}
 use borrow.Author.Needs.{sfits-of}
-use Rattle.model.specs.Word.{bitsOf, eqZ}
+use Rattle.model.specs.Rules.Word.{bitsOf, eqZ}
 
 -- a test on two words, of their bits
 pub test : {a b : ℤ} {t : Bool} → SFits w32 a → SFits w32 b → ltZ (toZ w32 (ofZ w32 a)) (toZ w32 (ofZ w32 b)) ≡ t → ltZ a b ≡ t

@@ -11,7 +11,7 @@ use lib.Signed.{ltZ, mag}
 use mir.Syntax.{w32, w64}
 use mir.Val.{toZ, ofZ, SFits}
 use mir.Facts.{toZ-ofZ, sfits-widen}
-use Rattle.model.specs.Word.{nearest}
+use Rattle.model.specs.Rules.Word.{nearest}
 use Rattle.model.proofs.Nearest.{sub-by}
 use Rattle.word.proofs.Laws.{kept}
 

@@ -4,9 +4,9 @@ ghost use mathlib.Core.Path.{_≡_};
 ghost use Prim.Native.Nat.{_+_, _%_, _^_, _<_, _≤_};
 ghost use lib.ListN.{length};
 ghost use lib.Seq.{sets};
-ghost use Rattle.model.specs.Word.{bitsOf, wordOf, nearest};
-ghost use Rattle.model.specs.Word.{addWord, subWord, mulWord, negWord, lessWord, sameWord, minWord, maxWord, ifWord, binaryWord};
-ghost use Rattle.model.specs.Word.{twoAt, fourAt, wordAt, twoBytes, wordBytes};
+ghost use Rattle.model.specs.Rules.Word.{bitsOf, wordOf, nearest};
+ghost use Rattle.model.specs.Rules.Word.{addWord, subWord, mulWord, negWord, lessWord, sameWord, minWord, maxWord, ifWord, binaryWord};
+ghost use Rattle.model.specs.Rules.Word.{twoAt, fourAt, wordAt, twoBytes, wordBytes};
 
 // The bits of a word, as a number.
 pub fn bits(w: i32) -> u32

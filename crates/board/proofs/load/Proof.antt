@@ -8,8 +8,8 @@ use denote.Ref.{now}
 use lib.Dec.{leb, ltb}
 use lib.IntN.{ℤ}
 use lib.ListN.{length}
-use Rattle.model.specs.Machine.{ranOf, resetOf}
-use Rattle.model.specs.Outcome.{refused}
+use Rattle.model.specs.Rules.Machine.{ranOf, resetOf}
+use Rattle.model.specs.Rules.Outcome.{refused}
 use Rattle.board.specs.Board.{placeWords, withWords, resetIn}
 use Rattle.board.proofs.Answers.{gives, load-place, load-state, load-refused, load-done}
 use Rattle.board.proofs.Stretch.{reset-keeps, on-keeps}

@@ -4,7 +4,7 @@ use mathlib.Core.Path.{_≡_, refl, sym, ap, _∙_}
 use native.Mathlib.Omega.{arith}
 use borrow.Author.Needs.{needs}
 use borrow.Author.Tests.{le-leb, lt-leb}
-use Rattle.model.specs.Outcome.{Outcome, accepted}
+use Rattle.model.specs.Rules.Outcome.{Outcome, accepted}
 use Rattle.model.specs.declared.Found.the-variants.{At, Nowhere}
 use Rattle.board.specs.Board.{nextDue, turnWith, took}
 use Rattle.board.proofs.Answers.{gives, turn-state, turn-samples, turn-done}

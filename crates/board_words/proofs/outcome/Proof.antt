@@ -1,7 +1,7 @@
 -- `board_words::outcome` meets its contract. Assumes nothing.
 use mathlib.Core.Path.{sym, ap}
 use borrow.Author.Needs.{needs}
-use Rattle.model.specs.Machine.{cycledOf}
+use Rattle.model.specs.Rules.Machine.{cycledOf}
 use Rattle.board_words.specs.Record.{runOutcome}
 use Rattle.board_words.proofs.outcome.Statement.{statement}
 use Rattle.board_words.proofs.outcome.Tie as tie

@@ -5,15 +5,15 @@ use native.Mathlib.Omega.{arith}
 use lib.ListN.{drop}
 use denote.Ref.{now}
 use borrow.Author.Needs.{needs}
-use Rattle.model.specs.Compile.{Pair, pairOf, compiledOf}
-use Rattle.model.specs.Image.{lengthOf, imageOf, tailOf}
-use Rattle.model.specs.Outcome.{accepted}
-use Rattle.emitter.specs.Tail.{tailBy}
-use Rattle.emitter.proofs.Imaged.{declared}
-use Rattle.emitter.proofs.Tailed.{tail-by}
-use Rattle.emitter.specs.Prepared.{LaidOut, Ready}
-use Rattle.checks.specs.Answers.{Checks}
-use Rattle.checks.proofs.Laws.{answers-fine, answers-refused}
+use Rattle.model.specs.Rules.Compile.{Pair, pairOf, compiledOf}
+use Rattle.model.specs.Rules.Image.{lengthOf, imageOf, tailOf}
+use Rattle.model.specs.Rules.Outcome.{accepted}
+use Rattle.image_write.specs.Tail.{tailBy}
+use Rattle.image_write.proofs.Imaged.{declared}
+use Rattle.image_write.proofs.Tailed.{tail-by}
+use Rattle.image_write.specs.Prepared.{LaidOut, Ready}
+use Rattle.check_pair.specs.Answers.{Checks}
+use Rattle.check_pair.proofs.Laws.{answers-fine, answers-refused}
 use Rattle.compiler.proofs.Answers.{compile-refused, compile-short, tail-room, compile-done}
 use Rattle.compiler.proofs.compile.Statement.{statement}
 use Rattle.compiler.proofs.compile.Tie as tie

@@ -2,8 +2,8 @@
 use native.Mathlib.Omega.{arith}
 use lib.Seq.{length-take-le}
 use mathlib.Core.Path.{sym, ap, _∙_}
-use Rattle.model.specs.Compile.{compiledOf}
-use Rattle.converter.proofs.Walk.{convert-fits}
+use Rattle.model.specs.Rules.Compile.{compiledOf}
+use Rattle.text_convert.proofs.Walk.{convert-fits}
 use borrow.Author.Needs.{needs}
 use Rattle.convert.proofs.main.Statement.{statement}
 use Rattle.convert.proofs.main.Tie as tie

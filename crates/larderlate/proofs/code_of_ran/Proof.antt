@@ -1,6 +1,6 @@
 -- `larderlate::code_of_ran` meets its contract. Assumes nothing.
 use mathlib.Core.Path.{sym, ap, _∙_}
-use Rattle.model.specs.Machine.{ranOf}
+use Rattle.model.specs.Rules.Machine.{ranOf}
 use Rattle.larderlate.specs.Code.{codeNumber}
 use borrow.Author.Needs.{needs}
 use Rattle.larderlate.proofs.code_of_ran.Statement.{statement}

@@ -1,6 +1,6 @@
 -- `larderlate::code_of_reported` meets its contract. Assumes nothing.
 use mathlib.Core.Path.{sym, ap, _∙_}
-use Rattle.model.specs.Report.{reportedOf}
+use Rattle.model.specs.Rules.Report.{reportedOf}
 use Rattle.larderlate.specs.Code.{codeNumber, lengthIn}
 use borrow.Author.Needs.{needs}
 use Rattle.larderlate.proofs.code_of_reported.Statement.{statement}

@@ -3,7 +3,7 @@ use Prim.Native.Nat.{ℕ}
 use mathlib.Core.Path.{_≡_, sym, ap}
 use borrow.Author.Needs.{needs}
 use denote.Ref.{now}
-use Rattle.model.specs.Machine.{ranOf}
+use Rattle.model.specs.Rules.Machine.{ranOf}
 use Rattle.model.specs.declared.Ran.{Ran}
 use Rattle.board_words.specs.Record.{boardOf}
 use Rattle.larderlate.specs.Code.{codeNumber}

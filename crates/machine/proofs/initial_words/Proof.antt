@@ -6,11 +6,11 @@ use Prim.Native.Nat.{ℕ, _+_, _-_, _*_, _≤_, _<_}
 use native.Mathlib.Omega.{arith}
 use lib.IntN.{ℤ, pos}
 use lib.ListN.{length, set, length-set}
-use Rattle.model.specs.Machine.{countOf}
-use Rattle.model.specs.Word.{wordAt}
+use Rattle.model.specs.Rules.Machine.{countOf}
+use Rattle.model.specs.Rules.Word.{wordAt}
 use mathlib.Core.List.{List}
 use Rattle.word.proofs.Laws.{kept}
-use Rattle.image_check.proofs.Parts.{Head, head, formed}
+use Rattle.image_valid.proofs.Parts.{Head, head, formed}
 use Rattle.machine.proofs.Laws.{begun, begun-none, begun-more, begun-all}
 use Rattle.machine.proofs.initial_words.Statement.{statement}
 use Rattle.machine.proofs.initial_words.Tie as tie

@@ -8,9 +8,9 @@ use borrow.Author.Tests.{not-true, not-false, lt-ltb, le-ltb, lt-leb}
 use lib.Dec.{ltb}
 use lib.IntN.{ℤ, pos}
 use lib.ListN.{length, getD}
-use Rattle.model.specs.Machine.{hyperOf, countOf, wellFormed, isPosition, positionOf}
-use Rattle.image_check.specs.Lends.{Lends}
-use Rattle.image_check.proofs.Parts.{head, formed}
+use Rattle.model.specs.Rules.Machine.{hyperOf, countOf, wellFormed, isPosition, positionOf}
+use Rattle.image_valid.specs.Lends.{Lends}
+use Rattle.image_valid.proofs.Parts.{head, formed}
 use Rattle.machine.proofs.Laws.{Position, position, no-position}
 use Rattle.machine.specs.Runnable.{JudgesCycle}
 use Rattle.machine.proofs.Answers.{cycle-image, cycle-state, cycle-position, cycle-samples}

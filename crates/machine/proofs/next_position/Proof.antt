@@ -4,7 +4,7 @@ use native.Mathlib.Omega.{arith}
 use borrow.Author.Tests.{eq-eqb, ne-eqb}
 use mir.Syntax.{w32}
 use mir.ValLaws.{toZ-pos}
-use Rattle.model.specs.Machine.{nextPosition}
+use Rattle.model.specs.Rules.Machine.{nextPosition}
 use borrow.Author.Needs.{needs}
 use Rattle.machine.proofs.next_position.Statement.{statement}
 use Rattle.machine.proofs.next_position.Tie as tie

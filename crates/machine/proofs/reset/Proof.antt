@@ -7,8 +7,8 @@ use Prim.Native.Nat.{ℕ}
 use mathlib.Core.List.{List}
 use lib.IntN.{ℤ}
 use lib.ListN.{length}
-use Rattle.model.specs.Machine.{countOf, wellFormed}
-use Rattle.image_check.proofs.Parts.{head, formed}
+use Rattle.model.specs.Rules.Machine.{countOf, wellFormed}
+use Rattle.image_valid.proofs.Parts.{head, formed}
 use Rattle.machine.proofs.Answers.{gives-refusal, gives-done, reset-image, reset-state, reset-done}
 use borrow.Author.Needs.{needs}
 use Rattle.machine.proofs.reset.Statement.{statement}

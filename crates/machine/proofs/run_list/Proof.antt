@@ -2,8 +2,8 @@
 use mathlib.Core.Path.{refl}
 use Prim.Native.Nat.{_+_, _≤_}
 use native.Mathlib.Omega.{arith}
-use Rattle.model.specs.Machine.{listOf}
-use Rattle.image_check.proofs.Parts.{Head, Lists, head, lists, inside, formed}
+use Rattle.model.specs.Rules.Machine.{listOf}
+use Rattle.image_valid.proofs.Parts.{Head, Lists, head, lists, inside, formed}
 use borrow.Author.Needs.{needs}
 use Rattle.machine.proofs.run_list.Statement.{statement}
 use Rattle.machine.proofs.run_list.Tie as tie

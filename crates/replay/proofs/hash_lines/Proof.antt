@@ -8,8 +8,8 @@ use borrow.Author.Needs.{needs}
 use borrow.Author.Tests.{not-true, not-false}
 use lib.IntN.{ℤ}
 use lib.ListN.{length, length-take}
-use Rattle.stepper.specs.Steps.{linesLeft, Underway, Filled}
-use Rattle.stepper.proofs.Filling.{falls}
+use Rattle.trial_step.specs.Steps.{linesLeft, Underway, Filled}
+use Rattle.trial_step.proofs.Filling.{falls}
 use Rattle.replay.proofs.hash_lines.Statement.{statement}
 use Rattle.replay.proofs.hash_lines.Tie as tie
 

@@ -2,8 +2,8 @@
 use native.Mathlib.Omega.{arith}
 use borrow.Author.Needs.{needs}
 use lib.ListN.{length, length-take}
-use Rattle.bench_trial.specs.Prepares.{Started}
-use Rattle.bench_trial.proofs.Begins.{is-started}
+use Rattle.trial_prepare.specs.Prepares.{Started}
+use Rattle.trial_prepare.proofs.Begins.{is-started}
 use Rattle.replay.proofs.trial.Statement.{statement}
 use Rattle.replay.proofs.trial.Tie as tie
 

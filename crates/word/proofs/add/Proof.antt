@@ -1,7 +1,7 @@
 -- `word::add` meets its contract. Assumes nothing.
 use lib.IntN.{_+ℤ_}
 use borrow.Author.Needs.{needs}
-use Rattle.model.specs.Word.{addWord}
+use Rattle.model.specs.Rules.Word.{addWord}
 use Rattle.word.proofs.Results.{wide-fits, sum-fits, of-result}
 use Rattle.word.proofs.add.Statement.{statement}
 use Rattle.word.proofs.add.Tie as tie

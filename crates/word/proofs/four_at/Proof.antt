@@ -1,5 +1,5 @@
 use borrow.Author.Needs.{needs}
-use Rattle.model.specs.Word.{fourAt}
+use Rattle.model.specs.Rules.Word.{fourAt}
 use Rattle.word.proofs.four_at.Statement.{statement}
 use Rattle.word.proofs.four_at.Tie as tie
 

@@ -5,7 +5,7 @@ use lib.IntN.{negsuc, _-ℤ_}
 use mir.Syntax.{w32}
 use mir.Val.{toZ}
 use mir.Facts.{toZ-ofZ, sfits-toZ}
-use Rattle.model.specs.Word.{wordOf}
+use Rattle.model.specs.Rules.Word.{wordOf}
 use Rattle.word.proofs.from_bits.Statement.{statement}
 use Rattle.word.proofs.from_bits.Tie as tie
 use Rattle.word.proofs.Laws.{high}

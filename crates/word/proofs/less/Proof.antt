@@ -1,6 +1,6 @@
 use Rattle.word.proofs.less.Statement.{statement}
 use Rattle.word.proofs.less.Tie as tie
-use Rattle.model.specs.Word.{lessWord, bitWord}
+use Rattle.model.specs.Rules.Word.{lessWord, bitWord}
 use Rattle.word.proofs.Laws.{test}
 use mathlib.Core.Path.{sym, ap}
 

@@ -1,7 +1,7 @@
 -- `word::mul` meets its contract. Assumes nothing.
 use lib.IntN.{_*ℤ_}
 use borrow.Author.Needs.{needs}
-use Rattle.model.specs.Word.{mulWord}
+use Rattle.model.specs.Rules.Word.{mulWord}
 use Rattle.word.proofs.Results.{wide-fits, product-fits, of-result}
 use Rattle.word.proofs.mul.Statement.{statement}
 use Rattle.word.proofs.mul.Tie as tie

@@ -3,7 +3,7 @@ use mathlib.Core.Path.{ap, _∙_}
 use lib.IntN.{+ℤ-idl}
 use mir.Facts.{toZ-ofZ}
 use borrow.Author.Needs.{needs}
-use Rattle.model.specs.Word.{nearest, negWord}
+use Rattle.model.specs.Rules.Word.{nearest, negWord}
 use Rattle.word.proofs.Laws.{kept}
 use Rattle.word.proofs.Results.{wide-fits, wide-back, minus-fits}
 use Rattle.word.proofs.neg.Statement.{statement}

@@ -2,7 +2,7 @@ use borrow.Author.Needs.{needs}
 use native.Mathlib.Omega.{arith}
 use native.Mathlib.Numerals.{towards-suc}
 use lib.ListN.{length-set}
-use Rattle.model.specs.Word.{twoBytes}
+use Rattle.model.specs.Rules.Word.{twoBytes}
 use Rattle.word.proofs.put_two.Statement.{statement}
 use Rattle.word.proofs.put_two.Tie as tie
 

@@ -1,7 +1,7 @@
 -- `word::sub` meets its contract. Assumes nothing.
 use lib.IntN.{_-ℤ_}
 use borrow.Author.Needs.{needs}
-use Rattle.model.specs.Word.{subWord}
+use Rattle.model.specs.Rules.Word.{subWord}
 use Rattle.word.proofs.Results.{wide-fits, difference-fits, of-result}
 use Rattle.word.proofs.sub.Statement.{statement}
 use Rattle.word.proofs.sub.Tie as tie

@@ -1,5 +1,5 @@
 use borrow.Author.Needs.{needs}
-use Rattle.model.specs.Word.{twoAt}
+use Rattle.model.specs.Rules.Word.{twoAt}
 use Rattle.word.proofs.two_at.Statement.{statement}
 use Rattle.word.proofs.two_at.Tie as tie
 

@@ -1,6 +1,6 @@
 use borrow.Author.Needs.{needs}
 use mathlib.Core.Path.{ap, _∙_}
-use Rattle.model.specs.Word.{wordOf, wordAt}
+use Rattle.model.specs.Rules.Word.{wordOf, wordAt}
 use Rattle.word.proofs.Laws.{kept}
 use Rattle.word.proofs.word_at.Statement.{statement}
 use Rattle.word.proofs.word_at.Tie as tie

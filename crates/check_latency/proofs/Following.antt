@@ -1,0 +1,174 @@
+-- Following the links of a chain. Assumes nothing.
+use Prim.Native.Nat.{ℕ, zero, suc, _+_, _-_, _≤_, _<_}
+use mathlib.Core.Bool.{Bool, true, false, and-eq-true-iff}
+use mathlib.Core.List.{List, [], _∷_, map, reverseAux}
+use mathlib.Core.Path.{_≡_, refl, sym, ap, subst, _∙_}
+use native.Mathlib.Omega.{arith}
+use borrow.Author.Tests.{eqb-true}
+use lib.ListN.{length, getD, set, length-set}
+use lib.Seq.{getD-set-same, getD-set-other}
+use Rattle.latency_rule.specs.Back.{noHop}
+use Rattle.latency_rule.specs.Hops.{hopOf, HopsOf}
+use Rattle.latency_rule.specs.declared.Hop.{Hop}
+use Rattle.model.specs.Says.Feasible.{All}
+use Rattle.model.specs.Rules.Latency.{readOf, readsBack, backwards, source}
+use Rattle.model.specs.Rules.Program.{Program, Link, Read, count, signalAt, bodyReads}
+use Rattle.model.specs.Rules.Rates.{countReads, isLinked}
+use Rattle.model.specs.Rules.Schedule.{Schedule}
+use Rattle.model.specs.Rules.Word.{byteAt}
+use Rattle.model.proofs.All.{all-at}
+use Rattle.model.proofs.Legal.{legal, SpellsChain}
+use Rattle.model.specs.Says.Grammar.{SpellsLinks}
+use Rattle.model.proofs.Verdict.{links-declared, chains-linked}
+use Rattle.text_program.specs.Tables.{noChain, chainAt}
+use Rattle.text_program.specs.declared.Tables.{Tables}
+use Rattle.check_latency.specs.Timely.{Known, Joined, Along, RouteOf}
+use Rattle.check_latency.proofs.Laws.{read-signal}
+
+module _ (p : Program) (s : Schedule) where
+  -- Hops stay as they are where one is set behind them.
+  hops-kept : (hops : List Hop) (i : ℕ) (hop : Hop) (r : ℕ) (ρs : List Read) → length ρs ≤ i → HopsOf p s hops r ρs →
+      HopsOf p s (set hops i hop) r ρs
+  hops-kept hops i hop r [] le h = tt
+  hops-kept hops i hop r (ρ ∷ ρs) le h =
+      (getD-set-other hops i (length ρs) hop noHop (λ e. omega arith) ∙ h .0, hops-kept hops i hop (ρ .operands .signal) ρs (omega arith) (h .1))
+
+pub reads-length : (p : Program) (r : ℕ) (ws : List ℕ) → length (readsBack p r ws) ≡ length ws
+unfolding readsBack
+reads-length p r [] = refl
+reads-length p r (w ∷ ws) = ap suc (reads-length p w ws)
+
+-- The LINKs from `at` on, the first of them `last`, after those that the hops go back over.
+pub record Following (text : List ℕ) (p : Program) (s : Schedule) (back : List ℕ) (source at left last n : ℕ) (hops : List Hop) : Type 0 where
+  pub ws : List ℕ
+  pub links : List Link
+  pub end : ℕ
+  pub spelled : SpellsLinks text at links end
+  pub many : length links ≡ left
+  pub some : 1 ≤ left
+  pub here : byteAt text (at + 1) ≡ last
+  pub linked : isLinked p links ≡ true
+  pub declared : All (λ l. l .signal < count p) links
+  pub whole : back ≡ reverseAux (map (λ l. l .signal) links) ws
+  pub along : Along p s (record { hops = hops; count = n; source = source; last = last }) ws
+  pub space : length hops ≡ 15
+  pub room : n + left ≤ 16
+
+-- The next link.
+pub record Next (text : List ℕ) (p : Program) (s : Schedule) (back : List ℕ) (source at left last n : ℕ) (hops : List Hop) : Type 0 where
+  pub inside : at + 4 ≤ length text
+  pub read : last < count p
+  pub reader : byteAt text (at + 2 + 1) < count p
+  pub room : n < 15
+  pub once : countReads last (bodyReads (signalAt p (byteAt text (at + 2 + 1)) .body)) ≡ 1
+  pub on : (hop : Hop) → hop ≡ hopOf p s (byteAt text (at + 2 + 1)) (readOf last (bodyReads (signalAt p (byteAt text (at + 2 + 1)) .body))) →
+      Following text p s back source (at + 2) (left - 1) (byteAt text (at + 2 + 1)) (n + 1) (set hops n hop)
+
+module _ (text : List ℕ) (p : Program) (s : Schedule) (back : List ℕ) (source₀ at left last n : ℕ) (hops : List Hop) where
+  along-on : (ws : List ℕ) (r : ℕ) → countReads last (bodyReads (signalAt p r .body)) ≡ 1 → n < 15 → length hops ≡ 15 →
+      Along p s (record { hops = hops; count = n; source = source₀; last = last }) ws →
+      (hop : Hop) → hop ≡ hopOf p s r (readOf last (bodyReads (signalAt p r .body))) →
+      Along p s (record { hops = set hops n hop; count = n + 1; source = source₀; last = r }) (last ∷ ws)
+  unfolding readsBack source
+  along-on ws r once lt space a hop e =
+      let ρ = readOf last (bodyReads (signalAt p r .body)) in
+      let ρs = readsBack p last ws in
+      let same : ρ .operands .signal ≡ last = read-signal last (bodyReads (signalAt p r .body)) (omega (arith, once)) in
+      let here : length ρs ≡ n = reads-length p last ws ∙ a .many in
+      record {
+        hops-are = (
+          rw here (getD-set-same hops n hop noHop (omega (arith, space))) ∙ e,
+          rw same (hops-kept p s hops n hop last ρs (omega (arith, here)) (a .hops-are)),
+        );
+        many = omega (arith, a .many);
+        ends = rw same (a .ends);
+      }
+
+  -- Two links at hand, or one.
+  pub next-link : Following text p s back source₀ at left last n hops → 1 < left → Next text p s back source₀ at left last n hops
+  unfolding isLinked
+  next-link f lt = go (f .links) (f .end) (f .spelled) (f .linked) (f .declared) (f .many) (f .whole)
+    where
+      go : (links : List Link) (end : ℕ) → SpellsLinks text at links end → isLinked p links ≡ true → All (λ l. l .signal < count p) links →
+          length links ≡ left → back ≡ reverseAux (map (λ l. l .signal) links) (f .ws) →
+          Next text p s back source₀ at left last n hops
+      go links end (SpellsLinks.ends e) k d m w = absurd (omega arith)
+      go links end (SpellsLinks.link e le (SpellsLinks.ends g)) k d m w = absurd (omega arith)
+      go links end (SpellsLinks.link e le (SpellsLinks.link {ls = ls} g lg r)) k d m w =
+          let b = and-eq-true-iff _ (isLinked p (record { place = at + 2; signal = byteAt text (at + 2 + 1) } ∷ ls)) .0 k in
+          let once : countReads last (bodyReads (signalAt p (byteAt text (at + 2 + 1)) .body)) ≡ 1 =
+          ap (λ x. countReads x (bodyReads (signalAt p (byteAt text (at + 2 + 1)) .body))) (sym (f .here)) ∙ eqb-true _ _ (b .0) in
+          record {
+            inside = omega arith;
+            read = subst (λ x. x < count p) (f .here) (d .0);
+            reader = d .1 .0;
+            room = omega (arith, f .room);
+            once = once;
+            on = λ hop q. record {
+              ws = last ∷ f .ws;
+              links = record { place = at + 2; signal = byteAt text (at + 2 + 1) } ∷ ls;
+              end = end;
+              spelled = SpellsLinks.link g lg r;
+              many = omega (arith, m);
+              some = omega arith;
+              here = refl;
+              linked = b .1;
+              declared = d .1;
+              whole = w ∙ ap (λ x. reverseAux (map (λ l. l .signal) ls) (byteAt text (at + 2 + 1) ∷ (x ∷ f .ws))) (f .here);
+              along = along-on (f .ws) (byteAt text (at + 2 + 1)) once (omega (arith, f .room)) (f .space) (f .along) hop q;
+              space = length-set hops n hop ∙ f .space;
+              room = omega (arith, f .room);
+            };
+          }
+
+  pub route-of : Following text p s back source₀ at left last n hops → left ≤ 1 →
+      RouteOf p s (record { hops = hops; count = n; source = source₀; last = last }) back
+  route-of f le = go (f .links) (f .end) (f .spelled) (f .many) (f .whole)
+    where
+      go : (links : List Link) (end : ℕ) → SpellsLinks text at links end → length links ≡ left →
+          back ≡ reverseAux (map (λ l. l .signal) links) (f .ws) →
+          RouteOf p s (record { hops = hops; count = n; source = source₀; last = last }) back
+      go links end (SpellsLinks.ends e) m w = absurd (omega (arith, f .some))
+      go links end (SpellsLinks.link e lf (SpellsLinks.ends g)) m w =
+          (f .ws, w ∙ ap (λ x. x ∷ f .ws) (f .here), omega (arith, f .room, f .some), f .along)
+      go links end (SpellsLinks.link e lf (SpellsLinks.link g lg r)) m w = absurd (omega arith)
+
+-- The first link of a chain.
+pub record Begun (text : List ℕ) (tables : Tables) (p : Program) (s : Schedule) (chain : ℕ) : Type 0 where
+  pub inside : getD (tables .starts) chain 0 + 6 ≤ length text
+  pub start : (hops : List Hop) → length hops ≡ 15 →
+      let at : ℕ = getD (tables .starts) chain 0 + 4 in
+      Following text p s (backwards (chainAt p chain)) (byteAt text (at + 1)) at (getD (tables .lengths) chain 0) (byteAt text (at + 1)) 0 hops
+
+pub begun : (text : List ℕ) (tables : Tables) (periods phases : List ℕ) (p : Program) (s : Schedule) (chain : ℕ) →
+    Joined text tables periods phases p s → chain < tables .chains → Begun text tables p s chain
+unfolding readsBack source
+begun text tables periods phases p s chain j lt =
+    let l : chain < length (p .chains) = omega (arith, j .known .tables-are .counts .chains-are) in
+    let c = all-at (SpellsChain text) (p .chains) noChain (legal text p (j .known .parsed) .1 .chains) chain l in
+    let d = all-at (λ c. All (λ l. l .signal < count p) (c .links)) (p .chains) noChain (links-declared p (j .rated)) chain l in
+    let k = all-at (λ c. isLinked p (c .links) ≡ true) (p .chains) noChain (chains-linked p (j .links)) chain l in
+    record {
+      inside = rw (j .known .tables-are .starts chain l) (go (chainAt p chain .place) (chainAt p chain .links) (c .end) (c .links) (c .several));
+      start = λ hops space.
+          rw (j .known .tables-are .starts chain l, j .known .tables-are .lengths chain l)
+          record {
+            ws = [];
+            links = chainAt p chain .links;
+            end = c .end;
+            spelled = c .links;
+            many = refl;
+            some = omega (arith, c .several);
+            here = refl;
+            linked = k;
+            declared = d;
+            whole = refl;
+            along = record { hops-are = tt; many = refl; ends = refl };
+            space = space;
+            room = omega (arith, c .few);
+          };
+    }
+  where
+    go : (at : ℕ) (links : List Link) (end : ℕ) → SpellsLinks text (at + 4) links end → 2 ≤ length links → at + 6 ≤ length text
+    go at links end (SpellsLinks.ends e) h = absurd (omega arith)
+    go at links end (SpellsLinks.link e le r) h = omega arith

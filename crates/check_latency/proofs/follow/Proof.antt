@@ -1,0 +1,146 @@
+-- `check_latency::follow` meets its contract. Assumes nothing.
+use Prim.Native.Nat.{_+_, _≤_, _<_}
+use mathlib.Core.Path.{_≡_, refl}
+use native.Mathlib.Omega.{arith}
+use denote.Ref.{now}
+use lib.ListN.{length}
+use borrow.Author.Needs.{needs}
+use Rattle.model.specs.Rules.Latency.{backwards}
+use Rattle.model.specs.Rules.Program.{Program}
+use Rattle.model.specs.Rules.Schedule.{Schedule}
+use Rattle.text_program.specs.Tables.{chainAt}
+use Rattle.check_rates.proofs.Linking.{few-chains}
+use Rattle.check_latency.specs.Timely.{Joined}
+use Rattle.check_latency.proofs.Following.{Following, next-link, route-of, Begun, begun}
+use Rattle.check_latency.proofs.follow.Statement.{statement}
+use Rattle.check_latency.proofs.follow.Tie as tie
+
+abbrev Inv-loop : tie.InvT-loop
+Inv-loop text reads tables periods phases chain at₀ left₀ source last₀ count₀ hops₀ at left last count hops =
+    (p : Program) (s : Schedule) → Joined text tables periods phases p s →
+    Following text p s (backwards (chainAt p chain)) source at left last count hops
+
+abbrev μ-loop : tie.MeasureT-loop
+μ-loop text reads tables periods phases chain at₀ left₀ source last₀ count₀ hops₀ at left last count hops = left
+
+-- the first link lies within the text
+begins : (c : tie.After-lengths Inv-loop μ-loop) → Begun (now (c .before .before .before .before .args .text)) (c .before .before .before .before .args .tables) (c .before .before .before .before .pre .0 .0) (c .before .before .before .before .pre .0 .1) (c .before .before .before .before .args .chain)
+begins c =
+    let s = c .before .before .before .before in
+    begun _ _ _ _ _ _ _ (s .pre .0 .2) (s .pre .1)
+
+few : (c : tie.After-lengths Inv-loop μ-loop) → c .before .before .before .before .args .chain < 16
+few c =
+    let s = c .before .before .before .before in
+    omega (arith, s .pre .1, few-chains _ _ (s .pre .0 .0, s .pre .0 .2 .known .parsed, s .pre .0 .2 .known .tables-are))
+
+-- and so do the two at hand
+next : (c : tie.In-loop Inv-loop μ-loop) →
+    (c .before .loop .at + 4 ≤ length (now (c .before .before .before .before .before .before .before .before .before .args .text))) ×
+    (c .before .loop .count < 15)
+next c =
+    let s = c .before .before .before .before .before .before .before .before .before in
+    let n = next-link _ _ _ _ _ _ _ _ _ _ (c .before .loop .inv (s .pre .0 .0) (s .pre .0 .1) (s .pre .0 .2)) (c .loop-test .taken) in
+    (n .inside, n .room)
+
+mul-at : tie.Need-mul-at Inv-loop μ-loop
+mul-at c = omega (arith, few c)
+
+array-read-at : tie.Need-array-read-at Inv-loop μ-loop
+array-read-at c = few c
+
+in-program-requires : tie.Need-in-program-requires Inv-loop μ-loop
+in-program-requires c κs = search needs
+
+add-at : tie.Need-add-at Inv-loop μ-loop
+add-at c = omega (arith, begins (c .before) .inside)
+
+mul-left : tie.Need-mul-left Inv-loop μ-loop
+mul-left c = omega (arith, few (c .before))
+
+array-read-left : tie.Need-array-read-left Inv-loop μ-loop
+array-read-left c = few (c .before)
+
+add-source : tie.Need-add-source Inv-loop μ-loop
+add-source c = omega (arith, begins (c .before) .inside)
+
+shared-slice-read-source : tie.Need-shared-slice-read-source Inv-loop μ-loop
+shared-slice-read-source c = omega (arith, begins (c .before .before) .inside)
+
+no-hop-requires : tie.Need-no-hop-requires Inv-loop μ-loop
+no-hop-requires c κs = search needs
+
+loop-holds : tie.Need-loop-holds Inv-loop μ-loop
+loop-holds c =
+    let s = c .before .before .before .before .before .before .before in
+    λ p s₀ j. rw (c .before .before .in-program .ensures) (begun _ _ _ _ p s₀ _ j (s .pre .1) .start _ refl)
+
+in-program-requires-2 : tie.Need-in-program-requires-2 Inv-loop μ-loop
+in-program-requires-2 c κs = search needs
+
+add-second : tie.Need-add-second Inv-loop μ-loop
+add-second c = omega (arith, next (c .before) .0)
+
+add-signal : tie.Need-add-signal Inv-loop μ-loop
+add-signal c = omega (arith, next (c .before) .0)
+
+shared-slice-read-signal : tie.Need-shared-slice-read-signal Inv-loop μ-loop
+shared-slice-read-signal c = omega (arith, next (c .before .before) .0)
+
+hop-at-requires : tie.Need-hop-at-requires Inv-loop μ-loop
+hop-at-requires c κs = search needs
+
+mul-hops : tie.Need-mul-hops Inv-loop μ-loop
+mul-hops c = omega (arith, next (c .before .before .before) .1)
+
+array-set-from-hops : tie.Need-array-set-from-hops Inv-loop μ-loop
+array-set-from-hops c = next (c .before .before .before) .1
+
+add-count : tie.Need-add-count Inv-loop μ-loop
+add-count c = omega (arith, next (c .before .before .before) .1)
+
+sub-left : tie.Need-sub-left Inv-loop μ-loop
+sub-left c = omega (arith, c .before .before .before .loop-test .taken)
+
+loop-less : tie.Need-loop-less Inv-loop μ-loop
+loop-less c = omega (arith, c .before .before .before .loop-test .taken)
+
+loop-again : tie.Need-loop-again Inv-loop μ-loop
+loop-again c =
+    let b = c .before .before .before in
+    let two = c .before .before .in-program2 .ensures in
+    λ p s j.
+    let n = next-link _ _ _ _ _ _ _ _ _ _ (b .before .loop .inv p s j) (b .loop-test .taken) in
+    rw two (n .on _ ((rw two at (c .hop-at .ensures)) p s (j .known) (n .read) (n .reader) (n .once)))
+
+returns : tie.Need-returns Inv-loop μ-loop
+returns c = λ p s j. route-of _ _ _ _ _ _ _ _ _ _ (c .before .loop .inv p s j) (omega (arith, c .loop-test .left))
+
+pub follow-spec : {M : Type 1} → statement M
+follow-spec =
+    tie.close
+    (tie.spec
+    Inv-loop
+    μ-loop
+    mul-at
+    array-read-at
+    in-program-requires
+    add-at
+    mul-left
+    array-read-left
+    add-source
+    shared-slice-read-source
+    no-hop-requires
+    loop-holds
+    in-program-requires-2
+    add-second
+    add-signal
+    shared-slice-read-signal
+    hop-at-requires
+    mul-hops
+    array-set-from-hops
+    add-count
+    sub-left
+    loop-less
+    loop-again
+    returns)

@@ -1,0 +1,135 @@
+-- `check_latency::keeps_time` meets its contract. Assumes nothing.
+use Prim.Native.Nat.{_*_, _<_}
+use mathlib.Core.List.{List, [], _∷_}
+use mathlib.Core.Path.{_≡_, sym, ap, _∙_}
+use native.Mathlib.Omega.{arith}
+use denote.Ref.{now}
+use Rattle.latency_rule.specs.Back.{timelyBy}
+use Rattle.model.specs.declared.Command.{Command}
+use Rattle.model.specs.declared.Command.the-variants as Command
+use Rattle.text_program.specs.Tables.{chainAt}
+use Rattle.read_rule.specs.Reads.{rateIn}
+use Rattle.check_rates.proofs.Linking.{few-chains}
+use Rattle.check_rates.specs.Answers.{periodAt}
+use Rattle.check_latency.specs.Timely.{windowBy}
+use Rattle.check_latency.proofs.Decided.{missed, chain-command, decided}
+use borrow.Author.Needs.{needs}
+use Rattle.check_latency.proofs.keeps_time.Statement.{statement}
+use Rattle.check_latency.proofs.keeps_time.Tie as tie
+
+few : (c : tie.After-starts) → c .before .before .before .args .chain < 16
+few c =
+    let a = c .before .before .before in
+    let k = a .pre .0 .2 .joined .known in
+    omega (arith, a .pre .1, few-chains _ _ (_, k .parsed, k .tables-are))
+
+mul-command-at : tie.Need-mul-command-at
+mul-command-at c = omega (arith, few c)
+
+array-read-command-at : tie.Need-array-read-command-at
+array-read-command-at c = few c
+
+command-at-requires : tie.Need-command-at-requires
+command-at-requires c κs = search needs
+
+enum-known-command : tie.Need-enum-known-command
+enum-known-command c = search needs
+
+returns : tie.Need-returns
+returns c =
+    let b = c .before .before .before .before .before in
+    λ p s t. absurd (missed _ (c .before .command-at .ensures ∙ chain-command _ _ _ _ _ p s _ t (b .pre .1)) (c .match .keys2))
+
+follow-requires : tie.Need-follow-requires
+follow-requires c κs = search needs
+
+cast-timing-at : tie.Need-cast-timing-at
+cast-timing-at c = search needs
+
+timing-at-requires : tie.Need-timing-at-requires
+timing-at-requires c κs = search needs
+
+cast-timing-at-2 : tie.Need-cast-timing-at-2
+cast-timing-at-2 c = search needs
+
+timing-at-requires-2 : tie.Need-timing-at-requires-2
+timing-at-requires-2 c κs = search needs
+
+window-of-requires : tie.Need-window-of-requires
+window-of-requires c κs =
+    let b = c .before .before .before in
+    let i = b .before .before .follow in
+    let a = b .before .before .before .before .before .before .before .before .before .before in
+    let t = a .pre .0 .2 in
+    let d = decided _ _ _ _ _ _ _ _ _ t (a .pre .1) (i .ensures _ _ (t .joined)) in
+    (t .hyper, rw (b .timing-at .ensures) (d .positive))
+
+first-run-requires : tie.Need-first-run-requires
+first-run-requires c κs =
+    let i = c .before .before .before .before .before .before .follow in
+    let a = c .before .before .before .before .before .before .before .before .before .before .before .before .before .before in
+    let t = a .pre .0 .2 in
+    (decided _ _ _ _ _ _ _ _ _ t (a .pre .1) (i .ensures _ _ (t .joined)) .few, c .window-of .ensures .1)
+
+cast-is-timely : tie.Need-cast-is-timely
+cast-is-timely c = search needs
+
+is-timely-requires : tie.Need-is-timely-requires
+is-timely-requires c κs =
+    let g = c .before .window-of in
+    let b = c .before .before .before .before .before in
+    let i = b .before .before .follow in
+    let a = b .before .before .before .before .before .before .before .before .before .before in
+    let t = a .pre .0 .2 in
+    let d = decided _ _ _ _ _ _ _ _ _ t (a .pre .1) (i .ensures _ _ (t .joined)) in
+    let w : g .result ≡ windowBy (a .args .h) (periodAt (now (a .args .periods)) (i .result .last)) =
+    g .ensures .0 ∙ ap (λ x. windowBy (a .args .h) (x .period)) (b .timing-at .ensures) in (
+      d .few,
+      d .sound,
+      λ i li. rw (c .first-run .ensures .0, w) (d .small i (rw w at li)),
+      omega (arith, c .first-run .ensures .1, g .ensures .1),
+    )
+
+returns-2 : tie.Need-returns-2
+returns-2 c =
+    let e = c .before .before .before .before in
+    let b = e .before .before in
+    let i = b .before .before .follow in
+    let m = b .before .before .before in
+    let a = m .before .before .before .before .before .before .before in
+    λ p s t.
+    let d = decided _ _ _ _ _ p s _ _ t (a .pre .1) (i .ensures p s (t .joined)) in
+    let found = m .before .before .before .command-at in
+    let v = m .before .command .given in
+    let same : _≡_ {A = Command} (Command.Latency (v .0 .0) (v .0 .1 .0)) (Command.Latency (chainAt p (a .args .chain) .mode) (chainAt p (a .args .chain) .bound)) =
+    sym (v .1) ∙ found .ensures ∙ chain-command _ _ _ _ _ p s _ t (a .pre .1) in
+    let mode : v .0 .0 ≡ chainAt p (a .args .chain) .mode = cc same in
+    let bound : v .0 .1 .0 ≡ chainAt p (a .args .chain) .bound = cc same in
+    let g = c .before .before .window-of in
+    let w : g .result ≡ windowBy (a .args .h) (periodAt (now (a .args .periods)) (i .result .last)) =
+    g .ensures .0 ∙ ap (λ x. windowBy (a .args .h) (x .period)) (b .timing-at .ensures) in
+    let from : c .before .first-run .result ≡ i .result .count * windowBy (a .args .h) (periodAt (now (a .args .periods)) (i .result .last)) =
+    c .before .first-run .ensures .0 ∙ ap (i .result .count *_) w in
+    c .is-timely .ensures ∙
+    (λ j. timelyBy (mode j) (bound j) (i .result .hops) (i .result .count) (rateIn (b .timing-at .ensures j)) (rateIn (e .timing-at2 .ensures j)) (from j) (w j)) ∙
+    d .same
+
+pub keeps-time-spec : {M : Type 1} → statement M
+keeps-time-spec =
+    tie.close
+    (tie.spec
+    mul-command-at
+    array-read-command-at
+    command-at-requires
+    enum-known-command
+    returns
+    follow-requires
+    cast-timing-at
+    timing-at-requires
+    cast-timing-at-2
+    timing-at-requires-2
+    window-of-requires
+    first-run-requires
+    cast-is-timely
+    is-timely-requires
+    returns-2)

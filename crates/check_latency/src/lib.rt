@@ -1,0 +1,228 @@
+// The hops of a chain, each by the one read of the link before.
+use latency_rule::Hop;
+use model::Command;
+use model::Fault;
+use model::Found;
+use model::Index;
+use model::Kind;
+use model::Sampled;
+use text_program::Judged;
+use text_program::Tables;
+use read_rule::Timing;
+ghost use mathlib.Core.Path.{_≡_};
+ghost use Prim.Native.Nat.{ℕ, _*_, _≤_, _<_};
+ghost use Rattle.model.specs.Rules.Latency.{readOf, backwards, keeps, timely};
+ghost use Rattle.model.specs.Rules.Program.{Program, count, signalAt, bodyReads};
+ghost use Rattle.model.specs.Rules.Rates.{countReads};
+ghost use Rattle.model.specs.Rules.Reads.{indexOf};
+ghost use Rattle.model.specs.Rules.Schedule.{Schedule};
+ghost use Rattle.model.specs.Rules.Search.{foundOr};
+ghost use Rattle.latency_rule.specs.Back.{noHop};
+ghost use Rattle.latency_rule.specs.Hops.{hopOf};
+ghost use Rattle.check_rates.specs.Answers.{periodAt, TabledAs};
+ghost use Rattle.text_program.specs.Results.{judgementOf};
+ghost use Rattle.text_program.specs.Tables.{chainAt};
+ghost use Rattle.read_rule.specs.Reads.{rateIn};
+ghost use Rattle.check_latency.specs.Timely.{ByteFound, Known, Joined, Joinable, Timed, Judgeable, RouteOf, windowBy};
+
+// The index found, or 0.
+fn index_found(found: Found) -> u8
+    requires { ⌜ ByteFound found ⌝ }
+    ensures { λ r. ⌜ r ≡ foundOr 0 found ⌝ }
+{
+    match found {
+        Found::At(i) => i as u8,
+        Found::Nowhere => 0,
+    }
+}
+
+// The index of a read: its own, or the one settled.
+fn settled_index(kind: Kind, sampled: Sampled, w: Timing, r: Timing) -> u8
+    ensures { λ i. ⌜ i ≡ indexOf kind (rateIn w) (rateIn r) (sampled .factor) (sampled .index) ⌝ }
+{
+    let index = sampled.index;
+    match index {
+        Index::Fixed(i) => i,
+        Index::Open => {
+            let found = read_rule::find_index(kind, sampled, w, r);
+            index_found(found)
+        }
+    }
+}
+
+// A signal's period and phase by the tables.
+fn timing_at(periods: &[u8; 64], phases: &[u8; 64], x: usize) -> Timing
+    ensures { λ r. ⌜ r ≡ record { period = periodAt (now (periods .entry)) x; phase = periodAt (now (phases .entry)) x } ⌝ }
+{
+    Timing {
+        period: check_rates::period_at(periods, x),
+        phase: check_rates::period_at(phases, x),
+    }
+}
+
+// The way of a chain: its hops in the order of the links, and the signals of its first and its last link.
+pub struct Route {
+    pub hops: [Hop; 15],
+    pub count: usize,
+    pub source: u8,
+    pub last: u8,
+}
+
+// A hop that no read has.
+fn no_hop() -> Hop
+    ensures { λ r. ⌜ r ≡ noHop ⌝ }
+{
+    Hop {
+        kind: Kind::Now,
+        factor: 0,
+        index: 0,
+    }
+}
+
+// The hop of the one read of w in the equation of r.
+pub fn hop_at(
+    text: &[u8],
+    reads: &[u16],
+    tables: Tables,
+    periods: &[u8; 64],
+    phases: &[u8; 64],
+    w: u8,
+    r: u8,
+) -> Hop
+    requires { ⌜ TabledAs (now text) (now reads) tables ⌝ }
+    ensures { λ h. ⌜ ((p : Program) (s : Schedule) → Known (now (text .entry)) tables (now (periods .entry)) (now (phases .entry)) p s → w < count p → r < count p → countReads w (bodyReads (signalAt p r .body)) ≡ 1 → h ≡ hopOf p s r (readOf w (bodyReads (signalAt p r .body)))) ⌝ }
+{
+    let firsts = tables.firsts;
+    let found = check_rates::one_read(text, reads, &firsts, tables.signals, w, r);
+    let Found::At(at) = found else {
+        return no_hop();
+    };
+    let taken = text_command::taken_at(text, at);
+    let read = timing_at(periods, phases, w as usize);
+    let reader = timing_at(periods, phases, r as usize);
+    let kind = taken.kind;
+    let operands = taken.operands;
+    let index = settled_index(kind, operands, read, reader);
+    Hop {
+        kind: kind,
+        factor: operands.factor,
+        index: index,
+    }
+}
+
+// The route of a chain, link after link.
+fn follow(
+    text: &[u8],
+    reads: &[u16],
+    tables: Tables,
+    periods: &[u8; 64],
+    phases: &[u8; 64],
+    chain: usize,
+) -> Route
+    requires { ⌜ Joinable (now text) tables (now periods) (now phases) × (chain < tables .chains) × TabledAs (now text) (now reads) tables ⌝ }
+    ensures { λ r. ⌜ ((p : Program) (s : Schedule) → Joined (now (text .entry)) tables (now (periods .entry)) (now (phases .entry)) p s → RouteOf p s r (backwards (chainAt p chain))) ⌝ }
+{
+    let starts = tables.starts;
+    let lengths = tables.lengths;
+    let mut at = starts[chain] + width::in_program(0x12);
+    let mut left = lengths[chain];
+    let source = text[at + 1];
+    let mut last = source;
+    let mut count: usize = 0;
+    let mut hops = [no_hop(); 15];
+    while 1 < left {
+        let second = at + width::in_program(0x13);
+        let signal = text[second + 1];
+        let hop = hop_at(text, reads, tables, periods, phases, last, signal);
+        hops[count] = hop;
+        count = count + 1;
+        last = signal;
+        at = second;
+        left = left - 1;
+    }
+    Route {
+        hops: hops,
+        count: count,
+        source: source,
+        last: last,
+    }
+}
+
+// How many runs of the last link decide a chain: those of one hypercycle.
+fn window_of(h: usize, period: u8) -> usize
+    requires { ⌜ (h ≤ 240) × (0 < period) ⌝ }
+    ensures { λ r. ⌜ (r ≡ windowBy h period) × (r ≤ 240) ⌝ }
+{
+    h / (period as usize)
+}
+
+// The first of these runs: after as many hypercycles as there are hops every run counts.
+fn first_run(count: usize, window: usize) -> usize
+    requires { ⌜ (count ≤ 15) × (window ≤ 240) ⌝ }
+    ensures { λ r. ⌜ (r ≡ count * window) × (r ≤ 3600) ⌝ }
+{
+    count * window
+}
+
+// Whether a chain keeps its limit.
+fn keeps_time(
+    text: &[u8],
+    reads: &[u16],
+    tables: Tables,
+    periods: &[u8; 64],
+    phases: &[u8; 64],
+    h: usize,
+    chain: usize,
+) -> bool
+    requires { ⌜ Judgeable (now text) tables (now periods) (now phases) h × (chain < tables .chains) × TabledAs (now text) (now reads) tables ⌝ }
+    ensures { λ r. ⌜ ((p : Program) (s : Schedule) → Timed (now (text .entry)) tables (now (periods .entry)) (now (phases .entry)) h p s → r ≡ keeps p s h (chainAt p chain)) ⌝ }
+{
+    let starts = tables.starts;
+    let command = text_command::command_at(text, starts[chain]);
+    let Command::Latency(mode, bound) = command else {
+        return true;
+    };
+    let route = follow(text, reads, tables, periods, phases, chain);
+    let last = timing_at(periods, phases, route.last as usize);
+    let source = timing_at(periods, phases, route.source as usize);
+    let hops = route.hops;
+    let count = route.count;
+    let window = window_of(h, last.period);
+    let from = first_run(count, window);
+    latency_rule::is_timely(
+        mode,
+        bound as usize,
+        hops,
+        count,
+        last,
+        source,
+        from,
+        window,
+    )
+}
+
+// 16 at the lowest LAT whose chain does not keep its limit. (Chains × links × runs in the window.)
+pub fn check_latency(
+    text: &[u8],
+    reads: &[u16],
+    tables: Tables,
+    periods: &[u8; 64],
+    phases: &[u8; 64],
+    h: usize,
+) -> Judged
+    requires { ⌜ Judgeable (now text) tables (now periods) (now phases) h × TabledAs (now text) (now reads) tables ⌝ }
+    ensures { λ r. ⌜ ((p : Program) (s : Schedule) → Timed (now (text .entry)) tables (now (periods .entry)) (now (phases .entry)) h p s → r ≡ judgementOf (timely p s h)) ⌝ }
+{
+    let starts = tables.starts;
+    let mut chain: usize = 0;
+    while chain < tables.chains {
+        if !keeps_time(text, reads, tables, periods, phases, h, chain) {
+            return Judged::Refused(Fault {
+                number: 16,
+                place: starts[chain],
+            });
+        }
+        chain = chain + 1;
+    }
+    Judged::Fine
+}

@@ -1,0 +1,93 @@
+-- `check_load::add_runs` meets its contract. Assumes nothing.
+use Prim.Native.Nat.{ℕ, _*_, _-_, _≤_, _<_}
+use mathlib.Core.Bool.{true}
+use mathlib.Core.Path.{_≡_, refl, _∙_}
+use native.Mathlib.Omega.{arith}
+use denote.Ref.{now}
+use lib.ListN.{length, getD, length-set}
+use lib.Seq.{getD-set-other}
+use borrow.Author.Needs.{needs}
+use Rattle.model.specs.Rules.Reads.{due}
+use Rattle.check_load.proofs.Runs.{RaisedTo, due-first, due-next, raised-none, raised-next, added-most}
+use Rattle.check_load.proofs.add_runs.Statement.{statement}
+use Rattle.check_load.proofs.add_runs.Tie as tie
+
+abbrev Inv-loop : tie.InvT-loop
+Inv-loop loads₀ period phase weight hypercycle step more next₀ loads next =
+    (phase < period) × (hypercycle ≤ 240) × ((c : ℕ) → c < hypercycle → getD loads₀ c 0 ≤ 63 * 65535) × (length loads ≡ 240) ×
+    (due (record { period = period; phase = phase }) next ≡ true) ×
+    RaisedTo (record { period = period; phase = phase }) weight loads₀ loads next ×
+    ((c : ℕ) → hypercycle ≤ c → getD loads c 0 ≡ getD loads₀ c 0)
+
+abbrev μ-loop : tie.MeasureT-loop
+μ-loop loads₀ period phase weight hypercycle step more next₀ loads next = hypercycle - next
+
+loop-holds : tie.Need-loop-holds Inv-loop μ-loop
+loop-holds c =
+    let v = c .pre .0 in
+    (v, c .pre .1, c .pre .3, c .pre .2, due-first _ v, raised-none _ v (c .args .weight) (now (c .args .loads)), (λ d le. refl))
+
+mul-loads : tie.Need-mul-loads Inv-loop μ-loop
+mul-loads c = search needs
+
+element-copy-out-loads : tie.Need-element-copy-out-loads Inv-loop μ-loop
+element-copy-out-loads c = omega arith
+
+add-loads : tie.Need-add-loads Inv-loop μ-loop
+add-loads c =
+    let l = c .before .before .loop in
+    omega (arith, l .inv .2 (l .next) (omega arith), l .inv .5 .1 (l .next) (omega arith))
+
+mul-loads-2 : tie.Need-mul-loads-2 Inv-loop μ-loop
+mul-loads-2 c = search needs
+
+element-write-loads : tie.Need-element-write-loads Inv-loop μ-loop
+element-write-loads c = omega arith
+
+add-next : tie.Need-add-next Inv-loop μ-loop
+add-next c = omega arith
+
+loop-less : tie.Need-loop-less Inv-loop μ-loop
+loop-less c = omega arith
+
+loop-again : tie.Need-loop-again Inv-loop μ-loop
+loop-again c =
+    let l = c .before .before .loop in
+    let i = l .inv in
+    let v = i .0 in (
+      v,
+      i .1,
+      i .2,
+      length-set (l .loads) (l .next) _ ∙ i .3,
+      due-next _ v (l .next) (i .4),
+      raised-next _ v _ (now (c .before .before .before .args .loads)) (l .loads) (l .next) (i .4) (omega arith) (i .5),
+      (λ d le. getD-set-other (l .loads) (l .next) d _ 0 (λ e. omega arith) ∙ i .6 d le),
+    )
+
+returns : tie.Need-returns Inv-loop μ-loop
+returns c =
+    let i = c .before .loop .inv in
+    let a = c .before .before .args in
+    record {
+      long = i .3;
+      raised = λ d lt. i .5 .0 d (omega arith);
+      bounded = λ d lt. omega (arith, i .5 .0 d (omega arith), added-most (record { period = a .period; phase = a .phase }) (a .weight) d 65535 (omega arith));
+      beyond = i .6;
+    }
+
+pub add-runs-spec : {M : Type 1} → statement M
+add-runs-spec =
+    tie.close
+    (tie.spec
+    Inv-loop
+    μ-loop
+    loop-holds
+    mul-loads
+    element-copy-out-loads
+    add-loads
+    mul-loads-2
+    element-write-loads
+    add-next
+    loop-less
+    loop-again
+    returns)

@@ -1,0 +1,94 @@
+-- `check_load::loads_of` meets its contract. Assumes nothing.
+use Prim.Native.Nat.{ℕ, _+_, _*_, _-_, _≤_, _<_}
+use mathlib.Core.Path.{_≡_, refl, sym, ap, _∙_}
+use native.Mathlib.Nat.{le-of-eq}
+use native.Mathlib.Omega.{arith}
+use denote.Ref.{now}
+use lib.ListN.{length, getD, getD-replicate}
+use Rattle.check_load.specs.Load.{loadIn, LoadsOf}
+use Rattle.check_load.proofs.Laws.{load-none, loads-more}
+use Rattle.check_load.proofs.loads_of.Statement.{statement}
+use Rattle.check_load.proofs.loads_of.Tie as tie
+
+abbrev Inv-loop : tie.InvT-loop
+Inv-loop signals periods phases weights hypercycle loads₀ x₀ loads x =
+    (x ≤ signals) × (signals ≤ 64) × (hypercycle ≤ 240) × ((y : ℕ) → y < signals → getD phases y 0 < getD periods y 0) ×
+    (length loads ≡ 240) × ((c : ℕ) → c < hypercycle → getD loads c 0 ≤ x * 65535) ×
+    LoadsOf periods phases weights x hypercycle loads
+
+abbrev μ-loop : tie.MeasureT-loop
+μ-loop signals periods phases weights hypercycle loads₀ x₀ loads x = signals - x
+
+loop-holds : tie.Need-loop-holds Inv-loop μ-loop
+loop-holds c = (
+  omega arith,
+  c .pre .0,
+  c .pre .1,
+  c .pre .2,
+  refl,
+  (λ d lt. le-of-eq (getD-replicate {A = ℕ} 240 d 0 0 (omega arith))),
+  (λ d lt. getD-replicate {A = ℕ} 240 d 0 0 (omega arith) ∙ sym (load-none _ _ _ d)),
+)
+
+element-copy-out-add-runs : tie.Need-element-copy-out-add-runs Inv-loop μ-loop
+element-copy-out-add-runs c = omega arith
+
+element-copy-out-add-runs-2 : tie.Need-element-copy-out-add-runs-2 Inv-loop μ-loop
+element-copy-out-add-runs-2 c = omega arith
+
+mul-add-runs : tie.Need-mul-add-runs Inv-loop μ-loop
+mul-add-runs c = omega arith
+
+element-copy-out-add-runs-3 : tie.Need-element-copy-out-add-runs-3 Inv-loop μ-loop
+element-copy-out-add-runs-3 c = omega arith
+
+add-runs-requires : tie.Need-add-runs-requires Inv-loop μ-loop
+add-runs-requires c κs =
+    let l = c .before .before .before .before .before .loop in
+    let i = l .inv in
+    (i .3 (l .x) (omega arith), i .2, i .4, (λ d lt. omega (arith, i .5 d lt)))
+
+add-x : tie.Need-add-x Inv-loop μ-loop
+add-x c = omega arith
+
+loop-less : tie.Need-loop-less Inv-loop μ-loop
+loop-less c = omega arith
+
+loop-again : tie.Need-loop-again Inv-loop μ-loop
+loop-again c =
+    let l = c .before .before .before .before .before .before .loop in
+    let i = l .inv in
+    let a = c .before .before .before .before .before .before .before .args in
+    let r = c .add-runs .ensures in (
+      omega arith,
+      i .1,
+      i .2,
+      i .3,
+      r .long,
+      (λ d lt. omega (arith, r .bounded d lt, i .5 d lt)),
+      loads-more (now (a .periods)) (now (a .phases)) (now (a .weights)) (l .x) (a .hypercycle) (l .loads) _ (i .6) r,
+    )
+
+returns : tie.Need-returns Inv-loop μ-loop
+returns c d lt =
+    let l = c .before .loop in
+    let a = c .before .before .args in
+    let e : l .x ≡ a .signals = omega arith in
+    l .inv .6 d lt ∙ ap (λ n. loadIn (now (a .periods)) (now (a .phases)) (now (a .weights)) n d) e
+
+pub loads-of-spec : {M : Type 1} → statement M
+loads-of-spec =
+    tie.close
+    (tie.spec
+    Inv-loop
+    μ-loop
+    loop-holds
+    element-copy-out-add-runs
+    element-copy-out-add-runs-2
+    mul-add-runs
+    element-copy-out-add-runs-3
+    add-runs-requires
+    add-x
+    loop-less
+    loop-again
+    returns)

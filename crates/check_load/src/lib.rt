@@ -1,0 +1,99 @@
+// Load: in no cycle of the hypercycle does the summed weight of the signals run exceed CAP (15).
+use model::Fault;
+use model::Found;
+use text_program::Judged;
+ghost use mathlib.Core.Path.{_≡_};
+ghost use Prim.Native.Nat.{ℕ, _*_, _≤_, _<_};
+ghost use lib.Dec.{ltb};
+ghost use lib.ListN.{length, getD};
+ghost use Rattle.model.specs.Rules.Load.{loaded};
+ghost use Rattle.model.specs.Rules.Program.{Program, count};
+ghost use Rattle.model.specs.Rules.Schedule.{Schedule};
+ghost use Rattle.model.specs.Rules.Search.{first};
+ghost use Rattle.text_program.specs.Results.{judgementOf};
+ghost use Rattle.text_program.specs.Tables.{PeriodsOf, WeightsOf, capOf};
+ghost use Rattle.check_load.specs.Load.{LoadsOf, Raised, PhasesOf};
+
+// Adds a signal's weight to the loads of the cycles in which it runs, stepping from run to run. The loads so far are of at most
+// 63 signals, so that no sum wraps.
+pub fn add_runs(loads: &mut [u32; 240], period: u8, phase: u8, weight: u16, hypercycle: usize)
+    requires { ⌜ (phase < period) × (hypercycle ≤ 240) × (length (now loads) ≡ 240) × ((c : ℕ) → c < hypercycle → getD (now loads) c 0 ≤ 63 * 65535) ⌝ }
+    ensures { λ r. ⌜ Raised (record { period = period; phase = phase }) weight hypercycle (now (loads .entry)) (now (loads .exit)) ⌝ }
+{
+    let step = period as usize;
+    let more = weight as u32;
+    let mut next = phase as usize;
+    while next < hypercycle {
+        loads[next] = loads[next] + more;
+        next = next + step;
+    }
+}
+
+// The load of each cycle below the hypercycle. A step for each run of each signal.
+fn loads_of(
+    signals: usize,
+    periods: &[u8; 64],
+    phases: &[u8; 64],
+    weights: &[u16; 64],
+    hypercycle: usize,
+) -> [u32; 240]
+    requires { ⌜ (signals ≤ 64) × (hypercycle ≤ 240) × ((x : ℕ) → x < signals → getD (now phases) x 0 < getD (now periods) x 0) ⌝ }
+    ensures { λ r. ⌜ LoadsOf (now (periods .entry)) (now (phases .entry)) (now (weights .entry)) signals hypercycle r ⌝ }
+{
+    let mut loads: [u32; 240] = [0; 240];
+    let mut x: usize = 0;
+    while x < signals {
+        add_runs(&mut loads, periods[x], phases[x], weights[x], hypercycle);
+        x = x + 1;
+    }
+    loads
+}
+
+fn refuse(cycle: usize) -> Judged
+    ensures { λ r. ⌜ r ≡ Judged.Refused (record { number = 15; place = cycle }) ⌝ }
+{
+    Judged::Refused(Fault {
+        number: 15,
+        place: cycle,
+    })
+}
+
+// The lowest cycle below the hypercycle whose load is over the limit.
+fn first_over(loads: &[u32; 240], limit: u32, hypercycle: usize) -> Found
+    requires { ⌜ hypercycle ≤ 240 ⌝ }
+    ensures { λ r. ⌜ r ≡ first hypercycle (λ c. ltb limit (getD (now (loads .entry)) c 0)) ⌝ }
+{
+    let mut cycle: usize = 0;
+    while cycle < hypercycle {
+        let load = loads[cycle];
+        if limit < load {
+            return Found::At(cycle);
+        }
+        cycle = cycle + 1;
+    }
+    Found::Nowhere
+}
+
+// 15 at the lowest cycle of the hypercycle whose load is over CAP. Its cost is a step for each run and each cycle.
+pub fn check_load(
+    signals: usize,
+    periods: &[u8; 64],
+    phases: &[u8; 64],
+    weights: &[u16; 64],
+    capped: bool,
+    limit: u32,
+    hypercycle: usize,
+) -> Judged
+    requires { ⌜ (signals ≤ 64) × (hypercycle ≤ 240) × ((x : ℕ) → x < signals → getD (now phases) x 0 < getD (now periods) x 0) ⌝ }
+    ensures { λ r. ⌜ ((p : Program) (s : Schedule) → count p ≡ signals → PeriodsOf p (now (periods .entry)) → WeightsOf p (now (weights .entry)) → PhasesOf p s (now (phases .entry)) → p .cap ≡ capOf capped limit → r ≡ judgementOf (loaded p s hypercycle)) ⌝ }
+{
+    if !capped {
+        return Judged::Fine;
+    }
+    let loads = loads_of(signals, periods, phases, weights, hypercycle);
+    let over = first_over(&loads, limit, hypercycle);
+    match over {
+        Found::At(cycle) => refuse(cycle),
+        Found::Nowhere => Judged::Fine,
+    }
+}

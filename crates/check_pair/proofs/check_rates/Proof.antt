@@ -1,0 +1,83 @@
+-- `check_pair::check_rates` meets its contract. Assumes nothing.
+use mathlib.Core.Path.{refl, _∙_}
+use borrow.Author.Needs.{needs}
+use Rattle.check_pair.specs.Steps.{ratesOf}
+use Rattle.check_pair.proofs.Laws.{few-signals, answers-then, answers-stop, answers-last, judgement-answers, judgement-fine, judgement-refused, cycles-least, cycles-refused}
+use Rattle.check_pair.proofs.check_rates.Statement.{statement}
+use Rattle.check_pair.proofs.check_rates.Tie as tie
+
+declared-and-rated-requires : tie.Need-declared-and-rated-requires
+declared-and-rated-requires c κs = search needs
+
+enum-told : tie.Need-enum-told
+enum-told c = search needs
+
+enum-told-2 : tie.Need-enum-told-2
+enum-told-2 c = search needs
+
+unrated-requires : tie.Need-unrated-requires
+unrated-requires c κs = search needs
+
+returns : tie.Need-returns
+unfolding ratesOf
+returns c p e t =
+    let told = c .before .enum-told2 .given in
+    let d = c .before .before .before .declared-and-rated .ensures p e in
+    answers-stop _ _ _ _ _ (judgement-refused _ _ _ d (told .1)) (c .unrated .ensures ∙ told .1)
+
+hypercycle-requires : tie.Need-hypercycle-requires
+hypercycle-requires c κs = let known = c .before .before .before .before .before .before .before .pre in few-signals _ _ _ (known .1) (known .2)
+
+enum-known-cycles : tie.Need-enum-known-cycles
+enum-known-cycles c = search needs
+
+enum-told-3 : tie.Need-enum-told-3
+enum-told-3 c = search needs
+
+judged-cycles-requires : tie.Need-judged-cycles-requires
+judged-cycles-requires c κs = search needs
+
+unrated-requires-2 : tie.Need-unrated-requires-2
+unrated-requires-2 c κs = search needs
+
+returns-2 : tie.Need-returns-2
+unfolding ratesOf
+returns-2 c p e t =
+    let told = c .before .before .enum-told3 .given in
+    let n = t .counts .signals-are in
+    let h = c .before .before .before .before in
+    let d = h .before .before .before .before .before in
+    answers-then _ _ _ _ _ (judgement-fine _ _ (d .declared-and-rated .ensures p e) (h .before .before .before .enum-told .given .1))
+    (answers-stop _ _ _ _ _ (cycles-refused _ _ _ (h .hypercycle .ensures p n (t .periods)) (told .1))
+    (c .unrated2 .ensures ∙ c .before .judged-cycles .ensures _ (told .1)))
+
+linked-requires : tie.Need-linked-requires
+linked-requires c κs = search needs
+
+returns-3 : tie.Need-returns-3
+unfolding ratesOf
+returns-3 c p e t =
+    let n = t .counts .signals-are in
+    let h = c .before .before .before .before in
+    let d = h .before .before .before .before .before in
+    answers-then _ _ _ _ _ (judgement-fine _ _ (d .declared-and-rated .ensures p e) (h .before .before .before .enum-told .given .1))
+    (answers-then _ _ _ _ _ (cycles-least _ _ _ (h .hypercycle .ensures p n (t .periods)) (c .before .before .cycles .given .1))
+    (answers-last _ _ _ _ (judgement-answers _ _ _ (c .linked .ensures p e t) (λ _. refl))))
+
+pub check-rates-spec : {M : Type 1} → statement M
+check-rates-spec =
+    tie.close
+    (tie.spec
+    declared-and-rated-requires
+    enum-told
+    enum-told-2
+    unrated-requires
+    returns
+    hypercycle-requires
+    enum-known-cycles
+    enum-told-3
+    judged-cycles-requires
+    unrated-requires-2
+    returns-2
+    linked-requires
+    returns-3)

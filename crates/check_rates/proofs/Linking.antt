@@ -1,0 +1,110 @@
+-- The links of a chain (10), link after link. Assumes nothing.
+use Prim.Native.Nat.{ℕ, suc, _+_, _-_, _≤_, _<_}
+use mathlib.Core.Bool.{Bool, true, false, _&&_}
+use mathlib.Core.List.{List, [], _∷_}
+use mathlib.Core.Path.{_≡_, refl, ap, _∙_}
+use native.Mathlib.Omega.{arith}
+use lib.Dec.{eqb}
+use lib.ListN.{length, getD}
+use Rattle.model.specs.Rules.Outcome.{accepted}
+use Rattle.model.specs.Rules.Program.{Link, Program, signalAt, parseProgram, bodyReads}
+use Rattle.model.specs.Rules.Rates.{countReads, isLinked}
+use Rattle.model.specs.Rules.Word.{byteAt}
+use Rattle.model.proofs.All.{all-at}
+use Rattle.model.proofs.Commands.{command-sound}
+use Rattle.model.proofs.Legal.{legal, SpellsChain}
+use Rattle.model.specs.Says.Grammar.{SpellsLinks}
+use Rattle.text_program.specs.Tables.{noChain, chainAt, TablesOf}
+use Rattle.text_program.specs.declared.Tables.{Tables}
+use Rattle.check_rates.specs.Answers.{ReadAs}
+
+-- The LINKs from `at` on, of whose chain so much is judged.
+pub record LinksLeft (text : List ℕ) (p : Program) (whole : List Link) (at left : ℕ) : Type 0 where
+  pub links : List Link
+  pub end : ℕ
+  pub spelled : SpellsLinks text at links end
+  pub many : length links ≡ left
+  pub judged : isLinked p whole ≡ isLinked p links
+
+-- Two links, the second of them linked to the first or not.
+record Two (text : List ℕ) (p : Program) (links : List Link) (at end : ℕ) : Type 0 where
+  rest : List Link
+  spelled : SpellsLinks text (at + 2) rest end
+  fewer : length links ≡ suc (length rest)
+  inside : at + 4 ≤ length text
+  judged :
+      isLinked p links ≡
+      eqb (countReads (byteAt text (at + 1)) (bodyReads (signalAt p (byteAt text (at + 2 + 1)) .body))) 1 && isLinked p rest
+
+module _ (text : List ℕ) (p : Program) where
+  two : (links : List Link) (at end : ℕ) → SpellsLinks text at links end → 2 ≤ length links → Two text p links at end
+  unfolding isLinked
+  two links at end (SpellsLinks.ends e) h = absurd (omega arith)
+  two links at end (SpellsLinks.link e le (SpellsLinks.ends f)) h = absurd (omega arith)
+  two links at end (SpellsLinks.link e le (SpellsLinks.link {ls = ls} f lf r)) h =
+      record {
+        rest = record { place = at + 2; signal = byteAt text (at + 2 + 1) } ∷ ls;
+        spelled = SpellsLinks.link f lf r;
+        fewer = refl;
+        inside = omega arith;
+        judged = refl;
+      }
+
+  one : (links : List Link) → length links ≤ 1 → isLinked p links ≡ true
+  unfolding isLinked
+  one [] h = refl
+  one (a ∷ []) h = refl
+  one (a ∷ (b ∷ ls)) h = absurd (omega arith)
+
+  module _ (whole : List Link) (at left : ℕ) (h : LinksLeft text p whole at left) where
+    pub link-inside : 1 < left → at + 4 ≤ length text
+    link-inside lt = two (h .links) at (h .end) (h .spelled) (omega (arith, h .many)) .inside
+
+    -- The next link is not linked, or is; or there is none.
+    abbrev once : Bool
+    once = eqb (countReads (byteAt text (at + 1)) (bodyReads (signalAt p (byteAt text (at + 2 + 1)) .body))) 1
+
+    pub link-broken : 1 < left → once ≡ false → isLinked p whole ≡ false
+    link-broken lt f =
+        let t = two (h .links) at (h .end) (h .spelled) (omega (arith, h .many)) in
+        h .judged ∙ t .judged ∙ ap (λ b. b && isLinked p (t .rest)) f
+
+    pub link-on : 1 < left → once ≡ true → LinksLeft text p whole (at + 2) (left - 1)
+    link-on lt f =
+        let t = two (h .links) at (h .end) (h .spelled) (omega (arith, h .many)) in
+        record {
+          links = t .rest;
+          end = h .end;
+          spelled = t .spelled;
+          many = omega (arith, h .many, t .fewer);
+          judged = h .judged ∙ t .judged ∙ ap (λ b. b && isLinked p (t .rest)) f;
+        }
+
+    pub link-over : left ≤ 1 → isLinked p whole ≡ true
+    link-over le = h .judged ∙ one (h .links) (omega (arith, h .many))
+
+-- Where a chain's links start.
+pub chain-start : (text : List ℕ) (p : Program) → parseProgram text ≡ accepted p → (j : ℕ) → j < length (p .chains) →
+    (chainAt p j .place + 4 ≤ length text) ×
+    LinksLeft text p (chainAt p j .links) (chainAt p j .place + 4) (length (chainAt p j .links))
+chain-start text p q j lt =
+    let c = all-at (SpellsChain text) (p .chains) noChain (legal text p q .1 .chains) j lt in (
+      command-sound text _ _ (c .command),
+      record { links = chainAt p j .links; end = c .end; spelled = c .links; many = refl; judged = refl },
+    )
+
+-- What the tables say of a chain: that it has a place in them, and where its links start.
+pub few-chains : (text : List ℕ) (tables : Tables) → ReadAs text tables → tables .chains ≤ 16
+few-chains text tables (p, q, t) = omega (arith, t .counts .chains-are, legal text p q .1 .fewChains)
+
+module _ (text : List ℕ) (tables : Tables) (chain : ℕ) (lt : chain < tables .chains) where
+  pub chain-begins : (p : Program) → parseProgram text ≡ accepted p → TablesOf p tables →
+      LinksLeft text p (chainAt p chain .links) (getD (tables .starts) chain 0 + 4) (getD (tables .lengths) chain 0)
+  chain-begins p q t =
+      let l : chain < length (p .chains) = omega (arith, t .counts .chains-are) in
+      rw (t .starts chain l, t .lengths chain l) (chain-start text p q chain l .1)
+
+  pub chain-inside : ReadAs text tables → getD (tables .starts) chain 0 + 4 ≤ length text
+  chain-inside (p, q, t) =
+      let l : chain < length (p .chains) = omega (arith, t .counts .chains-are) in
+      omega (arith, t .starts chain l, chain-start text p q chain l .0)

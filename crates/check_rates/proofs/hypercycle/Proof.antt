@@ -1,0 +1,71 @@
+-- `check_rates::hypercycle` meets its contract. Assumes nothing.
+use Prim.Native.Nat.{_-_, _≤_, _<_}
+use mathlib.Core.Path.{_≡_, sym, ap, _∙_}
+use native.Mathlib.Omega.{arith}
+use lib.ListN.{length}
+use borrow.Author.Needs.{needs}
+use Rattle.model.specs.Rules.Program.{Program}
+use Rattle.model.specs.Rules.Rates.{hypercycleOf, hypercycle}
+use Rattle.text_program.specs.Tables.{PeriodsOf}
+use Rattle.check_rates.specs.Answers.{cyclesOf}
+use Rattle.check_rates.proofs.Multiples.{leftFrom, cycle-start, cycle-here, cycle-later, cycle-over}
+use Rattle.check_rates.proofs.hypercycle.Statement.{statement}
+use Rattle.check_rates.proofs.hypercycle.Tie as tie
+
+abbrev Inv-loop : tie.InvT-loop
+Inv-loop count periods h₀ h =
+    (h ≤ 240) ×
+    ((p : Program) → length (p .signals) ≡ count → PeriodsOf p periods → hypercycle p ≡ hypercycleOf (leftFrom p h))
+
+abbrev μ-loop : tie.MeasureT-loop
+μ-loop count periods h₀ h = 240 - h
+
+loop-holds : tie.Need-loop-holds Inv-loop μ-loop
+loop-holds c = (omega arith, λ p n t. cycle-start p)
+
+add-next : tie.Need-add-next Inv-loop μ-loop
+add-next c = omega arith
+
+is-multiple-requires : tie.Need-is-multiple-requires Inv-loop μ-loop
+is-multiple-requires c κs = search needs
+
+returns : tie.Need-returns Inv-loop μ-loop
+unfolding cyclesOf
+returns c =
+    let l = c .before .before .before .loop in
+    let lt : l .h < 240 = omega (arith, c .before .before .loop-test .taken) in
+    λ p n t.
+    sym (ap cyclesOf (l .inv .1 p n t ∙ cycle-here p (l .h) lt (sym (c .before .is-multiple .ensures p n t) ∙ c .if1 .taken)))
+
+loop-less : tie.Need-loop-less Inv-loop μ-loop
+loop-less c = omega arith
+
+loop-again : tie.Need-loop-again Inv-loop μ-loop
+loop-again c =
+    let l = c .before .before .before .loop in
+    let lt : l .h < 240 = omega (arith, c .before .before .loop-test .taken) in (
+      omega arith,
+      λ p n t.
+          l .inv .1 p n t ∙
+          ap hypercycleOf (cycle-later p (l .h) lt (sym (c .before .is-multiple .ensures p n t) ∙ c .if1 .left)),
+    )
+
+returns-2 : tie.Need-returns-2 Inv-loop μ-loop
+unfolding cyclesOf
+returns-2 c =
+    let l = c .before .loop in
+    λ p n t. sym (ap cyclesOf (l .inv .1 p n t ∙ cycle-over p (l .h) (omega (arith, c .loop-test .left, l .inv .0))))
+
+pub hypercycle-spec : {M : Type 1} → statement M
+hypercycle-spec =
+    tie.close
+    (tie.spec
+    Inv-loop
+    μ-loop
+    loop-holds
+    add-next
+    is-multiple-requires
+    returns
+    loop-less
+    loop-again
+    returns-2)

@@ -1,0 +1,144 @@
+-- `check_rates::is_linked` meets its contract. Assumes nothing.
+use Prim.Native.Nat.{ℕ, _+_, _≤_, _<_}
+use mathlib.Core.Path.{_≡_, sym, _∙_}
+use native.Mathlib.Omega.{arith}
+use denote.Ref.{now}
+use lib.ListN.{length}
+use borrow.Author.Needs.{needs}
+use Rattle.model.specs.Rules.Outcome.{accepted}
+use Rattle.model.specs.Rules.Program.{Program, parseProgram}
+use Rattle.text_program.specs.Tables.{TablesOf, chainAt}
+use Rattle.check_rates.proofs.Counting.{found-one, found-none}
+use Rattle.check_rates.proofs.Judging.{indexed, few-signals}
+use Rattle.check_rates.proofs.Linking.{LinksLeft, link-inside, link-broken, link-on, link-over, few-chains, chain-begins, chain-inside}
+use Rattle.check_rates.proofs.is_linked.Statement.{statement}
+use Rattle.check_rates.proofs.is_linked.Tie as tie
+
+abbrev Inv-loop : tie.InvT-loop
+Inv-loop text reads tables chain firsts at₀ left₀ at left =
+    (p : Program) → parseProgram text ≡ accepted p → TablesOf p tables → LinksLeft text p (chainAt p chain .links) at left
+
+abbrev μ-loop : tie.MeasureT-loop
+μ-loop text reads tables chain firsts at₀ left₀ at left = left
+
+-- the two links at hand lie within the text
+inside : (c : tie.In-loop Inv-loop μ-loop) →
+    c .before .loop .at + 4 ≤ length (now (c .before .before .before .before .before .before .before .before .args .text))
+inside c =
+    let r = c .before .before .before .before .before .before .before .before .pre .0 in
+    link-inside _ _ _ _ _ (c .before .loop .inv (r .0) (r .1) (r .2)) (c .loop-test .taken)
+
+few : (c : tie.After-lengths Inv-loop μ-loop) → c .before .before .before .before .before .args .chain < 16
+few c =
+    let s = c .before .before .before .before .before in
+    let r = s .pre .0 in
+    omega (arith, s .pre .1, few-chains _ _ (r .0, r .1, r .2))
+
+mul-at : tie.Need-mul-at Inv-loop μ-loop
+mul-at c = omega (arith, few c)
+
+array-read-at : tie.Need-array-read-at Inv-loop μ-loop
+array-read-at c = few c
+
+in-program-requires : tie.Need-in-program-requires Inv-loop μ-loop
+in-program-requires c κs = search needs
+
+add-at : tie.Need-add-at Inv-loop μ-loop
+add-at c =
+    let s = c .before .before .before .before .before .before in
+    let r = s .pre .0 in
+    omega (arith, chain-inside _ _ _ (s .pre .1) (r .0, r .1, r .2))
+
+mul-left : tie.Need-mul-left Inv-loop μ-loop
+mul-left c = omega (arith, few (c .before))
+
+array-read-left : tie.Need-array-read-left Inv-loop μ-loop
+array-read-left c = few (c .before)
+
+loop-holds : tie.Need-loop-holds Inv-loop μ-loop
+loop-holds c =
+    let s = c .before .before .before .before .before .before in
+    λ p q t. rw (c .in-program .ensures) (chain-begins _ _ _ (s .pre .1) p q t)
+
+in-program-requires-2 : tie.Need-in-program-requires-2 Inv-loop μ-loop
+in-program-requires-2 c κs = search needs
+
+add-second : tie.Need-add-second Inv-loop μ-loop
+add-second c = omega (arith, inside (c .before))
+
+add-before : tie.Need-add-before Inv-loop μ-loop
+add-before c = omega (arith, inside (c .before))
+
+shared-slice-read-before : tie.Need-shared-slice-read-before Inv-loop μ-loop
+shared-slice-read-before c = omega (arith, inside (c .before .before))
+
+add-signal : tie.Need-add-signal Inv-loop μ-loop
+add-signal c = omega (arith, inside (c .before .before))
+
+shared-slice-read-signal : tie.Need-shared-slice-read-signal Inv-loop μ-loop
+shared-slice-read-signal c = omega (arith, inside (c .before .before .before))
+
+one-read-requires : tie.Need-one-read-requires Inv-loop μ-loop
+one-read-requires c κs =
+    let s = c .before .before .before .before .before .before .before .before .before .before .before .before in
+    (few-signals _ _ _ (s .pre .0), indexed _ _ _ (s .pre .0))
+
+enum-told : tie.Need-enum-told Inv-loop μ-loop
+enum-told c = search needs
+
+enum-told-2 : tie.Need-enum-told-2 Inv-loop μ-loop
+enum-told-2 c = search needs
+
+returns : tie.Need-returns Inv-loop μ-loop
+returns c =
+    let b = c .before .before .before .before .before .before .before in
+    let two = c .before .before .before .before .before .before .in-program2 .ensures in
+    λ p q t.
+    let r = rw two at (c .before .before .one-read .ensures p q) in
+    sym (link-broken _ _ _ _ _ (b .before .loop .inv p q t) (b .loop-test .taken) (found-none _ _ (sym r ∙ c .enum-told2 .given .1)))
+
+sub-left : tie.Need-sub-left Inv-loop μ-loop
+sub-left c = omega (arith, c .before .before .before .before .before .before .before .loop-test .taken)
+
+loop-less : tie.Need-loop-less Inv-loop μ-loop
+loop-less c = omega (arith, c .before .before .before .before .before .before .before .loop-test .taken)
+
+loop-again : tie.Need-loop-again Inv-loop μ-loop
+loop-again c =
+    let b = c .before .before .before .before .before .before .before in
+    let two = c .before .before .before .before .before .before .in-program2 .ensures in
+    λ p q t.
+    let r = rw two at (c .before .before .one-read .ensures p q) in
+    rw two
+    (link-on _ _ _ _ _ (b .before .loop .inv p q t) (b .loop-test .taken) (found-one _ _ _ (sym r ∙ c .enum-told .given .1) .0))
+
+returns-2 : tie.Need-returns-2 Inv-loop μ-loop
+returns-2 c = λ p q t. sym (link-over _ _ _ _ _ (c .before .loop .inv p q t) (omega (arith, c .loop-test .left)))
+
+pub is-linked-spec : {M : Type 1} → statement M
+is-linked-spec =
+    tie.close
+    (tie.spec
+    Inv-loop
+    μ-loop
+    mul-at
+    array-read-at
+    in-program-requires
+    add-at
+    mul-left
+    array-read-left
+    loop-holds
+    in-program-requires-2
+    add-second
+    add-before
+    shared-slice-read-before
+    add-signal
+    shared-slice-read-signal
+    one-read-requires
+    enum-told
+    enum-told-2
+    returns
+    sub-left
+    loop-less
+    loop-again
+    returns-2)

@@ -1,0 +1,222 @@
+-- `check_rates::judge_links` meets its contract. Assumes nothing.
+use Prim.Native.Nat.{ℕ, suc, _+_, _*_, _-_, _≤_, _<_}
+use mathlib.Core.List.{List}
+use mathlib.Core.Path.{_≡_, refl, sym, ap, subst, _∙_}
+use native.Mathlib.Omega.{arith}
+use denote.Ref.{now}
+use lib.ListN.{length, getD}
+use borrow.Author.Needs.{needs}
+use Rattle.model.specs.Rules.Outcome.{accepted, lowest}
+use Rattle.model.specs.Rules.Program.{Program, parseProgram}
+use Rattle.text_program.specs.Results.{judgementOf}
+use Rattle.text_program.specs.declared.Judged.the-variants as Judged
+use Rattle.text_program.specs.declared.Tables.{Tables}
+use Rattle.text_program.proofs.ByIndex.{Ahead, Before, links-in, check-starts, check-enters, check-leaves, check-ends, check-passes, check-refuses}
+use Rattle.text_program.proofs.Rising.{linkPlaces, rising-program}
+use Rattle.check_rates.specs.Answers.{linkRates, ReadAs}
+use Rattle.check_rates.proofs.Judging.{
+  linkAs,
+  link-there,
+  chains-are,
+  few-chains,
+  length-is,
+  chain-inside,
+  link-seen,
+  link-inside,
+  one-link,
+}
+use Rattle.check_rates.proofs.judge_links.Statement.{statement}
+use Rattle.check_rates.proofs.judge_links.Tie as tie
+
+-- What holds of the program that the text is.
+abbrev Claim : List ℕ → (Program → Type 0) → Type 0
+Claim text C = (p : Program) → parseProgram text ≡ accepted p → C p
+
+abbrev Inv-loop2 : tie.InvT-loop2
+Inv-loop2 text count chains starts lengths chain first links i₀ i =
+    (i ≤ links) × Claim text (λ p. Ahead (links-in p) (linkAs p) (lowest (linkRates p)) chain i)
+
+abbrev μ-loop2 : tie.MeasureT-loop2
+μ-loop2 text count chains starts lengths chain first links i₀ i = links - i
+
+abbrev Inv-loop : tie.InvT-loop
+Inv-loop text count chains starts lengths chain₀ chain =
+    (chain ≤ chains) × Claim text (λ p. Before (links-in p) (linkAs p) (lowest (linkRates p)) chain)
+
+abbrev μ-loop : tie.MeasureT-loop
+μ-loop text count chains starts lengths chain₀ chain = chains - chain
+
+-- where a chain is left
+module _ (b : tie.In-loop Inv-loop2 μ-loop2 Inv-loop μ-loop) where
+  abbrev text : List ℕ
+  text = now (b .before .before .before .before .before .args .text)
+
+  abbrev t : Tables
+  t = b .before .before .before .before .before .args .tables
+
+  abbrev read : ReadAs text t
+  read = b .before .before .before .before .before .pre
+
+  abbrev x : ℕ
+  x = b .before .loop .chain
+
+  abbrev lt : x < t .chains
+  lt = b .loop-test .taken
+
+  below : x < 16
+  below = omega (arith, lt, few-chains text t read (read .0) (read .1))
+
+  inside : getD (t .starts) x 0 + 4 ≤ length text
+  inside = chain-inside text t read (read .0) (read .1) x lt
+
+  -- and a LINK
+  module _ (i : ℕ) (li : i < getD (t .lengths) x 0) where
+    within : getD (t .starts) x 0 + 4 + 2 * i + 2 ≤ length text
+    within = link-inside text t read (read .0) (read .1) x lt i li
+
+-- where a LINK stands
+module _ (c : tie.After-in-program2 Inv-loop2 μ-loop2 Inv-loop μ-loop) where
+  abbrev i : ℕ
+  i = c .before .before .loop2 .i
+
+  -- after the LINKs before it
+  passed : c .in-program2 .result * i ≡ 2 * i
+  passed = ap (λ (k : ℕ). k * i) (c .in-program2 .ensures)
+
+  stands :
+      getD (t (c .before .before .before .before) .starts) (x (c .before .before .before .before)) 0 +
+      c .before .before .before .in-program .result + c .in-program2 .result * i ≡
+      getD (t (c .before .before .before .before) .starts) (x (c .before .before .before .before)) 0 + 4 + 2 * i
+  stands = omega (arith, passed, c .before .before .before .in-program .ensures)
+
+loop-holds : tie.Need-loop-holds Inv-loop2 μ-loop2 Inv-loop μ-loop
+unfolding linkPlaces
+loop-holds c = (omega arith, λ p e. let h = rising-program _ p e in check-starts (links-in p) (linkAs p) (lowest (linkRates p)) (h .0) (h .1 .links) refl)
+
+mul-first : tie.Need-mul-first Inv-loop2 μ-loop2 Inv-loop μ-loop
+mul-first c = omega (arith, below c)
+
+array-read-first : tie.Need-array-read-first Inv-loop2 μ-loop2 Inv-loop μ-loop
+array-read-first c = omega (arith, below c)
+
+in-program-requires : tie.Need-in-program-requires Inv-loop2 μ-loop2 Inv-loop μ-loop
+in-program-requires c κs = search needs
+
+add-first : tie.Need-add-first Inv-loop2 μ-loop2 Inv-loop μ-loop
+add-first c = omega (arith, inside (c .before), c .before .before .before .before .before .before .good .0 .1)
+
+mul-links : tie.Need-mul-links Inv-loop2 μ-loop2 Inv-loop μ-loop
+mul-links c = omega (arith, below (c .before))
+
+array-read-links : tie.Need-array-read-links Inv-loop2 μ-loop2 Inv-loop μ-loop
+array-read-links c = omega (arith, below (c .before))
+
+loop2-holds : tie.Need-loop2-holds Inv-loop2 μ-loop2 Inv-loop μ-loop
+loop2-holds c = (omega arith, λ p e. check-enters (links-in p) (linkAs p) (lowest (linkRates p)) (x (c .before)) (omega (arith, lt (c .before), chains-are _ (t (c .before)) (read (c .before)) p e)) (c .before .before .loop .inv .1 p e))
+
+in-program-requires-2 : tie.Need-in-program-requires-2 Inv-loop2 μ-loop2 Inv-loop μ-loop
+in-program-requires-2 c κs = search needs
+
+mul-at : tie.Need-mul-at Inv-loop2 μ-loop2 Inv-loop μ-loop
+mul-at c = omega (arith, passed c, c .before .before .before .in-program .ensures, within (c .before .before .before .before) (c .before .before .loop2 .i) (c .before .loop2-test .taken), c .before .before .before .before .before .before .before .before .before .good .0 .1)
+
+add-at : tie.Need-add-at Inv-loop2 μ-loop2 Inv-loop μ-loop
+add-at c = omega (arith, passed c, c .before .before .before .in-program .ensures, within (c .before .before .before .before) (c .before .before .loop2 .i) (c .before .loop2-test .taken), c .before .before .before .before .before .before .before .before .before .good .0 .1)
+
+add-wide : tie.Need-add-wide Inv-loop2 μ-loop2 Inv-loop μ-loop
+add-wide c = omega (arith, passed c, c .before .before .before .in-program .ensures, within (c .before .before .before .before) (c .before .before .loop2 .i) (c .before .loop2-test .taken), c .before .before .before .before .before .before .before .before .before .good .0 .1)
+
+shared-slice-read-wide : tie.Need-shared-slice-read-wide Inv-loop2 μ-loop2 Inv-loop μ-loop
+shared-slice-read-wide c = omega (arith, passed (c .before), c .before .before .before .before .in-program .ensures, within (c .before .before .before .before .before) (c .before .before .before .loop2 .i) (c .before .before .loop2-test .taken))
+
+wide-requires : tie.Need-wide-requires Inv-loop2 μ-loop2 Inv-loop μ-loop
+wide-requires c κs = search needs
+
+judge-rate-requires : tie.Need-judge-rate-requires Inv-loop2 μ-loop2 Inv-loop μ-loop
+judge-rate-requires c κs = search needs
+
+enum-told : tie.Need-enum-told Inv-loop2 μ-loop2 Inv-loop μ-loop
+enum-told c = search needs
+
+enum-told-2 : tie.Need-enum-told-2 Inv-loop2 μ-loop2 Inv-loop μ-loop
+enum-told-2 c = search needs
+
+returns : tie.Need-returns Inv-loop2 μ-loop2 Inv-loop μ-loop
+unfolding judgementOf
+returns c =
+    λ p e.
+    c .enum-told2 .given .1 ∙
+    sym (ap judgementOf (check-refuses (links-in p) (linkAs p) (lowest (linkRates p)) (link-there p) (x (c .before .before .before .before .before .before .before .before .before)) (c .before .before .before .before .before .before .before .loop2 .i) (link-seen _ (t (c .before .before .before .before .before .before .before .before .before)) (read (c .before .before .before .before .before .before .before .before .before)) p e (x (c .before .before .before .before .before .before .before .before .before)) (lt (c .before .before .before .before .before .before .before .before .before)) (c .before .before .before .before .before .before .before .loop2 .i) (c .before .before .before .before .before .before .loop2-test .taken)) (c .before .before .before .before .before .before .before .loop2 .inv .1 p e)
+    (one-link _ (t (c .before .before .before .before .before .before .before .before .before)) (read (c .before .before .before .before .before .before .before .before .before)) p e (x (c .before .before .before .before .before .before .before .before .before)) (lt (c .before .before .before .before .before .before .before .before .before)) (c .before .before .before .before .before .before .before .loop2 .i) (c .before .before .before .before .before .before .loop2-test .taken) _ _ (Judged.Refused _) (stands (c .before .before .before .before .before)) (c .before .before .before .wide .ensures .0) (sym (c .enum-told2 .given .1) ∙ c .before .before .judge-rate .ensures))))
+
+add-i : tie.Need-add-i Inv-loop2 μ-loop2 Inv-loop μ-loop
+add-i c = omega (arith, within (c .before .before .before .before .before .before .before .before .before) (c .before .before .before .before .before .before .before .loop2 .i) (c .before .before .before .before .before .before .loop2-test .taken), c .before .before .before .before .before .before .before .before .before .before .before .before .before .before .good .0 .1)
+
+loop2-less : tie.Need-loop2-less Inv-loop2 μ-loop2 Inv-loop μ-loop
+loop2-less c = omega (arith, c .before .before .before .before .before .before .loop2-test .taken)
+
+loop2-again : tie.Need-loop2-again Inv-loop2 μ-loop2 Inv-loop μ-loop
+loop2-again c = (
+  omega (arith, c .before .before .before .before .before .before .loop2-test .taken),
+  λ p e.
+      subst (Ahead (links-in p) (linkAs p) (lowest (linkRates p)) (x (c .before .before .before .before .before .before .before .before .before))) (omega arith)
+      (check-passes (links-in p) (linkAs p) (lowest (linkRates p)) (link-there p) (x (c .before .before .before .before .before .before .before .before .before)) (c .before .before .before .before .before .before .before .loop2 .i) (link-seen _ (t (c .before .before .before .before .before .before .before .before .before)) (read (c .before .before .before .before .before .before .before .before .before)) p e (x (c .before .before .before .before .before .before .before .before .before)) (lt (c .before .before .before .before .before .before .before .before .before)) (c .before .before .before .before .before .before .before .loop2 .i) (c .before .before .before .before .before .before .loop2-test .taken)) (c .before .before .before .before .before .before .before .loop2 .inv .1 p e)
+      (one-link _ (t (c .before .before .before .before .before .before .before .before .before)) (read (c .before .before .before .before .before .before .before .before .before)) p e (x (c .before .before .before .before .before .before .before .before .before)) (lt (c .before .before .before .before .before .before .before .before .before)) (c .before .before .before .before .before .before .before .loop2 .i) (c .before .before .before .before .before .before .loop2-test .taken) _ _ Judged.Fine (stands (c .before .before .before .before .before)) (c .before .before .before .wide .ensures .0) (sym (c .enum-told .given .1) ∙ c .before .before .judge-rate .ensures))),
+)
+
+add-chain : tie.Need-add-chain Inv-loop2 μ-loop2 Inv-loop μ-loop
+add-chain c = omega (arith, below (c .before .before .before))
+
+loop-less : tie.Need-loop-less Inv-loop2 μ-loop2 Inv-loop μ-loop
+loop-less c = omega (arith, c .before .before .before .loop-test .taken)
+
+loop-again : tie.Need-loop-again Inv-loop2 μ-loop2 Inv-loop μ-loop
+loop-again c =
+    let l = c .before .loop2 in (
+      omega (arith, c .before .before .before .loop-test .taken),
+      λ p e.
+          subst (Before (links-in p) (linkAs p) (lowest (linkRates p))) (omega arith)
+          (check-leaves (links-in p) (linkAs p) (lowest (linkRates p)) (x (c .before .before .before)) (l .i)
+          (omega (arith, l .inv .0, c .loop2-test .left, length-is _ (t (c .before .before .before)) (read (c .before .before .before)) p e (x (c .before .before .before)) (lt (c .before .before .before)))) (l .inv .1 p e)),
+    )
+
+returns-2 : tie.Need-returns-2 Inv-loop2 μ-loop2 Inv-loop μ-loop
+unfolding judgementOf
+returns-2 c =
+    λ p e.
+    sym (ap judgementOf (check-ends (links-in p) (linkAs p) (lowest (linkRates p)) (c .before .loop .chain)
+    (omega (arith, chains-are _ (c .before .before .before .before .before .args .tables) (c .before .before .before .before .before .pre) p e, c .before .loop .inv .0, c .loop-test .left)) (c .before .loop .inv .1 p e)))
+
+pub judge-links-spec : {M : Type 1} → statement M
+judge-links-spec =
+    tie.close
+    (tie.spec
+    Inv-loop2
+    μ-loop2
+    Inv-loop
+    μ-loop
+    loop-holds
+    mul-first
+    array-read-first
+    in-program-requires
+    add-first
+    mul-links
+    array-read-links
+    loop2-holds
+    in-program-requires-2
+    mul-at
+    add-at
+    add-wide
+    shared-slice-read-wide
+    wide-requires
+    judge-rate-requires
+    enum-told
+    enum-told-2
+    returns
+    add-i
+    loop2-less
+    loop2-again
+    add-chain
+    loop-less
+    loop-again
+    returns-2)

@@ -1,0 +1,47 @@
+-- `check_rates::lower` meets its contract. Assumes nothing.
+use borrow.Author.Tests.{lt-ltb, le-ltb}
+use Rattle.check_rates.specs.Answers.{lowerOf}
+use borrow.Author.Needs.{needs}
+use Rattle.check_rates.proofs.lower.Statement.{statement}
+use Rattle.check_rates.proofs.lower.Tie as tie
+
+enum-told : tie.Need-enum-told
+enum-told c = search needs
+
+enum-known-a : tie.Need-enum-known-a
+enum-known-a c = search needs
+
+enum-told-2 : tie.Need-enum-told-2
+enum-told-2 c = search needs
+
+enum-known-b : tie.Need-enum-known-b
+enum-known-b c = search needs
+
+returns : tie.Need-returns
+unfolding lowerOf
+returns c = rw (c .before .before .before .before .before .before .before .a .given .1, c .before .before .before .before .b .given .1) (rw (lt-ltb _ _ (c .if1 .taken)))
+
+returns-2 : tie.Need-returns-2
+unfolding lowerOf
+returns-2 c = rw (c .enum-told .given .1)
+
+returns-3 : tie.Need-returns-3
+unfolding lowerOf
+returns-3 c = rw (c .before .before .before .a .given .1, c .enum-told2 .given .1)
+
+returns-4 : tie.Need-returns-4
+unfolding lowerOf
+returns-4 c = rw (c .before .before .before .before .before .before .before .a .given .1, c .before .before .before .before .b .given .1) (rw (le-ltb _ _ (c .if1 .left)))
+
+pub lower-spec : {M : Type 1} → statement M
+lower-spec =
+    tie.close
+    (tie.spec
+    enum-told
+    enum-known-a
+    enum-told-2
+    enum-known-b
+    returns
+    returns-2
+    returns-3
+    returns-4)

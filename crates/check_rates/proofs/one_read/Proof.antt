@@ -1,0 +1,222 @@
+-- `check_rates::one_read` meets its contract. Assumes nothing.
+use Prim.Native.Nat.{ℕ, _+_, _-_, _≤_, _<_}
+use mathlib.Core.List.{List}
+use mathlib.Core.Logic.{⊎-elim}
+use mathlib.Core.Path.{_≡_, sym, ap, subst, _∙_}
+use native.Mathlib.Omega.{arith}
+use denote.Ref.{now}
+use lib.ListN.{length, getD}
+use borrow.Author.Needs.{needs}
+use Rattle.model.specs.Rules.Outcome.{accepted}
+use Rattle.model.specs.Rules.Program.{Program, signalAt, bodyReads, parseProgram}
+use Rattle.model.specs.declared.Found.the-variants.{At, Nowhere}
+use Rattle.text_command.specs.Operator.{ReadStands}
+use Rattle.text_program.specs.Tables.{Indexed}
+use Rattle.text_program.proofs.ByIndex.{counted, in-table, read-stands, rises-at}
+use Rattle.check_rates.specs.Answers.{oneRead}
+use Rattle.check_rates.proofs.Counting.{Searched, same-search, search-starts, one-hit, one-missed, one-found, none-found, over, none-far, stands-inside}
+use Rattle.check_rates.proofs.one_read.Statement.{statement}
+use Rattle.check_rates.proofs.one_read.Tie as tie
+
+abbrev Inv-loop : tie.InvT-loop
+Inv-loop text reads firsts count before signal index first end i₀ many₀ found₀ i many found =
+    (first ≤ i) × (i ≤ end) × (many ≤ i) ×
+    ((p : Program) → parseProgram text ≡ accepted p → Searched before (bodyReads (signalAt p index .body)) (i - first) many found)
+
+abbrev μ-loop : tie.MeasureT-loop
+μ-loop text reads firsts count before signal index first end i₀ many₀ found₀ i many found = end - i
+
+-- where the signal is declared
+module _ (a : tie.Else1 Inv-loop μ-loop) where
+  abbrev text : List ℕ
+  text = now (a .before .before .before .before .args .text)
+
+  abbrev reads : List ℕ
+  reads = now (a .before .before .before .before .args .reads)
+
+  abbrev firsts : List ℕ
+  firsts = now (a .before .before .before .before .args .firsts)
+
+  abbrev n : ℕ
+  n = a .before .before .before .before .args .count
+
+  abbrev w : ℕ
+  w = a .before .before .before .before .args .before
+
+  abbrev x : ℕ
+  x = a .before .wide .result
+
+  ix : Indexed text reads firsts n
+  ix = a .before .before .before .before .pre .1
+
+  lt : x < n
+  lt = omega (arith, a .if1 .left)
+
+  below : x < 64
+  below = omega (arith, lt, a .before .before .before .before .pre .0)
+
+-- where a read is left
+module _ (b : tie.In-loop Inv-loop μ-loop) where
+  abbrev a : tie.Else1 Inv-loop μ-loop
+  a = b .before .before .before .before .before .before
+
+  abbrev i : ℕ
+  i = b .before .loop .i
+
+  low : getD (firsts a) (x a) 0 ≤ i
+  low = omega (arith, b .before .loop .inv .0, b .before .before .before .before .wider .ensures .0)
+
+  high : i < getD (firsts a) (x a + 1) 0
+  high = omega (arith, b .loop-test .taken, b .before .before .wider2 .ensures .0)
+
+  here : i < length (reads a)
+  here = in-table (ix a) (ix a .program) (ix a .parsed) (x a) i (lt a) low high
+
+  stands : ReadStands (text a) (getD (reads a) i 0)
+  stands = read-stands (ix a) (ix a .program) (ix a .parsed) (x a) i (lt a) low high
+
+-- where it was seen
+module _ (c : tie.Joined2 Inv-loop μ-loop) where
+  abbrev b : tie.In-loop Inv-loop μ-loop
+  b = c .before .before .before .before
+
+  go-on : (p : Program) → parseProgram (text (a b)) ≡ accepted p →
+      Searched (w (a b)) (bodyReads (signalAt p (x (a b)) .body)) (i b + 1 - b .before .before .before .before .wider .result) (c .if2 .many) (c .if2 .found)
+  go-on p e =
+      let f = b .before .before .before .before .wider .ensures .0 in
+      let l = b .before .loop .inv .0 in
+      let z = c .before .before .wider3 .ensures .0 in
+      let v = b .before .loop .inv .3 p e in
+      ⊎-elim
+      (λ h. same-search _ _ (h .1) (h .2) (one-hit (ix (a b)) p e (w (a b)) (x (a b)) (i b) (lt (a b)) _ f l (high b) _ z v (h .0 .taken)))
+      (λ h. same-search _ _ (h .1) (h .2) (one-missed (ix (a b)) p e (w (a b)) (x (a b)) (i b) (lt (a b)) _ f l (high b) _ z v (h .0 .left)))
+      (c .if2 .came)
+
+-- where all are seen
+module _ (d : tie.After-loop Inv-loop μ-loop) where
+  abbrev o : tie.Else1 Inv-loop μ-loop
+  o = d .before .before .before .before .before .before
+
+  all-seen : (p : Program) → parseProgram (text o) ≡ accepted p →
+      d .before .loop .i - d .before .before .before .before .wider .result ≡ length (bodyReads (signalAt p (x o) .body))
+  all-seen p e =
+      let v = d .before .loop .inv in
+      let h : getD (firsts o) (x o + 1) 0 ≡ d .before .loop .i = omega (arith, v .1, d .loop-test .left, d .before .before .wider2 .ensures .0) in
+      over (ix o) p e (w o) (x o) (d .before .loop .i) (lt o) _ (d .before .before .before .before .wider .ensures .0) (v .0) h
+
+wide-requires : tie.Need-wide-requires Inv-loop μ-loop
+wide-requires c κs = search needs
+
+returns : tie.Need-returns Inv-loop μ-loop
+returns c =
+    let s = c .before .before .before .before in
+    let v = c .before .wide .ensures .0 in
+    λ p e. none-far p _ _ (omega (arith, counted (s .pre .1) p e, v, c .if1 .taken))
+
+mul-wider : tie.Need-mul-wider Inv-loop μ-loop
+mul-wider c = omega (arith, below c)
+
+element-copy-out-wider : tie.Need-element-copy-out-wider Inv-loop μ-loop
+element-copy-out-wider c = omega (arith, below c)
+
+wider-requires : tie.Need-wider-requires Inv-loop μ-loop
+wider-requires c κs = search needs
+
+add-wider : tie.Need-add-wider Inv-loop μ-loop
+add-wider c = omega (arith, below (c .before .before))
+
+mul-wider-2 : tie.Need-mul-wider-2 Inv-loop μ-loop
+mul-wider-2 c = omega (arith, below (c .before .before))
+
+element-copy-out-wider-2 : tie.Need-element-copy-out-wider-2 Inv-loop μ-loop
+element-copy-out-wider-2 c = omega (arith, below (c .before .before))
+
+wider-requires-2 : tie.Need-wider-requires-2 Inv-loop μ-loop
+wider-requires-2 c κs = search needs
+
+loop-holds : tie.Need-loop-holds Inv-loop μ-loop
+loop-holds c =
+    let a = c .before .before .before .before in
+    let f = c .before .before .wider in (
+      omega arith,
+      omega (arith, f .ensures .0, c .wider2 .ensures .0, rises-at (ix a) (x a) (lt a)),
+      omega arith,
+      λ p e. search-starts _ _ _ (omega arith),
+    )
+
+mul-wider-3 : tie.Need-mul-wider-3 Inv-loop μ-loop
+mul-wider-3 c = omega (arith, c .loop-test .taken, c .before .before .wider2 .ensures .1)
+
+shared-slice-read-wider : tie.Need-shared-slice-read-wider Inv-loop μ-loop
+shared-slice-read-wider c = here (c .before)
+
+wider-requires-3 : tie.Need-wider-requires-3 Inv-loop μ-loop
+wider-requires-3 c κs = search needs
+
+add-if2 : tie.Need-add-if2 Inv-loop μ-loop
+add-if2 c = omega (arith, stands-inside (stands (c .before .before)), c .wider3 .ensures)
+
+shared-slice-read-if2 : tie.Need-shared-slice-read-if2 Inv-loop μ-loop
+shared-slice-read-if2 c = omega (arith, stands-inside (stands (c .before .before .before)), c .before .wider3 .ensures)
+
+add-many : tie.Need-add-many Inv-loop μ-loop
+add-many c =
+    let b = c .before .before .before .before in
+    omega (arith, b .before .loop .inv .2, b .loop-test .taken, b .before .before .wider2 .ensures .1)
+
+add-i : tie.Need-add-i Inv-loop μ-loop
+add-i c = omega (arith, b c .loop-test .taken, b c .before .before .wider2 .ensures .1)
+
+loop-less : tie.Need-loop-less Inv-loop μ-loop
+loop-less c = omega (arith, b c .loop-test .taken)
+
+loop-again : tie.Need-loop-again Inv-loop μ-loop
+loop-again c =
+    let v = b c .before .loop .inv in (
+      omega (arith, v .0),
+      omega (arith, b c .loop-test .taken),
+      ⊎-elim (λ h. omega (arith, v .2, h)) (λ h. omega (arith, v .2, h)) (c .if2 .came),
+      go-on c,
+    )
+
+returns-2 : tie.Need-returns-2 Inv-loop μ-loop
+returns-2 c =
+    let d = c .before in
+    λ p e.
+    subst (λ (m : ℕ). Nowhere ≡ oneRead (w (o d)) (bodyReads (signalAt p m .body))) (o d .before .wide .ensures .0)
+    (none-found _ _ _ (all-seen d p e) (d .before .loop .inv .3 p e) (λ z. c .if3 .taken z))
+
+returns-3 : tie.Need-returns-3 Inv-loop μ-loop
+returns-3 c =
+    let d = c .before in
+    λ p e.
+    subst (λ (m : ℕ). At (d .before .loop .found) ≡ oneRead (w (o d)) (bodyReads (signalAt p m .body))) (o d .before .wide .ensures .0)
+    (one-found _ _ _ (all-seen d p e) (d .before .loop .inv .3 p e) (omega (arith, c .if3 .left)))
+
+pub one-read-spec : {M : Type 1} → statement M
+one-read-spec =
+    tie.close
+    (tie.spec
+    Inv-loop
+    μ-loop
+    wide-requires
+    returns
+    mul-wider
+    element-copy-out-wider
+    wider-requires
+    add-wider
+    mul-wider-2
+    element-copy-out-wider-2
+    wider-requires-2
+    loop-holds
+    mul-wider-3
+    shared-slice-read-wider
+    wider-requires-3
+    add-if2
+    shared-slice-read-if2
+    add-many
+    add-i
+    loop-less
+    loop-again
+    returns-2
+    returns-3)

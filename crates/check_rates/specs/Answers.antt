@@ -1,0 +1,69 @@
+-- What the answers of the checks stand for.
+use Prim.Native.Nat.{ℕ}
+use mathlib.Core.Bool.{Bool, true, false, cond}
+use mathlib.Core.List.{List}
+use mathlib.Core.Path.{_≡_}
+use lib.Dec.{ltb, eqb}
+use lib.ListN.{getD}
+use Rattle.model.specs.Rules.Outcome.{Outcome, accepted, refused, fault}
+use Rattle.model.specs.Rules.Latency.{readOf}
+use Rattle.model.specs.Rules.Program.{Program, Read, bodyReads, parseProgram}
+use Rattle.model.specs.Rules.Rates.{periodRule, readFaults, linkFaults, countReads}
+use Rattle.model.specs.Rules.Search.{joinFrom}
+use Rattle.model.specs.declared.Fault.{Fault}
+use Rattle.model.specs.declared.Found.{Found}
+use Rattle.model.specs.declared.Found.the-variants.{At, Nowhere}
+use Rattle.model.specs.declared.Kind.{Kind}
+use Rattle.model.specs.declared.Sampled.{Sampled}
+use Rattle.check_rates.specs.declared.Cycles.{Cycles}
+use Rattle.check_rates.specs.declared.Cycles.the-variants as Cycles
+use Rattle.text_program.specs.Tables.{ReadsOf, TablesOf}
+use Rattle.text_program.specs.declared.Judged.{Judged}
+use Rattle.text_program.specs.declared.Judged.the-variants as Judged
+use Rattle.text_program.specs.declared.Tables.{Tables}
+
+-- The hypercycle, or its refusal.
+unfoldable pub cyclesOf : Outcome ℕ → Cycles
+cyclesOf (accepted h) = Cycles.Least h
+cyclesOf (refused f) = Cycles.Refused f
+
+-- 7 at a read or LINK of a signal that is not declared, then 8 at a read that breaks its period rule.
+unfoldable pub rateJudged : Bool → Bool → ℕ → Judged
+rateJudged true true at = Judged.Fine
+rateJudged true false at = Judged.Refused (fault 8 at)
+rateJudged false kept at = Judged.Refused (fault 7 at)
+
+-- The period of signal s in a table of 64.
+unfoldable pub periodAt : List ℕ → ℕ → ℕ
+periodAt periods s = cond (ltb s 64) (getD periods s 0) 0
+
+-- A read, by the number of signals and their periods.
+unfoldable pub readJudged : ℕ → List ℕ → ℕ → ℕ → Kind → Sampled → Judged
+readJudged count periods at reader kind x =
+    rateJudged (ltb (x .signal) count)
+    (periodRule kind (periodAt periods (x .signal)) (periodAt periods reader) (x .factor)) at
+
+-- The faults of the reads, and of the LINKs.
+abbrev pub readRates : Program → List Fault
+readRates p = joinFrom 0 (λ s x. joinFrom 0 (λ i ρ. readFaults p x ρ) (bodyReads (x .body))) (p .signals)
+
+abbrev pub linkRates : Program → List Fault
+linkRates p = joinFrom 0 (λ j c. joinFrom 0 (λ i l. linkFaults p l) (c .links)) (p .chains)
+
+-- The one of two refusals that has the lower place.
+unfoldable pub lowerOf : Judged → Judged → Judged
+lowerOf Judged.Fine b = b
+lowerOf (Judged.Refused f) Judged.Fine = Judged.Refused f
+lowerOf (Judged.Refused f) (Judged.Refused g) = Judged.Refused (cond (ltb (g .place) (f .place)) g f)
+
+-- Where the one read of w among these reads stands.
+unfoldable pub oneRead : ℕ → List Read → Found
+oneRead w ρs = cond (eqb (countReads w ρs) 1) (At (readOf w ρs .place)) Nowhere
+
+-- The tables are those of the program that the text is.
+abbrev pub ReadAs : List ℕ → Tables → Type 0
+ReadAs text tables = (p : Program) × (parseProgram text ≡ accepted p) × TablesOf p tables
+
+abbrev pub TabledAs : List ℕ → List ℕ → Tables → Type 0
+TabledAs text reads tables =
+    (p : Program) × (parseProgram text ≡ accepted p) × TablesOf p tables × ReadsOf p reads (tables .firsts)

@@ -1,0 +1,310 @@
+// The checks of rates and links: refusals 7 to 10.
+use model::Fault;
+use model::Found;
+use model::Kind;
+use model::Sampled;
+use text_program::Judged;
+use text_program::Tables;
+ghost use mathlib.Core.Path.{_≡_};
+ghost use Prim.Native.Nat.{_%_, _≤_, _<_};
+ghost use lib.Dec.{eqb};
+ghost use lib.ListN.{length};
+ghost use Rattle.model.specs.Rules.Outcome.{accepted, lowest};
+ghost use Rattle.model.specs.Rules.Program.{Program, signalAt, parseProgram, bodyReads};
+ghost use Rattle.model.specs.Rules.Rates.{periodRule, declaredAndRated, isMultiple, hypercycle, isLinked, linked};
+ghost use Rattle.text_program.specs.Tables.{TablesOf, PeriodsOf, Indexed, chainAt};
+ghost use Rattle.check_rates.specs.Answers.{cyclesOf, periodAt, rateJudged, readJudged, readRates, linkRates, lowerOf, oneRead, ReadAs, TabledAs};
+ghost use Rattle.text_program.specs.Results.{judgementOf};
+
+// The period of a signal by the table; 0 past its end.
+pub fn period_at(periods: &[u8; 64], signal: usize) -> u8
+    ensures { λ r. ⌜ r ≡ periodAt (now (periods .entry)) signal ⌝ }
+{
+    if signal < 64 { periods[signal] } else { 0 }
+}
+
+// A byte as a number.
+fn wide(byte: u8) -> usize
+    ensures { λ r. ⌜ (r ≡ byte) × (r < 256) ⌝ }
+{
+    byte as usize
+}
+
+// The period rule of a read with factor n: w is the period of the signal read, r the reader's.
+fn period_rule(kind: Kind, w: u8, r: u8, n: u8) -> bool
+    ensures { λ x. ⌜ x ≡ periodRule kind w r n ⌝ }
+{
+    let read = wide(w);
+    let reader = wide(r);
+    let factor = wide(n);
+    match kind {
+        Kind::Now => reader == read,
+        Kind::Last => reader == read,
+        Kind::When => reader == factor * read,
+        Kind::LastWhen => reader == factor * read,
+        Kind::Current => read == factor * reader,
+    }
+}
+
+// The refusal of a number at a place.
+fn refuse(number: u8, place: usize) -> Judged
+    ensures { λ r. ⌜ r ≡ Judged.Refused (record { number = number; place = place }) ⌝ }
+{
+    Judged::Refused(Fault {
+        number: number,
+        place: place,
+    })
+}
+
+// 7 at a read or LINK of a signal that is not declared, then 8 at a read that breaks its period rule.
+fn judge_rate(declared: bool, kept: bool, place: usize) -> Judged
+    ensures { λ r. ⌜ r ≡ rateJudged declared kept place ⌝ }
+{
+    if !declared {
+        return refuse(7, place);
+    }
+    if !kept {
+        return refuse(8, place);
+    }
+    Judged::Fine
+}
+
+fn judge_read(
+    count: usize,
+    periods: &[u8; 64],
+    at: usize,
+    reader: usize,
+    kind: Kind,
+    operands: Sampled,
+) -> Judged
+    ensures { λ r. ⌜ r ≡ readJudged count (now (periods .entry)) at reader kind operands ⌝ }
+{
+    let signal = wide(operands.signal);
+    let w = period_at(periods, signal);
+    let r = period_at(periods, reader);
+    let kept = period_rule(kind, w, r, operands.factor);
+    judge_rate(signal < count, kept, at)
+}
+
+// An entry of a table as a number.
+fn wider(x: u16) -> usize
+    ensures { λ r. ⌜ (r ≡ x) × (r < 65536) ⌝ }
+{
+    x as usize
+}
+
+// The first read of an undeclared signal (7) or with a broken period rule (8), over the reads by their index in the table.
+fn judge_reads(
+    text: &[u8],
+    reads: &[u16],
+    firsts: &[u16; 65],
+    count: usize,
+    periods: &[u8; 64],
+) -> Judged
+    requires { ⌜ (count ≤ 64) × Indexed (now text) (now reads) (now firsts) count ⌝ }
+    ensures { λ r. ⌜ ((p : Program) → parseProgram (now (text .entry)) ≡ accepted p → PeriodsOf p (now (periods .entry)) → r ≡ judgementOf (lowest (readRates p))) ⌝ }
+{
+    let mut reader: usize = 0;
+    let mut i: usize = 0;
+    while reader < count {
+        let end = wider(firsts[reader + 1]);
+        while i < end {
+            let at = wider(reads[i]);
+            let taken = text_command::taken_at(text, at);
+            let kind = taken.kind;
+            let operands = taken.operands;
+            let judged = judge_read(count, periods, at, reader, kind, operands);
+            let Judged::Fine = judged else {
+                return judged;
+            };
+            i = i + 1;
+        }
+        reader = reader + 1;
+    }
+    Judged::Fine
+}
+
+// The first LINK of an undeclared signal (7).
+fn judge_links(text: &[u8], tables: Tables) -> Judged
+    requires { ⌜ ReadAs (now text) tables ⌝ }
+    ensures { λ r. ⌜ ((p : Program) → parseProgram (now (text .entry)) ≡ accepted p → r ≡ judgementOf (lowest (linkRates p))) ⌝ }
+{
+    let count = tables.signals;
+    let chains = tables.chains;
+    let starts = tables.starts;
+    let lengths = tables.lengths;
+    let mut chain: usize = 0;
+    while chain < chains {
+        let first = starts[chain] + width::in_program(0x12);
+        let links = lengths[chain];
+        let mut i: usize = 0;
+        while i < links {
+            let at = first + width::in_program(0x13) * i;
+            let signal = wide(text[at + 1]);
+            let judged = judge_rate(signal < count, true, at);
+            let Judged::Fine = judged else {
+                return judged;
+            };
+            i = i + 1;
+        }
+        chain = chain + 1;
+    }
+    Judged::Fine
+}
+
+// The one of two refusals that has the lower place.
+fn lower(a: Judged, b: Judged) -> Judged
+    ensures { λ r. ⌜ r ≡ lowerOf a b ⌝ }
+{
+    match a {
+        Judged::Fine => b,
+        Judged::Refused(one) => match b {
+            Judged::Fine => a,
+            Judged::Refused(other) => {
+                if other.place < one.place {
+                    return b;
+                }
+                a
+            }
+        },
+    }
+}
+
+// The hypercycle, or its refusal.
+pub enum Cycles {
+    Least(usize),
+    Refused(Fault),
+}
+
+// 7 and 8 in order of offset.
+pub fn declared_and_rated(text: &[u8], reads: &[u16], tables: Tables) -> Judged
+    requires { ⌜ TabledAs (now text) (now reads) tables ⌝ }
+    ensures { λ r. ⌜ ((p : Program) → parseProgram (now (text .entry)) ≡ accepted p → r ≡ judgementOf (declaredAndRated p)) ⌝ }
+{
+    let firsts = tables.firsts;
+    let periods = tables.periods;
+    let of_reads = judge_reads(text, reads, &firsts, tables.signals, &periods);
+    let of_links = judge_links(text, tables);
+    lower(of_reads, of_links)
+}
+
+// Whether a period divides h.
+fn divides(period: u8, h: usize) -> bool
+    ensures { λ r. ⌜ r ≡ eqb (h % period) 0 ⌝ }
+{
+    let d = wide(period);
+    if d == 0 {
+        return h == 0;
+    }
+    h % d == 0
+}
+
+// Whether every period divides h.
+fn is_multiple(count: usize, periods: &[u8; 64], h: usize) -> bool
+    requires { ⌜ count ≤ 64 ⌝ }
+    ensures { λ r. ⌜ ((p : Program) → length (p .signals) ≡ count → PeriodsOf p (now (periods .entry)) → r ≡ isMultiple (p .signals) h) ⌝ }
+{
+    let mut s: usize = 0;
+    while s < count {
+        if !divides(periods[s], h) {
+            return false;
+        }
+        s = s + 1;
+    }
+    true
+}
+
+// The hypercycle: the least number from 1 to 240 that every period divides, else 9. (Signals × hypercycle.)
+pub fn hypercycle(count: usize, periods: &[u8; 64]) -> Cycles
+    requires { ⌜ count ≤ 64 ⌝ }
+    ensures { λ r. ⌜ ((p : Program) → length (p .signals) ≡ count → PeriodsOf p (now (periods .entry)) → r ≡ cyclesOf (hypercycle p)) ⌝ }
+{
+    let mut h: usize = 0;
+    while h < 240 {
+        let next = h + 1;
+        if is_multiple(count, periods, next) {
+            return Cycles::Least(next);
+        }
+        h = next;
+    }
+    Cycles::Refused(Fault {
+        number: 9,
+        place: 0,
+    })
+}
+
+// The offset of the one read of `before` in the equation of `signal`, over its reads by their index in the table; nowhere if there is
+// none, or more than one. 10 and 16 ask it.
+pub fn one_read(
+    text: &[u8],
+    reads: &[u16],
+    firsts: &[u16; 65],
+    count: usize,
+    before: u8,
+    signal: u8,
+) -> Found
+    requires { ⌜ (count ≤ 64) × Indexed (now text) (now reads) (now firsts) count ⌝ }
+    ensures { λ r. ⌜ ((p : Program) → parseProgram (now (text .entry)) ≡ accepted p → r ≡ oneRead before (bodyReads (signalAt p signal .body))) ⌝ }
+{
+    let index = wide(signal);
+    if count <= index {
+        return Found::Nowhere;
+    }
+    let first = wider(firsts[index]);
+    let end = wider(firsts[index + 1]);
+    let mut i = first;
+    let mut many: usize = 0;
+    let mut found: usize = 0;
+    while i < end {
+        let at = wider(reads[i]);
+        if text[at + 1] == before {
+            many = many + 1;
+            found = at;
+        }
+        i = i + 1;
+    }
+    if many != 1 {
+        return Found::Nowhere;
+    }
+    Found::At(found)
+}
+
+// Whether the equation of each link of a chain after the first has exactly one read of the link before.
+fn is_linked(text: &[u8], reads: &[u16], tables: Tables, chain: usize) -> bool
+    requires { ⌜ TabledAs (now text) (now reads) tables × (chain < tables .chains) ⌝ }
+    ensures { λ r. ⌜ ((p : Program) → parseProgram (now (text .entry)) ≡ accepted p → TablesOf p tables → r ≡ isLinked p (chainAt p chain .links)) ⌝ }
+{
+    let firsts = tables.firsts;
+    let starts = tables.starts;
+    let lengths = tables.lengths;
+    let mut at = starts[chain] + width::in_program(0x12);
+    let mut left = lengths[chain];
+    while 1 < left {
+        let second = at + width::in_program(0x13);
+        let before = text[at + 1];
+        let signal = text[second + 1];
+        let read = one_read(text, reads, &firsts, tables.signals, before, signal);
+        let Found::At(_) = read else {
+            return false;
+        };
+        at = second;
+        left = left - 1;
+    }
+    true
+}
+
+// 10 at the lowest LAT whose links are not linked. (Links × the reads of their equations.)
+pub fn linked(text: &[u8], reads: &[u16], tables: Tables) -> Judged
+    requires { ⌜ TabledAs (now text) (now reads) tables ⌝ }
+    ensures { λ r. ⌜ ((p : Program) → parseProgram (now (text .entry)) ≡ accepted p → TablesOf p tables → r ≡ judgementOf (linked p)) ⌝ }
+{
+    let starts = tables.starts;
+    let mut chain: usize = 0;
+    while chain < tables.chains {
+        if !is_linked(text, reads, tables, chain) {
+            return refuse(10, starts[chain]);
+        }
+        chain = chain + 1;
+    }
+    Judged::Fine
+}

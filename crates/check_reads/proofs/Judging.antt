@@ -1,0 +1,83 @@
+-- One read by the tables, as the definition judges it. Assumes nothing.
+use Prim.Native.Nat.{ℕ, _+_, _-_, _≤_, _<_}
+use mathlib.Core.Bool.{Bool, true, false, cond}
+use mathlib.Core.List.{List, [], _∷_}
+use mathlib.Core.Path.{_≡_, refl, sym, ap, subst, _∙_}
+use native.Mathlib.Omega.{arith}
+use lib.ListN.{getD}
+use borrow.Author.Tests.{lt-ltb}
+use Rattle.model.specs.Says.Feasible.{All}
+use Rattle.model.specs.Rules.Outcome.{accepted, fault, lowest}
+use Rattle.model.specs.Rules.Program.{Program, Read, count, signalAt, bodyReads, parseProgram}
+use Rattle.model.specs.Rules.Rates.{declaredAndRated}
+use Rattle.model.specs.Rules.Reads.{rateOf, isMet, met}
+use Rattle.model.specs.Rules.Schedule.{Schedule}
+use Rattle.model.specs.Rules.Search.{joinFrom}
+use Rattle.model.specs.declared.Fault.{Fault}
+use Rattle.model.proofs.All.{all-at}
+use Rattle.model.proofs.Verdict.{Rated, reads-rated}
+use Rattle.text_command.specs.Operator.{ReadTaken}
+use Rattle.text_command.specs.declared.Taken.{Taken}
+use Rattle.text_program.specs.Tables.{PeriodsOf, SlotsOf, Indexed}
+use Rattle.text_program.specs.declared.Judged.{Judged}
+use Rattle.text_program.specs.declared.Judged.the-variants as Judged
+use Rattle.text_program.proofs.ByIndex.{noRead, readAt, faultsOf, counted, seen, place-is, taken-is}
+use Rattle.read_rule.specs.Reads.{metBy}
+use Rattle.check_reads.specs.Met.{rateAt, isMetAt, readMet}
+
+module _ (p : Program) (s : Schedule) where
+  abbrev pub unmet : ℕ → Read → List Fault
+  unmet r ρ = cond (isMet p s r ρ) [] (fault 14 (ρ .place) ∷ [])
+
+  pub unmet-there : (r : ℕ) (ρ : Read) → All (λ f. f .place ≡ ρ .place) (unmet r ρ)
+  unmet-there r ρ = go (isMet p s r ρ)
+    where
+      go : (b : Bool) → All (λ (f : Fault). f .place ≡ ρ .place) (cond b [] (fault 14 (ρ .place) ∷ []))
+      go true = tt
+      go false = (refl, tt)
+
+  pub all-unmet : met p s ≡ lowest (joinFrom 0 (λ r σ. joinFrom 0 (λ i ρ. unmet r ρ) (bodyReads (σ .body))) (p .signals))
+  unfolding met
+  all-unmet = refl
+
+  module _ (order periods phases ranks : List ℕ) (table : PeriodsOf p periods) (slots : SlotsOf p s order phases ranks) where
+    rate-is : (x : ℕ) → x < count p → rateAt periods phases x ≡ rateOf p s x
+    rate-is x lt = λ i. record { period = table x lt i; phase = slots .phases-are x lt i }
+
+    -- The tables tell whether a read is met.
+    met-is : (r : ℕ) (ρ : Read) → r < count p → ρ .operands .signal < count p →
+        isMet p s r ρ ≡ isMetAt periods phases ranks r (ρ .kind) (ρ .operands)
+    unfolding isMet metBy
+    met-is r ρ lr lw =
+        rw (rate-is (ρ .operands .signal) lw, rate-is r lr, slots .ranks-are (ρ .operands .signal) lw, slots .ranks-are r lr)
+
+    pub judged-met : (r : ℕ) (ρ : Read) → r < count p → ρ .operands .signal < count p →
+        unmet r ρ ≡ faultsOf (readMet periods phases ranks (count p) (ρ .place) r (ρ .kind) (ρ .operands))
+    unfolding readMet
+    judged-met r ρ lr lw =
+        rw (lt-ltb (ρ .operands .signal) (count p) lw, lt-ltb r (count p) lr, ← (met-is r ρ lr lw)) (go (isMet p s r ρ))
+      where
+        go : (b : Bool) → cond b [] (fault 14 (ρ .place) ∷ []) ≡ faultsOf (cond b Judged.Fine (Judged.Refused (fault 14 (ρ .place))))
+        go true = refl
+        go false = refl
+
+-- One read of the table.
+module _ {text reads firsts : List ℕ} {n : ℕ} (ix : Indexed text reads firsts n) (p : Program) (e : parseProgram text ≡ accepted p)
+    (s : Schedule) (order periods phases ranks : List ℕ) (rated : declaredAndRated p ≡ accepted tt) (table : PeriodsOf p periods)
+    (slots : SlotsOf p s order phases ranks) (x i : ℕ) (lt : x < n) (low : getD firsts x 0 ≤ i) (high : i < getD firsts (x + 1) 0) where
+  abbrev ρ : Read
+  ρ = readAt p x (i - getD firsts x 0)
+
+  declared : ρ .operands .signal < count p
+  declared =
+      all-at (Rated p x) (bodyReads (signalAt p x .body)) noRead (reads-rated p rated x (omega (arith, counted ix p e)))
+      (i - getD firsts x 0) (seen ix p e x i lt low high) .0
+
+  pub one-read : (r : Taken) (j : Judged) (at : ℕ) → at ≡ getD reads i 0 → ReadTaken text at r →
+      j ≡ readMet periods phases ranks n at x (r .kind) (r .operands) → unmet p s x ρ ≡ faultsOf j
+  one-read r j at z h q =
+      let t = taken-is ix p e x i lt low high r (subst (λ (k : ℕ). ReadTaken text k r) z h) in
+      judged-met p s order periods phases ranks table slots x ρ (omega (arith, counted ix p e)) declared ∙
+      ap faultsOf (sym (q ∙ ap (λ (y : Taken). readMet periods phases ranks n at x (y .kind) (y .operands)) t ∙
+      ap (λ (k : ℕ). readMet periods phases ranks n k x (ρ .kind) (ρ .operands)) (z ∙ place-is ix p e x i lt low high) ∙
+      ap (λ (k : ℕ). readMet periods phases ranks k (ρ .place) x (ρ .kind) (ρ .operands)) (sym (counted ix p e))))

@@ -1,0 +1,290 @@
+-- `image_code::emit_expression` meets its contract: the measure is the depth that is still allowed. Assumes nothing.
+use borrow.Author.Needs.{needs}
+use native.Mathlib.Omega.{arith}
+use mathlib.Core.Path.{_≡_, refl, sym, _∙_}
+use mathlib.Core.List.{List}
+use Prim.Native.Nat.{ℕ, _+_, _-_, _≤_, _<_}
+use lib.ListN.{length}
+use denote.Ref.{now}
+use mir.Facts.{toZ-ofZ}
+use borrow.Fn.Kinds.{In}
+use borrow.Fn.PlainCycle.{Measures, is as at-measure, falls, and}
+use Rattle.model.specs.Rules.Command.{commandAt}
+use Rattle.model.specs.declared.Command.{Command}
+use Rattle.image_code.specs.Code.{Room}
+use Rattle.image_code.specs.Shape.{leadOf}
+use Rattle.image_code.proofs.Laws.{
+  Rooms,
+  rooms,
+  positive,
+  operator-stands,
+  first-room,
+  rest-rooms,
+  no-rooms,
+  emits-none,
+  emits-more,
+  emits-last,
+  no-operator,
+  spans,
+  word-length,
+  same-word,
+}
+use Rattle.image_code.proofs.Spans.{operator-is}
+use Rattle.image_code.proofs.emit_expression.Reads as own
+use Rattle.image_code.proofs.emit_expression.Kinds as kinds
+use Rattle.image_code.proofs.+emit_expression.Lts-emit_expression as lts
+use Rattle.text_command.proofs.operator_at.Reads as operator-at-reads
+use Rattle.image_code.proofs.binary_byte.Reads as binary-byte-reads
+use Rattle.image_code.proofs.put_access.Reads as put-access-reads
+use Rattle.image_code.proofs.put_operator.Reads as put-operator-reads
+use Rattle.image_code.proofs.put_push.Reads as put-push-reads
+use Rattle.width.proofs.in_expression.Reads as in-expression-reads
+use Rattle.width.proofs.of_read.Reads as of-read-reads
+use Rattle.image_code.proofs.+emit_expression.{statement}
+use Rattle.image_code.proofs.+emit_expression.Tie.{close}
+
+abbrev μ : Measures 2 kinds.ps ℕ
+μ κs a = a .1 .1 .0
+
+abbrev given : ℕ → In 2 kinds.ps
+given t = and 2 kinds.ps (at-measure 2 kinds.ps μ t) own.Pre
+
+abbrev below : ℕ → In 2 kinds.ps
+below t = and 2 kinds.ps (falls 2 kinds.ps _<_ μ t) own.Pre
+
+abbrev known : ℕ → lts.Claims
+known t = (
+  operator-at-reads.Asked,
+  operator-at-reads.Learnt,
+  in-expression-reads.Asked,
+  in-expression-reads.Learnt,
+  put-push-reads.Asked,
+  put-push-reads.Learnt,
+  of-read-reads.Asked,
+  of-read-reads.Learnt,
+  put-access-reads.Asked,
+  put-access-reads.Learnt,
+  below t,
+  own.Post,
+  binary-byte-reads.Asked,
+  binary-byte-reads.Learnt,
+  put-operator-reads.Asked,
+  put-operator-reads.Learnt,
+)
+
+-- where the command is known
+module _ (t : ℕ) (c : lts.After-operator-at (known t) (given t) own.Post) where
+  abbrev text : List ℕ
+  text = now (c .before .before .before .args .text)
+
+  abbrev at : ℕ
+  at = c .before .before .before .args .at
+
+  abbrev depth : ℕ
+  depth = c .before .before .before .args .depth
+
+  abbrev size : ℕ
+  size = length (now (c .before .before .before .args .out))
+
+  abbrev to : ℕ
+  to = c .before .before .before .args .to
+
+  room-at : Room depth text at size to
+  room-at = c .before .before .before .pre .1
+
+  module _ (o : Command) (e : c .operator-at .result ≡ o) where
+    is : commandAt text at ≡ o
+    is = sym (operator-is (room-at .spelled)) ∙ sym (c .operator-at .ensures) ∙ e
+
+    some : 0 < depth
+    some = positive o is room-at
+
+    inside : at + leadOf o .width ≤ length text
+    inside = spans text at o is (operator-stands o is room-at) .1
+
+    rooms-at : Rooms (depth - 1) text (at + leadOf o .width) size to (leadOf o .arity) (length (leadOf o .last))
+    rooms-at = rooms o is room-at
+
+operator-at-requires : (t : ℕ) → lts.Need-operator-at-requires (known t) (given t) own.Post
+operator-at-requires t c κs = search needs
+
+enum-known-command : (t : ℕ) → lts.Need-enum-known-command (known t) (given t) own.Post
+enum-known-command t c = search needs
+
+in-expression-requires : (t : ℕ) → lts.Need-in-expression-requires (known t) (given t) own.Post
+in-expression-requires t c κs = search needs
+
+add-put-push : (t : ℕ) → lts.Need-add-put-push (known t) (given t) own.Post
+add-put-push t c = omega (arith, inside t (c .before .before .before .before .before) _ (c .before .before .before .command .given .1), c .before .before .before .before .before .before .before .before .good .0 .1)
+
+put-push-requires : (t : ℕ) → lts.Need-put-push-requires (known t) (given t) own.Post
+put-push-requires t c κs = omega (arith, word-length (c .before .before .before .command .given .0 .0), no-rooms (rooms-at t (c .before .before .before .before .before) _ (c .before .before .before .command .given .1)))
+
+enum-known-command-2 : (t : ℕ) → lts.Need-enum-known-command-2 (known t) (given t) own.Post
+enum-known-command-2 t c = search needs
+
+of-read-requires : (t : ℕ) → lts.Need-of-read-requires (known t) (given t) own.Post
+of-read-requires t c κs = search needs
+
+add-put-access : (t : ℕ) → lts.Need-add-put-access (known t) (given t) own.Post
+add-put-access t c = omega (arith, inside t (c .before .before .before .before .before) _ (c .before .before .before .command2 .given .1), c .of-read .ensures, c .before .before .before .before .before .before .before .before .good .0 .1)
+
+put-access-requires : (t : ℕ) → lts.Need-put-access-requires (known t) (given t) own.Post
+put-access-requires t c κs = omega (arith, no-rooms (rooms-at t (c .before .before .before .before .before) _ (c .before .before .before .command2 .given .1)))
+
+enum-known-command-3 : (t : ℕ) → lts.Need-enum-known-command-3 (known t) (given t) own.Post
+enum-known-command-3 t c = search needs
+
+in-expression-requires-2 : (t : ℕ) → lts.Need-in-expression-requires-2 (known t) (given t) own.Post
+in-expression-requires-2 t c κs = search needs
+
+add-emit-expression : (t : ℕ) → lts.Need-add-emit-expression (known t) (given t) own.Post
+add-emit-expression t c = omega (arith, inside t (c .before .before .before .before) _ (c .before .before .command3 .given .1), c .before .before .before .before .before .before .before .good .0 .1)
+
+sub-emit-expression : (t : ℕ) → lts.Need-sub-emit-expression (known t) (given t) own.Post
+sub-emit-expression t c = omega (arith, some t (c .before .before .before .before) _ (c .before .before .command3 .given .1))
+
+emit-expression-requires : (t : ℕ) → lts.Need-emit-expression-requires (known t) (given t) own.Post
+emit-expression-requires t c κs = (omega (arith, some t (c .before .before .before .before .before) _ (c .before .before .before .command3 .given .1)), rw (c .before .in-expression2 .ensures) (first-room (rooms-at t (c .before .before .before .before .before) _ (c .before .before .before .command3 .given .1))))
+
+sub-emit-expression-2 : (t : ℕ) → lts.Need-sub-emit-expression-2 (known t) (given t) own.Post
+sub-emit-expression-2 t c = omega (arith, some t (c .before .before .before .before .before .before .before .before) _ (c .before .before .before .before .before .before .command3 .given .1))
+
+emit-expression-requires-2 : (t : ℕ) → lts.Need-emit-expression-requires-2 (known t) (given t) own.Post
+emit-expression-requires-2 t c κs = (omega (arith, some t (c .before .before .before .before .before .before .before .before .before) _ (c .before .before .before .before .before .before .before .command3 .given .1)), first-room (rest-rooms (rooms-at t (c .before .before .before .before .before .before .before .before .before) _ (c .before .before .before .before .before .before .before .command3 .given .1)) (rw (c .before .before .before .before .before .in-expression2 .ensures) at (c .before .before .before .emit-expression .ensures))))
+
+binary-byte-requires : (t : ℕ) → lts.Need-binary-byte-requires (known t) (given t) own.Post
+binary-byte-requires t c κs = search needs
+
+put-operator-requires : (t : ℕ) → lts.Need-put-operator-requires (known t) (given t) own.Post
+put-operator-requires t c κs = omega (arith, no-rooms (rest-rooms (rest-rooms (rooms-at t (c .before .before .before .before .before .before .before .before .before .before .before .before .before .before) _ (c .before .before .before .before .before .before .before .before .before .before .before .before .command3 .given .1)) (rw (c .before .before .before .before .before .before .before .before .before .before .in-expression2 .ensures) at (c .before .before .before .before .before .before .before .before .emit-expression .ensures))) (c .before .before .before .before .emit-expression2 .ensures)))
+
+enum-told : (t : ℕ) → lts.Need-enum-told (known t) (given t) own.Post
+enum-told t c = search needs
+
+in-expression-requires-3 : (t : ℕ) → lts.Need-in-expression-requires-3 (known t) (given t) own.Post
+in-expression-requires-3 t c κs = search needs
+
+add-emit-expression-2 : (t : ℕ) → lts.Need-add-emit-expression-2 (known t) (given t) own.Post
+add-emit-expression-2 t c = omega (arith, inside t (c .before .before .before) _ (c .before .enum-told .given .1), c .before .before .before .before .before .before .good .0 .1)
+
+sub-emit-expression-3 : (t : ℕ) → lts.Need-sub-emit-expression-3 (known t) (given t) own.Post
+sub-emit-expression-3 t c = omega (arith, some t (c .before .before .before) _ (c .before .enum-told .given .1))
+
+emit-expression-requires-3 : (t : ℕ) → lts.Need-emit-expression-requires-3 (known t) (given t) own.Post
+emit-expression-requires-3 t c κs = (omega (arith, some t (c .before .before .before .before) _ (c .before .before .enum-told .given .1)), rw (c .before .in-expression3 .ensures) (first-room (rooms-at t (c .before .before .before .before) _ (c .before .before .enum-told .given .1))))
+
+put-operator-requires-2 : (t : ℕ) → lts.Need-put-operator-requires-2 (known t) (given t) own.Post
+put-operator-requires-2 t c κs = omega (arith, no-rooms (rest-rooms (rooms-at t (c .before .before .before .before .before .before .before .before) _ (c .before .before .before .before .before .before .enum-told .given .1)) (rw (c .before .before .before .before .before .in-expression3 .ensures) at (c .before .before .before .emit-expression3 .ensures))))
+
+enum-told-2 : (t : ℕ) → lts.Need-enum-told-2 (known t) (given t) own.Post
+enum-told-2 t c = search needs
+
+in-expression-requires-4 : (t : ℕ) → lts.Need-in-expression-requires-4 (known t) (given t) own.Post
+in-expression-requires-4 t c κs = search needs
+
+add-emit-expression-3 : (t : ℕ) → lts.Need-add-emit-expression-3 (known t) (given t) own.Post
+add-emit-expression-3 t c = omega (arith, inside t (c .before .before .before) _ (c .before .enum-told2 .given .1), c .before .before .before .before .before .before .good .0 .1)
+
+sub-emit-expression-4 : (t : ℕ) → lts.Need-sub-emit-expression-4 (known t) (given t) own.Post
+sub-emit-expression-4 t c = omega (arith, some t (c .before .before .before) _ (c .before .enum-told2 .given .1))
+
+emit-expression-requires-4 : (t : ℕ) → lts.Need-emit-expression-requires-4 (known t) (given t) own.Post
+emit-expression-requires-4 t c κs = (omega (arith, some t (c .before .before .before .before) _ (c .before .before .enum-told2 .given .1)), rw (c .before .in-expression4 .ensures) (first-room (rooms-at t (c .before .before .before .before) _ (c .before .before .enum-told2 .given .1))))
+
+sub-emit-expression-5 : (t : ℕ) → lts.Need-sub-emit-expression-5 (known t) (given t) own.Post
+sub-emit-expression-5 t c = omega (arith, some t (c .before .before .before .before .before .before .before) _ (c .before .before .before .before .before .enum-told2 .given .1))
+
+emit-expression-requires-5 : (t : ℕ) → lts.Need-emit-expression-requires-5 (known t) (given t) own.Post
+emit-expression-requires-5 t c κs = (omega (arith, some t (c .before .before .before .before .before .before .before .before) _ (c .before .before .before .before .before .before .enum-told2 .given .1)), first-room (rest-rooms (rooms-at t (c .before .before .before .before .before .before .before .before) _ (c .before .before .before .before .before .before .enum-told2 .given .1)) (rw (c .before .before .before .before .before .in-expression4 .ensures) at (c .before .before .before .emit-expression4 .ensures))))
+
+sub-emit-expression-6 : (t : ℕ) → lts.Need-sub-emit-expression-6 (known t) (given t) own.Post
+sub-emit-expression-6 t c = omega (arith, some t (c .before .before .before .before .before .before .before .before .before .before .before) _ (c .before .before .before .before .before .before .before .before .before .enum-told2 .given .1))
+
+emit-expression-requires-6 : (t : ℕ) → lts.Need-emit-expression-requires-6 (known t) (given t) own.Post
+emit-expression-requires-6 t c κs = (omega (arith, some t (c .before .before .before .before .before .before .before .before .before .before .before .before) _ (c .before .before .before .before .before .before .before .before .before .before .enum-told2 .given .1)), first-room (rest-rooms (rest-rooms (rooms-at t (c .before .before .before .before .before .before .before .before .before .before .before .before) _ (c .before .before .before .before .before .before .before .before .before .before .enum-told2 .given .1)) (rw (c .before .before .before .before .before .before .before .before .before .in-expression4 .ensures) at (c .before .before .before .before .before .before .before .emit-expression4 .ensures))) (c .before .before .before .emit-expression5 .ensures)))
+
+put-operator-requires-3 : (t : ℕ) → lts.Need-put-operator-requires-3 (known t) (given t) own.Post
+put-operator-requires-3 t c κs = omega (arith, no-rooms (rest-rooms (rest-rooms (rest-rooms (rooms-at t (c .before .before .before .before .before .before .before .before .before .before .before .before .before .before .before .before) _ (c .before .before .before .before .before .before .before .before .before .before .before .before .before .before .enum-told2 .given .1)) (rw (c .before .before .before .before .before .before .before .before .before .before .before .before .before .in-expression4 .ensures) at (c .before .before .before .before .before .before .before .before .before .before .before .emit-expression4 .ensures))) (c .before .before .before .before .before .before .before .emit-expression5 .ensures)) (c .before .before .before .emit-expression6 .ensures)))
+
+same-length : (t : ℕ) → lts.Need-same-length (known t) (given t) own.Post
+same-length t c = c .before .before .put-push .kept .0
+
+returns : (t : ℕ) → lts.Need-returns (known t) (given t) own.Post
+returns t c = emits-last _ (is t (c .before .before .before .before .before .before .before .before) _ (c .before .before .before .before .before .before .command .given .1)) emits-none (same-word (toZ-ofZ (search needs)) (rw (c .before .before .before .in-expression .ensures) at (c .before .before .put-push .ensures)))
+
+same-length-2 : (t : ℕ) → lts.Need-same-length-2 (known t) (given t) own.Post
+same-length-2 t c = c .before .before .put-access .kept .0
+
+returns-2 : (t : ℕ) → lts.Need-returns-2 (known t) (given t) own.Post
+returns-2 t c = emits-last _ (is t (c .before .before .before .before .before .before .before .before) _ (c .before .before .before .before .before .before .command2 .given .1)) emits-none (rw (c .before .before .before .of-read .ensures) at (c .before .before .put-access .ensures))
+
+same-length-3 : (t : ℕ) → lts.Need-same-length-3 (known t) (given t) own.Post
+same-length-3 t c = search needs
+
+returns-3 : (t : ℕ) → lts.Need-returns-3 (known t) (given t) own.Post
+returns-3 t c = emits-last _ (is t (c .before .before .before .before .before .before .before .before .before .before .before .before .before .before .before .before .before) _ (c .before .before .before .before .before .before .before .before .before .before .before .before .before .before .before .command3 .given .1)) (emits-more (rw (c .before .before .before .before .before .before .before .before .before .before .before .before .before .in-expression2 .ensures) at (c .before .before .before .before .before .before .before .before .before .before .before .emit-expression .ensures)) (emits-more (c .before .before .before .before .before .before .before .emit-expression2 .ensures) emits-none)) (rw (c .before .before .before .binary-byte .ensures) at (c .before .before .put-operator .ensures))
+
+same-length-4 : (t : ℕ) → lts.Need-same-length-4 (known t) (given t) own.Post
+same-length-4 t c = search needs
+
+returns-4 : (t : ℕ) → lts.Need-returns-4 (known t) (given t) own.Post
+returns-4 t c = emits-last _ (is t (c .before .before .before .before .before .before .before .before .before .before .before) _ (c .before .before .before .before .before .before .before .before .before .enum-told .given .1)) (emits-more (rw (c .before .before .before .before .before .before .before .before .in-expression3 .ensures) at (c .before .before .before .before .before .before .emit-expression3 .ensures)) emits-none) (c .before .before .put-operator2 .ensures)
+
+same-length-5 : (t : ℕ) → lts.Need-same-length-5 (known t) (given t) own.Post
+same-length-5 t c = search needs
+
+returns-5 : (t : ℕ) → lts.Need-returns-5 (known t) (given t) own.Post
+returns-5 t c = emits-last _ (is t (c .before .before .before .before .before .before .before .before .before .before .before .before .before .before .before .before .before .before .before) _ (c .before .before .before .before .before .before .before .before .before .before .before .before .before .before .before .before .before .enum-told2 .given .1)) (emits-more (rw (c .before .before .before .before .before .before .before .before .before .before .before .before .before .before .before .before .in-expression4 .ensures) at (c .before .before .before .before .before .before .before .before .before .before .before .before .before .before .emit-expression4 .ensures)) (emits-more (c .before .before .before .before .before .before .before .before .before .before .emit-expression5 .ensures) (emits-more (c .before .before .before .before .before .before .emit-expression6 .ensures) emits-none))) (c .before .before .put-operator3 .ensures)
+
+returns-6 : (t : ℕ) → lts.Need-returns-6 (known t) (given t) own.Post
+returns-6 t c = absurd (no-operator (c .before .operator-at .result) (c .match .keys6) (operator-stands _ (is t (c .before) _ refl) (room-at t (c .before))))
+
+pub +emit-expression-spec : {M : Type 1} → statement M
++emit-expression-spec =
+    close μ (λ t. lts.spec (known t) (given t) own.Post
+    (operator-at-requires t)
+    (enum-known-command t)
+    (in-expression-requires t)
+    (add-put-push t)
+    (put-push-requires t)
+    (enum-known-command-2 t)
+    (of-read-requires t)
+    (add-put-access t)
+    (put-access-requires t)
+    (enum-known-command-3 t)
+    (in-expression-requires-2 t)
+    (add-emit-expression t)
+    (sub-emit-expression t)
+    (emit-expression-requires t)
+    (sub-emit-expression-2 t)
+    (emit-expression-requires-2 t)
+    (binary-byte-requires t)
+    (put-operator-requires t)
+    (enum-told t)
+    (in-expression-requires-3 t)
+    (add-emit-expression-2 t)
+    (sub-emit-expression-3 t)
+    (emit-expression-requires-3 t)
+    (put-operator-requires-2 t)
+    (enum-told-2 t)
+    (in-expression-requires-4 t)
+    (add-emit-expression-3 t)
+    (sub-emit-expression-4 t)
+    (emit-expression-requires-4 t)
+    (sub-emit-expression-5 t)
+    (emit-expression-requires-5 t)
+    (sub-emit-expression-6 t)
+    (emit-expression-requires-6 t)
+    (put-operator-requires-3 t)
+    (same-length t)
+    (returns t)
+    (same-length-2 t)
+    (returns-2 t)
+    (same-length-3 t)
+    (returns-3 t)
+    (same-length-4 t)
+    (returns-4 t)
+    (same-length-5 t)
+    (returns-5 t)
+    (returns-6 t))

@@ -1,0 +1,55 @@
+-- `image_code::put_push` meets its contract. Assumes nothing.
+use native.Mathlib.Omega.{arith}
+use native.Mathlib.Numerals.{add-one}
+use mathlib.Core.Path.{refl, ap, _∙_}
+use lib.ListN.{length, set, length-set}
+use lib.Seq.{sets, length-sets}
+use Rattle.image_code.proofs.Laws.{word-length}
+use Rattle.model.specs.Rules.Word.{wordBytes}
+use Prim.Native.Nat.{ℕ, _+_}
+use lib.IntN.{ℤ}
+use mir.Facts.{toZ-ofZ}
+use borrow.Author.Needs.{needs}
+use Rattle.image_code.proofs.put_push.Statement.{statement}
+use Rattle.image_code.proofs.put_push.Tie as tie
+
+slice-write-out : tie.Need-slice-write-out
+slice-write-out c = search needs
+
+add-operand : tie.Need-add-operand
+add-operand c = search needs
+
+put-word-requires : tie.Need-put-word-requires
+put-word-requires c κs = simp length-set (omega arith)
+
+in-code-requires : tie.Need-in-code-requires
+in-code-requires c κs = search needs
+
+add-t11 : tie.Need-add-t11
+add-t11 c = search needs
+
+same-length : tie.Need-same-length
+same-length c = ap length (c .before .before .before .put-word .ensures) ∙ simp (length-sets, length-set)
+
+returns : tie.Need-returns
+returns c =
+    let a = c .before .before .before .before .before .before .args in
+    record {
+      goes = refl;
+      ends = omega (arith, word-length (a .w));
+      holds =
+          c .before .before .before .put-word .ensures ∙
+          ap (λ (z : ℤ). sets (set (a .out .now) (a .to) 0x50) (a .to + 1) (wordBytes z)) (toZ-ofZ (c .before .before .before .before .before .before .fits .w)) ∙
+          ap (λ (j : ℕ). sets (set (a .out .now) (a .to) 0x50) j (wordBytes (a .w))) (add-one (a .to));
+    }
+
+pub put-push-spec : {M : Type 1} → statement M
+put-push-spec =
+    tie.close (tie.spec
+    slice-write-out
+    add-operand
+    put-word-requires
+    in-code-requires
+    add-t11
+    same-length
+    returns)

@@ -1,0 +1,138 @@
+// The code of a signal: operands first, operator after.
+use model::Binary;
+use model::Command;
+ghost use mathlib.Core.Path.{_≡_};
+ghost use mathlib.Core.List.{[], _∷_};
+ghost use Prim.Native.Nat.{_+_, _≤_, _<_};
+ghost use lib.ListN.{length};
+ghost use Rattle.model.specs.Rules.Image.{binaryByte};
+ghost use Rattle.model.specs.Rules.Width.{inCode};
+ghost use Rattle.model.specs.Rules.Word.{wordBytes};
+ghost use Rattle.image_code.specs.Code.{Puts, Room, Emits, SignalRoom, EmitsSignal};
+
+// Where the text goes on, and where the code ends.
+pub struct Emitted {
+    pub next: usize,
+    pub end: usize,
+}
+
+// The byte of an operator with two operands.
+fn binary_byte(operator: Binary) -> u8
+    ensures { λ r. ⌜ r ≡ binaryByte operator ⌝ }
+{
+    match operator {
+        Binary::Add => 0x30,
+        Binary::Sub => 0x31,
+        Binary::Mul => 0x32,
+        Binary::Less => 0x33,
+        Binary::Same => 0x34,
+        Binary::Min => 0x35,
+        Binary::Max => 0x36,
+    }
+}
+
+// Writes a PUSH.
+fn put_push(out: &mut [u8], to: usize, w: i32, next: usize) -> Emitted
+    requires { ⌜ to + inCode 0x50 ≤ length (now out) ⌝ }
+    ensures { λ r. ⌜ Puts (now (out .entry)) to (0x50 ∷ wordBytes w) next (now (out .exit)) (r .next) (r .end) ⌝ }
+{
+    out[to] = 0x50;
+    let operand = to + 1;
+    word::put_word(out, operand, w);
+    Emitted {
+        next: next,
+        end: to + width::in_code(0x50),
+    }
+}
+
+// Writes a LOAD, FETCH or STORE of a signal; FETCH and STORE are as wide as LOAD.
+fn put_access(out: &mut [u8], to: usize, code: u8, signal: u8, next: usize) -> Emitted
+    requires { ⌜ to + inCode 0x51 ≤ length (now out) ⌝ }
+    ensures { λ r. ⌜ Puts (now (out .entry)) to (code ∷ signal ∷ []) next (now (out .exit)) (r .next) (r .end) ⌝ }
+{
+    out[to] = code;
+    out[to + 1] = signal;
+    Emitted {
+        next: next,
+        end: to + width::in_code(0x51),
+    }
+}
+
+// Writes an operator after its operands; all are as wide as ADD.
+fn put_operator(out: &mut [u8], operands: Emitted, code: u8) -> Emitted
+    requires { ⌜ operands .end + inCode 0x30 ≤ length (now out) ⌝ }
+    ensures { λ r. ⌜ Puts (now (out .entry)) (operands .end) (code ∷ []) (operands .next) (now (out .exit)) (r .next) (r .end) ⌝ }
+{
+    let to = operands.end;
+    out[to] = code;
+    Emitted {
+        next: operands.next,
+        end: to + width::in_code(0x30),
+    }
+}
+
+// Writes the code of the expression at `at`, which nests at most `depth` deep, from `to` on.
+pub fn emit_expression(text: &[u8], at: usize, depth: usize, out: &mut [u8], to: usize) -> Emitted
+    requires { ⌜ Room depth (now text) at (length (now out)) to ⌝ }
+    ensures { λ r. ⌜ Emits (now (text .entry)) at (now (out .entry)) to (now (out .exit)) (r .next) (r .end) ⌝ }
+{
+    let command = text_command::operator_at(text, at);
+    match command {
+        Command::Constant(w) => put_push(out, to, w, at + width::in_expression(0x20)),
+        Command::Read(kind, operands) => put_access(
+            out,
+            to,
+            0x51,
+            operands.signal,
+            at + width::of_read(kind),
+        ),
+        Command::Binary(operator) => {
+            let first = emit_expression(text, at + width::in_expression(0x30), depth - 1, out, to);
+            let second = emit_expression(text, first.next, depth - 1, out, first.end);
+            put_operator(out, second, binary_byte(operator))
+        }
+        Command::Negate => {
+            let operand = emit_expression(
+                text,
+                at + width::in_expression(0x38),
+                depth - 1,
+                out,
+                to,
+            );
+            put_operator(out, operand, 0x38)
+        }
+        Command::If => {
+            let condition = emit_expression(
+                text,
+                at + width::in_expression(0x3A),
+                depth - 1,
+                out,
+                to,
+            );
+            let first = emit_expression(text, condition.next, depth - 1, out, condition.end);
+            let second = emit_expression(text, first.next, depth - 1, out, first.end);
+            put_operator(out, second, 0x3A)
+        }
+        _ => Emitted { next: at, end: to },
+    }
+}
+
+// Writes the code of the signal x, declared at `place`, from `to` on. Says where it ends.
+pub fn emit_signal(text: &[u8], place: usize, x: u8, out: &mut [u8], to: usize) -> usize
+    requires { ⌜ SignalRoom (now text) place x (length (now out)) to ⌝ }
+    ensures { λ r. ⌜ EmitsSignal (now (text .entry)) place x (now (out .entry)) to (now (out .exit)) r ⌝ }
+{
+    let command = text_command::command_at(text, place);
+    match command {
+        Command::Equation(_, _, _) => {
+            let value = emit_expression(text, place + width::in_program(0x11), 16, out, to);
+            let code = put_access(out, value.end, 0x5F, x, place);
+            code.end
+        }
+        _ => {
+            let sample = put_access(out, to, 0x52, x, place);
+            let code = put_access(out, sample.end, 0x5F, x, place);
+            code.end
+        }
+    }
+}

@@ -1,0 +1,90 @@
+-- `image_valid::entries_ok` meets its contract. Assumes nothing.
+use mathlib.Core.Path.{_≡_, sym, _∙_}
+use Prim.Native.Nat.{_+_, _*_, _≤_}
+use native.Mathlib.Omega.{arith}
+use Rattle.model.specs.Rules.Image.{listsAt}
+use Rattle.model.specs.Rules.Machine.{hyperOf, countOf}
+use Rattle.image_valid.proofs.Parts.{Lists, head, lists, room, entries-by, entries-none}
+use borrow.Author.Needs.{needs}
+use Rattle.image_valid.proofs.entries_ok.Statement.{statement}
+use Rattle.image_valid.proofs.entries_ok.Tie as tie
+
+abbrev start : tie.After-code-offset → tie.Start
+start o = o .before .before .before
+
+listed : (s : tie.Start) → Lists (s .args .image .now)
+listed s = lists _ (s .pre .1)
+
+-- where the lists start
+begins : (w : tie.After-wide) → let s = w .before .before in
+    4 + 6 * w .wide .result + 2 * (s .args .h + 1) ≡ listsAt (countOf (s .args .image .now)) (hyperOf (s .args .image .now))
+begins w = let s = w .before .before in rw (w .wide .ensures .0, s .pre .2, s .pre .3)
+
+holds : (o : tie.After-code-offset) → 4 + 6 * o .before .wide .result + 2 * (start o .args .h + 1) ≤ o .code-offset .result
+holds o = rw (begins (o .before), o .code-offset .ensures) (room _ (listed (start o)))
+
+wide-requires : tie.Need-wide-requires
+wide-requires c κs = search needs
+
+mul-start : tie.Need-mul-start
+mul-start c = search needs
+
+add-start : tie.Need-add-start
+add-start c = search needs
+
+add-start-2 : tie.Need-add-start-2
+add-start-2 c = let s = c .before .before in omega (arith, s .pre .3, head _ (s .pre .0) .hyper, c .wide .ensures .1)
+
+mul-start-2 : tie.Need-mul-start-2
+mul-start-2 c = let s = c .before .before in omega (arith, s .pre .3, head _ (s .pre .0) .hyper, c .wide .ensures .1)
+
+add-start-3 : tie.Need-add-start-3
+add-start-3 c = let s = c .before .before in omega (arith, s .pre .3, head _ (s .pre .0) .hyper, c .wide .ensures .1)
+
+code-offset-requires : tie.Need-code-offset-requires
+code-offset-requires c κs = search needs
+
+returns : tie.Need-returns
+returns c =
+    let o = c .before in
+    let s = start o in
+    let none : countOf (s .args .image .now) ≡ 0 = sym (s .pre .2) ∙ c .if1 .taken in
+    rw (begins (o .before), o .code-offset .ensures) (entries-none _ (listed s) none)
+
+sub-greatest : tie.Need-sub-greatest
+sub-greatest c = holds (c .before)
+
+part-greatest-start : tie.Need-part-greatest-start
+part-greatest-start c = holds (c .before)
+
+part-greatest-end : tie.Need-part-greatest-end
+part-greatest-end c = let o = c .before in rw (o .code-offset .ensures) (listed (start o) .end)
+
+greatest-requires : tie.Need-greatest-requires
+greatest-requires c κs = search needs
+
+returns-2 : tie.Need-returns-2
+returns-2 c =
+    let e = c .before .before in
+    let o = e .before in
+    let s = start o in
+    sym (c .greatest .ensures (s .args .n) (omega (arith, e .if1 .left)))
+    ∙ entries-by _ (listed s) _ _ _ (s .pre .2) (begins (o .before)) (o .code-offset .ensures)
+
+pub entries-ok-spec : {M : Type 1} → statement M
+entries-ok-spec =
+    tie.close
+    (tie.spec
+    wide-requires
+    mul-start
+    add-start
+    add-start-2
+    mul-start-2
+    add-start-3
+    code-offset-requires
+    returns
+    sub-greatest
+    part-greatest-start
+    part-greatest-end
+    greatest-requires
+    returns-2)

@@ -1,0 +1,152 @@
+-- `image_valid::lists_ok` meets its contract. Assumes nothing.
+use mathlib.Core.Path.{_≡_, sym, ap, _∙_}
+use mathlib.Core.Bool.{Bool, true, false}
+use mathlib.Core.List.{List}
+use Prim.Native.Nat.{ℕ, _+_, _-_, _*_, _≤_}
+use native.Mathlib.Omega.{arith}
+use borrow.Author.Tests.{le-leb, lt-leb, eq-eqb, ne-eqb}
+use lib.Dec.{leb, eqb}
+use Rattle.model.specs.Rules.Image.{listsAt}
+use Rattle.model.specs.Rules.Machine.{hyperOf, countOf, listOffset, codeOffset, listsOk}
+use Rattle.model.specs.Rules.Search.{allBelow}
+use Rattle.image_valid.proofs.All.{all-none, all-more, all-fails}
+use Rattle.image_valid.proofs.Parts.{head}
+use Rattle.image_valid.proofs.lists_ok.Statement.{statement}
+use Rattle.image_valid.proofs.lists_ok.Tie as tie
+
+-- list c starts where it ends, or before
+abbrev rising : List ℕ → ℕ → Bool
+rising image c = leb (listOffset image c) (listOffset image (c + 1))
+
+abbrev Inv-loop : tie.InvT-loop
+Inv-loop image n h last₀ c₀ last c = (allBelow c (rising image) ≡ true) × (c ≤ h) × (last ≡ listOffset image c)
+
+abbrev μ-loop : tie.MeasureT-loop
+μ-loop image n h last₀ c₀ last c = h - c
+
+abbrev start : tie.At-loop Inv-loop μ-loop → tie.Start Inv-loop μ-loop
+start l = l .before .before .before .before
+
+-- where the lists start
+starts : (s : tie.Start Inv-loop μ-loop)
+    → 4 + 6 * s .args .n + 2 * (s .args .h + 1) ≡ listsAt (countOf (s .args .image .now)) (hyperOf (s .args .image .now))
+starts s = rw (s .pre .1, s .pre .2)
+
+first : (e : tie.Else1 Inv-loop μ-loop) → let image = e .before .before .before .args .image .now in
+    eqb (listOffset image 0) (listsAt (countOf image) (hyperOf image)) ≡ true
+first e = eq-eqb _ _ (sym (e .before .list-offset .ensures) ∙ e .if1 .left ∙ starts (e .before .before .before))
+
+-- after the loop: the last list ends here
+done : (a : tie.After-loop Inv-loop μ-loop) → a .before .loop .c ≡ hyperOf (start (a .before) .args .image .now)
+done a = omega (arith, start (a .before) .pre .2)
+
+rose : (a : tie.After-loop Inv-loop μ-loop) → let image = start (a .before) .args .image .now in allBelow (hyperOf image) (rising image) ≡ true
+rose a = ap (λ (k : ℕ). allBelow k (rising (start (a .before) .args .image .now))) (sym (done a)) ∙ a .before .loop .inv .0
+
+ends : (a : tie.After-loop Inv-loop μ-loop) → let image = start (a .before) .args .image .now in a .before .loop .last ≡ listOffset image (hyperOf image)
+ends a = a .before .loop .inv .2 ∙ ap (listOffset (start (a .before) .args .image .now)) (done a)
+
+list-offset-requires : tie.Need-list-offset-requires Inv-loop μ-loop
+list-offset-requires c κs = (c .before .pre .0, c .before .pre .1, omega arith)
+
+mul-if1 : tie.Need-mul-if1 Inv-loop μ-loop
+mul-if1 c = let s = c .before .before in omega (arith, s .pre .1, s .pre .2, head _ (s .pre .0) .signals, head _ (s .pre .0) .hyper)
+
+add-if1 : tie.Need-add-if1 Inv-loop μ-loop
+add-if1 c = let s = c .before .before in omega (arith, s .pre .1, s .pre .2, head _ (s .pre .0) .signals, head _ (s .pre .0) .hyper)
+
+add-if1-2 : tie.Need-add-if1-2 Inv-loop μ-loop
+add-if1-2 c = let s = c .before .before in omega (arith, s .pre .1, s .pre .2, head _ (s .pre .0) .signals, head _ (s .pre .0) .hyper)
+
+mul-if1-2 : tie.Need-mul-if1-2 Inv-loop μ-loop
+mul-if1-2 c = let s = c .before .before in omega (arith, s .pre .1, s .pre .2, head _ (s .pre .0) .signals, head _ (s .pre .0) .hyper)
+
+add-if1-3 : tie.Need-add-if1-3 Inv-loop μ-loop
+add-if1-3 c = let s = c .before .before in omega (arith, s .pre .1, s .pre .2, head _ (s .pre .0) .signals, head _ (s .pre .0) .hyper)
+
+returns : tie.Need-returns Inv-loop μ-loop
+unfolding listsOk
+returns c =
+    let o = c .before in
+    let s = o .before .before in
+    rw (ne-eqb (listOffset (s .args .image .now) 0) _ (λ e. c .if1 .taken (o .list-offset .ensures ∙ e ∙ sym (starts s))))
+
+loop-holds : tie.Need-loop-holds Inv-loop μ-loop
+loop-holds c = (all-none _, omega arith, c .before .list-offset .ensures)
+
+add-list-offset : tie.Need-add-list-offset Inv-loop μ-loop
+add-list-offset c = omega arith
+
+list-offset-requires-2 : tie.Need-list-offset-requires-2 Inv-loop μ-loop
+list-offset-requires-2 c κs = let s = c .before .before .before .before .before in (s .pre .0, s .pre .1, omega (arith, s .pre .2))
+
+returns-2 : tie.Need-returns-2 Inv-loop μ-loop
+unfolding listsOk
+returns-2 c =
+    let o = c .before in
+    let l = o .before .before in
+    let i = l .before in
+    let image = start l .args .image .now in
+    let falls : allBelow (hyperOf image) (rising image) ≡ false =
+    all-fails _ _ (l .loop .c) (omega (arith, o .before .loop-test .taken, start l .pre .2))
+    (rw (← (l .loop .inv .2), ← (o .list-offset2 .ensures)) (lt-leb _ _ (c .if2 .taken))) in
+    rw (first i, falls)
+
+add-c : tie.Need-add-c Inv-loop μ-loop
+add-c c = omega arith
+
+loop-less : tie.Need-loop-less Inv-loop μ-loop
+loop-less c = omega arith
+
+loop-again : tie.Need-loop-again Inv-loop μ-loop
+loop-again c =
+    let o = c .before in
+    let l = o .before .before in (
+      all-more (l .loop .c) (rising (start l .args .image .now)) (l .loop .inv .0) (rw (← (l .loop .inv .2), ← (o .list-offset2 .ensures)) (le-leb _ _ (c .if2 .left))),
+      omega arith,
+      o .list-offset2 .ensures,
+    )
+
+code-offset-requires : tie.Need-code-offset-requires Inv-loop μ-loop
+code-offset-requires c κs = let s = start (c .before) in (s .pre .0, s .pre .1)
+
+returns-3 : tie.Need-returns-3 Inv-loop μ-loop
+unfolding listsOk
+returns-3 c =
+    let o = c .before in
+    let l = o .before .before in
+    let image = start l .args .image .now in
+    rw (first (l .before), rose (o .before), ne-eqb (listOffset image (hyperOf image)) _ (λ e. c .if3 .taken (ends (o .before) ∙ e ∙ sym (o .code-offset .ensures))))
+
+returns-4 : tie.Need-returns-4 Inv-loop μ-loop
+unfolding listsOk
+returns-4 c =
+    let o = c .before in
+    let l = o .before .before in
+    let image = start l .args .image .now in
+    let same : listOffset image (hyperOf image) ≡ codeOffset image 0 = sym (ends (o .before)) ∙ c .if3 .left ∙ o .code-offset .ensures in
+    rw (first (l .before), rose (o .before), eq-eqb (listOffset image (hyperOf image)) (codeOffset image 0) same, ← same, ← (ends (o .before)))
+
+pub lists-ok-spec : {M : Type 1} → statement M
+lists-ok-spec =
+    tie.close
+    (tie.spec
+    Inv-loop
+    μ-loop
+    list-offset-requires
+    mul-if1
+    add-if1
+    add-if1-2
+    mul-if1-2
+    add-if1-3
+    returns
+    loop-holds
+    add-list-offset
+    list-offset-requires-2
+    returns-2
+    add-c
+    loop-less
+    loop-again
+    code-offset-requires
+    returns-3
+    returns-4)

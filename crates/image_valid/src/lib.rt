@@ -1,0 +1,201 @@
+// Whether an image is well formed, for any bytes. Nothing is written.
+ghost use mathlib.Core.Path.{_≡_};
+ghost use mathlib.Core.Bool.{true};
+ghost use Prim.Native.Nat.{ℕ, _+_, _<_, _≤_};
+ghost use lib.Dec.{ltb};
+ghost use lib.ListN.{length, take};
+ghost use Rattle.model.specs.Rules.Machine.{hyperOf, countOf, statedLength, listOffset, codeOffset};
+ghost use Rattle.model.specs.Rules.Machine.{headOk, listsOk, entriesOk, codesOk, wellFormed};
+ghost use Rattle.image_valid.specs.Lends.{Lends};
+ghost use Rattle.model.specs.Rules.Search.{allBelow};
+ghost use Rattle.model.specs.Rules.Word.{byteAt, twoAt};
+
+fn wide(byte: u8) -> usize
+    ensures { λ r. ⌜ (r ≡ byte) × (r < 256) ⌝ }
+{
+    byte as usize
+}
+
+fn offset_at(image: &[u8], at: usize) -> usize
+    requires { ⌜ at + 2 ≤ length (now image) ⌝ }
+    ensures { λ r. ⌜ r ≡ twoAt (now (image .entry)) at ⌝ }
+{
+    word::two_at(image, at) as usize
+}
+
+// L, as bytes 2-3 hold it.
+pub fn stated_length(image: &[u8]) -> usize
+    requires { ⌜ 4 ≤ length (now image) ⌝ }
+    ensures { λ r. ⌜ r ≡ statedLength (now (image .entry)) ⌝ }
+{
+    offset_at(image, 2)
+}
+
+// Offset c of the run lists in an image of n signals.
+pub fn list_offset(image: &[u8], n: usize, c: usize) -> usize
+    requires { ⌜ (headOk (now image) ≡ true) × (n ≡ countOf (now image)) × (c ≤ hyperOf (now image)) ⌝ }
+    ensures { λ r. ⌜ r ≡ listOffset (now (image .entry)) c ⌝ }
+{
+    offset_at(image, 4 + 6 * n + 2 * c)
+}
+
+// Where the code of signal x starts, and that of signal x - 1 ends.
+pub fn code_offset(image: &[u8], n: usize, x: usize) -> usize
+    requires { ⌜ (headOk (now image) ≡ true) × (n ≡ countOf (now image)) ⌝ }
+    ensures { λ r. ⌜ r ≡ codeOffset (now (image .entry)) x ⌝ }
+{
+    if x < n {
+        offset_at(image, 8 + 6 * x)
+    } else {
+        image.len()
+    }
+}
+
+// L, H and N, and that the fixed areas are there.
+fn head_ok(image: &[u8]) -> bool
+    ensures { λ r. ⌜ r ≡ headOk (now (image .entry)) ⌝ }
+{
+    if image.len() < 4 {
+        return false;
+    }
+    if stated_length(image) != image.len() {
+        return false;
+    }
+    let h = wide(image[0]);
+    let n = wide(image[1]);
+    if h < 1 {
+        return false;
+    }
+    if 240 < h {
+        return false;
+    }
+    if 64 < n {
+        return false;
+    }
+    4 + 6 * n + 2 * (h + 1) <= image.len()
+}
+
+// Every list starts where the one before ended, the first after the offsets, and the code after the last.
+fn lists_ok(image: &[u8], n: usize, h: usize) -> bool
+    requires { ⌜ (headOk (now image) ≡ true) × (n ≡ countOf (now image)) × (h ≡ hyperOf (now image)) ⌝ }
+    ensures { λ r. ⌜ r ≡ listsOk (now (image .entry)) ⌝ }
+{
+    let mut last = list_offset(image, n, 0);
+    if last != 4 + 6 * n + 2 * (h + 1) {
+        return false;
+    }
+    let mut c: usize = 0;
+    while c < h {
+        let next = list_offset(image, n, c + 1);
+        if next < last {
+            return false;
+        }
+        last = next;
+        c = c + 1;
+    }
+    if last != code_offset(image, n, 0) {
+        return false;
+    }
+    last <= image.len()
+}
+
+// The greatest byte, 0 where there is none.
+fn greatest(list: &[u8]) -> u8
+    ensures { λ r. ⌜ ((n : ℕ) → 0 < n → allBelow (length (now (list .entry))) (λ i. ltb (byteAt (now (list .entry)) i) n) ≡ ltb r n) ⌝ }
+{
+    let mut most: u8 = 0;
+    let mut i: usize = 0;
+    while i < list.len() {
+        let x = list[i];
+        if most < x {
+            most = x;
+        }
+        i = i + 1;
+    }
+    most
+}
+
+// List entries are below n.
+fn entries_ok(image: &[u8], n: u8, h: usize) -> bool
+    requires { ⌜ (headOk (now image) ≡ true) × (listsOk (now image) ≡ true) × (n ≡ countOf (now image)) × (h ≡ hyperOf (now image)) ⌝ }
+    ensures { λ r. ⌜ r ≡ entriesOk (now (image .entry)) ⌝ }
+{
+    let count = wide(n);
+    let start = 4 + 6 * count + 2 * (h + 1);
+    let end = code_offset(image, count, 0);
+    if n == 0 {
+        return start == end;
+    }
+    greatest(&image[start..end]) < n
+}
+
+// Every code starts where the one before ended, the last ending at L, and is well formed.
+fn codes_ok(image: &[u8], n: u8) -> bool
+    requires { ⌜ (headOk (now image) ≡ true) × (n ≡ countOf (now image)) ⌝ }
+    ensures { λ r. ⌜ r ≡ codesOk (now (image .entry)) ⌝ }
+{
+    let table = image_valid_code::shapes();
+    let count = wide(n);
+    let mut from = code_offset(image, count, 0);
+    let mut x: u8 = 0;
+    while x < n {
+        let to = code_offset(image, count, wide(x) + 1);
+        if to < from {
+            return false;
+        }
+        if image.len() < to {
+            return false;
+        }
+        if !image_valid_code::code_ok(&image[from..to], n, x, &table) {
+            return false;
+        }
+        from = to;
+        x = x + 1;
+    }
+    true
+}
+
+// Whether the image is well formed.
+pub fn well_formed(image: &[u8]) -> bool
+    ensures { λ r. ⌜ r ≡ wellFormed (now (image .entry)) ⌝ }
+{
+    if !head_ok(image) {
+        return false;
+    }
+    let h = wide(image[0]);
+    let n = image[1];
+    if !lists_ok(image, wide(n), h) {
+        return false;
+    }
+    if !entries_ok(image, n, h) {
+        return false;
+    }
+    codes_ok(image, n)
+}
+
+// L, where what is lent has exactly L or exactly L + 4N bytes, and else 0.
+fn image_length(lent: &[u8]) -> usize
+    ensures { λ r. ⌜ (r ≤ length (now (lent .entry))) × Lends (now (lent .entry)) (take r (now (lent .entry))) ⌝ }
+{
+    if lent.len() < 4 {
+        return 0;
+    }
+    let length = stated_length(lent);
+    let n = wide(lent[1]);
+    if lent.len() == length {
+        return length;
+    }
+    if lent.len() == length + 4 * n {
+        return length;
+    }
+    0
+}
+
+// The image in what is lent, with its tail or without: its first L bytes. An empty one, which is not well formed, where the length
+// is neither.
+pub fn image_in(lent: &[u8]) -> &[u8]
+    ensures { λ r. ⌜ Lends (now (lent .entry)) (now r) ⌝ }
+{
+    let length = image_length(lent);
+    &lent[..length]
+}

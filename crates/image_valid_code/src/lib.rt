@@ -1,0 +1,112 @@
+// Whether the code of a signal is well formed: one turn for a command, by a table of what each byte commands.
+ghost use mathlib.Core.Path.{_≡_};
+ghost use Prim.Native.Nat.{_<_, _≤_};
+ghost use Rattle.image_valid_code.specs.Shape.{shapeOf, Shapes, lengthOf, afterOf, lastOf};
+ghost use Rattle.model.specs.Rules.Machine.{codeOk};
+
+fn wide(byte: u8) -> usize
+    ensures { λ r. ⌜ (r ≡ byte) × (r < 256) ⌝ }
+{
+    byte as usize
+}
+
+// 0: no command, or STORE; else 1 and the words that it takes off the stack, and 8 more for LOAD.
+pub fn shapes() -> [u8; 256]
+    ensures { λ r. ⌜ Shapes r ⌝ }
+{
+    let mut table = [0; 256];
+    table[0x30] = 3;
+    table[0x31] = 3;
+    table[0x32] = 3;
+    table[0x33] = 3;
+    table[0x34] = 3;
+    table[0x35] = 3;
+    table[0x36] = 3;
+    table[0x38] = 2;
+    table[0x3A] = 4;
+    table[0x50] = 1;
+    table[0x51] = 9;
+    table[0x52] = 1;
+    table
+}
+
+fn shape(table: &[u8; 256], byte: u8) -> usize
+    requires { ⌜ Shapes (now table) ⌝ }
+    ensures { λ r. ⌜ r ≡ shapeOf byte ⌝ }
+{
+    let i = wide(byte);
+    wide(table[i])
+}
+
+// The bytes of a command that is not STORE. The operators are as wide as ADD.
+fn length_of(byte: u8) -> usize
+    ensures { λ r. ⌜ r ≡ lengthOf byte ⌝ }
+{
+    if byte == 0x50 {
+        return width::in_code(0x50);
+    }
+    if byte < 0x50 {
+        return width::in_code(0x30);
+    }
+    width::in_code(0x51)
+}
+
+// The words on the stack after the command of a shape with `byte` and then x, where it held h; 33 where it may not stand there.
+fn after(shape: usize, byte: u8, x: u8, h: usize, n: u8, own: u8) -> usize
+    requires { ⌜ (h ≤ 32) × (shape ≤ 9) ⌝ }
+    ensures { λ r. ⌜ r ≡ afterOf shape byte x h n own ⌝ }
+{
+    let takes = shape % 8;
+    if h + 1 < takes {
+        return 33;
+    }
+    if wide(n) <= shape / 8 * wide(x) {
+        return 33;
+    }
+    if byte == 0x52 {
+        if x == own {
+            return h + 2 - takes;
+        }
+        return 33;
+    }
+    h + 2 - takes
+}
+
+// STORE of the own signal, where the stack holds one word.
+fn is_last(byte: u8, x: u8, own: u8, h: usize) -> bool
+    ensures { λ r. ⌜ r ≡ lastOf byte x own h ⌝ }
+{
+    if byte == 0x5F {
+        if x == own {
+            return h == 1;
+        }
+        return false;
+    }
+    false
+}
+
+// Whether the code of signal `own` is well formed in an image of n signals.
+pub fn code_ok(code: &[u8], n: u8, own: u8, table: &[u8; 256]) -> bool
+    requires { ⌜ Shapes (now table) × (own < n) ⌝ }
+    ensures { λ r. ⌜ r ≡ codeOk (now (code .entry)) n own ⌝ }
+{
+    let mut at: usize = 0;
+    let mut h: usize = 0;
+    while at + 1 < code.len() {
+        let byte = code[at];
+        let x = code[at + 1];
+        let found = shape(table, byte);
+        if found == 0 {
+            if is_last(byte, x, own, h) {
+                return at + width::in_code(0x5F) == code.len();
+            }
+            return false;
+        }
+        h = after(found, byte, x, h, n, own);
+        if 32 < h {
+            return false;
+        }
+        at = at + length_of(byte);
+    }
+    false
+}

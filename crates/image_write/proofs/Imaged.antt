@@ -1,0 +1,177 @@
+-- The image by the tables is that of the program and the schedule. Assumes nothing.
+use Prim.Native.Nat.{ℕ, suc, _+_, _%_, _≤_, _<_}
+use mathlib.Core.Bool.{Bool, cond}
+use mathlib.Core.List.{List, [], _∷_, _++_, append-nil}
+use mathlib.Core.Path.{_≡_, refl, sym, ap, ap₂, _∙_}
+use native.Mathlib.Omega.{arith}
+use lib.Dec.{eqb}
+use lib.ListN.{length, getD, drop}
+use lib.Seq.{sets, sets-eq, ext-getD}
+use Rattle.model.specs.Rules.Image.{codes, runList, runLists, joined, offsets, records, listsAt, codesAt, lengthOf, head, imageOf}
+use Rattle.model.specs.Rules.Program.{Program, Signal, count}
+use Rattle.model.specs.Rules.Reads.{rateOf, due}
+use Rattle.model.specs.Rules.Schedule.{Schedule}
+use Rattle.model.specs.Rules.Search.{table, chosen}
+use Rattle.model.specs.Rules.Word.{twoBytes}
+use Rattle.model.proofs.Legal.{legal, signal-spelled, signal-period}
+use Rattle.model.proofs.Stretches.{table-length, table-at, image-length}
+use Rattle.text_program.specs.declared.Tables.{Tables}
+use Rattle.image_write.specs.Codes.{signalsIn, signalsOf, codesFrom, Declared, CodesAt}
+use Rattle.image_write.specs.Lists.{isDue, listBy, listsBy, pairs, Timed, Phased}
+use Rattle.text_program.specs.Prepared.{Prepared}
+use Rattle.model.specs.Rules.Writing.{Wrote}
+use Rattle.image_write.proofs.Coded.{code-sum, codes-by, codes-end}
+use Rattle.model.proofs.Left.{Parts}
+use Rattle.image_write.proofs.Listed.{table-same}
+
+-- Where the code starts, and where it ends.
+abbrev pub codesBy : ℕ → ℕ → List (List ℕ) → ℕ
+codesBy h n lists = listsAt n h + length (joined lists)
+
+abbrev pub lengthBy : ℕ → ℕ → List (List ℕ) → List (List ℕ) → ℕ
+lengthBy h n lists codes = codesBy h n lists + length (joined codes)
+
+-- The image from its parts.
+unfoldable pub imageBy : ℕ → ℕ → List Signal → List (List ℕ) → List (List ℕ) → List ℕ
+imageBy h n signals lists codes =
+    (h ∷ n ∷ twoBytes (lengthBy h n lists codes)) ++
+    (records signals (offsets (codesBy h n lists) codes) ++
+    (pairs (offsets (listsAt n h) lists) ++ (joined lists ++ joined codes)))
+
+pub head-first : (h n : ℕ) (signals : List Signal) (lists codes : List (List ℕ)) →
+    Parts (imageBy h n signals lists codes) (h ∷ n ∷ twoBytes (lengthBy h n lists codes))
+    (records signals (offsets (codesBy h n lists) codes) ++
+    (pairs (offsets (listsAt n h) lists) ++ (joined lists ++ joined codes)))
+unfolding imageBy
+head-first h n signals lists codes = record { is = refl }
+
+pub both : (xs ys : List ℕ) → Parts (xs ++ ys) xs ys
+both xs ys = record { is = refl }
+
+pub last : (xs : List ℕ) → Parts xs xs []
+last xs = record { is = sym (append-nil xs) }
+
+image-is : (p : Program) (s : Schedule) (h : ℕ) → imageOf p s h ≡ imageBy h (count p) (p .signals) (runLists p s h) (codes p)
+unfolding imageOf head lengthOf codesAt imageBy
+image-is p s h = refl
+
+-- Tests that agree on a list choose the same.
+chosen-same : (f g : ℕ → Bool) (xs : List ℕ) → ((j : ℕ) → j < length xs → f (getD xs j 0) ≡ g (getD xs j 0)) →
+    chosen f xs ≡ chosen g xs
+unfolding chosen
+chosen-same f g [] h = refl
+chosen-same f g (x ∷ xs) h =
+    ap (λ (b : Bool). cond b (x ∷ chosen f xs) (chosen f xs)) (h 0 (omega arith)) ∙
+    ap (λ (l : List ℕ). cond (g x) (x ∷ l) l) (chosen-same f g xs (λ j lt. h (suc j) (omega arith)))
+
+module _ {text : List ℕ} {t : Tables} {periods order phases : List ℕ} {p : Program} {s : Schedule}
+    (r : Prepared text t periods order phases p s) where
+  pub count-is : count p ≡ t .signals
+  count-is = r .tables .counts .signals-are
+
+  pub signals-are : p .signals ≡ signalsOf text
+  unfolding signalsOf
+  signals-are = sym (ap signalsIn (r .parsed))
+
+  codes-are : codes p ≡ codesFrom 0 (signalsOf text)
+  unfolding codes codesFrom
+  codes-are = ap (codesFrom 0) signals-are
+
+  pub declared : Declared text (t .places) (t .signals)
+  declared =
+      let l = legal text p (r .parsed) in
+      let n = count-is in
+      record {
+        few = omega (arith, l .1 .fewSignals);
+        count-is = ap length (sym signals-are) ∙ n;
+        stands = λ x lt. rw (← signals-are) (sym (r .tables .places x (omega arith)));
+        spelled = λ x lt. rw (← signals-are) (signal-spelled (l .1) x (omega arith));
+        short = rw (← codes-are) (omega (arith, l .1 .code, l .2));
+      }
+
+  pub codes-at : (start : ℕ) → CodesAt start (signalsOf text) (t .codes)
+  codes-at start = rw (← signals-are) (codes-by p (t .codes) (r .tables .codes) start)
+
+  pub code-size : getD (t .codes) (t .signals) 0 ≡ length (joined (codesFrom 0 (signalsOf text)))
+  code-size =
+      let n = count-is in
+      rw (← signals-are)
+      (omega (arith, code-sum p (t .codes) (r .tables .codes) (t .signals) (omega arith), ap length (codes-end (p .signals) (t .signals) (omega arith))))
+
+  pub in-order : (j : ℕ) → j < t .signals → getD order j 0 < count p
+  in-order j lt =
+      let e = r .slots .all-put in
+      let n = count-is in
+      rw (r .slots .order-is j (omega arith)) (r .only j (omega arith))
+
+  pub timed : Timed periods order (t .signals)
+  timed =
+      let l = legal text p (r .parsed) in
+      let n = count-is in
+      record {
+        few = omega (arith, l .1 .fewSignals);
+        below = λ j lt. omega (arith, in-order j lt, l .1 .fewSignals);
+        positive = λ j lt.
+            rw (r .periods-are (getD order j 0) (in-order j lt))
+            (omega (arith, signal-period (l .1) (getD order j 0) (in-order j lt)));
+      }
+
+  pub phased : Phased periods order phases (t .signals)
+  phased j lt =
+      let x = getD order j 0 in
+      rw (r .periods-are x (in-order j lt), r .slots .phases-are x (in-order j lt)) (r .phased x (in-order j lt))
+
+  order-is : s .order ≡ table (t .signals) (λ j. getD order j 0)
+  order-is =
+      let e = r .slots .all-put in
+      let n = count-is in
+      ext-getD 0 (s .order) (table (t .signals) (λ j. getD order j 0))
+      (e ∙ n ∙ sym (table-length (t .signals) (λ j. getD order j 0)))
+      (λ i lt. sym (r .slots .order-is i lt) ∙ sym (table-at (t .signals) (λ j. getD order j 0) i 0 (omega arith)))
+
+  pub list-is : (c : ℕ) → runList p s c ≡ listBy periods order phases (t .signals) c
+  unfolding runList listBy due
+  list-is c =
+      chosen-same (λ x. due (rateOf p s x) c) (isDue periods phases c) (s .order)
+      (λ j lt.
+      ap₂ (λ a b. eqb (c % a) b) (sym (r .periods-are (getD (s .order) j 0) (r .only j lt)))
+      (sym (r .slots .phases-are (getD (s .order) j 0) (r .only j lt)))) ∙
+      ap (chosen (isDue periods phases c)) order-is
+
+  module _ (h : ℕ) where
+    lists-are : runLists p s h ≡ listsBy periods order phases (t .signals) h
+    unfolding runLists listsBy
+    lists-are = table-same (runList p s) (listBy periods order phases (t .signals)) list-is h
+
+    pub image-by : imageOf p s h ≡
+        imageBy h (t .signals) (signalsOf text) (listsBy periods order phases (t .signals) h) (codesFrom 0 (signalsOf text))
+    image-by =
+        image-is p s h ∙
+        ap (λ (n : ℕ). imageBy h n (p .signals) (runLists p s h) (codes p)) count-is ∙
+        ap (λ (g : List Signal). imageBy h (t .signals) g (runLists p s h) (codes p)) signals-are ∙
+        ap₂ (imageBy h (t .signals) (signalsOf text)) lists-are codes-are
+
+    pub lists-by : listsAt (count p) h ≡ listsAt (t .signals) h
+    lists-by = ap (λ (n : ℕ). listsAt n h) count-is
+
+    pub code-by : codesAt p s h ≡ codesBy h (t .signals) (listsBy periods order phases (t .signals) h)
+    unfolding codesAt
+    code-by = ap₂ (codesBy h) count-is lists-are
+
+    pub length-by : lengthOf p s h ≡
+        lengthBy h (t .signals) (listsBy periods order phases (t .signals) h) (codesFrom 0 (signalsOf text))
+    unfolding lengthOf
+    length-by = ap₂ (λ (at : ℕ) cs. at + length (joined cs)) code-by codes-are
+
+    pub image-size : length (imageBy h (t .signals) (signalsOf text) (listsBy periods order phases (t .signals) h) (codesFrom 0 (signalsOf text))) ≡
+        lengthOf p s h
+    image-size = rw (← image-by) (image-length p s h)
+
+    -- What is written from the first byte on is the image, and the rest stays.
+    pub image-written : {l l′ : List ℕ} {end : ℕ} → lengthOf p s h ≤ length l →
+        Wrote l 0 (imageBy h (t .signals) (signalsOf text) (listsBy periods order phases (t .signals) h) (codesFrom 0 (signalsOf text))) l′ end →
+        l′ ≡ imageOf p s h ++ drop (lengthOf p s h) l
+    image-written {l} le w =
+        let e : 0 + length (imageOf p s h) ≡ lengthOf p s h = omega (arith, image-length p s h) in
+        w .holds ∙ ap (sets l 0) (sym image-by) ∙
+        sets-eq (imageOf p s h) l 0 (omega arith) ∙ ap (λ (k : ℕ). imageOf p s h ++ drop k l) e

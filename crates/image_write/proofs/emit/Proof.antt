@@ -1,0 +1,134 @@
+-- `image_write::emit` meets its contract. Assumes nothing.
+use Prim.Native.Nat.{ℕ, _+_, _≤_}
+use mathlib.Core.List.{List, _++_}
+use mathlib.Core.Path.{_≡_, refl, _∙_}
+use native.Mathlib.Omega.{arith}
+use lib.ListN.{length}
+use Rattle.model.specs.Rules.Image.{joined, offsets, records, listsAt}
+use Rattle.model.specs.Rules.Word.{twoBytes}
+use Rattle.image_write.specs.Codes.{signalsOf, codesFrom}
+use Rattle.image_write.specs.Lists.{listsBy, pairs}
+use Rattle.model.proofs.Left.{Left, starts, room, turn, done}
+use Rattle.image_write.proofs.Imaged.{codesBy, lengthBy, imageBy, head-first, both, last, declared, timed, phased, lists-by, codes-at, code-by, length-by, image-size, image-written}
+use borrow.Author.Needs.{needs}
+use Rattle.image_write.proofs.emit.Statement.{statement}
+use Rattle.image_write.proofs.emit.Tie as tie
+
+-- the parts of the image, by the tables
+module _ (s : tie.Start) where
+  abbrev count : ℕ
+  count = s .args .tables .signals
+
+  abbrev lists : List (List ℕ)
+  lists = listsBy (s .args .periods .now) (s .args .order .now) (s .args .phases .now) count (s .args .h)
+
+  abbrev codes : List (List ℕ)
+  codes = codesFrom 0 (signalsOf (s .args .text .now))
+
+  abbrev recorded : List ℕ
+  recorded = records (signalsOf (s .args .text .now)) (offsets (codesBy (s .args .h) count lists) codes)
+
+  abbrev paired : List ℕ
+  paired = pairs (offsets (listsAt count (s .args .h)) lists)
+
+  abbrev image : List ℕ
+  image = imageBy (s .args .h) count (signalsOf (s .args .text .now)) lists codes
+
+  -- what is left of it
+  abbrev Rest : List ℕ → ℕ → List ℕ → Type 0
+  Rest out to rest = Left (s .args .out .now) 0 image out to rest
+
+  -- the layout, by the tables
+  lists-at : s .args .layout .lists ≡ listsAt count (s .args .h)
+  lists-at = s .pre .laid-out .lists-at ∙ lists-by (s .pre .ready .prepared) (s .args .h)
+
+  code-at : s .args .layout .code ≡ codesBy (s .args .h) count lists
+  code-at = s .pre .laid-out .code-at ∙ code-by (s .pre .ready .prepared) (s .args .h)
+
+  ends : s .args .layout .end ≡ lengthBy (s .args .h) count lists codes
+  ends = s .pre .laid-out .ends ∙ length-by (s .pre .ready .prepared) (s .args .h)
+
+  space : 0 + length image ≤ length (s .args .out .now)
+  space = omega (arith, image-size (s .pre .ready .prepared) (s .args .h), s .pre .laid-out .ends, s .pre .room)
+
+-- what is left after each part
+after-head : (c : tie.After-put-head) → let s = c .before .before .before .before .before .before in
+    Rest s (c .put-head .last .1 .1 .1 .0) (c .put-head .result) (recorded s ++ (paired s ++ (joined (lists s) ++ joined (codes s))))
+after-head c =
+    let s = c .before .before .before .before .before .before in
+    turn (head-first (s .args .h) (count s) _ (lists s) (codes s)) starts (rw (ends s) at (c .put-head .ensures))
+
+after-records : (c : tie.After-emit-records) → let s = c .before .before .before .before .before .before .before .before .before .before .before .before in
+    Rest s (c .emit-records .last .1 .1 .1 .1 .1 .0) (c .emit-records .result) (paired s ++ (joined (lists s) ++ joined (codes s)))
+after-records c =
+    let s = c .before .before .before .before .before .before .before .before .before .before .before .before in
+    turn (both (recorded s) _) (after-head (c .before .before .before .before .before .before)) (rw (code-at s) at (c .emit-records .ensures))
+
+after-offsets : (c : tie.After-emit-offsets) → let s = c .before .before .before .before .before .before .before .before .before .before .before .before .before .before .before .before in
+    Rest s (c .emit-offsets .last .1 .1 .1 .1 .1 .1 .0) (c .emit-offsets .result) (joined (lists s) ++ joined (codes s))
+after-offsets c =
+    let s = c .before .before .before .before .before .before .before .before .before .before .before .before .before .before .before .before in
+    turn (both (paired s) _) (after-records (c .before .before .before .before)) (rw (lists-at s) at (c .emit-offsets .ensures))
+
+after-lists : (c : tie.After-emit-lists) → let s = c .before .before .before .before .before .before .before .before .before .before .before .before .before .before .before .before .before .before .before .before in
+    Rest s (c .emit-lists .last .1 .1 .1 .1 .1 .0) (c .emit-lists .result) (joined (codes s))
+after-lists c = let s = c .before .before .before .before .before .before .before .before .before .before .before .before .before .before .before .before .before .before .before .before in turn (both (joined (lists s)) _) (after-offsets (c .before .before .before .before)) (c .emit-lists .ensures)
+
+put-head-requires : tie.Need-put-head-requires
+unfolding twoBytes
+put-head-requires c κs =
+    let s = c .before .before .before .before .before in (
+      omega (arith, s .pre .ready .hyper),
+      omega (arith, declared (s .pre .ready .prepared) .few),
+      room (head-first (s .args .h) (count s) _ (lists s) (codes s)) (starts {l = s .args .out .now} {to = 0}) (space s),
+    )
+
+emit-records-requires : tie.Need-emit-records-requires
+emit-records-requires c κs =
+    let s = c .before .before .before .before .before .before .before .before .before .before .before in
+    let l = after-head (c .before .before .before .before .before) in (
+      declared (s .pre .ready .prepared),
+      codes-at (s .pre .ready .prepared) (s .args .layout .code),
+      omega (arith, code-at s, ends s, s .pre .room, l .size),
+      rw (code-at s) (room (both (recorded s) _) l (space s)),
+    )
+
+emit-offsets-requires : tie.Need-emit-offsets-requires
+emit-offsets-requires c κs =
+    let s = c .before .before .before .before .before .before .before .before .before .before .before .before .before .before .before in
+    let l = after-records (c .before .before .before) in (
+      (timed (s .pre .ready .prepared), phased (s .pre .ready .prepared), s .pre .ready .hyper),
+      omega (arith, lists-at s, ends s, s .pre .room, l .size),
+      rw (lists-at s) (room (both (paired s) _) l (space s)),
+    )
+
+emit-lists-requires : tie.Need-emit-lists-requires
+emit-lists-requires c κs =
+    let s = c .before .before .before .before .before .before .before .before .before .before .before .before .before .before .before .before .before .before .before in
+    ((timed (s .pre .ready .prepared), phased (s .pre .ready .prepared), s .pre .ready .hyper), room (both (joined (lists s)) _) (after-offsets (c .before .before .before)) (space s))
+
+emit-codes-requires : tie.Need-emit-codes-requires
+emit-codes-requires c κs =
+    let s = c .before .before .before .before .before .before .before .before .before .before .before .before .before .before .before .before .before .before .before .before .before .before .before .before in
+    (declared (s .pre .ready .prepared), room (last (joined (codes s))) (after-lists (c .before .before .before .before)) (space s))
+
+same-length : tie.Need-same-length
+same-length c = search needs
+
+returns : tie.Need-returns
+returns c =
+    let s = c .before .before .before .before .before .before .before .before .before .before .before .before .before .before .before .before .before .before .before .before .before .before .before .before .before .before .before in
+    let l = turn (last (joined (codes s))) (after-lists (c .before .before .before .before .before .before .before)) (c .before .before .emit-codes .ensures) in
+    λ p q e. image-written e (s .args .h) (omega (arith, length-by e (s .args .h), ends s, s .pre .room)) (done refl l)
+
+pub emit-spec : {M : Type 1} → statement M
+emit-spec =
+    tie.close
+    (tie.spec
+    put-head-requires
+    emit-records-requires
+    emit-offsets-requires
+    emit-lists-requires
+    emit-codes-requires
+    same-length
+    returns)

@@ -1,0 +1,93 @@
+-- `image_write::lay_out` meets its contract. Assumes nothing.
+use Prim.Native.Nat.{ℕ, _+_, _*_, _≤_, _<_}
+use mathlib.Core.Path.{sym, ap, _∙_}
+use native.Mathlib.Omega.{arith}
+use borrow.Author.Needs.{needs}
+use Rattle.model.specs.Rules.Image.{listsAt}
+use Rattle.image_write.proofs.Imaged.{count-is, declared, timed, phased, lists-by, code-by, code-size, length-by}
+use Rattle.image_write.proofs.Joined.{lists-most}
+use Rattle.image_write.proofs.lay_out.Statement.{statement}
+use Rattle.image_write.proofs.lay_out.Tie as tie
+
+-- what the tables say
+few : (s : tie.Start) → (s .args .tables .signals ≤ 64) × (s .args .h ≤ 240)
+few s = (declared (s .pre .1 .prepared) .few, s .pre .1 .hyper)
+
+mul-lists : tie.Need-mul-lists
+mul-lists c = omega (arith, few (c .before) .0)
+
+add-lists : tie.Need-add-lists
+add-lists c = omega (arith, few (c .before) .0)
+
+add-lists-2 : tie.Need-add-lists-2
+add-lists-2 c = omega (arith, few (c .before) .1)
+
+mul-lists-2 : tie.Need-mul-lists-2
+mul-lists-2 c = omega (arith, few (c .before) .1)
+
+add-lists-3 : tie.Need-add-lists-3
+add-lists-3 c = let b = few (c .before) in omega (arith, b .0, b .1)
+
+lists-length-requires : tie.Need-lists-length-requires
+lists-length-requires c κs =
+    let r = c .before .pre .1 in
+    (timed (r .prepared), phased (r .prepared), r .hyper)
+
+-- where the code starts
+start-most : (c : tie.After-lists-length) → 4 + 6 * c .before .before .args .tables .signals + 2 * (c .before .before .args .h + 1) + c .lists-length .result < 65536
+start-most c =
+    let s = c .before .before in
+    let b = few s in
+    omega (arith, c .lists-length .ensures, b .0, b .1, lists-most (s .args .periods .now) (s .args .order .now) (s .args .phases .now) (s .args .tables .signals) (s .args .h) (b .0))
+
+add-code : tie.Need-add-code
+add-code c = omega (arith, start-most c)
+
+mul-wider : tie.Need-mul-wider
+mul-wider c = omega (arith, few (c .before .before) .0)
+
+array-read-wider : tie.Need-array-read-wider
+array-read-wider c = omega (arith, few (c .before .before) .0)
+
+wider-requires : tie.Need-wider-requires
+wider-requires c κs = search needs
+
+add-end : tie.Need-add-end
+add-end c = omega (arith, start-most (c .before), c .wider .ensures .1)
+
+mul-written : tie.Need-mul-written
+mul-written c = omega (arith, few (c .before .before .before) .0)
+
+add-written : tie.Need-add-written
+add-written c = omega (arith, start-most (c .before), c .wider .ensures .1, few (c .before .before .before) .0)
+
+returns : tie.Need-returns
+returns c =
+    let s = c .before .before .before in
+    let e = c .before .lists-length .ensures in
+    λ text p q r.
+    record {
+      lists-at = sym (lists-by r (s .args .h));
+      code-at = ap (λ (n : ℕ). listsAt (s .args .tables .signals) (s .args .h) + n) e ∙ sym (code-by r (s .args .h));
+      ends = omega (arith, length-by r (s .args .h), e, c .wider .ensures .0, code-size r);
+      tail-ends = omega (arith, length-by r (s .args .h), e, c .wider .ensures .0, code-size r, count-is r);
+    }
+
+pub lay-out-spec : {M : Type 1} → statement M
+lay-out-spec =
+    tie.close
+    (tie.spec
+    mul-lists
+    add-lists
+    add-lists-2
+    mul-lists-2
+    add-lists-3
+    lists-length-requires
+    add-code
+    mul-wider
+    array-read-wider
+    wider-requires
+    add-end
+    mul-written
+    add-written
+    returns)

@@ -1,0 +1,43 @@
+-- `image_write::put_head` meets its contract. Assumes nothing.
+use native.Mathlib.Omega.{arith}
+use mathlib.Core.Path.{_∙_}
+use lib.ListN.{length-set}
+use Rattle.model.proofs.Left.{wrote-size}
+use borrow.Author.Needs.{needs}
+use Rattle.image_write.proofs.put_head.Statement.{statement}
+use Rattle.image_write.proofs.put_head.Tie as tie
+
+narrow-requires : tie.Need-narrow-requires
+narrow-requires c κs = search needs
+
+slice-write-out : tie.Need-slice-write-out
+slice-write-out c = search needs
+
+narrow-requires-2 : tie.Need-narrow-requires-2
+narrow-requires-2 c κs = search needs
+
+slice-write-out-2 : tie.Need-slice-write-out-2
+slice-write-out-2 c = simp length-set (omega arith)
+
+put-offset-requires : tie.Need-put-offset-requires
+put-offset-requires c κs = simp length-set (omega arith)
+
+same-length : tie.Need-same-length
+same-length c = wrote-size (c .before .before .put-offset .ensures) ∙ simp length-set
+
+returns : tie.Need-returns
+returns c =
+    let p = rw (c .before .before .before .before .before .narrow .ensures, c .before .before .before .before .narrow2 .ensures) at (c .before .before .put-offset .ensures) in
+    record { holds = p .holds; ends = omega (arith, p .ends) }
+
+pub put-head-spec : {M : Type 1} → statement M
+put-head-spec =
+    tie.close
+    (tie.spec
+    narrow-requires
+    slice-write-out
+    narrow-requires-2
+    slice-write-out-2
+    put-offset-requires
+    same-length
+    returns)

@@ -1,0 +1,55 @@
+-- `image_write::put_record` meets its contract. Assumes nothing.
+use Prim.Native.Nat.{_+_}
+use mathlib.Core.Path.{ap, _∙_}
+use native.Mathlib.Omega.{arith}
+use lib.IntN.{ℤ}
+use lib.Seq.{sets}
+use mir.Facts.{toZ-ofZ}
+use Rattle.model.specs.Rules.Word.{wordAt, wordBytes}
+use Rattle.image_code.proofs.Laws.{word-length}
+use Rattle.model.specs.Rules.Writing.{Wrote}
+use Rattle.model.proofs.Left.{after}
+use borrow.Author.Needs.{needs}
+use Rattle.image_write.proofs.put_record.Statement.{statement}
+use Rattle.image_write.proofs.put_record.Tie as tie
+
+add-word-at : tie.Need-add-word-at
+add-word-at c = search needs
+
+word-at-requires : tie.Need-word-at-requires
+word-at-requires c κs = search needs
+
+put-word-requires : tie.Need-put-word-requires
+put-word-requires c κs = search needs
+
+add-after : tie.Need-add-after
+add-after c = search needs
+
+put-offset-requires : tie.Need-put-offset-requires
+put-offset-requires c κs = search needs
+
+same-length : tie.Need-same-length
+same-length c = search needs
+
+returns : tie.Need-returns
+returns c =
+    let a = c .before .before .before .before .before .before .before .before .before .before .before .args in
+    let w = wordAt (a .text .now) (a .place + 2) in
+    let p : Wrote (a .out .now) (a .to) (wordBytes w) (c .before .before .before .before .before .before .put-word .last .0) (a .to + 4) =
+    record {
+      holds = c .before .before .before .before .before .before .put-word .ensures ∙ ap (λ (z : ℤ). sets (a .out .now) (a .to) (wordBytes z)) (toZ-ofZ (search needs) ∙ c .before .before .before .before .before .before .before .before .word-at .ensures);
+      ends = omega (arith, word-length w);
+    } in
+    after p (c .before .before .put-offset .ensures)
+
+pub put-record-spec : {M : Type 1} → statement M
+put-record-spec =
+    tie.close
+    (tie.spec
+    add-word-at
+    word-at-requires
+    put-word-requires
+    add-after
+    put-offset-requires
+    same-length
+    returns)

@@ -1,0 +1,68 @@
+-- `image_write::run_count` meets its contract. Assumes nothing.
+use Prim.Native.Nat.{_<_}
+use mathlib.Core.Path.{_≡_}
+use native.Mathlib.Numerals.{add-one}
+use native.Mathlib.Omega.{arith}
+use lib.ListN.{getD}
+use borrow.Author.Needs.{needs}
+use Rattle.model.specs.Rules.Reads.{stored}
+use Rattle.image_write.proofs.run_count.Statement.{statement}
+use Rattle.image_write.proofs.run_count.Tie as tie
+
+-- the period and the phase that are looked up
+period-is : (c : tie.After-wide3) → let a = c .before .before .before .before .before .args in
+    c .before .before .wide2 .result ≡ getD (a .periods .now) (a .x) 0
+period-is c = rw (c .before .before .wide2 .ensures .0, c .before .before .before .before .wide .ensures .0)
+
+phase-is : (c : tie.After-wide3) → let a = c .before .before .before .before .before .args in
+    c .wide3 .result ≡ getD (a .phases .now) (a .x) 0
+phase-is c = rw (c .wide3 .ensures .0, c .before .before .before .before .wide .ensures .0)
+
+below : (c : tie.After-wide3) → c .wide3 .result < c .before .before .wide2 .result
+below c = rw (period-is c, phase-is c) (c .before .before .before .before .before .pre .1)
+
+wide-requires : tie.Need-wide-requires
+wide-requires c κs = search needs
+
+element-copy-out-wide : tie.Need-element-copy-out-wide
+element-copy-out-wide c = search needs
+
+wide-requires-2 : tie.Need-wide-requires-2
+wide-requires-2 c κs = search needs
+
+element-copy-out-wide-2 : tie.Need-element-copy-out-wide-2
+element-copy-out-wide-2 c = search needs
+
+wide-requires-3 : tie.Need-wide-requires-3
+wide-requires-3 c κs = search needs
+
+add-result : tie.Need-add-result
+add-result c = omega (arith, c .before .before .wide2 .ensures .1, c .before .before .before .before .before .pre .2)
+
+add-result-2 : tie.Need-add-result-2
+add-result-2 c = omega (arith, c .wide3 .ensures .1)
+
+sub-result : tie.Need-sub-result
+sub-result c = omega (arith, below c)
+
+div-result : tie.Need-div-result
+div-result c = omega (arith, below c)
+
+returns : tie.Need-returns
+unfolding stored
+returns c = rw (phase-is c, period-is c, add-one)
+
+pub run-count-spec : {M : Type 1} → statement M
+run-count-spec =
+    tie.close
+    (tie.spec
+    wide-requires
+    element-copy-out-wide
+    wide-requires-2
+    element-copy-out-wide-2
+    wide-requires-3
+    add-result
+    add-result-2
+    sub-result
+    div-result
+    returns)

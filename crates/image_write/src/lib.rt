@@ -1,0 +1,379 @@
+// The image of an accepted pair and its tail: their layout, and their parts one after another.
+use text_program::Tables;
+ghost use mathlib.Core.Bool.{cond};
+ghost use mathlib.Core.Path.{_≡_};
+ghost use mathlib.Core.List.{List, _∷_, _++_};
+ghost use Prim.Native.Nat.{ℕ, _+_, _≤_, _<_};
+ghost use lib.ListN.{length, getD, drop};
+ghost use lib.Seq.{sets};
+ghost use Rattle.model.specs.Rules.Image.{joined, offsets, records, lengthOf, imageOf, tailEntry};
+ghost use Rattle.model.specs.Rules.Program.{Program};
+ghost use Rattle.model.specs.Rules.Reads.{stored};
+ghost use Rattle.model.specs.Rules.Schedule.{Schedule};
+ghost use Rattle.model.specs.Rules.Width.{inProgram};
+ghost use Rattle.model.specs.Rules.Word.{twoBytes, wordAt, wordBytes};
+ghost use Rattle.image_write.specs.Codes.{signalsOf, codesFrom, Declared, CodesAt};
+ghost use Rattle.image_write.specs.Lists.{rateAt, runOf, listBy, listsBy, pairs, Timed, Phased, RunsCounted, Runs};
+ghost use Rattle.text_program.specs.Prepared.{Prepared};
+ghost use Rattle.image_write.specs.Prepared.{LaidOut, Tabled, Fits};
+ghost use Rattle.image_write.specs.Tail.{tailBy};
+ghost use Rattle.model.specs.Rules.Writing.{Wrote};
+
+fn wide(byte: u8) -> usize
+    ensures { λ r. ⌜ (r ≡ byte) × (r < 256) ⌝ }
+{
+    byte as usize
+}
+
+fn lengthened(byte: u8) -> u16
+    ensures { λ r. ⌜ r ≡ byte ⌝ }
+{
+    byte as u16
+}
+
+// An entry of a table as a number.
+fn wider(x: u16) -> usize
+    ensures { λ r. ⌜ (r ≡ x) × (r < 65536) ⌝ }
+{
+    x as usize
+}
+
+fn widest(x: u32) -> usize
+    ensures { λ r. ⌜ r ≡ x ⌝ }
+{
+    x as usize
+}
+
+fn narrow(x: usize) -> u8
+    requires { ⌜ x < 256 ⌝ }
+    ensures { λ r. ⌜ r ≡ x ⌝ }
+{
+    x as u8
+}
+
+// Writes a run of signal x where it is due. Says where the list goes on.
+fn put_run(due: bool, x: u8, out: &mut [u8], to: usize) -> usize
+    requires { ⌜ to + length (runOf due x) ≤ length (now out) ⌝ }
+    ensures { λ r. ⌜ Wrote (now (out .entry)) to (runOf due x) (now (out .exit)) r ⌝ }
+{
+    if due {
+        out[to] = x;
+        return to + 1;
+    }
+    to
+}
+
+// How many signals run in each of h cycles: a step for each run of each signal.
+fn count_runs(
+    periods: &[u8; 64],
+    order: &[u8; 64],
+    phases: &[u8; 64],
+    n: usize,
+    h: usize,
+) -> [u32; 240]
+    requires { ⌜ Timed (now periods) (now order) n × Phased (now periods) (now order) (now phases) n × (h ≤ 240) ⌝ }
+    ensures { λ r. ⌜ RunsCounted (now (periods .entry)) (now (order .entry)) (now (phases .entry)) n h r ⌝ }
+{
+    let mut counts: [u32; 240] = [0; 240];
+    let mut i: usize = 0;
+    while i < n {
+        let x = wide(order[i]);
+        check_load::add_runs(&mut counts, periods[x], phases[x], 1, h);
+        i = i + 1;
+    }
+    counts
+}
+
+// The cycle of the first run of each signal, in PUT order.
+fn first_runs(order: &[u8; 64], phases: &[u8; 64], n: usize) -> [u16; 64]
+    requires { ⌜ (n ≤ 64) × ((j : ℕ) → j < n → getD (now order) j 0 < 64) ⌝ }
+    ensures { λ r. ⌜ ((j : ℕ) → j < n → getD r j 0 ≡ getD (now (phases .entry)) (getD (now (order .entry)) j 0) 0) ⌝ }
+{
+    let mut nexts: [u16; 64] = [0; 64];
+    let mut i: usize = 0;
+    while i < n {
+        let x = wide(order[i]);
+        nexts[i] = lengthened(phases[x]);
+        i = i + 1;
+    }
+    nexts
+}
+
+// The cycle of the next run of a signal after cycle c: a period later where it runs in c.
+fn run_after(due: bool, next: u16, period: u8) -> u16
+    requires { ⌜ next < 240 + period ⌝ }
+    ensures { λ r. ⌜ r ≡ next + cond due period 0 ⌝ }
+{
+    if due {
+        return next + (period as u16);
+    }
+    next
+}
+
+// Writes the run list of cycle c, in PUT order; `nexts` has the next run of each signal from c on, and then from c + 1 on.
+fn emit_list(
+    periods: &[u8; 64],
+    order: &[u8; 64],
+    nexts: &mut [u16; 64],
+    n: usize,
+    c: usize,
+    out: &mut [u8],
+    to: usize,
+) -> usize
+    requires { ⌜ (length (now nexts) ≡ 64) × (c < 240) × ((phases : List ℕ) × Runs (now periods) (now order) phases n c (now nexts) × (to + length (listBy (now periods) (now order) phases n c) ≤ length (now out))) ⌝ }
+    ensures { λ r. ⌜ (length (now (nexts .exit)) ≡ 64) × ((phases : List ℕ) → Runs (now (periods .entry)) (now (order .entry)) phases n c (now (nexts .entry)) → Runs (now (periods .entry)) (now (order .entry)) phases n (c + 1) (now (nexts .exit)) × Wrote (now (out .entry)) to (listBy (now (periods .entry)) (now (order .entry)) phases n c) (now (out .exit)) r) ⌝ }
+{
+    let mut end = to;
+    let mut i: usize = 0;
+    while i < n {
+        let x = order[i];
+        let next = nexts[i];
+        let due = wider(next) == c;
+        end = put_run(due, x, out, end);
+        let period = periods[wide(x)];
+        nexts[i] = run_after(due, next, period);
+        i = i + 1;
+    }
+    end
+}
+
+// In how many of h cycles signal x runs: as many elements are stored before cycle h.
+fn run_count(periods: &[u8; 64], phases: &[u8; 64], x: u8, h: usize) -> usize
+    requires { ⌜ (x < 64) × (getD (now phases) x 0 < getD (now periods) x 0) × (h ≤ 240) ⌝ }
+    ensures { λ r. ⌜ r ≡ stored (rateAt (now (periods .entry)) (now (phases .entry)) x) h ⌝ }
+{
+    let signal = wide(x);
+    let period = wide(periods[signal]);
+    let phase = wide(phases[signal]);
+    (h + period - (phase + 1)) / period
+}
+
+// The length of the run lists of h cycles: a step for each of the n signals.
+fn lists_length(
+    periods: &[u8; 64],
+    order: &[u8; 64],
+    phases: &[u8; 64],
+    n: usize,
+    h: usize,
+) -> usize
+    requires { ⌜ Timed (now periods) (now order) n × Phased (now periods) (now order) (now phases) n × (h ≤ 240) ⌝ }
+    ensures { λ r. ⌜ r ≡ length (joined (listsBy (now (periods .entry)) (now (order .entry)) (now (phases .entry)) n h)) ⌝ }
+{
+    let mut total: usize = 0;
+    let mut i: usize = 0;
+    while i < n {
+        let runs = run_count(periods, phases, order[i], h);
+        total = total + runs;
+        i = i + 1;
+    }
+    total
+}
+
+// Writes the run lists of h cycles, stepping each signal from run to run.
+fn emit_lists(
+    periods: &[u8; 64],
+    order: &[u8; 64],
+    phases: &[u8; 64],
+    n: usize,
+    h: usize,
+    out: &mut [u8],
+    to: usize,
+) -> usize
+    requires { ⌜ (Timed (now periods) (now order) n × Phased (now periods) (now order) (now phases) n × (h ≤ 240)) × (to + length (joined (listsBy (now periods) (now order) (now phases) n h)) ≤ length (now out)) ⌝ }
+    ensures { λ r. ⌜ Wrote (now (out .entry)) to (joined (listsBy (now (periods .entry)) (now (order .entry)) (now (phases .entry)) n h)) (now (out .exit)) r ⌝ }
+{
+    let mut nexts = first_runs(order, phases, n);
+    let mut end = to;
+    let mut c: usize = 0;
+    while c < h {
+        end = emit_list(periods, order, &mut nexts, n, c, out, end);
+        c = c + 1;
+    }
+    end
+}
+
+// Writes an offset.
+fn put_offset(out: &mut [u8], to: usize, offset: usize) -> usize
+    requires { ⌜ to + 2 ≤ length (now out) ⌝ }
+    ensures { λ r. ⌜ Wrote (now (out .entry)) to (twoBytes offset) (now (out .exit)) r ⌝ }
+{
+    word::put_two(out, to, offset);
+    to + 2
+}
+
+// Writes where the run lists start, the first at `start`, and last where they end.
+fn emit_offsets(
+    periods: &[u8; 64],
+    order: &[u8; 64],
+    phases: &[u8; 64],
+    n: usize,
+    h: usize,
+    start: usize,
+    out: &mut [u8],
+    to: usize,
+) -> usize
+    requires { ⌜ (Timed (now periods) (now order) n × Phased (now periods) (now order) (now phases) n × (h ≤ 240)) × (start + length (joined (listsBy (now periods) (now order) (now phases) n h)) ≤ length (now out)) × (to + length (pairs (offsets start (listsBy (now periods) (now order) (now phases) n h))) ≤ length (now out)) ⌝ }
+    ensures { λ r. ⌜ Wrote (now (out .entry)) to (pairs (offsets start (listsBy (now (periods .entry)) (now (order .entry)) (now (phases .entry)) n h))) (now (out .exit)) r ⌝ }
+{
+    let counts = count_runs(periods, order, phases, n, h);
+    let mut offset = start;
+    let mut end = to;
+    let mut c: usize = 0;
+    while c < h {
+        end = put_offset(out, end, offset);
+        let runs = widest(counts[c]);
+        offset = offset + runs;
+        c = c + 1;
+    }
+    put_offset(out, end, offset)
+}
+
+// Writes the code of n signals.
+fn emit_codes(text: &[u8], places: &[usize; 64], n: usize, out: &mut [u8], to: usize) -> usize
+    requires { ⌜ Declared (now text) (now places) n × (to + length (joined (codesFrom 0 (signalsOf (now text)))) ≤ length (now out)) ⌝ }
+    ensures { λ r. ⌜ Wrote (now (out .entry)) to (joined (codesFrom 0 (signalsOf (now (text .entry))))) (now (out .exit)) r ⌝ }
+{
+    let mut end = to;
+    let mut x: usize = 0;
+    while x < n {
+        let signal = narrow(x);
+        end = image_code::emit_signal(text, places[x], signal, out, end);
+        x = x + 1;
+    }
+    end
+}
+
+// Writes the record of the signal declared at `place`, whose code starts at `offset`.
+fn put_record(text: &[u8], place: usize, offset: usize, out: &mut [u8], to: usize) -> usize
+    requires { ⌜ (place + inProgram 0x10 ≤ length (now text)) × (to + 6 ≤ length (now out)) ⌝ }
+    ensures { λ r. ⌜ Wrote (now (out .entry)) to (wordBytes (wordAt (now (text .entry)) (place + 2)) ++ twoBytes offset) (now (out .exit)) r ⌝ }
+{
+    let initial = word::word_at(text, place + 2);
+    word::put_word(out, to, initial);
+    let after = to + 4;
+    put_offset(out, after, offset)
+}
+
+// Writes the records of n signals, whose code starts at `codes` after `start`.
+fn emit_records(
+    text: &[u8],
+    places: &[usize; 64],
+    n: usize,
+    codes: &[u16; 65],
+    start: usize,
+    out: &mut [u8],
+    to: usize,
+) -> usize
+    requires { ⌜ Declared (now text) (now places) n × CodesAt start (signalsOf (now text)) (now codes) × (start + length (joined (codesFrom 0 (signalsOf (now text)))) ≤ length (now out)) × (to + length (records (signalsOf (now text)) (offsets start (codesFrom 0 (signalsOf (now text))))) ≤ length (now out)) ⌝ }
+    ensures { λ r. ⌜ Wrote (now (out .entry)) to (records (signalsOf (now (text .entry))) (offsets start (codesFrom 0 (signalsOf (now (text .entry)))))) (now (out .exit)) r ⌝ }
+{
+    let mut end = to;
+    let mut x: usize = 0;
+    while x < n {
+        let code = wider(codes[x]);
+        end = put_record(text, places[x], start + code, out, end);
+        x = x + 1;
+    }
+    end
+}
+
+// Writes H, N and L.
+fn put_head(h: usize, n: usize, size: usize, out: &mut [u8]) -> usize
+    requires { ⌜ (h < 256) × (n < 256) × (4 ≤ length (now out)) ⌝ }
+    ensures { λ r. ⌜ Wrote (now (out .entry)) 0 (h ∷ n ∷ twoBytes size) (now (out .exit)) r ⌝ }
+{
+    out[0] = narrow(h);
+    out[1] = narrow(n);
+    put_offset(out, 2, size)
+}
+
+// Where the run lists and the code start, where the image ends, L, and where its tail does: L + 4N.
+pub struct Layout {
+    pub lists: usize,
+    pub code: usize,
+    pub end: usize,
+    pub written: usize,
+}
+
+// Lays the image out. The text is not read again: the tables have the length of the code.
+pub fn lay_out(
+    tables: Tables,
+    periods: &[u8; 64],
+    order: &[u8; 64],
+    phases: &[u8; 64],
+    h: usize,
+) -> Layout
+    requires { ⌜ Tabled tables (now periods) (now order) (now phases) h ⌝ }
+    ensures { λ r. ⌜ ((text : List ℕ) (p : Program) (s : Schedule) → Prepared text tables (now (periods .entry)) (now (order .entry)) (now (phases .entry)) p s → LaidOut p s h r) ⌝ }
+{
+    let n = tables.signals;
+    let codes = tables.codes;
+    let lists = 4 + 6 * n + 2 * (h + 1);
+    let runs = lists_length(periods, order, phases, n, h);
+    let code = lists + runs;
+    let size = wider(codes[n]);
+    let end = code + size;
+    let written = end + 4 * n;
+    Layout {
+        lists: lists,
+        code: code,
+        end: end,
+        written: written,
+    }
+}
+
+// Writes the image, laid out as `layout` says, into the first L bytes.
+pub fn emit(
+    text: &[u8],
+    tables: Tables,
+    periods: &[u8; 64],
+    order: &[u8; 64],
+    phases: &[u8; 64],
+    h: usize,
+    layout: Layout,
+    out: &mut [u8],
+)
+    requires { ⌜ Fits (now text) tables (now periods) (now order) (now phases) h layout (length (now out)) ⌝ }
+    ensures { λ _. ⌜ ((p : Program) (s : Schedule) → Prepared (now (text .entry)) tables (now (periods .entry)) (now (order .entry)) (now (phases .entry)) p s → now (out .exit) ≡ imageOf p s h ++ drop (lengthOf p s h) (now (out .entry))) ⌝ }
+{
+    let n = tables.signals;
+    let places = tables.places;
+    let code_starts = tables.codes;
+    let records = put_head(h, n, layout.end, out);
+    let offsets = emit_records(text, &places, n, &code_starts, layout.code, out, records);
+    let lists = emit_offsets(periods, order, phases, n, h, layout.lists, out, offsets);
+    let codes = emit_lists(periods, order, phases, n, h, out, lists);
+    emit_codes(text, &places, n, out, codes);
+}
+
+// Writes the entry of a signal in the tail.
+fn put_entry(label: u16, period: u8, phase: u8, out: &mut [u8], to: usize) -> usize
+    requires { ⌜ to + 4 ≤ length (now out) ⌝ }
+    ensures { λ r. ⌜ Wrote (now (out .entry)) to (tailEntry label period phase) (now (out .exit)) r ⌝ }
+{
+    let number = wider(label);
+    let at = put_offset(out, to, number);
+    out[at] = period;
+    out[at + 1] = phase;
+    at + 2
+}
+
+// Writes the tail of n signals after an image that ends at `to`.
+pub fn emit_tail(
+    labels: &[u16; 64],
+    periods: &[u8; 64],
+    phases: &[u8; 64],
+    n: usize,
+    out: &mut [u8],
+    to: usize,
+)
+    requires { ⌜ (n ≤ 64) × (to + length (tailBy (now labels) (now periods) (now phases) n) ≤ length (now out)) ⌝ }
+    ensures { λ _. ⌜ now (out .exit) ≡ sets (now (out .entry)) to (tailBy (now (labels .entry)) (now (periods .entry)) (now (phases .entry)) n) ⌝ }
+{
+    let mut end = to;
+    let mut x: usize = 0;
+    while x < n {
+        end = put_entry(labels[x], periods[x], phases[x], out, end);
+        x = x + 1;
+    }
+}

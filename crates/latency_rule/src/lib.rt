@@ -1,0 +1,173 @@
+// Latency: going back from runs of the last link over the reads of a chain.
+use model::Found;
+use model::Kind;
+use model::Mode;
+use read_rule::Timing;
+ghost use mathlib.Core.Path.{_≡_};
+ghost use mathlib.Core.Bool.{not};
+ghost use Prim.Native.Nat.{ℕ, _+_, _*_, _-_, _/_, _≤_, _<_};
+ghost use lib.ListN.{getD};
+ghost use Rattle.model.specs.Rules.Search.{first, isFound, allBelow};
+ghost use Rattle.model.specs.Rules.Reads.{runCycle};
+ghost use Rattle.read_rule.specs.Reads.{rateIn};
+ghost use Rattle.latency_rule.specs.Back.{entryBy, backBy, Sound, Small, SmallFound, runLatencyBy, lateBy, inTimeBy, timelyBy};
+
+// One read on the way back: its kind, its factor and its settled index.
+pub struct Hop {
+    pub kind: Kind,
+    pub factor: u8,
+    pub index: u8,
+}
+
+// The history entry of the signal read that element k of the reader uses.
+fn entry_of(hop: Hop, k: usize) -> usize
+    requires { ⌜ (k ≤ 1000000) × (hop .index < hop .factor) ⌝ }
+    ensures { λ r. ⌜ r ≡ entryBy hop k ⌝ }
+{
+    let n = hop.factor as usize;
+    let i = hop.index as usize;
+    let kind = hop.kind;
+    match kind {
+        Kind::Now => k + 1,
+        Kind::Last => k,
+        Kind::When => k * n + i + 1,
+        Kind::LastWhen => k * n + i,
+        Kind::Current => (k + n - i) / n,
+    }
+}
+
+// Goes back from element k over the hops, the last of them first.
+fn go_back(hops: [Hop; 15], count: usize, k: usize) -> Found
+    requires { ⌜ (count ≤ 15) × Sound hops count × Small hops count k ⌝ }
+    ensures { λ r. ⌜ (r ≡ backBy hops count k) × SmallFound r ⌝ }
+{
+    let mut left = count;
+    let mut element = k;
+    while 0 < left {
+        let hop = hops[left - 1];
+        let entry = entry_of(hop, element);
+        if entry == 0 {
+            return Found::Nowhere;
+        }
+        element = entry - 1;
+        left = left - 1;
+    }
+    Found::At(element)
+}
+
+// The cycle of a run.
+fn cycle_of(timing: Timing, k: usize) -> usize
+    requires { ⌜ k ≤ 1000000 ⌝ }
+    ensures { λ r. ⌜ (r ≡ runCycle (rateIn timing) k) × (r ≤ 255000255) ⌝ }
+{
+    k * (timing.period as usize) + (timing.phase as usize)
+}
+
+// How many cycles lie from one to another.
+fn cycles_between(from: usize, to: usize) -> usize
+    ensures { λ r. ⌜ r ≡ to - from ⌝ }
+{
+    if to <= from { 0 } else { to - from }
+}
+
+// The latency of run k of the last link, if the run counts.
+fn run_latency(hops: [Hop; 15], count: usize, last: Timing, source: Timing, k: usize) -> Found
+    requires { ⌜ (count ≤ 15) × Sound hops count × Small hops count k × (k ≤ 1000000) ⌝ }
+    ensures { λ r. ⌜ r ≡ runLatencyBy hops count (rateIn last) (rateIn source) k ⌝ }
+{
+    let found = go_back(hops, count, k);
+    match found {
+        Found::At(m) => {
+            let cycles = cycles_between(cycle_of(source, m), cycle_of(last, k));
+            let latency = cycles + 1;
+            Found::At(latency)
+        }
+        Found::Nowhere => Found::Nowhere,
+    }
+}
+
+fn is_late(bound: usize, latency: Found) -> bool
+    ensures { λ r. ⌜ r ≡ lateBy bound latency ⌝ }
+{
+    match latency {
+        Found::At(l) => bound < l,
+        Found::Nowhere => false,
+    }
+}
+
+fn is_in_time(bound: usize, latency: Found) -> bool
+    ensures { λ r. ⌜ r ≡ inTimeBy bound latency ⌝ }
+{
+    match latency {
+        Found::At(l) => l <= bound,
+        Found::Nowhere => false,
+    }
+}
+
+// Backward: whether every run of the window that counts is within the bound.
+fn all_in_time(
+    bound: usize,
+    hops: [Hop; 15],
+    count: usize,
+    last: Timing,
+    source: Timing,
+    from: usize,
+    window: usize,
+) -> bool
+    requires { ⌜ (count ≤ 15) × Sound hops count × ((i : ℕ) → i < window → Small hops count (from + i)) × (from + window ≤ 1000000) ⌝ }
+    ensures { λ r. ⌜ r ≡ allBelow window (λ i. not (lateBy bound (runLatencyBy hops count (rateIn last) (rateIn source) (from + i)))) ⌝ }
+{
+    let mut i: usize = 0;
+    while i < window {
+        let latency = run_latency(hops, count, last, source, from + i);
+        if is_late(bound, latency) {
+            return false;
+        }
+        i = i + 1;
+    }
+    true
+}
+
+// Exists: whether some run of the window that counts is within the bound.
+fn one_in_time(
+    bound: usize,
+    hops: [Hop; 15],
+    count: usize,
+    last: Timing,
+    source: Timing,
+    from: usize,
+    window: usize,
+) -> bool
+    requires { ⌜ (count ≤ 15) × Sound hops count × ((i : ℕ) → i < window → Small hops count (from + i)) × (from + window ≤ 1000000) ⌝ }
+    ensures { λ r. ⌜ r ≡ isFound (first window (λ i. inTimeBy bound (runLatencyBy hops count (rateIn last) (rateIn source) (from + i)))) ⌝ }
+{
+    let mut i: usize = 0;
+    while i < window {
+        let latency = run_latency(hops, count, last, source, from + i);
+        if is_in_time(bound, latency) {
+            return true;
+        }
+        i = i + 1;
+    }
+    false
+}
+
+// Whether the runs of the window from run `from` on keep the bound. (Links × runs in the window.)
+pub fn is_timely(
+    mode: Mode,
+    bound: usize,
+    hops: [Hop; 15],
+    count: usize,
+    last: Timing,
+    source: Timing,
+    from: usize,
+    window: usize,
+) -> bool
+    requires { ⌜ (count ≤ 15) × Sound hops count × ((i : ℕ) → i < window → Small hops count (from + i)) × (from + window ≤ 1000000) ⌝ }
+    ensures { λ r. ⌜ r ≡ timelyBy mode bound hops count (rateIn last) (rateIn source) from window ⌝ }
+{
+    match mode {
+        Mode::Exists => one_in_time(bound, hops, count, last, source, from, window),
+        Mode::Backward => all_in_time(bound, hops, count, last, source, from, window),
+    }
+}

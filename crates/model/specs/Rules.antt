@@ -1,0 +1,22 @@
+-- The definitions that compute, in the paper's order; what the contracts of the code cite.
+pub mod Outcome
+pub mod Search
+pub mod Word
+pub mod Width
+pub mod Command
+pub mod Program
+pub mod Rates
+pub mod Schedule
+pub mod Reads
+pub mod Load
+pub mod Latency
+pub mod Image
+pub mod Machine
+pub mod Tail
+pub mod Writing
+pub mod Compile
+pub mod Report
+pub mod Rewrite
+pub mod Decimal
+pub mod Script
+pub mod Trial

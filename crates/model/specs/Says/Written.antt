@@ -1,0 +1,180 @@
+-- One command of a text or a code, byte for byte: written (it lies within the text, its first byte is its own, and its operands
+-- are in their ranges), cut, or with an operand outside its range. Grammar and stops rest on these; no decoder is named.
+use Prim.Native.Nat.{ℕ, _+_, _≤_, _<_}
+use mathlib.Core.List.{List}
+use mathlib.Core.Logic.{_⊎_}
+use mathlib.Core.Path.{_≡_}
+use lib.ListN.{length}
+use Rattle.model.specs.Rules.Command.{indexOf, modeOf}
+use Rattle.model.specs.Rules.Image.{binaryByte}
+use Rattle.model.specs.Rules.Width.{inProgram, inExpression, inSchedule, inCode, readWidth}
+use Rattle.model.specs.Rules.Word.{byteAt, twoAt, fourAt, wordAt}
+use Rattle.model.specs.declared.Binary.{Binary}
+use Rattle.model.specs.declared.Code.{Code}
+use Rattle.model.specs.declared.Code.the-variants as Code
+use Rattle.model.specs.declared.Command.{Command}
+use Rattle.model.specs.declared.Command.the-variants as Command
+use Rattle.model.specs.declared.Index.the-variants.{Fixed}
+use Rattle.model.specs.declared.Kind.{Kind}
+use Rattle.model.specs.declared.Kind.the-variants.{Now, Last, When, LastWhen, Current}
+use Rattle.model.specs.declared.ScheduleCommand.{ScheduleCommand}
+use Rattle.model.specs.declared.ScheduleCommand.the-variants as ScheduleCommand
+
+-- Periods and n go from 1 to 240.
+abbrev pub InPeriods : ℕ → Type 0
+InPeriods n = (1 ≤ n) × (n ≤ 240)
+
+-- i is below n, or 255.
+abbrev pub InIndices : ℕ → ℕ → Type 0
+InIndices i n = (i < n) ⊎ (i ≡ 255)
+
+-- 21 NOW, 22 LAST, 23 WHEN, 24 LASTWHEN, 25 CURRENT.
+abbrev pub readByte : Kind → ℕ
+readByte Now = 0x21
+readByte Last = 0x22
+readByte When = 0x23
+readByte LastWhen = 0x24
+readByte Current = 0x25
+
+-- The command at an offset of the program text.
+pub data Written (text : List ℕ) (at : ℕ) : Command → Type 0 where
+  end : at + inProgram 0x00 ≤ length text → byteAt text at ≡ 0x00 → Written text at Command.End
+  input : at + inProgram 0x10 ≤ length text → byteAt text at ≡ 0x10 → InPeriods (byteAt text (at + 1)) →
+      Written text at (Command.Input (byteAt text (at + 1)) (wordAt text (at + 2)))
+  equation : at + inProgram 0x11 ≤ length text → byteAt text at ≡ 0x11 → InPeriods (byteAt text (at + 1)) →
+      Written text at (Command.Equation (byteAt text (at + 1)) (wordAt text (at + 2)) (twoAt text (at + 6)))
+  latency : at + inProgram 0x12 ≤ length text → byteAt text at ≡ 0x12 → byteAt text (at + 1) ≤ 1 →
+      Written text at (Command.Latency (modeOf (byteAt text (at + 1))) (twoAt text (at + 2)))
+  link : at + inProgram 0x13 ≤ length text → byteAt text at ≡ 0x13 →
+      Written text at (Command.Link (byteAt text (at + 1)))
+  cap : at + inProgram 0x14 ≤ length text → byteAt text at ≡ 0x14 →
+      Written text at (Command.Cap (fourAt text (at + 1)))
+  tag : at + inProgram 0x15 ≤ length text → byteAt text at ≡ 0x15 →
+      Written text at (Command.Tag (twoAt text (at + 1)))
+  constant : at + inExpression 0x20 ≤ length text → byteAt text at ≡ 0x20 →
+      Written text at (Command.Constant (wordAt text (at + 1)))
+  -- NOW and LAST: a signal.
+  plain : (kind : Kind) → readWidth kind ≡ inExpression 0x21 → at + inExpression 0x21 ≤ length text →
+      byteAt text at ≡ readByte kind →
+      Written text at (Command.Read kind (record { signal = byteAt text (at + 1); factor = 1; index = Fixed 0 }))
+  -- WHEN, LASTWHEN and CURRENT: a signal, i and n; i is below n, or 255.
+  sampled : (kind : Kind) → readWidth kind ≡ inExpression 0x23 → at + inExpression 0x23 ≤ length text →
+      byteAt text at ≡ readByte kind → InPeriods (byteAt text (at + 3)) →
+      InIndices (byteAt text (at + 2)) (byteAt text (at + 3)) →
+      Written text at (Command.Read kind
+      (record { signal = byteAt text (at + 1); factor = byteAt text (at + 3); index = indexOf (byteAt text (at + 2)) }))
+  -- 30 ADD to 36 MAX, 38 NEG, 3A IF.
+  binary : (operator : Binary) → at + inExpression 0x30 ≤ length text → byteAt text at ≡ binaryByte operator →
+      Written text at (Command.Binary operator)
+  negate : at + inExpression 0x38 ≤ length text → byteAt text at ≡ 0x38 → Written text at Command.Negate
+  choose : at + inExpression 0x3A ≤ length text → byteAt text at ≡ 0x3A → Written text at Command.If
+
+-- The command at an offset of the program text is cut: its byte stands there, the text ends before its last operand, and the
+-- operand that is judged before the others are looked for is in its range, if it is there. Past its end a text reads 0.
+pub data Cut (text : List ℕ) (at : ℕ) : Type 0 where
+  -- IN and EQ: the period comes first.
+  input : byteAt text at ≡ 0x10 → length text < at + inProgram 0x10 →
+      (at + 2 ≤ length text → InPeriods (byteAt text (at + 1))) → Cut text at
+  equation : byteAt text at ≡ 0x11 → length text < at + inProgram 0x11 →
+      (at + 2 ≤ length text → InPeriods (byteAt text (at + 1))) → Cut text at
+  -- LAT: the mode comes first.
+  latency : byteAt text at ≡ 0x12 → length text < at + inProgram 0x12 →
+      (at + 2 ≤ length text → byteAt text (at + 1) ≤ 1) → Cut text at
+  link : byteAt text at ≡ 0x13 → length text < at + inProgram 0x13 → Cut text at
+  cap : byteAt text at ≡ 0x14 → length text < at + inProgram 0x14 → Cut text at
+  tag : byteAt text at ≡ 0x15 → length text < at + inProgram 0x15 → Cut text at
+  constant : byteAt text at ≡ 0x20 → length text < at + inExpression 0x20 → Cut text at
+  -- The five reads: a signal takes any byte, and i is judged with n, the last.
+  read : (kind : Kind) → byteAt text at ≡ readByte kind → length text < at + readWidth kind → Cut text at
+
+-- The command at an offset of the program text has an operand outside its range, whatever stands after that operand.
+pub data Outside (text : List ℕ) (at : ℕ) : Type 0 where
+  -- IN and EQ: the period.
+  input : byteAt text at ≡ 0x10 → at + 2 ≤ length text → ¬ InPeriods (byteAt text (at + 1)) → Outside text at
+  equation : byteAt text at ≡ 0x11 → at + 2 ≤ length text → ¬ InPeriods (byteAt text (at + 1)) → Outside text at
+  -- LAT: the mode.
+  latency : byteAt text at ≡ 0x12 → at + 2 ≤ length text → 1 < byteAt text (at + 1) → Outside text at
+  -- WHEN, LASTWHEN and CURRENT: i and n.
+  sampled : (kind : Kind) → readWidth kind ≡ inExpression 0x23 → at + inExpression 0x23 ≤ length text →
+      byteAt text at ≡ readByte kind →
+      ¬ (InPeriods (byteAt text (at + 3)) × InIndices (byteAt text (at + 2)) (byteAt text (at + 3))) → Outside text at
+
+-- The bytes of expressions: 20 CONST, 21 NOW to 25 CURRENT, 30 ADD to 36 MAX, 38 NEG, 3A IF.
+pub data OperatorByte (b : ℕ) : Type 0 where
+  constant : b ≡ 0x20 → OperatorByte b
+  read : (kind : Kind) → b ≡ readByte kind → OperatorByte b
+  binary : (operator : Binary) → b ≡ binaryByte operator → OperatorByte b
+  negate : b ≡ 0x38 → OperatorByte b
+  choose : b ≡ 0x3A → OperatorByte b
+
+-- The bytes of the commands that are none of an expression. A LINK stands after LAT only.
+pub data DeclarationByte (b : ℕ) : Type 0 where
+  end : b ≡ 0x00 → DeclarationByte b
+  input : b ≡ 0x10 → DeclarationByte b
+  equation : b ≡ 0x11 → DeclarationByte b
+  latency : b ≡ 0x12 → DeclarationByte b
+  cap : b ≡ 0x14 → DeclarationByte b
+  tag : b ≡ 0x15 → DeclarationByte b
+
+-- A byte that is no command of a program text, wherever it stands.
+abbrev pub NoCommandByte : ℕ → Type 0
+NoCommandByte b = ¬ DeclarationByte b × ¬ (b ≡ 0x13) × ¬ OperatorByte b
+
+-- The command at an offset of the schedule text.
+pub data PutWritten (text : List ℕ) (at : ℕ) : ScheduleCommand → Type 0 where
+  end : at + inSchedule 0x00 ≤ length text → byteAt text at ≡ 0x00 → PutWritten text at ScheduleCommand.End
+  put : at + inSchedule 0x40 ≤ length text → byteAt text at ≡ 0x40 →
+      PutWritten text at (ScheduleCommand.Put (byteAt text (at + 1)) (byteAt text (at + 2)))
+
+-- It is cut: a PUT whose signal or phase is missing. It is none: neither END nor PUT.
+abbrev pub PutCut : List ℕ → ℕ → Type 0
+PutCut text at = (byteAt text at ≡ 0x40) × (length text < at + inSchedule 0x40)
+
+abbrev pub NoPutByte : ℕ → Type 0
+NoPutByte b = ¬ (b ≡ 0x00) × ¬ (b ≡ 0x40)
+
+-- The command at an offset of an image's code.
+pub data CodeWritten (code : List ℕ) (at : ℕ) : Code → Type 0 where
+  push : at + inCode 0x50 ≤ length code → byteAt code at ≡ 0x50 → CodeWritten code at (Code.Push (wordAt code (at + 1)))
+  load : at + inCode 0x51 ≤ length code → byteAt code at ≡ 0x51 → CodeWritten code at (Code.Load (byteAt code (at + 1)))
+  fetch : at + inCode 0x52 ≤ length code → byteAt code at ≡ 0x52 → CodeWritten code at (Code.Fetch (byteAt code (at + 1)))
+  store : at + inCode 0x5F ≤ length code → byteAt code at ≡ 0x5F → CodeWritten code at (Code.Store (byteAt code (at + 1)))
+  binary : (operator : Binary) → at + inCode 0x30 ≤ length code → byteAt code at ≡ binaryByte operator →
+      CodeWritten code at (Code.Binary operator)
+  negate : at + inCode 0x38 ≤ length code → byteAt code at ≡ 0x38 → CodeWritten code at Code.Negate
+  choose : at + inCode 0x3A ≤ length code → byteAt code at ≡ 0x3A → CodeWritten code at Code.If
+
+-- A command that is read whole: neither cut, nor unknown, nor with an operand outside its range.
+abbrev pub Whole : Command → Type 0
+Whole Command.EndsEarly = ⊥
+Whole Command.Unknown = ⊥
+Whole Command.OutOfRange = ⊥
+Whole Command.End = Unit {0}
+Whole (Command.Input period initial) = Unit {0}
+Whole (Command.Equation period initial weight) = Unit {0}
+Whole (Command.Latency mode bound) = Unit {0}
+Whole (Command.Link signal) = Unit {0}
+Whole (Command.Cap n) = Unit {0}
+Whole (Command.Tag label) = Unit {0}
+Whole (Command.Constant w) = Unit {0}
+Whole (Command.Read kind operands) = Unit {0}
+Whole (Command.Binary operator) = Unit {0}
+Whole Command.Negate = Unit {0}
+Whole Command.If = Unit {0}
+
+abbrev pub PutWhole : ScheduleCommand → Type 0
+PutWhole ScheduleCommand.EndsEarly = ⊥
+PutWhole ScheduleCommand.Unknown = ⊥
+PutWhole ScheduleCommand.End = Unit {0}
+PutWhole (ScheduleCommand.Put signal phase) = Unit {0}
+
+abbrev pub CodeWhole : Code → Type 0
+CodeWhole Code.EndsEarly = ⊥
+CodeWhole Code.Unknown = ⊥
+CodeWhole (Code.Push w) = Unit {0}
+CodeWhole (Code.Load x) = Unit {0}
+CodeWhole (Code.Fetch x) = Unit {0}
+CodeWhole (Code.Store x) = Unit {0}
+CodeWhole (Code.Binary operator) = Unit {0}
+CodeWhole Code.Negate = Unit {0}
+CodeWhole Code.If = Unit {0}

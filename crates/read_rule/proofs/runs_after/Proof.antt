@@ -1,0 +1,32 @@
+-- `read_rule::runs_after` meets its contract. Assumes nothing.
+use native.Mathlib.Omega.{arith}
+use borrow.Author.Tests.{le-leb, lt-leb}
+use Prim.Native.Nat.{_+_, _*_}
+use Rattle.model.specs.Rules.Reads.{between}
+use Rattle.read_rule.proofs.Laws.{bytes}
+use Rattle.read_rule.proofs.runs_after.Statement.{statement}
+use Rattle.read_rule.proofs.runs_after.Tie as tie
+
+mul-start : tie.Need-mul-start
+mul-start c = omega (arith, bytes (c .args .index) (c .args .period) (omega arith) (omega arith))
+
+add-start : tie.Need-add-start
+add-start c = omega (arith, bytes (c .args .index) (c .args .period) (omega arith) (omega arith))
+
+returns : tie.Need-returns
+unfolding between
+returns c =
+    let a = c .before .args in
+    rw (lt-leb (a .cycle) (a .index * a .period + a .phase) (omega arith))
+
+add-result : tie.Need-add-result
+add-result c = omega (arith, bytes (c .before .args .index) (c .before .args .period) (omega arith) (omega arith))
+
+returns-2 : tie.Need-returns-2
+unfolding between
+returns-2 c =
+    let a = c .before .args in
+    rw (le-leb (a .cycle) (a .index * a .period + a .phase) (omega arith))
+
+pub runs-after-spec : {M : Type 1} → statement M
+runs-after-spec = tie.close (tie.spec mul-start add-start returns add-result returns-2)

@@ -1,0 +1,37 @@
+-- `run_stack::Stack::binary` meets its contract. Assumes nothing.
+use mathlib.Core.Path.{_≡_, ap₂, _∙_}
+use Prim.Native.Nat.{_-_}
+use lib.IntN.{pos}
+use lib.ListN.{getD}
+use mir.Syntax.{w32}
+use mir.Val.{toZ, ofZ}
+use Rattle.model.specs.Rules.Word.{binaryWord}
+use Rattle.word.proofs.Laws.{kept}
+use Rattle.run_stack.proofs.Laws.{view-two}
+use borrow.Author.Needs.{needs}
+use Rattle.run_stack.proofs.Stack.binary.Statement.{statement}
+use Rattle.run_stack.proofs.Stack.binary.Tie as tie
+
+sub-at : tie.Need-sub-at
+sub-at c = search needs
+
+mul-first : tie.Need-mul-first
+mul-first c = search needs
+
+array-copy-out-first : tie.Need-array-copy-out-first
+array-copy-out-first c = search needs
+
+binary-requires : tie.Need-binary-requires
+binary-requires c κs = search needs
+
+returns : tie.Need-returns
+returns c =
+    let a = c .before .before .before .before .before .args in
+    let first = getD (a .self .below) (a .self .height - 1) (pos 0) in
+    let w : toZ w32 (ofZ w32 (c .binary .result)) ≡ binaryWord (a .operator) first (a .self .top) =
+    kept (c .binary .result) (c .binary .ok) ∙ c .binary .ensures ∙
+    ap₂ (binaryWord (a .operator)) (kept first (c .before .before .first .given)) (kept (a .self .top) (c .before .struct-told .given .0 .1)) in
+    (rw w (view-two (binaryWord (a .operator)) (a .self .top) (a .self .below) (a .self .height) (search needs)), search needs)
+
+pub binary-spec : {M : Type 1} → statement M
+binary-spec = tie.close (tie.spec sub-at mul-first array-copy-out-first binary-requires returns)

@@ -1,0 +1,61 @@
+-- `run_stack::Stack::choose` meets its contract. Assumes nothing.
+use mathlib.Core.Path.{_≡_, _∙_}
+use Prim.Native.Nat.{_+_, _-_}
+use lib.IntN.{pos}
+use lib.ListN.{getD}
+use mir.Syntax.{w32}
+use mir.Val.{toZ, ofZ}
+use Rattle.model.specs.Rules.Word.{ifWord}
+use Rattle.word.proofs.Laws.{kept}
+use Rattle.run_stack.proofs.Laws.{view-three}
+use borrow.Author.Needs.{needs}
+use Rattle.run_stack.proofs.Stack.choose.Statement.{statement}
+use Rattle.run_stack.proofs.Stack.choose.Tie as tie
+
+sub-at : tie.Need-sub-at
+sub-at c = search needs
+
+mul-condition : tie.Need-mul-condition
+mul-condition c = search needs
+
+array-copy-out-condition : tie.Need-array-copy-out-condition
+array-copy-out-condition c = search needs
+
+add-then : tie.Need-add-then
+add-then c = search needs
+
+mul-then : tie.Need-mul-then
+mul-then c = search needs
+
+array-copy-out-then : tie.Need-array-copy-out-then
+array-copy-out-then c = search needs
+
+choose-requires : tie.Need-choose-requires
+choose-requires c κs = search needs
+
+returns : tie.Need-returns
+returns c =
+    let a = c .before .before .before .before .before .before .args in
+    let condition = getD (a .self .below) (a .self .height - 2) (pos 0) in
+    let then = getD (a .self .below) (a .self .height - 2 + 1) (pos 0) in
+    let w : toZ w32 (ofZ w32 (c .choose .result)) ≡ ifWord condition then (a .self .top) =
+    kept (c .choose .result) (c .choose .ok) ∙ c .choose .ensures ∙
+    rw (
+      kept condition (c .before .before .before .condition .given),
+      kept then (c .before .before .then .given),
+      kept (a .self .top) (c .before .struct-told .given .0 .1),
+    ) in
+    (rw w (view-three ifWord (a .self .top) (a .self .below) (a .self .height) (search needs)), search needs)
+
+pub choose-spec : {M : Type 1} → statement M
+choose-spec =
+    tie.close
+    (tie.spec
+    sub-at
+    mul-condition
+    array-copy-out-condition
+    add-then
+    mul-then
+    array-copy-out-then
+    choose-requires
+    returns)

@@ -1,0 +1,29 @@
+-- `run_stack::Stack::push` meets its contract. Assumes nothing.
+use mathlib.Core.Path.{_≡_, refl}
+use mir.Syntax.{w32}
+use mir.Val.{toZ, ofZ}
+use mir.Facts.{toZ-ofZ}
+use Rattle.word.proofs.Laws.{kept}
+use Rattle.run_stack.proofs.Laws.{view-push}
+use borrow.Author.Needs.{needs}
+use Rattle.run_stack.proofs.Stack.push.Statement.{statement}
+use Rattle.run_stack.proofs.Stack.push.Tie as tie
+
+mul-below : tie.Need-mul-below
+mul-below c = search needs
+
+array-set-from-below : tie.Need-array-set-from-below
+array-set-from-below c = search needs
+
+add-t6 : tie.Need-add-t6
+add-t6 c = search needs
+
+returns : tie.Need-returns
+returns c =
+    let a = c .before .before .args in
+    let w : toZ w32 (ofZ w32 (a .w)) ≡ a .w = toZ-ofZ (c .before .before .fits .w) in
+    let t : toZ w32 (ofZ w32 (a .self .top)) ≡ a .self .top = kept (a .self .top) (c .struct-told .given .0 .1) in
+    (rw (w, t) (view-push (a .self .top) (a .self .below) (a .self .height) (a .w) (search needs)), refl)
+
+pub push-spec : {M : Type 1} → statement M
+push-spec = tie.close (tie.spec mul-below array-set-from-below add-t6 returns)

@@ -1,0 +1,54 @@
+-- The bytes of a read. Assumes nothing.
+use Prim.Native.Nat.{ℕ, _+_, _≤_, _<_}
+use mathlib.Core.List.{List}
+use mathlib.Core.Path.{_≡_, refl}
+use native.Mathlib.Omega.{arith}
+use lib.ListN.{length}
+use Rattle.model.specs.Rules.Command.{indexOf, commandAt}
+use Rattle.model.specs.Rules.Word.{byteAt}
+use Rattle.model.specs.Says.Written.{Written}
+use Rattle.model.specs.declared.Command.the-variants as Command
+use Rattle.model.specs.declared.Index.the-variants.{Fixed}
+use Rattle.model.specs.declared.Kind.{Kind}
+use Rattle.model.specs.declared.Kind.the-variants.{Now, Last, When, LastWhen, Current}
+use Rattle.model.specs.declared.Sampled.{Sampled}
+use Rattle.model.proofs.Written.{command-written}
+use Rattle.text_command.specs.Operator.{kindOf}
+
+abbrev pub plainAt : List ℕ → ℕ → Sampled
+plainAt text at = record { signal = byteAt text (at + 1); factor = 1; index = Fixed 0 }
+
+abbrev pub sampledAt : List ℕ → ℕ → Sampled
+sampledAt text at =
+    record { signal = byteAt text (at + 1); factor = byteAt text (at + 3); index = indexOf (byteAt text (at + 2)) }
+
+-- A read by its first byte: below 23 it has a signal only.
+pub record Shape (text : List ℕ) (at : ℕ) (kind : Kind) (x : Sampled) : Type 0 where
+  pub kind-is : kindOf (byteAt text at) ≡ kind
+  pub inside : at + 2 ≤ length text
+  pub plain : byteAt text at < 0x23 → x ≡ plainAt text at
+  pub wide : 0x23 ≤ byteAt text at → at + 4 ≤ length text
+  pub sampled : 0x23 ≤ byteAt text at → x ≡ sampledAt text at
+
+module _ {text : List ℕ} {at : ℕ} where
+  shape-of : {kind : Kind} {x : Sampled} → Written text at (Command.Read kind x) → Shape text at kind x
+  unfolding kindOf
+  shape-of (Written.plain Now e h b) =
+      record { kind-is = rw b; inside = h; plain = λ l. refl; wide = λ l. absurd (omega arith); sampled = λ l. absurd (omega arith) }
+  shape-of (Written.plain Last e h b) =
+      record { kind-is = rw b; inside = h; plain = λ l. refl; wide = λ l. absurd (omega arith); sampled = λ l. absurd (omega arith) }
+  shape-of (Written.plain When e h b) = absurd (omega arith)
+  shape-of (Written.plain LastWhen e h b) = absurd (omega arith)
+  shape-of (Written.plain Current e h b) = absurd (omega arith)
+  shape-of (Written.sampled Now e h b r i) = absurd (omega arith)
+  shape-of (Written.sampled Last e h b r i) = absurd (omega arith)
+  shape-of (Written.sampled When e h b r i) =
+      record { kind-is = rw b; inside = omega arith; plain = λ l. absurd (omega arith); wide = λ l. h; sampled = λ l. refl }
+  shape-of (Written.sampled LastWhen e h b r i) =
+      record { kind-is = rw b; inside = omega arith; plain = λ l. absurd (omega arith); wide = λ l. h; sampled = λ l. refl }
+  shape-of (Written.sampled Current e h b r i) =
+      record { kind-is = rw b; inside = omega arith; plain = λ l. absurd (omega arith); wide = λ l. h; sampled = λ l. refl }
+
+pub read-shape : (text : List ℕ) (at : ℕ) (kind : Kind) (x : Sampled) → commandAt text at ≡ Command.Read kind x →
+    Shape text at kind x
+read-shape text at kind x e = shape-of (command-written text at (Command.Read kind x) .0 (e, tt))

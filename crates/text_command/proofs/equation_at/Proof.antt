@@ -1,0 +1,89 @@
+-- `text_command::equation_at` meets its contract. Assumes nothing.
+use Rattle.word.proofs.Laws.{kept}
+use borrow.Author.Tests.{le-leb, lt-leb, not-true, not-false}
+use native.Mathlib.Omega.{arith}
+use denote.Ref.{now}
+use lib.ListN.{length, getD}
+use Prim.Native.Nat.{_+_}
+use mathlib.Core.Path.{_≡_, sym, _∙_}
+use mathlib.Core.Bool.{true, false}
+use Rattle.model.specs.Rules.Command.{commandOf, isPeriod}
+use borrow.Author.Needs.{needs}
+use Rattle.text_command.proofs.equation_at.Statement.{statement}
+use Rattle.text_command.proofs.equation_at.Tie as tie
+
+sub-left : tie.Need-sub-left
+sub-left c = search needs
+
+returns : tie.Need-returns
+unfolding commandOf
+returns c =
+    let a = c .before .before .args in
+    let s = now (a .text) in
+    rw (lt-leb (a .at + 2) (length s) (omega arith))
+
+add-period : tie.Need-add-period
+add-period c = search needs
+
+shared-slice-read-period : tie.Need-shared-slice-read-period
+shared-slice-read-period c = search needs
+
+is-period-requires : tie.Need-is-period-requires
+is-period-requires c κs = search needs
+
+returns-2 : tie.Need-returns-2
+unfolding commandOf
+returns-2 c =
+    let a = c .before .before .before .before .before .args in
+    let s = now (a .text) in
+    let n : isPeriod (getD s (a .at + 1) 0) ≡ false = sym (c .before .is-period .ensures) ∙ not-true _ (c .if2 .taken) in
+    rw (le-leb (a .at + 2) (length s) (omega arith), n)
+
+in-program-requires : tie.Need-in-program-requires
+in-program-requires c κs = search needs
+
+returns-3 : tie.Need-returns-3
+unfolding commandOf
+returns-3 c =
+    let a = c .before .before .before .before .before .before .before .args in
+    let s = now (a .text) in
+    let n : isPeriod (getD s (a .at + 1) 0) ≡ true = sym (c .before .before .before .is-period .ensures) ∙ not-false _ (c .before .before .if2 .left) in
+    rw (le-leb (a .at + 2) (length s) (omega arith), n, lt-leb (a .at + 8) (length s) (omega arith))
+
+add-word-at : tie.Need-add-word-at
+add-word-at c = search needs
+
+word-at-requires : tie.Need-word-at-requires
+word-at-requires c κs = search needs
+
+add-two-at : tie.Need-add-two-at
+add-two-at c = search needs
+
+two-at-requires : tie.Need-two-at-requires
+two-at-requires c κs = search needs
+
+returns-4 : tie.Need-returns-4
+unfolding commandOf
+returns-4 c =
+    let a = c .before .before .before .before .before .before .before .before .before .args in
+    let s = now (a .text) in
+    let n : isPeriod (getD s (a .at + 1) 0) ≡ true = sym (c .before .before .before .before .before .is-period .ensures) ∙ not-false _ (c .before .before .before .before .if2 .left) in
+    rw (le-leb (a .at + 2) (length s) (omega arith), n, le-leb (a .at + 8) (length s) (omega arith), kept _ (c .before .word-at .ok), c .before .word-at .ensures, c .two-at .ensures)
+
+pub equation-at-spec : {M : Type 1} → statement M
+equation-at-spec =
+    tie.close
+    (tie.spec
+    sub-left
+    returns
+    add-period
+    shared-slice-read-period
+    is-period-requires
+    returns-2
+    in-program-requires
+    returns-3
+    add-word-at
+    word-at-requires
+    add-two-at
+    two-at-requires
+    returns-4)

@@ -1,0 +1,13 @@
+-- `text_command::is_period` meets its contract. Assumes nothing.
+use borrow.Author.Tests.{le-leb, lt-leb}
+use Rattle.text_command.proofs.is_period.Statement.{statement}
+use Rattle.text_command.proofs.is_period.Tie as tie
+
+returns : tie.Need-returns
+returns c = rw (le-leb 1 _ (c .if1 .taken))
+
+returns-2 : tie.Need-returns-2
+returns-2 c = rw (lt-leb 1 _ (c .if1 .left))
+
+pub is-period-spec : {M : Type 1} → statement M
+is-period-spec = tie.close (tie.spec returns returns-2)

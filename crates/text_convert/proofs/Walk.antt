@@ -1,0 +1,257 @@
+-- One turn of the converter's walk: the piece of a command, and what is left after it. Assumes nothing.
+use Prim.Native.Nat.{ℕ, zero, suc, _+_, _-_, _≤_, _<_}
+use mathlib.Core.Bool.{Bool, true, false, cond}
+use mathlib.Core.List.{List, [], _∷_, _++_}
+use mathlib.Core.Path.{_≡_, refl, sym, ap, subst, _∙_}
+use native.Mathlib.Numerals.{add-one}
+use native.Mathlib.Omega.{arith}
+use borrow.Author.Tests.{leb-true, le-leb, lt-leb}
+use lib.Dec.{leb, eqb}
+use lib.ListN.{length, getD, take, drop, length-drop}
+use lib.Seq.{drop-cons, length-take-le, sets, sets-eq}
+use Rattle.model.specs.Rules.Command.{commandAt}
+use Rattle.model.specs.Says.Convert.{singleKind}
+use Rattle.model.specs.Rules.Machine.{effect}
+use Rattle.model.specs.Rules.Outcome.{Outcome, accepted, refused, refuse, _▷_, provided}
+use Rattle.model.specs.Rules.Program.{Program, parseWith}
+use Rattle.model.specs.Rules.Width.{readWidth}
+use Rattle.model.specs.Rules.Rewrite.{widthOf, bytesAfter, rewriteAt, rewriteFrom, rewrite, convertOf}
+use Rattle.model.specs.Says.Written.{readByte}
+use Rattle.model.specs.declared.Command.{Command}
+use Rattle.model.specs.declared.Command.the-variants as Command
+use Rattle.model.specs.declared.Fault.{Fault}
+use Rattle.model.specs.declared.Kind.{Kind}
+use Rattle.model.specs.declared.Kind.the-variants.{Now, Last, When, LastWhen, Current}
+use Rattle.model.proofs.Commands.{Sound, command-sound}
+use Rattle.model.specs.Rules.Writing.{Wrote}
+use Rattle.model.proofs.Left.{Parts}
+use Rattle.text_program.specs.Tables.{ProgramReads}
+use Rattle.text_program.specs.declared.Judged.{Judged}
+use Rattle.text_program.specs.declared.Judged.the-variants as Judged
+use Rattle.text_program.specs.declared.ProgramRead.{ProgramRead}
+use Rattle.text_convert.specs.Pieces.{widthIn, lengthIn, bytesIn, pieceOf, pieceAt}
+use Rattle.text_convert.specs.declared.Piece.{Piece}
+use Rattle.text_convert.specs.declared.Piece.the-variants as Piece
+
+-- Bytes that are copied one by one.
+pub copy-step : (text : List ℕ) (i left : ℕ) → 0 < left → i + left ≤ length text →
+    Parts (take left (drop i text)) (getD text i 0 ∷ []) (take (left - 1) (drop (i + 1) text))
+copy-step text i zero lt le = absurd (omega arith)
+copy-step text i (suc left) lt le =
+    let e : suc left - 1 ≡ left = omega arith in
+    record { is = rw (e, add-one, drop-cons text i 0 (omega arith)) }
+
+pub copy-fits : (text : List ℕ) (at n to m : ℕ) → at + n ≤ length text → to + n ≤ m → to + length (take n (drop at text)) ≤ m
+copy-fits text at n to m le fits = rw (length-take-le n (drop at text) (omega (arith, length-drop at text))) fits
+
+pub take-none : (n : ℕ) (l : List ℕ) → n ≤ 0 → take n l ≡ []
+take-none zero l le = refl
+take-none (suc n) l le = absurd (omega arith)
+
+-- The piece of a command is what the definition says.
+piece-width : (c : Command) → widthIn (pieceOf c) ≡ widthOf c
+piece-width Command.EndsEarly = refl
+piece-width Command.Unknown = refl
+piece-width Command.OutOfRange = refl
+piece-width Command.End = refl
+piece-width (Command.Input period initial) = refl
+piece-width (Command.Equation period initial weight) = refl
+piece-width (Command.Latency mode bound) = refl
+piece-width (Command.Link signal) = refl
+piece-width (Command.Cap n) = refl
+piece-width (Command.Tag label) = refl
+piece-width (Command.Constant w) = refl
+piece-width (Command.Read kind x) = go (eqb (x .factor) 1) (readByte (singleKind kind)) (x .signal)
+  where
+    go : (b : Bool) (a s : ℕ) → widthIn (cond b (Piece.Short (readWidth kind) a s) (Piece.Keep (readWidth kind))) ≡ readWidth kind
+    go true a s = refl
+    go false a s = refl
+piece-width (Command.Binary operator) = refl
+piece-width Command.Negate = refl
+piece-width Command.If = refl
+
+piece-bytes : (c : Command) (l : List ℕ) → bytesIn (pieceOf c) l ≡ bytesAfter c l
+piece-bytes Command.EndsEarly l = refl
+piece-bytes Command.Unknown l = refl
+piece-bytes Command.OutOfRange l = refl
+piece-bytes Command.End l = refl
+piece-bytes (Command.Input period initial) l = refl
+piece-bytes (Command.Equation period initial weight) l = refl
+piece-bytes (Command.Latency mode bound) l = refl
+piece-bytes (Command.Link signal) l = refl
+piece-bytes (Command.Cap n) l = refl
+piece-bytes (Command.Tag label) l = refl
+piece-bytes (Command.Constant w) l = refl
+piece-bytes (Command.Read kind x) l = go (eqb (x .factor) 1) (readByte (singleKind kind)) (x .signal)
+  where
+    go : (b : Bool) (a s : ℕ) →
+        bytesIn (cond b (Piece.Short (readWidth kind) a s) (Piece.Keep (readWidth kind))) l ≡ cond b (a ∷ s ∷ []) l
+    go true a s = refl
+    go false a s = refl
+piece-bytes (Command.Binary operator) l = refl
+piece-bytes Command.Negate l = refl
+piece-bytes Command.If l = refl
+
+width-two : (kind : Kind) → 2 ≤ readWidth kind
+width-two Now = omega arith
+width-two Last = omega arith
+width-two When = omega arith
+width-two LastWhen = omega arith
+width-two Current = omega arith
+
+-- No piece is longer than what it stands for.
+piece-short : (c : Command) → lengthIn (pieceOf c) ≤ widthIn (pieceOf c)
+piece-short Command.EndsEarly = omega arith
+piece-short Command.Unknown = omega arith
+piece-short Command.OutOfRange = omega arith
+piece-short Command.End = omega arith
+piece-short (Command.Input period initial) = omega arith
+piece-short (Command.Equation period initial weight) = omega arith
+piece-short (Command.Latency mode bound) = omega arith
+piece-short (Command.Link signal) = omega arith
+piece-short (Command.Cap n) = omega arith
+piece-short (Command.Tag label) = omega arith
+piece-short (Command.Constant w) = omega arith
+piece-short (Command.Read kind x) = go (eqb (x .factor) 1) (readByte (singleKind kind)) (x .signal)
+  where
+    go : (b : Bool) (a s : ℕ) → lengthIn (cond b (Piece.Short (readWidth kind) a s) (Piece.Keep (readWidth kind))) ≤
+        widthIn (cond b (Piece.Short (readWidth kind) a s) (Piece.Keep (readWidth kind)))
+    go true a s = width-two kind
+    go false a s = omega arith
+piece-short (Command.Binary operator) = omega arith
+piece-short Command.Negate = omega arith
+piece-short Command.If = omega arith
+
+piece-length : (piece : Piece) (l : List ℕ) → length l ≡ widthIn piece → length (bytesIn piece l) ≡ lengthIn piece
+piece-length (Piece.Keep n) l e = e
+piece-length (Piece.Short n byte signal) l e = refl
+
+-- Every command lies within the text.
+sound-inside : (text : List ℕ) (at : ℕ) (c : Command) → Sound text at c → at ≤ length text → at + widthOf c ≤ length text
+sound-inside text at Command.EndsEarly h le = omega arith
+sound-inside text at Command.Unknown h le = omega arith
+sound-inside text at Command.OutOfRange h le = omega arith
+sound-inside text at Command.End h le = h
+sound-inside text at (Command.Input period initial) h le = h .3
+sound-inside text at (Command.Equation period initial weight) h le = h .3
+sound-inside text at (Command.Latency mode bound) h le = h
+sound-inside text at (Command.Link signal) h le = h
+sound-inside text at (Command.Cap n) h le = h
+sound-inside text at (Command.Tag label) h le = h .1
+sound-inside text at (Command.Constant w) h le = h .1
+sound-inside text at (Command.Read kind x) h le = h .1
+sound-inside text at (Command.Binary operator) h le = h
+sound-inside text at Command.Negate h le = h
+sound-inside text at Command.If h le = h
+
+-- What one turn does at `at`, where `left` are left.
+pub record Turn (text : List ℕ) (at left : ℕ) (piece : Piece) : Type 0 where
+  pub inside : at + widthIn piece ≤ length text
+  pub short : lengthIn piece ≤ widthIn piece
+  pub size : length (pieceAt text at piece) ≡ lengthIn piece
+  pub parts : Parts (rewriteFrom left text at) (pieceAt text at piece) (rewriteFrom (left - 1) text (at + widthIn piece))
+
+rewrite-step : (text : List ℕ) (at left : ℕ) → 0 < left →
+    rewriteFrom left text at ≡
+    rewriteAt text at (commandAt text at) ++ rewriteFrom (left - 1) text (at + widthOf (commandAt text at))
+unfolding rewriteFrom
+rewrite-step text at zero lt = absurd (omega arith)
+rewrite-step text at (suc left) lt =
+    let e : suc left - 1 ≡ left = omega arith in
+    ap (λ n. rewriteAt text at (commandAt text at) ++ rewriteFrom n text (at + widthOf (commandAt text at))) (sym e)
+
+turn-at : (text : List ℕ) (at left : ℕ) → 0 < left → at ≤ length text → Turn text at left (pieceOf (commandAt text at))
+unfolding rewriteAt
+turn-at text at left lt le =
+    let c = commandAt text at in
+    let w = piece-width c in
+    let within : at + widthIn (pieceOf c) ≤ length text =
+    rw w (sound-inside text at c (command-sound text at c refl) le) in
+    record {
+      inside = within;
+      short = piece-short c;
+      size = piece-length (pieceOf c) _ (length-take-le (widthIn (pieceOf c)) (drop at text) (omega (arith, length-drop at text)));
+      parts = record { is = rewrite-step text at left lt ∙ rw (w, piece-bytes c (take (widthOf c) (drop at text))) refl };
+    }
+
+pub turn-of : (text : List ℕ) (at left : ℕ) (c : Command) (piece : Piece) → 0 < left → at ≤ length text →
+    c ≡ commandAt text at → piece ≡ pieceOf c → Turn text at left piece
+turn-of text at left c piece lt le e f = rw (f, e) (turn-at text at left lt le)
+
+-- The walk starts with the whole text, and ends with nothing left.
+pub rewrite-starts : (text : List ℕ) → rewriteFrom (length text) text 0 ≡ rewrite text
+unfolding rewrite
+rewrite-starts text = refl
+
+pub rewrite-ends : (text : List ℕ) (at left : ℕ) → left ≤ 0 → rewriteFrom left text at ≡ []
+unfolding rewriteFrom
+rewrite-ends text at zero le = refl
+rewrite-ends text at (suc left) le = absurd (omega arith)
+
+-- What the converter answers and leaves, by its tests.
+module _ (program buffer : List ℕ) where
+  pub convert-long : 8192 < length program →
+      (refuse 1 0 ≡ convertOf program buffer .answer) × (buffer ≡ convertOf program buffer .left)
+  unfolding convertOf provided _▷_
+  convert-long lt = rw (lt-leb (length program) 8192 lt) (refl, refl)
+
+  module _ (le : length program ≤ 8192) where
+    pub convert-refused : (f : Fault) → parseWith 1 program ≡ refused f →
+        (refused f ≡ convertOf program buffer .answer) × (buffer ≡ convertOf program buffer .left)
+    unfolding convertOf provided _▷_
+    convert-refused f e = rw (le-leb (length program) 8192 le, e) (refl, refl)
+
+    module _ (p : Program) (e : parseWith 1 program ≡ accepted p) (n : ℕ) (size : n ≡ length (rewrite program)) where
+      pub convert-short : length buffer < n →
+          (refuse 17 n ≡ convertOf program buffer .answer) × (buffer ≡ convertOf program buffer .left)
+      unfolding convertOf provided _▷_
+      convert-short lt =
+          rw (le-leb (length program) 8192 le, e, ← size, lt-leb n (length buffer) lt) (refl, refl)
+
+      pub convert-done : (after : List ℕ) (end : ℕ) → n ≤ length buffer → Wrote buffer 0 (rewrite program) after end →
+          (accepted end ≡ convertOf program buffer .answer) × (after ≡ convertOf program buffer .left)
+      unfolding convertOf provided _▷_
+      convert-done after end fits w =
+          let whole : 0 + length (rewrite program) ≡ n = omega arith in
+          rw (le-leb (length program) 8192 le, e, ← size, le-leb n (length buffer) fits) (
+            ap accepted (w .ends ∙ whole),
+            w .holds ∙ sets-eq (rewrite program) buffer 0 (omega arith) ∙
+                ap (λ m. rewrite program ++ drop m buffer) whole,
+          )
+
+-- What the reader's answer says of the text.
+module _ (o : Outcome Program) (reads : List ℕ) (r : ProgramRead) where
+  pub read-refused : (f : Fault) → ProgramReads o reads r → r .judged ≡ Judged.Refused f → o ≡ refused f
+  unfolding ProgramReads
+  read-refused f h e = go o h
+    where
+      go : (o : Outcome Program) → ProgramReads o reads r → o ≡ refused f
+      go (accepted p) h = let a = h .0 in let z : _≡_ {A = ℕ} 0 1 = cc in absurd (omega arith)
+      go (refused g) h = let z : g ≡ f = cc in ap refused z
+
+  pub read-fine : ProgramReads o reads r → r .judged ≡ Judged.Fine → (p : Program) × (o ≡ accepted p)
+  unfolding ProgramReads
+  read-fine h e = go o h
+    where
+      go : (o : Outcome Program) → ProgramReads o reads r → (p : Program) × (o ≡ accepted p)
+      go (accepted p) h = (p, refl)
+      go (refused g) h = let z : _≡_ {A = ℕ} 0 1 = cc in absurd (omega arith)
+
+-- What is accepted fits.
+pub convert-fits : (program buffer : List ℕ) (n : ℕ) → accepted n ≡ convertOf program buffer .answer → n ≤ length buffer
+unfolding convertOf provided _▷_
+convert-fits program buffer n e =
+    go (leb (length program) 8192) (parseWith 1 program) (leb (length (rewrite program)) (length buffer)) refl e
+  where
+    size : ℕ
+    size = length (rewrite program)
+
+    go : (a : Bool) (o : Outcome Program) (b : Bool) → leb size (length buffer) ≡ b →
+        accepted n ≡
+        effect buffer
+        (provided a 1 0 ▷ λ _. o ▷ λ p. provided b 17 size ▷ λ _.
+        accepted (record { yields = size; leaves = rewrite program ++ drop size buffer })) .answer → n ≤ length buffer
+    go false o b q e = let z : _≡_ {A = ℕ} 0 1 = cc in absurd (omega arith)
+    go true (refused f) b q e = let z : _≡_ {A = ℕ} 0 1 = cc in absurd (omega arith)
+    go true (accepted p) false q e = let z : _≡_ {A = ℕ} 0 1 = cc in absurd (omega arith)
+    go true (accepted p) true q e = let z : n ≡ size = cc in omega (arith, leb-true size (length buffer) q)

@@ -1,0 +1,88 @@
+-- `text_convert::convert_with` meets its contract. Assumes nothing.
+use mathlib.Core.Path.{_≡_, ap, _∙_}
+use denote.Ref.{now}
+use Rattle.model.specs.Rules.Compile.{compiledOf}
+use Rattle.model.specs.Rules.Outcome.{accepted}
+use Rattle.model.specs.Rules.Program.{Program, parseWith}
+use Rattle.text_convert.proofs.Walk.{convert-refused, convert-short, convert-done, read-refused, read-fine}
+use borrow.Author.Needs.{needs}
+use Rattle.text_convert.proofs.convert_with.Statement.{statement}
+use Rattle.text_convert.proofs.convert_with.Tie as tie
+
+-- the text and what is read of it, before its length is taken
+module _ (e : tie.After-enum-told) where
+  abbrev start : tie.Start
+  start = e .before .before .before .before .before .before .before .before .before
+
+  fine : (p : Program) × (parseWith 1 (now (start .args .program)) ≡ accepted p)
+  fine = read-fine _ _ _ (e .before .before .before .before .read-program .ensures) (e .enum-told .given .1)
+
+read-program-requires : tie.Need-read-program-requires
+read-program-requires c κs = search needs
+
+enum-known-judged : tie.Need-enum-known-judged
+enum-known-judged c = search needs
+
+same-length : tie.Need-same-length
+same-length c = search needs
+
+returns : tie.Need-returns
+returns c =
+    convert-refused _ _ (c .before .before .before .before .before .before .before .before .before .before .pre .0) _
+    (read-refused _ _ _ _ (c .before .before .before .before .before .read-program .ensures) (c .before .judged .given .1))
+
+enum-told : tie.Need-enum-told
+enum-told c = search needs
+
+rewritten-length-requires : tie.Need-rewritten-length-requires
+rewritten-length-requires c κs = search needs
+
+refuse-requires : tie.Need-refuse-requires
+refuse-requires c κs = search needs
+
+same-length-2 : tie.Need-same-length-2
+same-length-2 c = search needs
+
+returns-2 : tie.Need-returns-2
+returns-2 c =
+    let l = c .before .before in
+    let k = fine (l .before) in
+    let g =
+    convert-short _ _ (start (l .before) .pre .0) (k .0) (k .1) _ (l .rewritten-length .ensures) (c .before .if1 .taken) in
+    (ap compiledOf (c .refuse .ensures) ∙ g .0, g .1)
+
+write-requires : tie.Need-write-requires
+write-requires c κs = search needs
+
+same-length-3 : tie.Need-same-length-3
+same-length-3 c = search needs
+
+same-length-4 : tie.Need-same-length-4
+same-length-4 c = search needs
+
+returns-3 : tie.Need-returns-3
+returns-3 c =
+    let w = c .before .before in
+    let e = w .before .before in
+    let l = e .before in
+    let k = fine (l .before) in
+    convert-done _ _ (start (l .before) .pre .0) (k .0) (k .1) _ (l .rewritten-length .ensures) _ _ (e .if1 .left)
+    (w .write .ensures)
+
+pub convert-with-spec : {M : Type 1} → statement M
+convert-with-spec =
+    tie.close
+    (tie.spec
+    read-program-requires
+    enum-known-judged
+    same-length
+    returns
+    enum-told
+    rewritten-length-requires
+    refuse-requires
+    same-length-2
+    returns-2
+    write-requires
+    same-length-3
+    same-length-4
+    returns-3)

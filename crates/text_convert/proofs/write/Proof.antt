@@ -1,0 +1,83 @@
+-- `text_convert::write` meets its contract. Assumes nothing.
+use Prim.Native.Nat.{_+_, _≤_}
+use mathlib.Core.Path.{_≡_, ap}
+use native.Mathlib.Omega.{arith}
+use borrow.Author.Needs.{needs}
+use lib.ListN.{length}
+use Rattle.model.specs.Rules.Rewrite.{rewriteFrom, rewrite}
+use Rattle.model.proofs.Left.{Left, starts, room, turn, done}
+use Rattle.text_convert.proofs.Walk.{Turn, turn-of, rewrite-starts, rewrite-ends}
+use Rattle.text_convert.proofs.write.Statement.{statement}
+use Rattle.text_convert.proofs.write.Tie as tie
+
+abbrev Inv-loop : tie.InvT-loop
+Inv-loop text out₀ at₀ to₀ left₀ out at to left =
+    (at ≤ length text) × Left out₀ 0 (rewrite text) out to (rewriteFrom left text at)
+
+abbrev μ-loop : tie.MeasureT-loop
+μ-loop text out₀ at₀ to₀ left₀ out at to left = left
+
+-- what the turn does
+now-turn : (c : tie.After-piece-of Inv-loop μ-loop) →
+    Turn (c .before .before .before .before .before .before .args .text .now) (c .before .before .before .loop .at) (c .before .before .before .loop .left) (c .piece-of .result)
+now-turn c =
+    turn-of _ _ _ (c .before .command-at .result) _ (omega arith) (omega arith) (c .before .command-at .ensures) (c .piece-of .ensures)
+
+loop-holds : tie.Need-loop-holds Inv-loop μ-loop
+loop-holds c = (omega arith, rw (rewrite-starts (c .before .before .args .text .now)) starts)
+
+command-at-requires : tie.Need-command-at-requires Inv-loop μ-loop
+command-at-requires c κs = search needs
+
+piece-of-requires : tie.Need-piece-of-requires Inv-loop μ-loop
+piece-of-requires c κs = search needs
+
+put-requires : tie.Need-put-requires Inv-loop μ-loop
+put-requires c κs =
+    let t = now-turn (c .before) in
+    (t .inside, rw (← (t .size)) (room (t .parts) (c .before .before .before .before .loop .inv .1) (omega (arith, c .before .before .before .before .before .before .before .pre))))
+
+width-of-requires : tie.Need-width-of-requires Inv-loop μ-loop
+width-of-requires c κs = search needs
+
+add-at : tie.Need-add-at Inv-loop μ-loop
+add-at c =
+    let t = now-turn (c .before .before .before .before .before) in omega (arith, t .inside, c .width-of .ensures)
+
+sub-left : tie.Need-sub-left Inv-loop μ-loop
+sub-left c = search needs
+
+loop-less : tie.Need-loop-less Inv-loop μ-loop
+loop-less c = search needs
+
+loop-again : tie.Need-loop-again Inv-loop μ-loop
+loop-again c =
+    let t = now-turn (c .before .before .before .before .before) in
+    rw (c .width-of .ensures)
+    (t .inside, turn (t .parts) (c .before .before .before .before .before .before .before .before .loop .inv .1) (c .before .before .before .put .ensures))
+
+same-length : tie.Need-same-length Inv-loop μ-loop
+same-length c = c .before .loop .inv .1 .size
+
+returns : tie.Need-returns Inv-loop μ-loop
+returns c =
+    done (rewrite-ends (c .before .before .before .before .args .text .now) (c .before .loop .at) (c .before .loop .left) (omega arith))
+    (c .before .loop .inv .1)
+
+pub write-spec : {M : Type 1} → statement M
+write-spec =
+    tie.close
+    (tie.spec
+    Inv-loop
+    μ-loop
+    loop-holds
+    command-at-requires
+    piece-of-requires
+    put-requires
+    width-of-requires
+    add-at
+    sub-left
+    loop-less
+    loop-again
+    same-length
+    returns)

@@ -1,0 +1,194 @@
+// The converter: a program text with each read of factor 1 written as NOW or LAST.
+use model::Command;
+use model::Compiled;
+use model::Fault;
+use model::Kind;
+use text_program::Judged;
+ghost use mathlib.Core.Path.{_≡_};
+ghost use mathlib.Core.List.{_++_};
+ghost use Prim.Native.Nat.{_+_, _*_, _≤_};
+ghost use lib.ListN.{length, take, drop};
+ghost use Rattle.model.specs.Rules.Compile.{compiledOf};
+ghost use Rattle.model.specs.Says.Convert.{singleKind};
+ghost use Rattle.model.specs.Rules.Rewrite.{rewrite, convertOf};
+ghost use Rattle.model.specs.Says.Written.{readByte};
+ghost use Rattle.model.specs.Rules.Writing.{Wrote};
+ghost use Rattle.text_convert.specs.Pieces.{widthIn, lengthIn, pieceOf, pieceAt};
+
+// What a command becomes: its bytes as they are, so many; or, for so many bytes, a byte and a signal.
+enum Piece {
+    Keep(usize),
+    Short(usize, u8, u8),
+}
+
+// NOW for WHEN and CURRENT, LAST for LASTWHEN.
+fn short_byte(kind: Kind) -> u8
+    ensures { λ r. ⌜ r ≡ readByte (singleKind kind) ⌝ }
+{
+    match kind {
+        Kind::Now => 0x21,
+        Kind::Last => 0x22,
+        Kind::When => 0x21,
+        Kind::LastWhen => 0x22,
+        Kind::Current => 0x21,
+    }
+}
+
+fn piece_of(command: Command) -> Piece
+    ensures { λ r. ⌜ r ≡ pieceOf command ⌝ }
+{
+    match command {
+        Command::EndsEarly => Piece::Keep(0),
+        Command::Unknown => Piece::Keep(0),
+        Command::OutOfRange => Piece::Keep(0),
+        Command::End => Piece::Keep(width::in_program(0x00)),
+        Command::Input(_, _) => Piece::Keep(width::in_program(0x10)),
+        Command::Equation(_, _, _) => Piece::Keep(width::in_program(0x11)),
+        Command::Latency(_, _) => Piece::Keep(width::in_program(0x12)),
+        Command::Link(_) => Piece::Keep(width::in_program(0x13)),
+        Command::Cap(_) => Piece::Keep(width::in_program(0x14)),
+        Command::Tag(_) => Piece::Keep(width::in_program(0x15)),
+        Command::Constant(_) => Piece::Keep(width::in_expression(0x20)),
+        Command::Read(kind, x) => {
+            let width = width::of_read(kind);
+            let factor = x.factor;
+            if factor == 1 {
+                let byte = short_byte(kind);
+                return Piece::Short(width, byte, x.signal);
+            }
+            Piece::Keep(width)
+        }
+        Command::Binary(_) => Piece::Keep(width::in_expression(0x30)),
+        Command::Negate => Piece::Keep(width::in_expression(0x38)),
+        Command::If => Piece::Keep(width::in_expression(0x3A)),
+    }
+}
+
+// The bytes of the text that a piece stands for, and its own.
+fn width_of(piece: Piece) -> usize
+    ensures { λ r. ⌜ r ≡ widthIn piece ⌝ }
+{
+    match piece {
+        Piece::Keep(n) => n,
+        Piece::Short(n, _, _) => n,
+    }
+}
+
+fn length_of(piece: Piece) -> usize
+    ensures { λ r. ⌜ r ≡ lengthIn piece ⌝ }
+{
+    match piece {
+        Piece::Keep(n) => n,
+        Piece::Short(_, _, _) => 2,
+    }
+}
+
+// Copies n bytes of the text from `at` on to `to` on.
+fn copy(text: &[u8], at: usize, n: usize, out: &mut [u8], to: usize) -> usize
+    requires { ⌜ (at + n ≤ length (now text)) × (to + n ≤ length (now out)) ⌝ }
+    ensures { λ r. ⌜ Wrote (now (out .entry)) to (take n (drop at (now (text .entry)))) (now (out .exit)) r ⌝ }
+{
+    let mut end = to;
+    let mut i = at;
+    let mut left = n;
+    while 0 < left {
+        out[end] = text[i];
+        end = end + 1;
+        i = i + 1;
+        left = left - 1;
+    }
+    end
+}
+
+// Writes the piece that stands for the command at `at`.
+fn put(text: &[u8], at: usize, piece: Piece, out: &mut [u8], to: usize) -> usize
+    requires { ⌜ (at + widthIn piece ≤ length (now text)) × (to + lengthIn piece ≤ length (now out)) ⌝ }
+    ensures { λ r. ⌜ Wrote (now (out .entry)) to (pieceAt (now (text .entry)) at piece) (now (out .exit)) r ⌝ }
+{
+    match piece {
+        Piece::Keep(n) => copy(text, at, n, out, to),
+        Piece::Short(_, byte, signal) => {
+            out[to] = byte;
+            out[to + 1] = signal;
+            to + 2
+        }
+    }
+}
+
+// The length of a text, rewritten.
+fn rewritten_length(text: &[u8]) -> usize
+    ensures { λ r. ⌜ r ≡ length (rewrite (now (text .entry))) ⌝ }
+{
+    let mut at: usize = 0;
+    let mut total: usize = 0;
+    let mut left = text.len();
+    while 0 < left {
+        let command = text_command::command_at(text, at);
+        let piece = piece_of(command);
+        let length = length_of(piece);
+        total = total + length;
+        let width = width_of(piece);
+        at = at + width;
+        left = left - 1;
+    }
+    total
+}
+
+// Writes a text, rewritten.
+fn write(text: &[u8], out: &mut [u8]) -> usize
+    requires { ⌜ length (rewrite (now text)) ≤ length (now out) ⌝ }
+    ensures { λ r. ⌜ Wrote (now (out .entry)) 0 (rewrite (now (text .entry))) (now (out .exit)) r ⌝ }
+{
+    let mut at: usize = 0;
+    let mut to: usize = 0;
+    let mut left = text.len();
+    while 0 < left {
+        let command = text_command::command_at(text, at);
+        let piece = piece_of(command);
+        to = put(text, at, piece, out, to);
+        let width = width_of(piece);
+        at = at + width;
+        left = left - 1;
+    }
+    to
+}
+
+fn refuse(number: u8, place: usize) -> Compiled
+    ensures { λ r. ⌜ r ≡ Compiled.Refused (record { number = number; place = place }) ⌝ }
+{
+    Compiled::Refused(Fault {
+        number: number,
+        place: place,
+    })
+}
+
+// Converts a program text that passes 1, with a table for the offsets of its reads: an entry for each two bytes.
+fn convert_with(program: &[u8], result: &mut [u8], reads: &mut [u16]) -> Compiled
+    requires { ⌜ (length (now program) ≤ 8192) × (length (now program) ≤ 2 * length (now reads)) ⌝ }
+    ensures answer { λ r. ⌜ compiledOf r ≡ convertOf (now (program .entry)) (now (result .entry)) .answer ⌝ }
+    ensures left { λ _. ⌜ now (result .exit) ≡ convertOf (now (program .entry)) (now (result .entry)) .left ⌝ }
+{
+    let read = text_program::read_program(1, program, reads);
+    let judged = read.judged;
+    if let Judged::Refused(fault) = judged {
+        return Compiled::Refused(fault);
+    }
+    let length = rewritten_length(program);
+    if result.len() < length {
+        return refuse(17, length);
+    }
+    let end = write(program, &mut result[..]);
+    Compiled::Length(end)
+}
+
+// Converts a program text: its new length; 1 to 6 as the reader gives them with n = 1 allowed; or 17 where the buffer is shorter.
+pub fn convert(program: &[u8], result: &mut [u8]) -> Compiled
+    ensures answer { λ r. ⌜ compiledOf r ≡ convertOf (now (program .entry)) (now (result .entry)) .answer ⌝ }
+    ensures left { λ _. ⌜ now (result .exit) ≡ convertOf (now (program .entry)) (now (result .entry)) .left ⌝ }
+{
+    if 8192 < program.len() {
+        return refuse(1, 0);
+    }
+    let mut reads: [u16; 4096] = [0; 4096];
+    convert_with(program, result, &mut reads)
+}

@@ -1,0 +1,114 @@
+-- `text_program::read_links` meets its contract. Assumes nothing.
+use Rattle.text_program.specs.Results.{linksOf}
+use Prim.Native.Nat.{ℕ, suc, _+_, _-_, _≤_, _<_}
+use mathlib.Core.List.{List, [], _∷_, _++_}
+use mathlib.Core.Path.{_≡_, refl, sym, ap, _∙_}
+use lib.ListN.{length, length-append}
+use denote.Ref.{now}
+use native.Mathlib.Omega.{arith}
+use borrow.Author.Needs.{needs}
+use Rattle.model.specs.Rules.Program.{Link, parseLinks}
+use Rattle.text_program.proofs.Laws.{linkAt, links-end, links-past, links-many, links-cut, links-more}
+use Rattle.text_program.proofs.read_links.Statement.{statement}
+use Rattle.text_program.proofs.read_links.Tie as tie
+
+abbrev Inv-loop : tie.InvT-loop
+Inv-loop text at next₀ count₀ next count =
+    (links : List Link) × (length links ≡ count) × (count ≤ 16) × (parseLinks 16 text at [] ≡ parseLinks (16 - count) text next links)
+
+abbrev μ-loop : tie.MeasureT-loop
+μ-loop text at next₀ count₀ next count = length text - next
+
+none : (n : ℕ) → 16 ≤ n → 16 - n ≡ 0
+none n h = omega arith
+
+some : (n : ℕ) → n < 16 → 16 - n ≡ suc (16 - (n + 1))
+some n h = omega arith
+
+loop-holds : tie.Need-loop-holds Inv-loop μ-loop
+loop-holds c = ([], refl, omega arith, refl)
+
+shared-slice-read-if1 : tie.Need-shared-slice-read-if1 Inv-loop μ-loop
+shared-slice-read-if1 c = search needs
+
+returns : tie.Need-returns Inv-loop μ-loop
+unfolding linksOf
+returns c =
+    let l = c .before .before .before .loop in
+    sym (ap linksOf (l .inv .3 ∙ links-end _ _ (l .next) (l .inv .0) (c .if1 .taken)) ∙ rw (l .inv .1))
+
+refuse-links-requires : tie.Need-refuse-links-requires Inv-loop μ-loop
+refuse-links-requires c κs = search needs
+
+returns-2 : tie.Need-returns-2 Inv-loop μ-loop
+unfolding linksOf
+returns-2 c =
+    let l = c .before .before .before .before .before .loop in
+    let text = now (c .before .before .before .before .before .before .before .args .text) in
+    c .refuse-links .ensures ∙ sym (ap linksOf (l .inv .3 ∙ ap (λ m. parseLinks m text (l .next) (l .inv .0)) (none (l .count) (omega arith)) ∙ links-many text (l .next) (l .inv .0) (c .before .before .if1 .left)))
+
+sub-left : tie.Need-sub-left Inv-loop μ-loop
+sub-left c = search needs
+
+in-program-requires : tie.Need-in-program-requires Inv-loop μ-loop
+in-program-requires c κs = search needs
+
+refuse-links-requires-2 : tie.Need-refuse-links-requires-2 Inv-loop μ-loop
+refuse-links-requires-2 c κs = search needs
+
+returns-3 : tie.Need-returns-3 Inv-loop μ-loop
+unfolding linksOf
+returns-3 c =
+    let l = c .before .before .before .before .before .before .before .loop in
+    let text = now (c .before .before .before .before .before .before .before .before .before .args .text) in
+    c .refuse-links2 .ensures ∙ sym (ap linksOf (l .inv .3 ∙ ap (λ m. parseLinks m text (l .next) (l .inv .0)) (some (l .count) (omega arith)) ∙ links-cut _ text (l .next) (l .inv .0) (c .before .before .before .before .if1 .left) (omega arith)))
+
+in-program-requires-2 : tie.Need-in-program-requires-2 Inv-loop μ-loop
+in-program-requires-2 c κs = search needs
+
+add-next : tie.Need-add-next Inv-loop μ-loop
+add-next c = omega arith
+
+add-count : tie.Need-add-count Inv-loop μ-loop
+add-count c = omega arith
+
+loop-less : tie.Need-loop-less Inv-loop μ-loop
+loop-less c = omega arith
+
+loop-again : tie.Need-loop-again Inv-loop μ-loop
+loop-again c =
+    let l = c .before .before .before .before .before .before .before .loop in
+    let text = now (c .before .before .before .before .before .before .before .before .before .args .text) in (
+      l .inv .0 ++ (linkAt text (l .next) ∷ []),
+      length-append (l .inv .0) _ ∙ ap (_+ 1) (l .inv .1),
+      omega arith,
+      l .inv .3 ∙ rw (c .in-program2 .ensures, some (l .count) (omega arith)) (links-more _ text (l .next) (l .inv .0) (c .before .before .before .before .if1 .left) (omega arith)),
+    )
+
+returns-4 : tie.Need-returns-4 Inv-loop μ-loop
+unfolding linksOf
+returns-4 c =
+    let l = c .before .loop in
+    sym (ap linksOf (l .inv .3 ∙ links-past _ _ (l .next) (l .inv .0) (c .loop-test .left)) ∙ rw (l .inv .1))
+
+pub read-links-spec : {M : Type 1} → statement M
+read-links-spec =
+    tie.close
+    (tie.spec
+    Inv-loop
+    μ-loop
+    loop-holds
+    shared-slice-read-if1
+    returns
+    refuse-links-requires
+    returns-2
+    sub-left
+    in-program-requires
+    refuse-links-requires-2
+    returns-3
+    in-program-requires-2
+    add-next
+    add-count
+    loop-less
+    loop-again
+    returns-4)

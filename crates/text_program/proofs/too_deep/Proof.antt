@@ -1,0 +1,41 @@
+-- `text_program::too_deep` meets its contract. Assumes nothing.
+use mathlib.Core.Path.{sym, ap, _∙_}
+use Rattle.text_program.specs.Walks.{deepOf}
+use Rattle.text_program.proofs.Laws.{here-next, here-refused}
+use borrow.Author.Needs.{needs}
+use Rattle.text_program.proofs.too_deep.Statement.{statement}
+use Rattle.text_program.proofs.too_deep.Tie as tie
+
+operator-here-requires : tie.Need-operator-here-requires
+operator-here-requires c κs = search needs
+
+enum-told : tie.Need-enum-told
+enum-told c = search needs
+
+refuse-walk-requires : tie.Need-refuse-walk-requires
+refuse-walk-requires c κs = search needs
+
+enum-known-here : tie.Need-enum-known-here
+enum-known-here c = search needs
+
+returns : tie.Need-returns
+unfolding deepOf
+returns c =
+    c .refuse-walk .ensures ∙
+    sym (ap (deepOf _) (here-next _ _ _ (sym (c .before .enum-told .given .1) ∙ c .before .before .before .operator-here .ensures)))
+
+returns-2 : tie.Need-returns-2
+unfolding deepOf
+returns-2 c =
+    sym (ap (deepOf _) (here-refused _ _ (sym (c .before .here .given .1) ∙ c .before .before .before .operator-here .ensures)))
+
+pub too-deep-spec : {M : Type 1} → statement M
+too-deep-spec =
+    tie.close
+    (tie.spec
+    operator-here-requires
+    enum-told
+    refuse-walk-requires
+    enum-known-here
+    returns
+    returns-2)

@@ -1,0 +1,56 @@
+-- The answers of the readers of expressions and links, from the definitions' outcomes.
+use Prim.Native.Nat.{ℕ, _+_}
+use mathlib.Core.Bool.{cond}
+use mathlib.Core.List.{List}
+use lib.Dec.{leb, ltb}
+use lib.ListN.{length}
+use Rattle.model.specs.Rules.Outcome.{Outcome, accepted, refused, fault, Parsed}
+use Rattle.model.specs.Rules.Program.{Link, isSignal}
+use Rattle.model.specs.Rules.Width.{inProgram}
+use Rattle.model.specs.Rules.Word.{byteAt}
+use Rattle.text_program.specs.declared.Entry.the-variants as Entry
+use Rattle.text_program.specs.declared.Judged.{Judged}
+use Rattle.text_program.specs.declared.Judged.the-variants as Judged
+use Rattle.text_program.specs.declared.LinksRead.{LinksRead}
+use Rattle.text_program.specs.declared.LinksRead.the-variants as Read
+use Rattle.text_program.specs.declared.Reached.{Reached}
+use Rattle.text_program.specs.declared.Reached.the-variants as Reached
+use Rattle.text_program.specs.declared.Step.{Step}
+use Rattle.text_program.specs.declared.Step.the-variants as Step
+
+-- Reading goes on at `at` where a condition holds.
+unfoldable pub hereOf : ℕ → Outcome (Unit {0}) → Reached
+hereOf at (accepted a) = Reached.Next at
+hereOf at (refused f) = Reached.Refused f
+
+-- How many LINKs a chain has, and where they end.
+unfoldable pub linksOf : Outcome (Parsed (List Link)) → LinksRead
+linksOf (accepted x) = Read.Links (length (x .value)) (x .next)
+linksOf (refused f) = Read.Refused f
+
+-- The step of a LAT at `at`, from what follows it.
+unfoldable pub chainOf : ℕ → ℕ → ℕ → Outcome (Parsed (List Link)) → Step
+chainOf at count to (accepted x) =
+    cond (leb 2 (length (x .value)))
+    (Step.Adds (Entry.Chain (length (x .value))) (record { at = x .next; reads = count; code = to }))
+    (Step.Refused (fault 5 at))
+chainOf at count to (refused f) = Step.Refused f
+
+-- The step of a TAG at `at`, by the byte after it.
+unfoldable pub tagOf : List ℕ → ℕ → ℕ → ℕ → ℕ → Step
+tagOf text at label count to =
+    let next = at + inProgram 0x15 in
+    cond (ltb next (length text))
+    (cond (isSignal (byteAt text next)) (Step.Adds (Entry.Label label) (record { at = next; reads = count; code = to }))
+    (Step.Refused (fault 3 at)))
+    (Step.Refused (fault 2 (length text)))
+
+-- The step of END, from what follows it.
+unfoldable pub endOf : Outcome (Unit {0}) → Step
+endOf (accepted a) = Step.End
+endOf (refused f) = Step.Refused f
+
+-- The judgement of a check.
+unfoldable pub judgementOf : Outcome (Unit {0}) → Judged
+judgementOf (accepted a) = Judged.Fine
+judgementOf (refused f) = Judged.Refused f

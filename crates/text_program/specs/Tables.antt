@@ -1,0 +1,99 @@
+-- What the tables of a program text say.
+use Prim.Native.Nat.{ℕ, suc, _+_, _≤_, _<_}
+use mathlib.Core.Bool.{Bool, true, false, cond}
+use mathlib.Core.List.{List, []}
+use mathlib.Core.Path.{_≡_}
+use lib.ListN.{length, getD}
+use Rattle.model.specs.Rules.Outcome.{Outcome, accepted, refused}
+use Rattle.model.specs.Rules.Image.{signalCode}
+use Rattle.model.specs.Rules.Program.{Program, Signal, Chain, Limit, unlimited, limit, count, signalAt, bodyReads, weightOf, parseProgram}
+use Rattle.model.specs.Rules.Reads.{place}
+use Rattle.model.specs.Rules.Schedule.{Schedule, phaseOf}
+use Rattle.model.specs.declared.Mode.the-variants.{Exists}
+use Rattle.text_program.specs.Steps.{Counts}
+use Rattle.text_program.specs.Walks.{placesOf}
+use Rattle.text_program.specs.declared.Judged.{Judged}
+use Rattle.text_program.specs.declared.Judged.the-variants as Judged
+use Rattle.text_program.specs.declared.ProgramRead.{ProgramRead}
+use Rattle.text_program.specs.declared.Step.{Step}
+use Rattle.text_program.specs.declared.Step.the-variants as Step
+use Rattle.text_program.specs.declared.Tables.{Tables}
+
+abbrev pub noChain : Chain
+noChain = record { place = 0; mode = Exists; bound = 0; links = [] }
+
+abbrev pub chainAt : Program → ℕ → Chain
+chainAt p j = getD (p .chains) j noChain
+
+-- The CAP of the tables.
+abbrev pub capOf : Bool → ℕ → Limit
+capOf capped n = cond capped (limit n) unlimited
+
+-- A table has the period of every signal by its number, or its weight, or its label.
+abbrev pub PeriodsOf : Program → List ℕ → Type 0
+PeriodsOf p periods = (x : ℕ) → x < count p → getD periods x 0 ≡ signalAt p x .period
+
+abbrev pub WeightsOf : Program → List ℕ → Type 0
+WeightsOf p weights = (x : ℕ) → x < count p → getD weights x 0 ≡ weightOf (signalAt p x .body)
+
+abbrev pub LabelsOf : Program → List ℕ → Type 0
+LabelsOf p labels = (x : ℕ) → x < count p → getD labels x 0 ≡ signalAt p x .label
+
+-- A table of where the parts of the signals start, one after another, and last where they end; a part has so many entries.
+pub record Sums (f : ℕ → Signal → ℕ) (p : Program) (table : List ℕ) : Type 0 where
+  pub first : getD table 0 0 ≡ 0
+  pub rises : (x : ℕ) → x < count p → getD table (suc x) 0 ≡ getD table x 0 + f x (signalAt p x)
+
+-- The number of reads of a signal, and the length of its code.
+abbrev pub readsIn : ℕ → Signal → ℕ
+readsIn x s = length (bodyReads (s .body))
+
+abbrev pub codeIn : ℕ → Signal → ℕ
+codeIn x s = length (signalCode x (s .body))
+
+-- The reads of signal x stand, in order, at the offsets that the table has from entry `firsts[x]` up to `firsts[x + 1]`.
+pub record ReadsOf (p : Program) (reads firsts : List ℕ) : Type 0 where
+  pub sums : Sums readsIn p firsts
+  pub stand : (x j : ℕ) → x < count p → j < length (bodyReads (signalAt p x .body)) →
+      getD reads (getD firsts x 0 + j) 0 ≡ getD (placesOf (bodyReads (signalAt p x .body))) j 0
+  pub fits : getD firsts (count p) 0 ≤ length reads
+
+-- The tables are those of the program p.
+pub record TablesOf (p : Program) (t : Tables) : Type 0 where
+  pub counts : Counts p (t .signals) (t .chains) (t .capped)
+  pub places : (x : ℕ) → x < count p → getD (t .places) x 0 ≡ signalAt p x .place
+  pub periods : PeriodsOf p (t .periods)
+  pub weights : WeightsOf p (t .weights)
+  pub labels : LabelsOf p (t .labels)
+  pub codes : Sums codeIn p (t .codes)
+  pub starts : (j : ℕ) → j < length (p .chains) → getD (t .starts) j 0 ≡ chainAt p j .place
+  pub lengths : (j : ℕ) → j < length (p .chains) → getD (t .lengths) j 0 ≡ length (chainAt p j .links)
+  pub cap : p .cap ≡ capOf (t .capped) (t .limit)
+  -- how many entries they have space for
+  pub space : (length (t .places) ≡ 64) × (length (t .starts) ≡ 16) × (length (t .lengths) ≡ 16)
+
+-- The text is a program of n signals, and the table has its reads.
+pub record Indexed (text reads firsts : List ℕ) (n : ℕ) : Type 0 where
+  pub program : Program
+  pub parsed : parseProgram text ≡ accepted program
+  pub count-is : count program ≡ n
+  pub reads-are : ReadsOf program reads firsts
+
+-- The tables of a schedule: the signals in PUT order, and by signal the phase and the place in that order.
+pub record SlotsOf (p : Program) (s : Schedule) (order phases ranks : List ℕ) : Type 0 where
+  pub order-is : (j : ℕ) → j < length (s .order) → getD order j 0 ≡ getD (s .order) j 0
+  pub phases-are : (x : ℕ) → x < count p → getD phases x 0 ≡ phaseOf s x
+  pub ranks-are : (x : ℕ) → x < count p → getD ranks x 0 ≡ place (s .order) x
+  pub all-put : length (s .order) ≡ count p
+
+-- The judgement of a step that adds nothing.
+unfoldable pub judgedOf : Step → Judged
+judgedOf (Step.Adds e n) = Judged.Fine
+judgedOf Step.End = Judged.Fine
+judgedOf (Step.Refused f) = Judged.Refused f
+
+-- The answer is the definition's refusal, or the tables are those of the program read.
+unfoldable pub ProgramReads : Outcome Program → List ℕ → ProgramRead → Type 0
+ProgramReads (accepted p) reads r =
+    (r .judged ≡ Judged.Fine) × TablesOf p (r .tables) × ReadsOf p reads (r .tables .firsts)
+ProgramReads (refused f) reads r = r .judged ≡ Judged.Refused f

@@ -1,0 +1,591 @@
+// Texts to tables: what stands where in a program and a schedule, or the first fault.
+use model::Command;
+use model::Fault;
+use model::Keyword;
+use model::Kind;
+use model::Sampled;
+ghost use mathlib.Core.Path.{_≡_};
+ghost use mathlib.Core.List.{[]};
+ghost use Prim.Native.Nat.{ℕ, _+_, _*_, _≤_, _<_};
+ghost use lib.Dec.{leb};
+ghost use lib.ListN.{length};
+ghost use Rattle.model.specs.Rules.Command.{keywordAt};
+ghost use Rattle.model.specs.Rules.Outcome.{provided};
+ghost use Rattle.model.specs.Rules.Program.{Program, operatorHere, isAllowed, parseExpr, parseLinks, isSignal, commandHere, parseWith};
+ghost use Rattle.model.specs.Rules.Width.{inProgram};
+ghost use Rattle.text_program.specs.Factors.{operatorFrom};
+ghost use Rattle.text_program.specs.Results.{hereOf, linksOf, chainOf, tagOf, endOf};
+ghost use Rattle.text_program.specs.Steps.{Counts, Stepped};
+ghost use Rattle.text_program.specs.Tables.{judgedOf, ProgramReads};
+ghost use Rattle.text_program.specs.Walks.{deepOf, Room, Walks, WalksEquation};
+
+// The offset at which reading goes on, or the refusal.
+pub enum Reached {
+    Next(usize),
+    Refused(Fault),
+}
+
+fn refuse(number: u8, place: usize) -> Reached
+    ensures { λ r. ⌜ r ≡ Reached.Refused (record { number = number; place = place }) ⌝ }
+{
+    Reached::Refused(Fault {
+        number: number,
+        place: place,
+    })
+}
+
+// Whether an operator of an expression stands at `at`: 2 and 3 come before its depth and its operands.
+fn operator_here(text: &[u8], at: usize) -> Reached
+    ensures { λ r. ⌜ r ≡ hereOf at (operatorHere (now (text .entry)) at (keywordAt (now (text .entry)) at)) ⌝ }
+{
+    let keyword = text_command::keyword_at(text, at);
+    match keyword {
+        Keyword::Missing => refuse(2, text.len()),
+        Keyword::Unknown => refuse(3, at),
+        Keyword::End => refuse(3, at),
+        Keyword::Input => refuse(3, at),
+        Keyword::Equation => refuse(3, at),
+        Keyword::Latency => refuse(3, at),
+        Keyword::Link => refuse(3, at),
+        Keyword::Cap => refuse(3, at),
+        Keyword::Tag => refuse(3, at),
+        Keyword::Constant => Reached::Next(at),
+        Keyword::Read(_) => Reached::Next(at),
+        Keyword::Binary(_) => Reached::Next(at),
+        Keyword::Negate => Reached::Next(at),
+        Keyword::If => Reached::Next(at),
+    }
+}
+
+// Where the reading of an expression stands: the offset in the text, how many reads the program has so far, and how many bytes of
+// code.
+pub struct Walk {
+    pub at: usize,
+    pub reads: usize,
+    pub code: usize,
+}
+
+// Where the reading of an expression goes on, or the refusal.
+pub enum Walked {
+    Next(Walk),
+    Refused(Fault),
+}
+
+fn refuse_walk(number: u8, place: usize) -> Walked
+    ensures { λ r. ⌜ r ≡ Walked.Refused (record { number = number; place = place }) ⌝ }
+{
+    Walked::Refused(Fault {
+        number: number,
+        place: place,
+    })
+}
+
+fn moved_on(at: usize, reads: usize, code: usize) -> Walked
+    ensures { λ r. ⌜ r ≡ Walked.Next (record { at = at; reads = reads; code = code }) ⌝ }
+{
+    Walked::Next(Walk {
+        at: at,
+        reads: reads,
+        code: code,
+    })
+}
+
+// The refusal at `at` where no operator may stand: 2 and 3 come before the depth.
+fn too_deep(text: &[u8], at: usize) -> Walked
+    ensures { λ r. ⌜ r ≡ deepOf at (operatorHere (now (text .entry)) at (keywordAt (now (text .entry)) at)) ⌝ }
+{
+    let here = operator_here(text, at);
+    match here {
+        Reached::Next(_) => refuse_walk(4, at),
+        Reached::Refused(fault) => Walked::Refused(fault),
+    }
+}
+
+// Whether a text whose factors go from `least` on may have a read. NOW and LAST have none in the text.
+fn is_allowed(least: u8, kind: Kind, operands: Sampled) -> bool
+    ensures { λ r. ⌜ r ≡ isAllowed least kind operands ⌝ }
+{
+    let factor = operands.factor;
+    match kind {
+        Kind::Now => true,
+        Kind::Last => true,
+        Kind::When => least <= factor,
+        Kind::LastWhen => least <= factor,
+        Kind::Current => least <= factor,
+    }
+}
+
+// The operator at `at`, where factors go from `least` on.
+fn operator_from(least: u8, text: &[u8], at: usize) -> Command
+    ensures { λ r. ⌜ r ≡ operatorFrom least (now (text .entry)) at ⌝ }
+{
+    let operator = text_command::operator_at(text, at);
+    if let Command::Read(kind, operands) = operator {
+        if !is_allowed(least, kind, operands) {
+            return Command::OutOfRange;
+        }
+    }
+    operator
+}
+
+// Reads the expression at `at`, which may nest `depth` deep. Keeps the offset of each of its reads in `reads`, from `count` on, and
+// counts the bytes of its code, from `to` on.
+pub fn read_expression(
+    least: u8,
+    text: &[u8],
+    at: usize,
+    count: usize,
+    to: usize,
+    depth: usize,
+    reads: &mut [u16],
+) -> Walked
+    requires { ⌜ Room (length (now text)) at count to (length (now reads)) ⌝ }
+    ensures { λ r. ⌜ Walks (parseExpr least depth (now (text .entry)) at) (now (reads .entry)) count to (now (reads .exit)) r ⌝ }
+{
+    if depth == 0 {
+        return too_deep(text, at);
+    }
+    let operator = operator_from(least, text, at);
+    match operator {
+        Command::EndsEarly => refuse_walk(2, text.len()),
+        Command::Unknown => refuse_walk(3, at),
+        Command::OutOfRange => refuse_walk(5, at),
+        Command::End => refuse_walk(3, at),
+        Command::Input(_, _) => refuse_walk(3, at),
+        Command::Equation(_, _, _) => refuse_walk(3, at),
+        Command::Latency(_, _) => refuse_walk(3, at),
+        Command::Link(_) => refuse_walk(3, at),
+        Command::Cap(_) => refuse_walk(3, at),
+        Command::Tag(_) => refuse_walk(3, at),
+        Command::Constant(_) => moved_on(
+            at + width::in_expression(0x20),
+            count,
+            to + width::in_code(0x50),
+        ),
+        Command::Read(kind, _) => {
+            reads[count] = at as u16;
+            moved_on(
+                at + width::of_read(kind),
+                count + 1,
+                to + width::in_code(0x51),
+            )
+        }
+        Command::Binary(_) => {
+            let first_at = at + width::in_expression(0x30);
+            let first = read_expression(least, text, first_at, count, to, depth - 1, reads);
+            let Walked::Next(a) = first else {
+                return first;
+            };
+            let second = read_expression(least, text, a.at, a.reads, a.code, depth - 1, reads);
+            let Walked::Next(b) = second else {
+                return second;
+            };
+            moved_on(b.at, b.reads, b.code + width::in_code(0x30))
+        }
+        Command::Negate => {
+            let operand_at = at + width::in_expression(0x38);
+            let operand = read_expression(least, text, operand_at, count, to, depth - 1, reads);
+            let Walked::Next(a) = operand else {
+                return operand;
+            };
+            moved_on(a.at, a.reads, a.code + width::in_code(0x38))
+        }
+        Command::If => {
+            let condition_at = at + width::in_expression(0x3A);
+            let condition = read_expression(least, text, condition_at, count, to, depth - 1, reads);
+            let Walked::Next(a) = condition else {
+                return condition;
+            };
+            let first = read_expression(least, text, a.at, a.reads, a.code, depth - 1, reads);
+            let Walked::Next(b) = first else {
+                return first;
+            };
+            let second = read_expression(least, text, b.at, b.reads, b.code, depth - 1, reads);
+            let Walked::Next(d) = second else {
+                return second;
+            };
+            moved_on(d.at, d.reads, d.code + width::in_code(0x3A))
+        }
+    }
+}
+
+// What reading the LINKs of a chain finds: how many there are and where they end, or the refusal.
+pub enum LinksRead {
+    Links(usize, usize),
+    Refused(Fault),
+}
+
+fn refuse_links(number: u8, place: usize) -> LinksRead
+    ensures { λ r. ⌜ r ≡ LinksRead.Refused (record { number = number; place = place }) ⌝ }
+{
+    LinksRead::Refused(Fault {
+        number: number,
+        place: place,
+    })
+}
+
+// Reads the LINKs from `at` on. They end at the first byte that isn't 13, or where the text ends.
+pub fn read_links(text: &[u8], at: usize) -> LinksRead
+    ensures { λ r. ⌜ r ≡ linksOf (parseLinks 16 (now (text .entry)) at []) ⌝ }
+{
+    let mut next = at;
+    let mut count: usize = 0;
+    while next < text.len() {
+        if text[next] != 0x13 {
+            return LinksRead::Links(count, next);
+        }
+        if 16 <= count {
+            return refuse_links(4, next);
+        }
+        let left = text.len() - next;
+        if left < width::in_program(0x13) {
+            return refuse_links(2, text.len());
+        }
+        next = next + width::in_program(0x13);
+        count = count + 1;
+    }
+    LinksRead::Links(count, next)
+}
+
+// What a command adds to a program: a signal of a period and a weight, a chain of so many LINKs, a CAP, a label for the signal
+// after it.
+pub enum Entry {
+    Signal(u8, u16),
+    Chain(usize),
+    Cap(u32),
+    Label(u16),
+}
+
+// What one command of the program text is: an entry with where the reading stands after it, END, or the refusal.
+pub enum Step {
+    Adds(Entry, Walk),
+    End,
+    Refused(Fault),
+}
+
+fn refuse_step(number: u8, place: usize) -> Step
+    ensures { λ r. ⌜ r ≡ Step.Refused (record { number = number; place = place }) ⌝ }
+{
+    Step::Refused(Fault {
+        number: number,
+        place: place,
+    })
+}
+
+// Goes on at `at` where a condition holds.
+fn judge(holds: bool, number: u8, at: usize) -> Reached
+    ensures { λ r. ⌜ r ≡ hereOf at (provided holds number at) ⌝ }
+{
+    if holds {
+        Reached::Next(at)
+    } else {
+        refuse(number, at)
+    }
+}
+
+// Whether a command may stand at `at` after so many signals and chains: 2, 3, then counts and second CAP.
+fn command_here(text: &[u8], at: usize, signals: usize, chains: usize, capped: bool) -> Reached
+    ensures { λ r. ⌜ ((p : Program) → Counts p signals chains capped → r ≡ hereOf at (commandHere (now (text .entry)) at p (keywordAt (now (text .entry)) at))) ⌝ }
+{
+    let keyword = text_command::keyword_at(text, at);
+    match keyword {
+        Keyword::Missing => refuse(2, text.len()),
+        Keyword::Unknown => refuse(3, at),
+        Keyword::End => Reached::Next(at),
+        Keyword::Input => judge(signals < 64, 4, at),
+        Keyword::Equation => judge(signals < 64, 4, at),
+        Keyword::Latency => judge(chains < 16, 4, at),
+        Keyword::Link => refuse(3, at),
+        Keyword::Cap => judge(!capped, 5, at),
+        Keyword::Tag => Reached::Next(at),
+        Keyword::Constant => refuse(3, at),
+        Keyword::Read(_) => refuse(3, at),
+        Keyword::Binary(_) => refuse(3, at),
+        Keyword::Negate => refuse(3, at),
+        Keyword::If => refuse(3, at),
+    }
+}
+
+// The step to an entry.
+fn adds(entry: Entry, at: usize, count: usize, to: usize) -> Step
+    ensures { λ r. ⌜ r ≡ Step.Adds entry (record { at = at; reads = count; code = to }) ⌝ }
+{
+    Step::Adds(
+        entry,
+        Walk {
+            at: at,
+            reads: count,
+            code: to,
+        },
+    )
+}
+
+// An EQ ends where its expression does; after the expression's code comes a STORE.
+fn equation_step(
+    least: u8,
+    text: &[u8],
+    at: usize,
+    entry: Entry,
+    count: usize,
+    to: usize,
+    reads: &mut [u16],
+) -> Step
+    requires { ⌜ (at < length (now text)) × Room (length (now text)) at count to (length (now reads)) ⌝ }
+    ensures { λ r. ⌜ WalksEquation (parseExpr least 16 (now (text .entry)) (at + inProgram 0x11)) entry (now (reads .entry)) count to (now (reads .exit)) r ⌝ }
+{
+    let reached = read_expression(
+        least,
+        text,
+        at + width::in_program(0x11),
+        count,
+        to,
+        16,
+        reads,
+    );
+    match reached {
+        Walked::Next(w) => adds(entry, w.at, w.reads, w.code + width::in_code(0x5F)),
+        Walked::Refused(fault) => Step::Refused(fault),
+    }
+}
+
+// A LAT ends where its LINKs do; a chain has two of them at least.
+fn chain_step(text: &[u8], at: usize, count: usize, to: usize) -> Step
+    requires { ⌜ at < length (now text) ⌝ }
+    ensures { λ r. ⌜ r ≡ chainOf at count to (parseLinks 16 (now (text .entry)) (at + inProgram 0x12) []) ⌝ }
+{
+    let read = read_links(text, at + width::in_program(0x12));
+    match read {
+        LinksRead::Links(links, next) => {
+            if links < 2 {
+                return refuse_step(5, at);
+            }
+            adds(Entry::Chain(links), next, count, to)
+        }
+        LinksRead::Refused(fault) => Step::Refused(fault),
+    }
+}
+
+fn is_signal(byte: u8) -> bool
+    ensures { λ r. ⌜ r ≡ isSignal byte ⌝ }
+{
+    byte == 0x10 || byte == 0x11
+}
+
+// A TAG stands directly before IN or EQ, which takes its label.
+fn tag_step(text: &[u8], at: usize, label: u16, count: usize, to: usize) -> Step
+    requires { ⌜ at < length (now text) ⌝ }
+    ensures { λ r. ⌜ r ≡ tagOf (now (text .entry)) at label count to ⌝ }
+{
+    let next = at + width::in_program(0x15);
+    if text.len() <= next {
+        return refuse_step(2, text.len());
+    }
+    let byte = text[next];
+    if !is_signal(byte) {
+        return refuse_step(3, at);
+    }
+    adds(Entry::Label(label), next, count, to)
+}
+
+// END is the last byte.
+fn end_step(text: &[u8], at: usize) -> Step
+    requires { ⌜ at < length (now text) ⌝ }
+    ensures { λ r. ⌜ r ≡ endOf (provided (leb (length (now (text .entry))) (at + inProgram 0x00)) 6 (at + inProgram 0x00)) ⌝ }
+{
+    let next = at + width::in_program(0x00);
+    if next < text.len() {
+        return refuse_step(6, next);
+    }
+    Step::End
+}
+
+// One command of the program text, after so many signals and chains. Its reads are kept from `count` on; the code before it takes `to`
+// bytes.
+fn read_command(
+    least: u8,
+    text: &[u8],
+    at: usize,
+    signals: usize,
+    chains: usize,
+    capped: bool,
+    count: usize,
+    to: usize,
+    reads: &mut [u16],
+) -> Step
+    requires { ⌜ Room (length (now text)) at count to (length (now reads)) ⌝ }
+    ensures { λ r. ⌜ ((p : Program) (label : ℕ) → Counts p signals chains capped → Stepped least (now (text .entry)) at label p (now (reads .entry)) count to (now (reads .exit)) r) ⌝ }
+{
+    let here = command_here(text, at, signals, chains, capped);
+    if let Reached::Refused(fault) = here {
+        return Step::Refused(fault);
+    }
+    let command = text_command::command_at(text, at);
+    match command {
+        Command::EndsEarly => refuse_step(2, text.len()),
+        Command::Unknown => refuse_step(3, at),
+        Command::OutOfRange => refuse_step(5, at),
+        Command::End => end_step(text, at),
+        Command::Input(period, _) => {
+            let next = at + width::in_program(0x10);
+            let end = to + (width::in_code(0x52) + width::in_code(0x5F));
+            adds(Entry::Signal(period, 0), next, count, end)
+        }
+        Command::Equation(period, _, weight) => equation_step(
+            least,
+            text,
+            at,
+            Entry::Signal(period, weight),
+            count,
+            to,
+            reads,
+        ),
+        Command::Latency(_, _) => chain_step(text, at, count, to),
+        Command::Link(_) => refuse_step(3, at),
+        Command::Cap(limit) => adds(Entry::Cap(limit), at + width::in_program(0x14), count, to),
+        Command::Tag(label) => tag_step(text, at, label, count, to),
+        Command::Constant(_) => refuse_step(3, at),
+        Command::Read(_, _) => refuse_step(3, at),
+        Command::Binary(_) => refuse_step(3, at),
+        Command::Negate => refuse_step(3, at),
+        Command::If => refuse_step(3, at),
+    }
+}
+
+// What stands where in a program text, by signal and by chain. The reads of signal x are those from `firsts[x]` to
+// `firsts[x + 1]` of the table of reads, its code the bytes from `codes[x]` to `codes[x + 1]` of the whole code.
+pub struct Tables {
+    pub signals: usize,
+    pub places: [usize; 64],
+    pub periods: [u8; 64],
+    pub weights: [u16; 64],
+    pub labels: [u16; 64],
+    pub firsts: [u16; 65],
+    pub codes: [u16; 65],
+    pub chains: usize,
+    pub starts: [usize; 16],
+    pub lengths: [usize; 16],
+    pub capped: bool,
+    pub limit: u32,
+}
+
+impl Tables {
+    pub fn new() -> Self {
+        Self {
+            signals: 0,
+            places: [0; 64],
+            periods: [0; 64],
+            weights: [0; 64],
+            labels: [0; 64],
+            firsts: [0; 65],
+            codes: [0; 65],
+            chains: 0,
+            starts: [0; 16],
+            lengths: [0; 16],
+            capped: false,
+            limit: 0,
+        }
+    }
+}
+
+// Whether a text was read to its end.
+pub enum Judged {
+    Fine,
+    Refused(Fault),
+}
+
+// What reading a program finds. The tables are of use where it is fine.
+pub struct ProgramRead {
+    pub judged: Judged,
+    pub tables: Tables,
+}
+
+// The judgement at a step that adds nothing.
+fn judged_at(step: Step) -> Judged
+    ensures { λ r. ⌜ r ≡ judgedOf step ⌝ }
+{
+    match step {
+        Step::Adds(_, _) => Judged::Fine,
+        Step::End => Judged::Fine,
+        Step::Refused(fault) => Judged::Refused(fault),
+    }
+}
+
+// Reads a program text whose factors go from `least` on to its END: 2 to 6, or the tables of the program that it is. Keeps the offset of each read in `reads`, which has
+// an entry for each two bytes of the text.
+pub fn read_program(least: u8, text: &[u8], reads: &mut [u16]) -> ProgramRead
+    requires { ⌜ (length (now text) ≤ 8192) × (length (now text) ≤ 2 * length (now reads)) ⌝ }
+    ensures { λ r. ⌜ ProgramReads (parseWith least (now (text .entry))) (now (reads .exit)) r ⌝ }
+{
+    let mut places: [usize; 64] = [0; 64];
+    let mut periods: [u8; 64] = [0; 64];
+    let mut weights: [u16; 64] = [0; 64];
+    let mut labels: [u16; 64] = [0; 64];
+    let mut firsts: [u16; 65] = [0; 65];
+    let mut codes: [u16; 65] = [0; 65];
+    let mut starts: [usize; 16] = [0; 16];
+    let mut lengths: [usize; 16] = [0; 16];
+    let mut signals: usize = 0;
+    let mut chains: usize = 0;
+    let mut capped = false;
+    let mut limit: u32 = 0;
+    let mut at: usize = 0;
+    let mut label: u16 = 0;
+    let mut count: usize = 0;
+    let mut to: usize = 0;
+    while at < text.len() {
+        let step = read_command(least, text, at, signals, chains, capped, count, to, reads);
+        let Step::Adds(entry, walk) = step else {
+            return ProgramRead {
+                judged: judged_at(step),
+                tables: Tables {
+                    signals: signals,
+                    places: places,
+                    periods: periods,
+                    weights: weights,
+                    labels: labels,
+                    firsts: firsts,
+                    codes: codes,
+                    chains: chains,
+                    starts: starts,
+                    lengths: lengths,
+                    capped: capped,
+                    limit: limit,
+                },
+            };
+        };
+        let place = at;
+        at = walk.at;
+        count = walk.reads;
+        to = walk.code;
+        match entry {
+            Entry::Signal(period, weight) => {
+                places[signals] = place;
+                periods[signals] = period;
+                weights[signals] = weight;
+                labels[signals] = label;
+                signals = signals + 1;
+                firsts[signals] = count as u16;
+                codes[signals] = to as u16;
+                label = 0;
+            }
+            Entry::Chain(links) => {
+                starts[chains] = place;
+                lengths[chains] = links;
+                chains = chains + 1;
+                label = 0;
+            }
+            Entry::Cap(most) => {
+                capped = true;
+                limit = most;
+                label = 0;
+            }
+            Entry::Label(given) => {
+                label = given;
+            }
+        }
+    }
+    ProgramRead {
+        judged: judged_at(refuse_step(2, text.len())),
+        tables: Tables::new(),
+    }
+}

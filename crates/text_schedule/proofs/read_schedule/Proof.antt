@@ -1,0 +1,102 @@
+-- `text_schedule::read_schedule` meets its contract. Assumes nothing.
+use Rattle.text_schedule.specs.Slots.{endedOf, EndedAt}
+use Prim.Native.Nat.{ℕ, suc, _+_, _-_, _≤_, _<_}
+use mathlib.Core.Path.{_≡_, refl, sym, ap, subst, _∙_}
+use mathlib.Core.List.{List, []}
+use native.Mathlib.Omega.{arith}
+use denote.Ref.{now}
+use lib.ListN.{length}
+use borrow.Author.Needs.{needs}
+use Rattle.model.specs.Rules.Schedule.{Put, parsePuts, parseSchedule}
+use Rattle.model.proofs.Puts.{put-sound}
+use Rattle.text_schedule.proofs.Endings.{puts-stop, puts-past, puts-more}
+use Rattle.text_schedule.proofs.read_schedule.Statement.{statement}
+use Rattle.text_schedule.proofs.read_schedule.Tie as tie
+
+abbrev Inv-loop : tie.InvT-loop
+Inv-loop text at₀ at =
+    (puts : List Put) × (left : ℕ) × (length text ≤ at + left) × (parseSchedule text ≡ parsePuts left text at puts)
+
+abbrev μ-loop : tie.MeasureT-loop
+μ-loop text at₀ at = length text - at
+
+one-less : (n : ℕ) → 0 < n → n ≡ suc (n - 1)
+one-less n h = omega arith
+
+-- a PUT lies within the text
+inside : (c : tie.After-enum-told Inv-loop μ-loop) →
+    c .before .before .before .before .loop .at + 3 ≤ length (now (c .before .before .before .before .before .before .args .text))
+inside c = put-sound _ _ _ (sym (c .before .before .schedule-command-at .ensures) ∙ c .enum-told .given .1) .2
+
+loop-holds : tie.Need-loop-holds Inv-loop μ-loop
+unfolding parseSchedule
+loop-holds c = ([], length (now (c .before .args .text)), omega arith, refl)
+
+schedule-command-at-requires : tie.Need-schedule-command-at-requires Inv-loop μ-loop
+schedule-command-at-requires c κs = search needs
+
+enum-told : tie.Need-enum-told Inv-loop μ-loop
+enum-told c = search needs
+
+end-at-requires : tie.Need-end-at-requires Inv-loop μ-loop
+end-at-requires c κs = search needs
+
+returns : tie.Need-returns Inv-loop μ-loop
+returns c =
+    let l = c .before .before .before .before .loop in
+    let i = l .inv in
+    let text = now (c .before .before .before .before .before .before .args .text) in
+    subst (EndedAt _) (sym (c .end-at .ensures))
+    (subst (λ x. EndedAt x (endedOf text (l .at) (c .before .before .schedule-command-at .result))) (sym (i .3 ∙ ap (λ m. parsePuts m text (l .at) (i .0)) (one-less (i .1) (omega arith))))
+    (puts-stop text (l .at) (i .1 - 1) (i .0) _ (c .before .match .keys2) (sym (c .before .before .schedule-command-at .ensures))))
+
+in-schedule-requires : tie.Need-in-schedule-requires Inv-loop μ-loop
+in-schedule-requires c κs = search needs
+
+add-at : tie.Need-add-at Inv-loop μ-loop
+add-at c = omega (arith, inside (c .before))
+
+loop-less : tie.Need-loop-less Inv-loop μ-loop
+loop-less c = omega arith
+
+loop-again : tie.Need-loop-again Inv-loop μ-loop
+loop-again c =
+    let l = c .before .before .before .before .before .loop in
+    let i = l .inv in
+    let text = now (c .before .before .before .before .before .before .before .args .text) in
+    rw (c .in-schedule .ensures) (
+      _,
+      i .1 - 1,
+      omega arith,
+      i .3 ∙ ap (λ m. parsePuts m text (l .at) (i .0)) (one-less (i .1) (omega arith)) ∙
+          puts-more (i .1 - 1) text (l .at) (i .0) _ _
+          (sym (c .before .before .before .schedule-command-at .ensures) ∙ c .before .enum-told .given .1),
+    )
+
+refuse-end-requires : tie.Need-refuse-end-requires Inv-loop μ-loop
+refuse-end-requires c κs = search needs
+
+returns-2 : tie.Need-returns-2 Inv-loop μ-loop
+unfolding EndedAt
+returns-2 c =
+    let l = c .before .before .loop in
+    let i = l .inv in
+    rw (i .3 ∙ puts-past (i .1) _ (l .at) (i .0) (c .before .loop-test .left)) (c .refuse-end .ensures)
+
+pub read-schedule-spec : {M : Type 1} → statement M
+read-schedule-spec =
+    tie.close
+    (tie.spec
+    Inv-loop
+    μ-loop
+    loop-holds
+    schedule-command-at-requires
+    enum-told
+    end-at-requires
+    returns
+    in-schedule-requires
+    add-at
+    loop-less
+    loop-again
+    refuse-end-requires
+    returns-2)

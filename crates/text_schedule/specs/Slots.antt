@@ -1,0 +1,82 @@
+-- The tables of a schedule, while its PUTs are gone through and after.
+use Prim.Native.Nat.{ℕ, _+_, _≤_, _<_}
+use mathlib.Core.Bool.{Bool, true, false, cond, not}
+use mathlib.Core.List.{List, [], _∷_, map}
+use mathlib.Core.Path.{_≡_}
+use lib.Dec.{leb, eqb}
+use lib.ListN.{length, getD, set}
+use Rattle.model.specs.Rules.Outcome.{Outcome, accepted, refused, fault, Parsed}
+use Rattle.model.specs.Rules.Program.{Program, count, signalAt}
+use Rattle.model.specs.Rules.Reads.{place}
+use Rattle.model.specs.Rules.Schedule.{Schedule, Put, isPut, putPhase, putFaults, placed}
+use Rattle.model.specs.Rules.Search.{allBelow}
+use Rattle.model.specs.declared.Fault.{Fault}
+use Rattle.model.specs.declared.ScheduleCommand.{ScheduleCommand}
+use Rattle.model.specs.declared.ScheduleCommand.the-variants as ScheduleCommand
+use Rattle.text_program.specs.Tables.{PeriodsOf, SlotsOf}
+use Rattle.text_program.specs.declared.Judged.{Judged}
+use Rattle.text_program.specs.declared.Judged.the-variants as Judged
+use Rattle.text_schedule.specs.declared.Ended.{Ended}
+use Rattle.text_schedule.specs.declared.Ended.the-variants as Ended
+use Rattle.text_schedule.specs.declared.Placing.{Placing}
+use Rattle.text_schedule.specs.declared.Slots.{Slots}
+
+-- The answer at a command that is no PUT.
+unfoldable pub endedOf : List ℕ → ℕ → ScheduleCommand → Ended
+endedOf text at ScheduleCommand.EndsEarly = Ended.Refused (fault 11 (length text))
+endedOf text at ScheduleCommand.Unknown = Ended.Refused (fault 11 at)
+endedOf text at ScheduleCommand.End = cond (leb (length text) (at + 1)) (Ended.At at) (Ended.Refused (fault 11 (at + 1)))
+endedOf text at (ScheduleCommand.Put signal phase) = Ended.At at
+
+-- The answer is the definition's: where END stands, or the refusal.
+unfoldable pub EndedAt : Outcome (Parsed (List Put)) → Ended → Type 0
+EndedAt (accepted o) r = r ≡ Ended.At (o .next)
+EndedAt (refused f) r = r ≡ Ended.Refused f
+
+-- Every signal has a rank.
+unfoldable pub allRanked : List ℕ → ℕ → Bool
+allRanked ranks n = allBelow n (λ x. not (eqb (getD ranks x 0) 64))
+
+abbrev pub signalsOf : List Put → List ℕ
+signalsOf puts = map (λ q. q .signal) puts
+
+-- What the tables say after some PUTs.
+pub record SlotsAfter (done : List Put) (t : Slots) : Type 0 where
+  pub puts-are : length done ≡ t .puts
+  pub order-is : (j : ℕ) → j < length done → getD (t .order) j 0 ≡ getD (signalsOf done) j 0
+  pub unput : (x : ℕ) → x < 64 → isPut done x ≡ false → getD (t .ranks) x 0 ≡ 64
+  pub ranks-are : (x : ℕ) → x < 64 → isPut done x ≡ true → getD (t .ranks) x 0 ≡ place (signalsOf done) x
+  pub phases-are : (x : ℕ) → x < 64 → isPut done x ≡ true → getD (t .phases) x 0 ≡ putPhase done x
+  -- how many entries they have space for
+  pub space : (length (t .order) ≡ 64) × (length (t .phases) ≡ 64) × (length (t .ranks) ≡ 64)
+
+-- The tables with one PUT more.
+abbrev pub putAdded : Slots → ℕ → ℕ → Slots
+putAdded t signal phase =
+    record {
+      puts = t .puts + 1;
+      order = set (t .order) (t .puts) signal;
+      phases = set (t .phases) signal phase;
+      ranks = set (t .ranks) signal (t .puts);
+    }
+
+-- The judgement of a PUT that has these faults.
+abbrev pub judgedBy : List Fault → Judged
+judgedBy [] = Judged.Fine
+judgedBy (f ∷ fs) = Judged.Refused f
+
+-- The judgement of a PUT after those of the tables.
+pub record PutJudged (t : Slots) (periods : List ℕ) (n : ℕ) (q : Put) (r : Judged) : Type 0 where
+  pub judged : (p : Program) (done : List Put) → count p ≡ n → PeriodsOf p periods → SlotsAfter done t → length done < 64 →
+      r ≡ judgedBy (putFaults p done q)
+  pub declared : r ≡ Judged.Fine → q .signal < n
+
+-- The answer is the definition's refusal, or the tables are those of the schedule placed.
+unfoldable pub ScheduledAs : Program → Outcome Schedule → Placing → Type 0
+ScheduledAs p (accepted s) r =
+    (r .judged ≡ Judged.Fine) × (r .slots .puts ≡ length (s .order)) ×
+    SlotsOf p s (r .slots .order) (r .slots .phases) (r .slots .ranks)
+ScheduledAs p (refused f) r = r .judged ≡ Judged.Refused f
+
+abbrev pub Scheduled : Program → Parsed (List Put) → Placing → Type 0
+Scheduled p o r = ScheduledAs p (placed p o) r

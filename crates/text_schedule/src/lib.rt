@@ -1,0 +1,198 @@
+// Schedule texts to tables: the signals in PUT order, and by signal its phase and its place in that order.
+use model::Fault;
+use model::ScheduleCommand;
+use text_program::Judged;
+ghost use mathlib.Core.Path.{_≡_};
+ghost use mathlib.Core.List.{List, []};
+ghost use Prim.Native.Nat.{_≤_, _<_};
+ghost use lib.ListN.{length};
+ghost use Rattle.model.specs.Rules.Outcome.{Parsed, accepted};
+ghost use Rattle.model.specs.Rules.Program.{Program, count};
+ghost use Rattle.model.specs.Rules.Schedule.{Put, parseSchedule, scheduleCommandAt};
+ghost use Rattle.text_program.specs.Tables.{PeriodsOf};
+ghost use Rattle.text_schedule.specs.Slots.{endedOf, EndedAt, allRanked, SlotsAfter, putAdded, PutJudged, Scheduled};
+
+// Where a schedule text ends, or the refusal.
+pub enum Ended {
+    At(usize),
+    Refused(Fault),
+}
+
+fn refuse_end(place: usize) -> Ended
+    ensures { λ r. ⌜ r ≡ Ended.Refused (record { number = 11; place = place }) ⌝ }
+{
+    Ended::Refused(Fault {
+        number: 11,
+        place: place,
+    })
+}
+
+// The answer at a command that is no PUT. END is the last byte.
+fn end_at(text: &[u8], at: usize, command: ScheduleCommand) -> Ended
+    requires { ⌜ at < length (now text) ⌝ }
+    ensures { λ r. ⌜ r ≡ endedOf (now (text .entry)) at command ⌝ }
+{
+    match command {
+        ScheduleCommand::EndsEarly => refuse_end(text.len()),
+        ScheduleCommand::Unknown => refuse_end(at),
+        ScheduleCommand::End => {
+            let next = at + width::in_schedule(0x00);
+            if next < text.len() {
+                return refuse_end(next);
+            }
+            Ended::At(at)
+        }
+        ScheduleCommand::Put(_, _) => Ended::At(at),
+    }
+}
+
+// Reads a schedule text to its END (11).
+pub fn read_schedule(text: &[u8]) -> Ended
+    ensures { λ r. ⌜ EndedAt (parseSchedule (now (text .entry))) r ⌝ }
+{
+    let mut at: usize = 0;
+    while at < text.len() {
+        let command = text_command::schedule_command_at(text, at);
+        let ScheduleCommand::Put(_, _) = command else {
+            return end_at(text, at, command);
+        };
+        at = at + width::in_schedule(0x40);
+    }
+    refuse_end(text.len())
+}
+
+// The tables of a schedule. The rank of a signal is its place in PUT order, and 64 while it is not put.
+pub struct Slots {
+    pub puts: usize,
+    pub order: [u8; 64],
+    pub phases: [u8; 64],
+    pub ranks: [u8; 64],
+}
+
+impl Slots {
+    pub fn new() -> Self
+        ensures { λ r. ⌜ SlotsAfter [] r ⌝ }
+    {
+        Self {
+            puts: 0,
+            order: [0; 64],
+            phases: [0; 64],
+            ranks: [64; 64],
+        }
+    }
+
+    // The tables with one PUT more.
+    fn with_put(self, signal: u8, phase: u8) -> Self
+        requires { ⌜ (self .puts < 64) × (signal < 64) ⌝ }
+        ensures { λ r. ⌜ r ≡ putAdded self signal phase ⌝ }
+    {
+        let rank = self.puts;
+        let x = signal as usize;
+        let mut order = self.order;
+        order[rank] = signal;
+        let mut phases = self.phases;
+        phases[x] = phase;
+        let mut ranks = self.ranks;
+        ranks[x] = rank as u8;
+        Self {
+            puts: rank + 1,
+            order: order,
+            phases: phases,
+            ranks: ranks,
+        }
+    }
+}
+
+fn refuse(number: u8, place: usize) -> Judged
+    ensures { λ r. ⌜ r ≡ Judged.Refused (record { number = number; place = place }) ⌝ }
+{
+    Judged::Refused(Fault {
+        number: number,
+        place: place,
+    })
+}
+
+// One PUT, after those that have a rank: 12 and 13.
+fn judge_put(
+    slots: Slots,
+    periods: &[u8; 64],
+    signals: usize,
+    signal: u8,
+    phase: u8,
+    at: usize,
+) -> Judged
+    requires { ⌜ signals ≤ 64 ⌝ }
+    ensures { λ r. ⌜ PutJudged slots (now (periods .entry)) signals (record { place = at; signal = signal; phase = phase }) r ⌝ }
+{
+    let x = signal as usize;
+    if signals <= x {
+        return refuse(12, at);
+    }
+    let ranks = slots.ranks;
+    if ranks[x] != 64 {
+        return refuse(12, at);
+    }
+    if periods[x] <= phase {
+        return refuse(13, at);
+    }
+    Judged::Fine
+}
+
+// Whether every signal has a rank.
+fn all_put(ranks: [u8; 64], signals: usize) -> bool
+    requires { ⌜ signals ≤ 64 ⌝ }
+    ensures { λ r. ⌜ r ≡ allRanked ranks signals ⌝ }
+{
+    let mut x: usize = 0;
+    while x < signals {
+        if ranks[x] == 64 {
+            return false;
+        }
+        x = x + 1;
+    }
+    true
+}
+
+// What going through the PUTs finds. The tables are of use where it is fine.
+pub struct Placing {
+    pub judged: Judged,
+    pub slots: Slots,
+}
+
+// Goes through the PUTs of a schedule text that ends at `end`, for signals of these periods: 12 and 13, missing last.
+pub fn place_signals(text: &[u8], end: usize, signals: usize, periods: &[u8; 64]) -> Placing
+    requires { ⌜ (signals ≤ 64) × (end ≤ 192) ⌝ }
+    ensures { λ r. ⌜ ((p : Program) (o : Parsed (List Put)) → count p ≡ signals → PeriodsOf p (now (periods .entry)) → parseSchedule (now (text .entry)) ≡ accepted o → o .next ≡ end → Scheduled p o r) ⌝ }
+{
+    let mut slots = Slots::new();
+    let mut at: usize = 0;
+    while at < end {
+        let command = text_command::schedule_command_at(text, at);
+        let ScheduleCommand::Put(signal, phase) = command else {
+            return Placing {
+                judged: Judged::Fine,
+                slots: slots,
+            };
+        };
+        let judged = judge_put(slots, periods, signals, signal, phase, at);
+        let Judged::Fine = judged else {
+            return Placing {
+                judged: judged,
+                slots: slots,
+            };
+        };
+        slots = slots.with_put(signal, phase);
+        at = at + width::in_schedule(0x40);
+    }
+    let ranks = slots.ranks;
+    if all_put(ranks, signals) {
+        return Placing {
+            judged: Judged::Fine,
+            slots: slots,
+        };
+    }
+    Placing {
+        judged: refuse(12, end),
+        slots: slots,
+    }
+}

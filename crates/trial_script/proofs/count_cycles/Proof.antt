@@ -1,0 +1,94 @@
+-- `trial_script::count_cycles` meets its contract. Assumes nothing.
+use Rattle.trial_script.proofs.Walk.{inside, actions-past, actions-here, cycles-none, cycles-more}
+use Rattle.trial_script.specs.Steps.{widthOf, runsOf}
+use Rattle.model.specs.Rules.Script.{scriptCommandAt, scriptAt, cyclesOf}
+use lib.ListN.{length}
+use Prim.Native.Nat.{ℕ, _+_, _-_, _*_, _≤_, _<_}
+use mathlib.Core.List.{List}
+use mathlib.Core.Path.{_≡_, refl, sym, ap, _∙_}
+use borrow.Author.Needs.{needs}
+use native.Mathlib.Omega.{arith}
+use Rattle.trial_script.proofs.count_cycles.Statement.{statement}
+use Rattle.trial_script.proofs.count_cycles.Tie as tie
+
+abbrev Inv-loop : tie.InvT-loop
+Inv-loop text at₀ total₀ at total =
+    (total + cyclesOf (scriptAt text at .actions) ≡ cyclesOf (scriptAt text 0 .actions)) × (total ≤ 255 * at) × (at ≤ length text)
+
+abbrev μ-loop : tie.MeasureT-loop
+μ-loop text at₀ total₀ at total = length text - at
+
+abbrev turn : tie.After-width-of Inv-loop μ-loop → tie.At-loop Inv-loop μ-loop
+turn w = w .before .before .before
+
+abbrev text : tie.After-width-of Inv-loop μ-loop → List ℕ
+text w = turn w .before .before .args .text .now
+
+width : (w : tie.After-width-of Inv-loop μ-loop) → w .width-of .result ≡ widthOf (scriptCommandAt (text w) (turn w .loop .at))
+width w = w .width-of .ensures ∙ ap widthOf (w .before .script-command-at .ensures)
+
+within : (w : tie.After-width-of Inv-loop μ-loop) → turn w .loop .at + w .width-of .result ≤ length (text w)
+within w = inside (text w) (turn w .loop .at) (w .width-of .result) (width w) (w .before .before .loop-test .taken)
+
+loop-holds : tie.Need-loop-holds Inv-loop μ-loop
+loop-holds c = (omega arith, omega arith, omega arith)
+
+script-command-at-requires : tie.Need-script-command-at-requires Inv-loop μ-loop
+script-command-at-requires c κs = search needs
+
+width-of-requires : tie.Need-width-of-requires Inv-loop μ-loop
+width-of-requires c κs = search needs
+
+returns : tie.Need-returns Inv-loop μ-loop
+returns c = let w = c .before in
+    let l = turn w in
+    let none = cycles-none _ (actions-here (text w) (l .loop .at) (w .width-of .result) (width w) (c .if1 .taken)) in
+    (omega (arith, none, l .loop .inv .0), omega (arith, l .loop .inv .1, l .before .before .pre))
+
+runs-of-requires : tie.Need-runs-of-requires Inv-loop μ-loop
+runs-of-requires c κs = search needs
+
+wide-requires : tie.Need-wide-requires Inv-loop μ-loop
+wide-requires c κs = search needs
+
+add-total : tie.Need-add-total Inv-loop μ-loop
+add-total c =
+    let w = c .before .before .before in
+    omega (arith, turn w .loop .inv .1, turn w .before .before .pre, c .wide .ensures .1)
+
+add-at : tie.Need-add-at Inv-loop μ-loop
+add-at c = let w = c .before .before .before in omega (arith, within w)
+
+loop-less : tie.Need-loop-less Inv-loop μ-loop
+loop-less c = let w = c .before .before .before in omega (arith, within w)
+
+loop-again : tie.Need-loop-again Inv-loop μ-loop
+loop-again c = let w = c .before .before .before in
+    let l = turn w in
+    let runs : c .wide .result ≡ runsOf (scriptCommandAt (text w) (l .loop .at)) =
+    c .wide .ensures .0 ∙ c .before .runs-of .ensures ∙ ap runsOf (w .before .script-command-at .ensures) in
+    let more = cycles-more (text w) (l .loop .at) (w .width-of .result) (width w) (omega arith) in
+    (omega (arith, runs, more, l .loop .inv .0), omega (arith, c .wide .ensures .1, l .loop .inv .1), within w)
+
+returns-2 : tie.Need-returns-2 Inv-loop μ-loop
+returns-2 c = let l = c .before in
+    let none = cycles-none _ (actions-past (l .before .before .args .text .now) (l .loop .at) (omega arith)) in
+    (omega (arith, none, l .loop .inv .0), omega (arith, l .loop .inv .1, l .before .before .pre))
+
+pub count-cycles-spec : {M : Type 1} → statement M
+count-cycles-spec =
+    tie.close
+    (tie.spec
+    Inv-loop
+    μ-loop
+    loop-holds
+    script-command-at-requires
+    width-of-requires
+    returns
+    runs-of-requires
+    wide-requires
+    add-total
+    add-at
+    loop-less
+    loop-again
+    returns-2)

@@ -1,0 +1,91 @@
+-- `trial_script::end_at` meets its contract. Assumes nothing.
+use Rattle.trial_script.specs.Steps.{endingAt}
+use Rattle.model.specs.Rules.Outcome.{provided}
+use borrow.Author.Tests.{le-leb, lt-leb}
+use lib.ListN.{length}
+use Prim.Native.Nat.{_+_}
+use native.Mathlib.Omega.{arith}
+use borrow.Author.Needs.{needs}
+use Rattle.trial_script.proofs.end_at.Statement.{statement}
+use Rattle.trial_script.proofs.end_at.Tie as tie
+
+enum-told : tie.Need-enum-told
+enum-told c = search needs
+
+refused-requires : tie.Need-refused-requires
+refused-requires c κs = search needs
+
+enum-told-2 : tie.Need-enum-told-2
+enum-told-2 c = search needs
+
+refused-requires-2 : tie.Need-refused-requires-2
+refused-requires-2 c κs = search needs
+
+enum-told-3 : tie.Need-enum-told-3
+enum-told-3 c = search needs
+
+in-script-requires : tie.Need-in-script-requires
+in-script-requires c κs = search needs
+
+add-next : tie.Need-add-next
+add-next c = search needs
+
+refused-requires-3 : tie.Need-refused-requires-3
+refused-requires-3 c κs = search needs
+
+returns : tie.Need-returns
+unfolding endingAt provided
+returns c =
+    let t = c .before .before .before in
+    let a = t .before .before .before .args in
+    rw (t .enum-told3 .given .1, lt-leb (length (a .text .now)) (a .at + 1) (omega arith)) (rw (c .before .before .in-script .ensures) at (c .refused3 .ensures))
+
+enum-told-4 : tie.Need-enum-told-4
+enum-told-4 c = search needs
+
+enum-told-5 : tie.Need-enum-told-5
+enum-told-5 c = search needs
+
+returns-2 : tie.Need-returns-2
+unfolding endingAt
+returns-2 c = rw (c .before .enum-told .given .1) (c .refused .ensures)
+
+returns-3 : tie.Need-returns-3
+unfolding endingAt
+returns-3 c = rw (c .before .enum-told2 .given .1) (c .refused2 .ensures)
+
+returns-4 : tie.Need-returns-4
+unfolding endingAt provided
+returns-4 c =
+    let t = c .before .before in
+    let a = t .before .before .before .args in
+    rw (t .enum-told3 .given .1, le-leb (length (a .text .now)) (a .at + 1) (omega arith))
+
+returns-5 : tie.Need-returns-5
+unfolding endingAt
+returns-5 c = rw (c .enum-told4 .given .1)
+
+returns-6 : tie.Need-returns-6
+unfolding endingAt
+returns-6 c = rw (c .enum-told5 .given .1)
+
+pub end-at-spec : {M : Type 1} → statement M
+end-at-spec =
+    tie.close
+    (tie.spec
+    enum-told
+    refused-requires
+    enum-told-2
+    refused-requires-2
+    enum-told-3
+    in-script-requires
+    add-next
+    refused-requires-3
+    returns
+    enum-told-4
+    enum-told-5
+    returns-2
+    returns-3
+    returns-4
+    returns-5
+    returns-6)

@@ -1,0 +1,174 @@
+-- `trial_step::next_block` meets its contract. Assumes nothing.
+use Prim.Native.Nat.{ℕ, _+_, _-_, _≤_, _<_}
+use mathlib.Core.List.{List, _++_}
+use mathlib.Core.Path.{_≡_, refl, sym, ap, _∙_}
+use native.Mathlib.Omega.{arith}
+use borrow.Author.Needs.{needs}
+use borrow.Rule.Slice.PartMut.{putMid, postOf, same-len-mid, take-put}
+use lib.IntN.{ℤ}
+use lib.ListN.{length, take, length-take, length-drop}
+use Rattle.trial_step.specs.Steps.{linesLeft, Underway, Lined, Stepped, Filled}
+use Rattle.trial_step.proofs.Left.{is-lined, is-ended}
+use Rattle.trial_step.proofs.Filling.{Filling, filling-none, filling-all, filling-more}
+use Rattle.trial_step.proofs.next_block.Statement.{statement}
+use Rattle.trial_step.proofs.next_block.Tie as tie
+
+abbrev Inv-loop : tie.InvT-loop
+Inv-loop image text samples₀ state₀ block₀ reached₀ size₀ samples state block reached size =
+    Filling image text reached₀ samples₀ state₀ block₀ samples state block reached size
+
+abbrev μ-loop : tie.MeasureT-loop
+μ-loop image text samples₀ state₀ block₀ reached₀ size₀ samples state block reached size =
+    length (linesLeft image text reached samples state)
+
+abbrev turn : tie.After-next-line Inv-loop μ-loop → tie.At-loop Inv-loop μ-loop
+turn n = n .before .before .before .before .before
+
+-- the block as the step has left it is as long as before
+block-same : (b : tie.After-block Inv-loop μ-loop) → let n = b .before .before .before in
+    length (putMid (turn n .loop .size) (length (turn n .loop .block) - turn n .loop .size) (turn n .loop .block)
+    (n .next-line .last .1 .1 .1 .1 .1 .0)) ≡
+    length (turn n .loop .block)
+block-same b =
+    let n = b .before .before .before in
+    let l = turn n .loop in
+    same-len-mid (l .size) (length (l .block) - l .size) (l .block) (n .next-line .last .1 .1 .1 .1 .1 .0)
+    (n .next-line .kept .1 .1 .1 .1 .1 .0)
+
+loop-holds : tie.Need-loop-holds Inv-loop μ-loop
+loop-holds c = let s = c .before .before .before in filling-none _ (s .pre .0)
+
+sub-loop : tie.Need-sub-loop Inv-loop μ-loop
+sub-loop c = c .loop .inv .fits
+
+sub-next-line : tie.Need-sub-next-line Inv-loop μ-loop
+sub-next-line c = c .before .before .before .loop .inv .fits
+
+part-next-line-start : tie.Need-part-next-line-start Inv-loop μ-loop
+part-next-line-start c = search needs
+
+part-next-line-end : tie.Need-part-next-line-end Inv-loop μ-loop
+part-next-line-end c = search needs
+
+next-line-requires : tie.Need-next-line-requires Inv-loop μ-loop
+next-line-requires c κs =
+    let l = c .before .before .before .before in
+    (l .loop .inv .underway, simp (length-take, length-drop) (omega (arith, c .before .before .before .loop-test .taken)))
+
+enum-known-next : tie.Need-enum-known-next Inv-loop μ-loop
+enum-known-next c = search needs
+
+enum-told : tie.Need-enum-told Inv-loop μ-loop
+enum-told c = search needs
+
+same-length : tie.Need-same-length Inv-loop μ-loop
+same-length c =
+    let n = c .before .before .before .before .before .before in
+    n .next-line .kept .1 .1 .1 .0 ∙ turn n .loop .inv .samples-kept
+
+same-length-2 : tie.Need-same-length-2 Inv-loop μ-loop
+same-length-2 c =
+    let n = c .before .before .before .before .before .before in
+    n .next-line .kept .1 .1 .1 .1 .0 ∙ turn n .loop .inv .state-kept
+
+same-length-3 : tie.Need-same-length-3 Inv-loop μ-loop
+same-length-3 c = let b = c .before .before .before in block-same b ∙ turn (b .before .before .before) .loop .inv .block-kept
+
+returns : tie.Need-returns Inv-loop μ-loop
+returns c =
+    let b = c .before .before .before in
+    let n = b .before .before .before in
+    let l = turn n in
+    let s = l .before .before .before .before in
+    let f = l .loop .inv in
+    let none = is-ended (s .args .image .now) (s .args .text .now) (l .loop .reached) (l .loop .samples) (l .loop .state) _ _ _
+    (c .enum-told .given .1) (n .next-line .ensures) in
+    record {
+      fits = omega (arith, f .fits, block-same b);
+      more = λ e. let z : _≡_ {A = ℕ} 0 1 = cc in absurd (omega arith);
+      underway = λ e. let z : _≡_ {A = ℕ} 0 1 = cc in absurd (omega arith);
+      fewer = λ e. let z : _≡_ {A = ℕ} 0 1 = cc in absurd (omega arith);
+      last =
+          λ e. filling-all f none ∙
+          sym (take-put (l .loop .size) (length (l .loop .block) - l .loop .size) (l .loop .block)
+          (n .next-line .last .1 .1 .1 .1 .1 .0) (f .fits));
+    }
+
+-- the line of this turn
+abbrev at-step : tie.After-known-told Inv-loop μ-loop → tie.After-next-line Inv-loop μ-loop
+at-step c = c .before .before .before .before .before .before .before
+
+this : (c : tie.After-known-told Inv-loop μ-loop) →
+    let n = at-step c in
+    let l = turn n in
+    let a = l .before .before .before .before .args in
+    let line = n .next-line .last .1 .1 .1 in
+    Lined (a .image .now) (a .text .now) (l .loop .reached) (l .loop .samples) (l .loop .state) (line .0) (line .1 .0)
+    (line .1 .1 .0)
+    (c .before .next .given .0 .0) (c .before .next .given .0 .1 .0)
+this c =
+    let o = c .before .next .given in is-lined (o .0 .0) (o .0 .1 .0) (o .1) (at-step c .next-line .ensures)
+
+add-size : tie.Need-add-size Inv-loop μ-loop
+add-size c =
+    let l = turn (at-step c) in
+    omega (arith, l .loop .inv .fits, this c .fits, at-step c .next-line .kept .1 .1 .1 .1 .1 .0)
+
+loop-less : tie.Need-loop-less Inv-loop μ-loop
+loop-less c = omega (arith, ap length (this c .first))
+
+loop-again : tie.Need-loop-again Inv-loop μ-loop
+loop-again c =
+    let n = at-step c in
+    let l = turn n in
+    filling-more (postOf (l .loop .size) (length (l .loop .block) - l .loop .size) (l .loop .block)) (l .loop .inv) (this c)
+    (n .next-line .kept .1 .1 .1 .0) (n .next-line .kept .1 .1 .1 .1 .0) (block-same (c .before .before .before .before))
+
+same-length-4 : tie.Need-same-length-4 Inv-loop μ-loop
+same-length-4 c = c .before .loop .inv .samples-kept
+
+same-length-5 : tie.Need-same-length-5 Inv-loop μ-loop
+same-length-5 c = c .before .loop .inv .state-kept
+
+same-length-6 : tie.Need-same-length-6 Inv-loop μ-loop
+same-length-6 c = c .before .loop .inv .block-kept
+
+returns-2 : tie.Need-returns-2 Inv-loop μ-loop
+returns-2 c =
+    let l = c .before in
+    let s = l .before .before .before .before in
+    let f = l .loop .inv in
+    let some : 0 < l .loop .size = omega (arith, c .loop-test .left, s .pre .1, f .block-kept) in
+    record {
+      fits = f .fits;
+      more = λ e. f .bytes;
+      underway = λ e. f .underway;
+      fewer = λ e. f .fewer some;
+      last = λ e. let z : _≡_ {A = ℕ} 0 1 = cc in absurd (omega arith);
+    }
+
+pub next-block-spec : {M : Type 1} → statement M
+next-block-spec =
+    tie.close
+    (tie.spec
+    Inv-loop
+    μ-loop
+    loop-holds
+    sub-loop
+    sub-next-line
+    part-next-line-start
+    part-next-line-end
+    next-line-requires
+    enum-known-next
+    enum-told
+    same-length
+    same-length-2
+    same-length-3
+    returns
+    add-size
+    loop-less
+    loop-again
+    same-length-4
+    same-length-5
+    same-length-6
+    returns-2)

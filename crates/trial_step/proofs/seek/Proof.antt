@@ -1,0 +1,137 @@
+-- `trial_step::seek` meets its contract. Assumes nothing.
+use Rattle.trial_step.proofs.Left.{seek-step, left-some, left-none}
+use Rattle.trial_step.specs.Steps.{callsLeft}
+use Rattle.trial_script.proofs.Walk.{inside, actions-past, actions-here, calls-none}
+use Rattle.trial_script.specs.Steps.{widthOf, runsOf, altered}
+use Rattle.model.specs.Rules.Script.{scriptCommandAt, scriptAt, callsFrom}
+use lib.ListN.{length}
+use lib.IntN.{ℤ}
+use Prim.Native.Nat.{ℕ, _+_, _-_, _≤_, _<_}
+use mathlib.Core.List.{List}
+use mathlib.Core.Path.{_≡_, refl, sym, ap, _∙_}
+use borrow.Author.Needs.{needs}
+use native.Mathlib.Omega.{arith}
+use Rattle.trial_step.proofs.seek.Statement.{statement}
+use Rattle.trial_step.proofs.seek.Tie as tie
+
+abbrev Inv-loop : tie.InvT-loop
+Inv-loop text from samples₀ at₀ samples at =
+    (callsFrom samples₀ (scriptAt text from .actions) ≡ callsFrom samples (scriptAt text at .actions)) ×
+    (length samples ≡ length samples₀)
+
+abbrev μ-loop : tie.MeasureT-loop
+μ-loop text from samples₀ at₀ samples at = length text - at
+
+abbrev turn : tie.After-width-of Inv-loop μ-loop → tie.At-loop Inv-loop μ-loop
+turn w = w .before .before .before
+
+abbrev text : tie.After-width-of Inv-loop μ-loop → List ℕ
+text w = turn w .before .before .args .text .now
+
+width : (w : tie.After-width-of Inv-loop μ-loop) → w .width-of .result ≡ widthOf (scriptCommandAt (text w) (turn w .loop .at))
+width w = w .width-of .ensures ∙ ap widthOf (w .before .script-command-at .ensures)
+
+within : (w : tie.After-width-of Inv-loop μ-loop) → turn w .loop .at + w .width-of .result ≤ length (text w)
+within w = inside (text w) (turn w .loop .at) (w .width-of .result) (width w) (w .before .before .loop-test .taken)
+
+abbrev at-width : tie.After-runs-of Inv-loop μ-loop → tie.After-width-of Inv-loop μ-loop
+at-width r = r .before .before .before .before .before
+
+-- the command of this turn
+here : (r : tie.After-runs-of Inv-loop μ-loop) → let w = at-width r in let l = turn w in
+    callsFrom (l .loop .samples) (scriptAt (text w) (l .loop .at) .actions) ≡
+    callsLeft (text w) (l .loop .at + w .width-of .result) (r .runs-of .result) (r .before .before .alter .last .0)
+here r =
+    let w = at-width r in
+    let l = turn w in
+    let is = w .before .script-command-at .ensures in
+    seek-step (text w) (l .loop .at) (w .width-of .result) (r .runs-of .result) (l .loop .samples)
+    (r .before .before .alter .last .0) (width w)
+    (omega (arith, r .before .before .before .before .if1 .left))
+    (r .before .before .alter .ensures ∙ ap (altered (l .loop .samples)) is)
+    (r .runs-of .ensures ∙ ap runsOf is)
+
+loop-holds : tie.Need-loop-holds Inv-loop μ-loop
+loop-holds c = (refl, refl)
+
+script-command-at-requires : tie.Need-script-command-at-requires Inv-loop μ-loop
+script-command-at-requires c κs = search needs
+
+width-of-requires : tie.Need-width-of-requires Inv-loop μ-loop
+width-of-requires c κs = search needs
+
+same-length : tie.Need-same-length Inv-loop μ-loop
+same-length c = turn (c .before) .loop .inv .1
+
+returns : tie.Need-returns Inv-loop μ-loop
+returns c = let w = c .before in
+    let l = turn w in
+    let none = actions-here (text w) (l .loop .at) (w .width-of .result) (width w) (c .if1 .taken) in
+    l .loop .inv .0 ∙ calls-none (l .loop .samples) _ none
+
+alter-requires : tie.Need-alter-requires Inv-loop μ-loop
+alter-requires c κs = search needs
+
+add-at : tie.Need-add-at Inv-loop μ-loop
+add-at c = let w = c .before .before .before .before in omega (arith, within w)
+
+runs-of-requires : tie.Need-runs-of-requires Inv-loop μ-loop
+runs-of-requires c κs = search needs
+
+sub-t13 : tie.Need-sub-t13 Inv-loop μ-loop
+sub-t13 c = search needs
+
+same-length-2 : tie.Need-same-length-2 Inv-loop μ-loop
+same-length-2 c = c .before .before .before .alter .kept .0 ∙ turn (at-width (c .before)) .loop .inv .1
+
+returns-2 : tie.Need-returns-2 Inv-loop μ-loop
+returns-2 c = let r = c .before in
+    let w = at-width r in
+    let l = turn w in
+    l .loop .inv .0 ∙ here r ∙
+    left-some (text w) (l .loop .at + w .width-of .result) (r .before .before .alter .last .0) (r .runs-of .result)
+    (c .if2 .taken)
+
+loop-less : tie.Need-loop-less Inv-loop μ-loop
+loop-less c = let w = at-width (c .before) in omega (arith, within w, c .before .before .before .before .before .if1 .left)
+
+loop-again : tie.Need-loop-again Inv-loop μ-loop
+loop-again c = let r = c .before in
+    let w = at-width r in
+    let l = turn w in
+    let none : r .runs-of .result ≡ 0 = omega (arith, c .if2 .left) in (
+      l .loop .inv .0 ∙ here r ∙
+          ap (λ (n : ℕ). callsLeft (text w) (l .loop .at + w .width-of .result) n (r .before .before .alter .last .0)) none ∙
+          left-none (text w) (l .loop .at + w .width-of .result) (r .before .before .alter .last .0),
+      r .before .before .alter .kept .0 ∙ l .loop .inv .1,
+    )
+
+same-length-3 : tie.Need-same-length-3 Inv-loop μ-loop
+same-length-3 c = c .before .loop .inv .1
+
+returns-3 : tie.Need-returns-3 Inv-loop μ-loop
+returns-3 c = let l = c .before in
+    let none = actions-past (l .before .before .args .text .now) (l .loop .at) (omega arith) in
+    l .loop .inv .0 ∙ calls-none (l .loop .samples) _ none
+
+pub seek-spec : {M : Type 1} → statement M
+seek-spec =
+    tie.close
+    (tie.spec
+    Inv-loop
+    μ-loop
+    loop-holds
+    script-command-at-requires
+    width-of-requires
+    same-length
+    returns
+    alter-requires
+    add-at
+    runs-of-requires
+    sub-t13
+    same-length-2
+    returns-2
+    loop-less
+    loop-again
+    same-length-3
+    returns-3)
