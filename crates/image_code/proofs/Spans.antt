@@ -61,7 +61,7 @@ module _ {text : List ℕ} {at : ℕ} where
   high (Written.plain kind e h b) o = omega (arith, b, read-high kind)
   high (Written.sampled kind e h b r i) o = omega (arith, b, read-high kind)
   high (Written.binary operator h b) o = omega (arith, b, binary-high operator)
-  high (Written.negate h b) o = omega (arith, b)
+  high (Written.unary operator h b) o = omega (arith, b)
   high (Written.choose h b) o = omega (arith, b)
 
 -- So the operator at the start of an expression is its command.

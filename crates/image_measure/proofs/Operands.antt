@@ -9,7 +9,7 @@ use Rattle.model.specs.Says.Feasible.{All}
 use Rattle.model.specs.Rules.Command.{commandAt}
 use Rattle.model.specs.Says.Grammar.{depth, Spells}
 use Rattle.model.specs.Rules.Image.{exprCode}
-use Rattle.model.specs.Rules.Program.{Expr, constant, read, binary, negate, choose}
+use Rattle.model.specs.Rules.Program.{Expr, constant, read, binary, unary, choose}
 use Rattle.model.specs.Rules.Report.{exprCommands, exprHeight}
 use Rattle.model.specs.declared.Command.{Command}
 use Rattle.model.proofs.Bounds.{depth-some}
@@ -80,7 +80,7 @@ height-most : (e : Expr) → exprHeight e ≤ exprCommands e
 height-most (constant w) = omega arith
 height-most (read ρ) = omega arith
 height-most (binary operator x y) = omega (arith, height-most x, height-most y, height-some x)
-height-most (negate x) = omega (arith, height-most x)
+height-most (unary operator x) = omega (arith, height-most x)
 height-most (choose x y z) = omega (arith, height-most x, height-most y, height-most z, height-some x, height-some y)
 
 pub record Small (text : List ℕ) (at : ℕ) (m : Measure) : Type 0 where

@@ -6,14 +6,14 @@ use mir.Syntax.{w32}
 use mir.Val.{SFits}
 pub use Rattle.model.specs.Says.Grammar.{depth}
 use Rattle.model.specs.Rules.Image.{lengthOf}
-use Rattle.model.specs.Rules.Program.{Program, Body, input, equation, Expr, constant, read, binary, negate, choose, count, signalAt}
+use Rattle.model.specs.Rules.Program.{Program, Body, input, equation, Expr, constant, read, binary, unary, choose, count, signalAt}
 use Rattle.model.specs.Rules.Schedule.{Schedule}
 
 pub depth-some : (e : Expr) → 1 ≤ depth e
 depth-some (constant w) = omega arith
 depth-some (read ρ) = omega arith
 depth-some (binary operator x y) = omega arith
-depth-some (negate x) = omega arith
+depth-some (unary operator x) = omega arith
 depth-some (choose x y z) = omega arith
 
 abbrev pub bodyDepth : Body → ℕ
@@ -25,7 +25,7 @@ abbrev pub Words : Expr → Type 0
 Words (constant w) = SFits w32 w
 Words (read ρ) = Unit {0}
 Words (binary operator x y) = Words x × Words y
-Words (negate x) = Words x
+Words (unary operator x) = Words x
 Words (choose x y z) = Words x × Words y × Words z
 
 abbrev pub BodyWords : Body → Type 0

@@ -89,7 +89,7 @@ use Rattle.model.specs.Rules.Program.{
   constant,
   read,
   binary,
-  negate,
+  unary,
   choose,
   Read,
   noSignal,
@@ -213,7 +213,7 @@ unfolding readsOf mapExpr
 map-reads f (constant w) = refl
 map-reads f (read ρ) = refl
 map-reads f (binary operator x y) = rw (map-reads f x, map-reads f y, map-append f (readsOf x) (readsOf y))
-map-reads f (negate x) = map-reads f x
+map-reads f (unary operator x) = map-reads f x
 map-reads f (choose x y z) =
     rw (
       map-reads f x,
@@ -233,7 +233,7 @@ unfolding value mapExpr
 map-value f word word′ same (constant w) = refl
 map-value f word word′ same (read ρ) = same ρ
 map-value f word word′ same (binary operator x y) = rw (map-value f word word′ same x, map-value f word word′ same y)
-map-value f word word′ same (negate x) = rw (map-value f word word′ same x)
+map-value f word word′ same (unary operator x) = rw (map-value f word word′ same x)
 map-value f word word′ same (choose x y z) =
     rw (map-value f word word′ same x, map-value f word word′ same y, map-value f word word′ same z)
 
@@ -253,7 +253,7 @@ unfolding exprCode mapExpr
 map-code f same (constant w) = refl
 map-code f same (read ρ) = rw (same ρ)
 map-code f same (binary operator x y) = rw (map-code f same x, map-code f same y)
-map-code f same (negate x) = rw (map-code f same x)
+map-code f same (unary operator x) = rw (map-code f same x)
 map-code f same (choose x y z) = rw (map-code f same x, map-code f same y, map-code f same z)
 
 map-signal-code : (f : Read → Read) → ((ρ : Read) → f ρ .operands .signal ≡ ρ .operands .signal) → (x : ℕ) (b : Body) →

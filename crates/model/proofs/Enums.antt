@@ -163,7 +163,7 @@ module _ {text : List ℕ} {at : ℕ} where
   command-stands (Command.Constant w) r h = constant-written w r h
   command-stands (Command.Read kind x) r h = read-written kind x r h
   command-stands (Command.Binary operator) r h = Written.binary operator (inside (omega arith) h) (byte-here h)
-  command-stands Command.Negate r h = Written.negate (inside (omega arith) h) (byte-here h)
+  command-stands Command.Negate r h = Written.unary operator (inside (omega arith) h) (byte-here h)
   command-stands Command.If r h = Written.choose (inside (omega arith) h) (byte-here h)
 
 -- A command stands written where the bytes of its case stand.
@@ -196,5 +196,5 @@ code-bytes code at c r b = go c r (stands b)
     go (Code.Fetch x) r h = rw (← byte-from 1 (omega arith) h) (CodeWritten.fetch (inside (omega arith) h) (byte-here h))
     go (Code.Store x) r h = rw (← byte-from 1 (omega arith) h) (CodeWritten.store (inside (omega arith) h) (byte-here h))
     go (Code.Binary operator) r h = CodeWritten.binary operator (inside (omega arith) h) (byte-here h)
-    go Code.Negate r h = CodeWritten.negate (inside (omega arith) h) (byte-here h)
+    go (Code.Unary operator) r h = CodeWritten.unary operator (inside (omega arith) h) (byte-here h)
     go Code.If r h = CodeWritten.choose (inside (omega arith) h) (byte-here h)

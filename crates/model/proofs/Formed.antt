@@ -42,7 +42,7 @@ use Rattle.model.specs.Rules.Program.{
   constant,
   read,
   binary,
-  negate,
+  unary,
   choose,
   Read,
   count,
@@ -65,10 +65,10 @@ use Rattle.model.proofs.Runs.{
   fetch-at,
   store-at,
   binary-at,
-  negate-at,
+  unary-at,
   if-at,
   binary-parts,
-  negate-parts,
+  unary-parts,
   choose-parts,
   spare,
   code-room,
@@ -123,11 +123,11 @@ module _ (Q : Read → Type 0) (n own : ℕ) (known : (ρ : Read) → Q ρ → �
       step code n own f _ _ _ (binary-at operator (parts .2)) ∙
       rw (le-leb 2 (height + 1 + 1) (omega arith))
       (ap₂ (codeOkFrom f code n own) (simp length-append (omega arith)) (omega arith))
-  expr-ok (negate x) f at height fit q room h =
-      let parts = negate-parts x h in
+  expr-ok (unary operator x) f at height fit q room h =
+      let parts = unary-parts x h in
       ap (λ (k : ℕ). codeOkFrom k code n own at height) (omega arith) ∙
       expr-ok x (suc f) at height fit q (omega arith) (parts .0) ∙
-      step code n own f _ _ _ (negate-at (parts .1)) ∙
+      step code n own f _ _ _ (unary-at (parts .1)) ∙
       rw (le-leb 1 (height + 1) (omega arith))
       (ap (λ (k : ℕ). codeOkFrom f code n own k (height + 1)) (simp length-append (omega arith)))
   expr-ok (choose x y z) f at height fit q room h =

@@ -81,9 +81,9 @@ module _ (n own : ℕ) (code : List ℕ) where
       FormedFrom.onward (written e tt) tt (Changes.binary {height = k}) (omega arith)
       (go _ _ (omega arith) (at-height next {height = suc (suc k) - 1} (omega arith)
       (and-eq-true-iff (leb 2 (suc (suc k))) _ .0 h .1)))
-  command-formed next go at zero le Code.Negate e h = absurd (false≢true h)
-  command-formed next go at (suc k) le Code.Negate e h =
-      FormedFrom.onward (written e tt) tt Changes.negate le (go _ _ le (and-eq-true-iff (leb 1 (suc k)) _ .0 h .1))
+  command-formed next go at zero le (Code.Unary operator) e h = absurd (false≢true h)
+  command-formed next go at (suc k) le (Code.Unary operator) e h =
+      FormedFrom.onward (written e tt) tt Changes.unary le (go _ _ le (and-eq-true-iff (leb 1 (suc k)) _ .0 h .1))
   command-formed next go at zero le Code.If e h = absurd (false≢true h)
   command-formed next go at (suc zero) le Code.If e h = absurd (false≢true h)
   command-formed next go at (suc (suc zero)) le Code.If e h = absurd (false≢true h)
@@ -110,7 +110,7 @@ module _ (n own : ℕ) (code : List ℕ) where
       rw (eq-eqb x own a, lt-ltb height 32 (omega arith)) (at-height next (omega arith) t)
   change-ok next at (Changes.binary {height}) a le t =
       rw (le-leb 2 (suc (suc height)) (omega arith)) (at-height next (omega arith) t)
-  change-ok next at (Changes.negate {height}) a le t = rw (le-leb 1 (suc height) (omega arith)) t
+  change-ok next at (Changes.unary {height}) a le t = rw (le-leb 1 (suc height) (omega arith)) t
   change-ok next at (Changes.choose {height}) a le t =
       rw (le-leb 3 (suc (suc (suc height))) (omega arith)) (at-height next (omega arith) t)
 
@@ -119,7 +119,7 @@ module _ (n own : ℕ) (code : List ℕ) where
   width-some Changes.load = omega arith
   width-some Changes.fetch = omega arith
   width-some Changes.binary = omega arith
-  width-some Changes.negate = omega arith
+  width-some Changes.unary = omega arith
   width-some Changes.choose = omega arith
 
   inside : {at : ℕ} {c : Code} → CodeWritten code at c → at < length code
@@ -128,7 +128,7 @@ module _ (n own : ℕ) (code : List ℕ) where
   inside (CodeWritten.fetch le e) = omega arith
   inside (CodeWritten.store le e) = omega arith
   inside (CodeWritten.binary operator le e) = omega arith
-  inside (CodeWritten.negate le e) = omega arith
+  inside (CodeWritten.unary operator le e) = omega arith
   inside (CodeWritten.choose le e) = omega arith
 
   formed-from : {at height : ℕ} → From at height → (left : ℕ) → length code ≤ at + left →

@@ -19,7 +19,7 @@ use Rattle.model.specs.Rules.Program.{
   constant,
   read,
   binary,
-  negate,
+  unary,
   choose,
   count,
   noSignal,
@@ -37,10 +37,10 @@ use Rattle.model.proofs.Runs.{
   fetch-at,
   store-at,
   binary-at,
-  negate-at,
+  unary-at,
   if-at,
   binary-parts,
-  negate-parts,
+  unary-parts,
   choose-parts,
 }
 use Rattle.model.proofs.Stretches.{Stands, all-of, front, behind, code-stretch}
@@ -49,7 +49,7 @@ pub height-some : (e : Expr) → 1 ≤ exprHeight e
 height-some (constant w) = omega arith
 height-some (read ρ) = omega arith
 height-some (binary operator x y) = omega arith
-height-some (negate x) = height-some x
+height-some (unary operator x) = height-some x
 height-some (choose x y z) = omega arith
 
 -- An expression of depth d puts at most 2(d − 1) + 1 words on the stack.
@@ -57,7 +57,7 @@ height-depth : (e : Expr) → exprHeight e + 1 ≤ 2 * depth e
 height-depth (constant w) = omega arith
 height-depth (read ρ) = omega arith
 height-depth (binary operator x y) = omega (arith, height-depth x, height-depth y)
-height-depth (negate x) = omega (arith, height-depth x)
+height-depth (unary operator x) = omega (arith, height-depth x)
 height-depth (choose x y z) = omega (arith, height-depth x, height-depth y, height-depth z)
 
 body-depth : (body : Body) → bodyHeight body + 1 ≤ 2 * bodyDepth body
@@ -73,7 +73,7 @@ Moves (Code.Load x) width height after = (width ≡ 2) × (after ≡ suc height)
 Moves (Code.Fetch x) width height after = (width ≡ 2) × (after ≡ suc height)
 Moves (Code.Store x) width height after = ⊥
 Moves (Code.Binary operator) width height after = (width ≡ 1) × (height ≡ suc after)
-Moves Code.Negate width height after = (width ≡ 1) × (height ≡ after)
+Moves (Code.Unary operator) width height after = (width ≡ 1) × (height ≡ after)
 Moves Code.If width height after = (width ≡ 1) × (height ≡ suc (suc after))
 
 moves : {c : Code} {width height after : ℕ} → Changes c width height after → Moves c width height after
@@ -81,7 +81,7 @@ moves Changes.push = (refl, refl)
 moves Changes.load = (refl, refl)
 moves Changes.fetch = (refl, refl)
 moves Changes.binary = (refl, refl)
-moves Changes.negate = (refl, refl)
+moves Changes.unary = (refl, refl)
 moves Changes.choose = (refl, refl)
 
 abbrev GoesOn : Code → Type 0
@@ -92,7 +92,7 @@ GoesOn (Code.Load x) = Unit {0}
 GoesOn (Code.Fetch x) = Unit {0}
 GoesOn (Code.Store x) = ⊥
 GoesOn (Code.Binary operator) = Unit {0}
-GoesOn Code.Negate = Unit {0}
+GoesOn (Code.Unary operator) = Unit {0}
 GoesOn Code.If = Unit {0}
 
 module _ (most : ℕ) (code : List ℕ) where
@@ -113,10 +113,10 @@ module _ (most : ℕ) (code : List ℕ) where
       (expr-within y _ _ (fit .1) (omega arith) (parts .1)
       (Within.onward {height = suc (suc height)} (binary-at operator (parts .2)) (omega (arith, height-some y)) Changes.binary
       (moved (simp length-append (omega arith)) next)))
-  expr-within (negate x) at height fit room h next =
-      let parts = negate-parts x h in
+  expr-within (unary operator x) at height fit room h next =
+      let parts = unary-parts x h in
       expr-within x at height fit room (parts .0)
-      (Within.onward {height = suc height} (negate-at (parts .1)) (omega (arith, height-some x)) Changes.negate
+      (Within.onward {height = suc height} (unary-at (parts .1)) (omega (arith, height-some x)) Changes.unary
       (moved (simp length-append (omega arith)) next))
   expr-within (choose x y z) at height fit room h next =
       let parts = choose-parts x y z h in
@@ -169,10 +169,10 @@ module _ (most : ℕ) (code : List ℕ) where
         omega (arith, first .0, second .0),
         goes-on (simp length-append (omega (arith, n .changes .0))) (omega (arith, n .changes .1)) (n .next),
       )
-  within-expr (negate x) at height fit h here =
-      let parts = negate-parts x h in
+  within-expr (unary operator x) at height fit h here =
+      let parts = unary-parts x h in
       let first = within-expr x at height fit (parts .0) here in
-      let n = next-of _ (negate-at (parts .1)) tt (first .1) in (
+      let n = next-of _ (unary-at (parts .1)) tt (first .1) in (
         first .0,
         goes-on (simp length-append (omega (arith, n .changes .0))) (omega (arith, n .changes .1)) (n .next),
       )

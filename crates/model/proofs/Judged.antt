@@ -10,7 +10,7 @@ use borrow.Author.Tests.{leb-true, ltb-true, le-leb, lt-ltb, eqb-true, eq-eqb}
 use lib.Dec.{leb, ltb, eqb}
 use lib.ListN.{length, getD}
 use Rattle.model.specs.Says.Feasible.{All, Multiple}
-use Rattle.model.specs.Rules.Command.{commandAt}
+use Rattle.model.specs.Rules.Command.{declarationAt}
 use Rattle.model.specs.Rules.Compile.{shortEnough}
 use Rattle.model.specs.Says.Conditions.{_among_, ShortEnough, ReadIn, LinkIn, DeclaredAndRated, Least, Linked}
 use Rattle.model.specs.Says.Grammar.{LegalProgram}
@@ -31,7 +31,7 @@ use Rattle.model.specs.Rules.Rates.{
 }
 use Rattle.model.specs.Says.Refusals.{LowestFault, RateFault, ChainFault}
 use Rattle.model.specs.Rules.Search.{first, joinFrom}
-use Rattle.model.specs.declared.Command.the-variants as Command
+use Rattle.model.specs.declared.Declaration.the-variants as Declaration
 use Rattle.model.specs.declared.Fault.{Fault}
 use Rattle.model.specs.declared.Found.{Found}
 use Rattle.model.specs.declared.Found.the-variants.{At, Nowhere}
@@ -251,9 +251,9 @@ module _ (text : List ℕ) (p : Program) (l : LegalProgram text p) where
   pub chain-spelled : (c : Chain) → c among p .chains → SpellsChain text c
   chain-spelled c i = all-among (SpellsChain text) (p .chains) (lawful .1 .chains) c i
 
-  pub link-spelled : (a : Link) → LinkIn p a → commandAt text (a .place) ≡ Command.Link (a .signal)
+  pub link-spelled : (a : Link) → LinkIn p a → declarationAt text (a .place) ≡ Declaration.Link (a .signal)
   link-spelled a i =
-      all-among (λ l. commandAt text (l .place) ≡ Command.Link (l .signal)) (i .0 .links)
+      all-among (λ l. declarationAt text (l .place) ≡ Declaration.Link (l .signal)) (i .0 .links)
       (links-command (chain-spelled (i .0) (i .1) .links)) a (i .2)
 
   same-read : (r s : ℕ) (ρ σ : Read) → ReadIn p r ρ → ReadIn p s σ → ρ .place ≡ σ .place →
@@ -261,14 +261,14 @@ module _ (text : List ℕ) (p : Program) (l : LegalProgram text p) where
   same-read r s ρ σ i j e =
       let a = read-spelled r ρ i in
       let b = read-spelled s σ j in
-      let same : ρ .operands ≡ σ .operands = cc (a, b, ap (commandAt text) e) in
+      let same : ρ .operands ≡ σ .operands = cc (a, b, ap (declarationAt text) e) in
       ap (λ (x : Sampled). x .signal) same
 
   not-both : (r : ℕ) (ρ : Read) (a : Link) → ReadIn p r ρ → LinkIn p a → ρ .place ≡ a .place → ⊥
   not-both r ρ a i j e =
       let u = read-spelled r ρ i in
       let v = link-spelled a j in
-      let z : _≡_ {A = ℕ} 0 1 = cc (u, v, ap (commandAt text) e) in
+      let z : _≡_ {A = ℕ} 0 1 = cc (u, v, ap (declarationAt text) e) in
       omega arith
 
   rate-single : (n m x y : ℕ) → RateFault p n x → RateFault p m y → x ≡ y → n ≡ m

@@ -7,7 +7,7 @@ use lib.ListN.{length, getD, length-append}
 use mir.Syntax.{w32}
 use mir.Val.{SFits}
 use Rattle.model.specs.Says.Feasible.{All}
-use Rattle.model.specs.Rules.Command.{commandAt}
+use Rattle.model.specs.Rules.Command.{declarationAt, operatorAt}
 use Rattle.model.specs.Rules.Image.{exprCode, signalCode, codes, joined}
 use Rattle.model.specs.Rules.Outcome.{accepted}
 use Rattle.model.specs.Rules.Program.{
@@ -35,21 +35,22 @@ use Rattle.model.specs.Rules.Program.{
 use Rattle.model.specs.Rules.Search.{joinFrom}
 use Rattle.model.specs.Rules.Width.{inProgram, readWidth}
 use Rattle.model.specs.Rules.Word.{wordBytes, fourBytes}
-use Rattle.model.specs.declared.Command.the-variants as Command
+use Rattle.model.specs.declared.Declaration.the-variants as Declaration
+use Rattle.model.specs.declared.Operator.the-variants as Operator
 use Rattle.model.specs.declared.Kind.{Kind}
 use Rattle.model.specs.declared.Kind.the-variants.{Now, Last, When, LastWhen, Current}
 use Rattle.model.proofs.All.{all-append, all-at}
 use Rattle.model.proofs.Bounds.{depth, bodyDepth, Words, BodyWords}
-use Rattle.model.proofs.Commands.{Bytes, word-fits, two-fits, ReadSound, command-sound, link-command}
+use Rattle.model.proofs.Commands.{Bytes, word-fits, two-fits, ReadSound, declaration-sound, operator-sound, link-decoded}
 use Rattle.model.proofs.Outcomes.{joinFrom-append}
 use Rattle.model.proofs.Spelled.{Spells, SpellsLinks, DeclaresOne, Declares, declared}
-use Rattle.model.proofs.Written.{decoded}
+use Rattle.model.proofs.Written.{decoded, operator-decoded}
 
 -- A signal's command and what stands after it.
 abbrev pub SpellsBody : List ℕ → Signal → Body → Type 0
-SpellsBody text x input = commandAt text (x .place) ≡ Command.Input (x .period) (x .initial)
+SpellsBody text x input = declarationAt text (x .place) ≡ Declaration.Input (x .period) (x .initial)
 SpellsBody text x (equation weight e) =
-    (commandAt text (x .place) ≡ Command.Equation (x .period) (x .initial) weight) × (next : ℕ) ×
+    (declarationAt text (x .place) ≡ Declaration.Equation (x .period) (x .initial) weight) × (next : ℕ) ×
     Spells leastFactor text (x .place + inProgram 0x11) e next × (depth e ≤ 16)
 
 abbrev pub SpellsSignal : List ℕ → Signal → Type 0
@@ -57,7 +58,7 @@ SpellsSignal text x = SpellsBody text x (x .body)
 
 -- A chain's command and its links.
 pub record SpellsChain (text : List ℕ) (c : Chain) : Type 0 where
-  pub command : commandAt text (c .place) ≡ Command.Latency (c .mode) (c .bound)
+  pub command : declarationAt text (c .place) ≡ Declaration.Latency (c .mode) (c .bound)
   pub end : ℕ
   pub links : SpellsLinks text (c .place + 4) (c .links) end
   pub several : 2 ≤ length (c .links)
@@ -65,7 +66,7 @@ pub record SpellsChain (text : List ℕ) (c : Chain) : Type 0 where
 
 -- A read stands where it says.
 abbrev pub SpellsRead : List ℕ → Read → Type 0
-SpellsRead text ρ = commandAt text (ρ .place) ≡ Command.Read (ρ .kind) (ρ .operands)
+SpellsRead text ρ = operatorAt text (ρ .place) ≡ Operator.Read (ρ .kind) (ρ .operands)
 
 -- What the text up to `at` has declared. Its code takes no more bytes than the text.
 pub record Legal (text : List ℕ) (at : ℕ) (p : Program) : Type 0 where
@@ -96,7 +97,7 @@ module _ {text : List ℕ} where
   expr-reads : {at n : ℕ} {e : Expr} → Spells leastFactor text at e n → All (SpellsRead text) (readsOf e)
   unfolding readsOf
   expr-reads (Spells.constants e) = tt
-  expr-reads (Spells.reads e t) = (decoded e, tt)
+  expr-reads (Spells.reads e t) = (operator-decoded e, tt)
   expr-reads (Spells.two {x = x} {y = y} e u v) =
       all-append (SpellsRead text) (readsOf x) (readsOf y) (expr-reads u) (expr-reads v)
   expr-reads (Spells.one e u) = expr-reads u
@@ -106,7 +107,7 @@ module _ {text : List ℕ} where
 
   -- Constants are words.
   expr-words : Bytes text → {at n : ℕ} {e : Expr} → Spells leastFactor text at e n → Words e
-  expr-words b (Spells.constants {at = at} e) = rw (command-sound text at _ (decoded e) .0) (word-fits text (at + 1) b)
+  expr-words b (Spells.constants {at = at} e) = rw (operator-sound text at _ (operator-decoded e) .0) (word-fits text (at + 1) b)
   expr-words b (Spells.reads e t) = tt
   expr-words b (Spells.two e u v) = (expr-words b u, expr-words b v)
   expr-words b (Spells.one e u) = expr-words b u
@@ -178,7 +179,7 @@ module _ {text : List ℕ} where
 
   declares-legal : {at label end : ℕ} {p q : Program} → Declares leastFactor text at label p end q → Legal text at p →
       Legal text end q × (length text ≡ end + 1)
-  declares-legal (Declares.ends {at = at} e le) l = (l, omega (arith, command-sound text at _ (decoded e)))
+  declares-legal (Declares.ends {at = at} e le) l = (l, omega (arith, declaration-sound text at _ (decoded e)))
   declares-legal (Declares.onward d r) l = declares-legal r (one-legal d l)
 
   none : Legal text 0 empty
@@ -213,7 +214,7 @@ module _ {text : List ℕ} (bytes : Bytes text) where
   one-labelled (DeclaresOne.chains room e u several few) lt l = (omega arith, l)
   one-labelled (DeclaresOne.caps room e) lt l = (omega arith, l)
   one-labelled (DeclaresOne.tags {at = at} e more s) lt l =
-      (rw (command-sound text at _ (decoded e) .0) (two-fits text (at + 1) bytes), l)
+      (rw (declaration-sound text at _ (decoded e) .0) (two-fits text (at + 1) bytes), l)
 
   declares-labelled : {at label end : ℕ} {p q : Program} → Declares leastFactor text at label p end q → label < 65536 →
       All Labelled (p .signals) → All Labelled (q .signals)
@@ -238,23 +239,23 @@ module _ {text : List ℕ} where
   links-place (SpellsLinks.link e le r) (suc j) d lt = omega (arith, links-place r j d (omega arith))
 
   pub links-command : {at n : ℕ} {ls : List Link} → SpellsLinks text at ls n →
-      All (λ l. commandAt text (l .place) ≡ Command.Link (l .signal)) ls
+      All (λ l. declarationAt text (l .place) ≡ Declaration.Link (l .signal)) ls
   links-command (SpellsLinks.ends e) = tt
-  links-command (SpellsLinks.link {at = at} e le r) = (link-command text at e le, links-command r)
+  links-command (SpellsLinks.link {at = at} e le r) = (link-decoded text at e le, links-command r)
 
 module _ (text : List ℕ) where
   -- The operands of a read are in range.
   pub read-sound : (ρ : Read) → SpellsRead text ρ → ReadSound (ρ .operands)
-  read-sound ρ e = command-sound text (ρ .place) _ e .0
+  read-sound ρ e = operator-sound text (ρ .place) _ e .0
 
   body-period : (x : Signal) (b : Body) → SpellsBody text x b → (1 ≤ x .period) × (x .period ≤ 240)
-  body-period x input e = let h = command-sound text (x .place) _ e in (h .0, h .1)
-  body-period x (equation weight e) h = let g = command-sound text (x .place) _ (h .0) in (g .0, g .1)
+  body-period x input e = let h = declaration-sound text (x .place) _ e in (h .0, h .1)
+  body-period x (equation weight e) h = let g = declaration-sound text (x .place) _ (h .0) in (g .0, g .1)
 
   body-initial : Bytes text → (x : Signal) (b : Body) → SpellsBody text x b → SFits w32 (x .initial)
-  body-initial bytes x input h = rw (command-sound text (x .place) _ h .2) (word-fits text (x .place + 2) bytes)
+  body-initial bytes x input h = rw (declaration-sound text (x .place) _ h .2) (word-fits text (x .place + 2) bytes)
   body-initial bytes x (equation weight e) h =
-      rw (command-sound text (x .place) _ (h .0) .2) (word-fits text (x .place + 2) bytes)
+      rw (declaration-sound text (x .place) _ (h .0) .2) (word-fits text (x .place + 2) bytes)
 
   body-depth : (x : Signal) (b : Body) → SpellsBody text x b → bodyDepth b ≤ 16
   body-depth x input h = omega arith

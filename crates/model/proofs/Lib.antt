@@ -28,7 +28,8 @@ pub mod Outcomes
 pub mod Faults
 pub mod Hypercycle
 pub mod Commands
-pub mod Keywords
+pub mod Picks
+pub mod Room
 pub mod Written
 pub mod Enums
 pub mod Spelled

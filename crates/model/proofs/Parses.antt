@@ -3,12 +3,12 @@
 use Prim.Native.Nat.{ℕ, zero, suc, _+_, _≤_, _<_}
 use mathlib.Core.Bool.{true}
 use mathlib.Core.List.{List, [], _∷_, _++_, append-assoc, append-nil}
-use mathlib.Core.Logic.{_↔_}
+use mathlib.Core.Logic.{_↔_, inl, inr}
 use mathlib.Core.Path.{_≡_, refl, ap, _∙_}
 use native.Mathlib.Omega.{arith}
 use borrow.Author.Tests.{le-leb, lt-ltb, eq-eqb}
 use lib.ListN.{length}
-use Rattle.model.specs.Rules.Command.{keywordAt, commandAt}
+use Rattle.model.specs.Rules.Command.{declarationAt, operatorAt}
 use Rattle.model.specs.Says.Grammar.{
   depth,
   Spells,
@@ -31,7 +31,7 @@ use Rattle.model.specs.Rules.Program.{
   parseExpr,
   parseLinks,
   declare,
-  commandHere,
+  declarationHere,
   parseCommands,
   parseWith,
   parseProgram,
@@ -39,16 +39,19 @@ use Rattle.model.specs.Rules.Program.{
 use Rattle.model.specs.Rules.Schedule.{Put, scheduleCommand, parsePuts, parseSchedule}
 use Rattle.model.specs.Rules.Width.{readWidth}
 use Rattle.model.specs.Rules.Word.{byteAt}
-use Rattle.model.specs.declared.Command.{Command}
-use Rattle.model.specs.declared.Command.the-variants as Command
+use Rattle.model.specs.Says.Stops.{HasRoom}
+use Rattle.model.specs.Says.Written.{DeclarationWritten}
+use Rattle.model.specs.declared.Declaration.{Declaration}
 use Rattle.model.specs.declared.Kind.{Kind}
 use Rattle.model.specs.declared.Kind.the-variants.{Now, Last, When, LastWhen, Current}
-use Rattle.model.proofs.Commands.{command-sound}
+use Rattle.model.specs.declared.Operator.{Operator}
+use Rattle.model.proofs.Commands.{declaration-sound, written-byte, written-inside, operator-of}
 use Rattle.model.proofs.Legal.{links-end}
 use Rattle.model.proofs.Outcomes.{accepted-then, true-provided}
 use Rattle.model.proofs.Puts.{put-sound, puts-spelled}
-use Rattle.model.proofs.Spelled.{signal-is, declared}
-use Rattle.model.proofs.Written.{decoded, keyword-written, put-decoded}
+use Rattle.model.proofs.Room.{signal-is, operator-fit, declaration-fit}
+use Rattle.model.proofs.Spelled.{declared}
+use Rattle.model.proofs.Written.{decoded, operator-decoded, put-decoded}
 
 -- A number with one below it.
 pub one-below : (m d : ℕ) → suc m ≤ d → (e : ℕ) × (d ≡ suc e) × (m ≤ e)
@@ -57,14 +60,14 @@ one-below m (suc e) le = (e, refl, omega arith)
 
 module _ (least : ℕ) (text : List ℕ) where
   -- The operator of an expression is judged fit before its operands are read.
-  pub expr-step : (d at : ℕ) (c : Command) → commandAt text at ≡ c → operatorHere text at (keywordAt text at) ≡ accepted tt →
+  pub expr-step : (d at : ℕ) (c : Operator) → operatorAt text at ≡ c → operatorHere text at ≡ accepted tt →
       parseExpr least (suc d) text at ≡ node least (λ n. parseExpr least d text n) text at c
   unfolding parseExpr
   expr-step d at c e here = accepted-then _ _ tt here ∙ ap (node least (λ n. parseExpr least d text n) text at) e
 
   -- A command is judged before its operands are read.
-  pub command-step : (left at label : ℕ) (p : Program) (c : Command) → commandAt text at ≡ c →
-      commandHere text at p (keywordAt text at) ≡ accepted tt →
+  pub command-step : (left at label : ℕ) (p : Program) (c : Declaration) → declarationAt text at ≡ c →
+      declarationHere text at p ≡ accepted tt →
       parseCommands least (suc left) text at label p ≡
       declare least (λ n l q. parseCommands least left text n l q) text at label p c
   unfolding parseCommands
@@ -91,31 +94,36 @@ module _ {least : ℕ} {text : List ℕ} where
   unfolding node
   parse-expr d (Spells.constants {at = at} {w = w} e) le =
       let q = one-below 0 d le in
-      rw (q .1) (expr-step least text (q .0) at _ (decoded e) (rw (keyword-written e)))
+      rw (q .1) (expr-step least text (q .0) at _ (operator-decoded e) (operator-fit text at (operator-of text at e)))
   parse-expr d (Spells.reads {at = at} e t) le =
       let q = one-below 0 d le in
       rw (q .1)
-      (expr-step least text (q .0) at _ (decoded e) (rw (keyword-written e)) ∙ accepted-then _ _ tt (true-provided _ 5 at t))
+      (expr-step least text (q .0) at _ (operator-decoded e) (operator-fit text at (operator-of text at e)) ∙ accepted-then _ _ tt (true-provided _ 5 at t))
   parse-expr d (Spells.two {at = at} {x = x} {y = y} e u v) le =
       let q = one-below _ d le in
       rw (q .1)
-      (expr-step least text (q .0) at _ (decoded e) (rw (keyword-written e)) ∙
+      (expr-step least text (q .0) at _ (operator-decoded e) (operator-fit text at (operator-of text at e)) ∙
       accepted-then _ _ _ (parse-expr (q .0) u (omega (arith, q .2))) ∙
       accepted-then _ _ _ (parse-expr (q .0) v (omega (arith, q .2))))
   parse-expr d (Spells.one {at = at} e u) le =
       let q = one-below _ d le in
       rw (q .1)
-      (expr-step least text (q .0) at _ (decoded e) (rw (keyword-written e)) ∙
+      (expr-step least text (q .0) at _ (operator-decoded e) (operator-fit text at (operator-of text at e)) ∙
       accepted-then _ _ _ (parse-expr (q .0) u (omega (arith, q .2))))
   parse-expr d (Spells.three {at = at} e u v w) le =
       let q = one-below _ d le in
       rw (q .1)
-      (expr-step least text (q .0) at _ (decoded e) (rw (keyword-written e)) ∙
+      (expr-step least text (q .0) at _ (operator-decoded e) (operator-fit text at (operator-of text at e)) ∙
       accepted-then _ _ _ (parse-expr (q .0) u (omega (arith, q .2))) ∙
       accepted-then _ _ _ (parse-expr (q .0) v (omega (arith, q .2))) ∙
       accepted-then _ _ _ (parse-expr (q .0) w (omega (arith, q .2))))
 
 module _ {text : List ℕ} where
+  -- A declaration that is written and has room is judged fit.
+  pub fit : (at : ℕ) (p : Program) {c : Declaration} → DeclarationWritten text at c → HasRoom p (byteAt text at) →
+      declarationHere text at p ≡ accepted tt
+  fit at p w r = declaration-fit p text at (written-inside text at w) r
+
   -- LINKs that are spelled are read.
   pub parse-links : {at n : ℕ} {ls : List Link} (room : ℕ) (links : List Link) → SpellsLinks text at ls n → length ls ≤ room →
       parseLinks room text at links ≡ parsed (links ++ ls) n
@@ -137,32 +145,32 @@ module _ {least : ℕ} {text : List ℕ} where
       (parseCommands least (suc left) text at label p ≡ parseCommands least left text next given q)
   unfolding declare
   command-onward (DeclaresOne.inputs {at = at} {label = label} {p = p} room e) left = (
-    omega (arith, command-sound text at _ (decoded e) .3),
+    omega (arith, declaration-sound text at _ (decoded e) .3),
     omega arith,
-    command-step least text left at label p _ (decoded e) (rw (keyword-written e) (true-provided _ 4 at (lt-ltb _ _ room))),
+    command-step least text left at label p _ (decoded e) (fit at p e (HasRoom.signal (inl (written-byte text at e)) room)),
   )
   command-onward (DeclaresOne.equations {at = at} {label = label} {p = p} room e u d) left = (
-    omega (arith, command-sound text at _ (decoded e) .3),
+    omega (arith, declaration-sound text at _ (decoded e) .3),
     omega (arith, spells-after u),
-    command-step least text left at label p _ (decoded e) (rw (keyword-written e) (true-provided _ 4 at (lt-ltb _ _ room))) ∙
+    command-step least text left at label p _ (decoded e) (fit at p e (HasRoom.signal (inr (written-byte text at e)) room)) ∙
         accepted-then _ _ _ (parse-expr 16 u d),
   )
   command-onward (DeclaresOne.chains {at = at} {label = label} {p = p} room e u several few) left = (
-    omega (arith, command-sound text at _ (decoded e)),
+    omega (arith, declaration-sound text at _ (decoded e)),
     omega (arith, links-end u),
-    command-step least text left at label p _ (decoded e) (rw (keyword-written e) (true-provided _ 4 at (lt-ltb _ _ room))) ∙
+    command-step least text left at label p _ (decoded e) (fit at p e (HasRoom.latency (written-byte text at e) room)) ∙
         accepted-then _ _ _ (parse-links 16 [] u few) ∙
         accepted-then _ _ tt (true-provided _ 5 at (le-leb _ _ several)),
   )
   command-onward (DeclaresOne.caps {at = at} {label = label} {p = p} room e) left = (
-    omega (arith, command-sound text at _ (decoded e)),
+    omega (arith, declaration-sound text at _ (decoded e)),
     omega arith,
-    command-step least text left at label p _ (decoded e) (rw (keyword-written e, room) (true-provided true 5 at refl)),
+    command-step least text left at label p _ (decoded e) (fit at p e (HasRoom.cap (written-byte text at e) room)),
   )
   command-onward (DeclaresOne.tags {at = at} {label = label} {p = p} e more s) left = (
     omega (arith, more),
     omega arith,
-    command-step least text left at label p _ (decoded e) (rw (keyword-written e)) ∙
+    command-step least text left at label p _ (decoded e) (fit at p e (HasRoom.tag (written-byte text at e))) ∙
         accepted-then _ _ tt (true-provided _ _ _ (lt-ltb _ _ more)) ∙
         accepted-then _ _ tt (true-provided _ _ _ (signal-is _ .1 s)),
   )
@@ -180,9 +188,9 @@ module _ {least : ℕ} {text : List ℕ} where
       length text ≤ at + left → parseCommands least left text at label p ≡ accepted q
   unfolding declare
   parse-commands (Declares.ends {at = at} {label = label} {p = p} e le) left enough =
-      let q = one-below 0 left (omega (arith, command-sound text at _ (decoded e))) in
+      let q = one-below 0 left (omega (arith, declaration-sound text at _ (decoded e))) in
       rw (q .1)
-      (command-step least text (q .0) at label p _ (decoded e) (rw (keyword-written e)) ∙
+      (command-step least text (q .0) at label p _ (decoded e) (fit at p e (HasRoom.end (written-byte text at e))) ∙
       accepted-then _ _ tt (true-provided _ 6 (at + 1) (le-leb _ _ le)))
   parse-commands (Declares.onward d r) left enough = parse-onward _ d (λ k l. parse-commands r k l) left enough
 

@@ -24,7 +24,7 @@ use Rattle.model.specs.Rules.Program.{
   constant,
   read,
   binary,
-  negate,
+  unary,
   choose,
   input,
   equation,
@@ -80,7 +80,7 @@ written-inside (Written.constant h b) = (h, omega arith)
 written-inside (Written.plain kind e h b) = (omega arith, width-some kind)
 written-inside (Written.sampled kind e h b r i) = (omega arith, width-some kind)
 written-inside (Written.binary operator h b) = (h, omega arith)
-written-inside (Written.negate h b) = (h, omega arith)
+written-inside (Written.unary operator h b) = (h, omega arith)
 written-inside (Written.choose h b) = (h, omega arith)
 
 width-two : (kind : Kind) → 2 ≤ readWidth kind
@@ -181,7 +181,7 @@ unfolding mapExpr
 depth-bare (constant w) = refl
 depth-bare (read ρ) = refl
 depth-bare (binary operator x y) = rw (depth-bare x, depth-bare y)
-depth-bare (negate x) = rw (depth-bare x)
+depth-bare (unary operator x) = rw (depth-bare x)
 depth-bare (choose x y z) = rw (depth-bare x, depth-bare y, depth-bare z)
 
 depth-same : (x y : Expr) → mapExpr bareRead x ≡ mapExpr bareRead y → depth x ≡ depth y
@@ -250,7 +250,7 @@ module _ (text new : List ℕ) where
       rw (← c .bytes 1 (omega arith), ← f, ← g)
       (Written.sampled kind e (omega (arith, c .inside)) (first-copied c (omega arith) ∙ b) (rw g r) (rw (f, g) i))
   written-copied (Written.binary operator h b) c = Written.binary operator (c .inside) (first-copied c (omega arith) ∙ b)
-  written-copied (Written.negate h b) c = Written.negate (c .inside) (first-copied c (omega arith) ∙ b)
+  written-copied (Written.unary operator h b) c = Written.unary operator (c .inside) (first-copied c (omega arith) ∙ b)
   written-copied (Written.choose h b) c = Written.choose (c .inside) (first-copied c (omega arith) ∙ b)
 
   -- What stands from `at′` on in the new text is what stands from `at` on in the text, rewritten.
@@ -442,7 +442,7 @@ module _ (text new : List ℕ) where
         allowed = all-append AllowedRead (readsOf (a .expr)) (readsOf (b .expr)) (a .allowed) (b .allowed);
       }
 
-  one-moves : (at n : ℕ) (x : Expr) → Written text at Command.Negate → Moves (at + 1) x n → Moves at (negate x) n
+  one-moves : (at n : ℕ) (x : Expr) → Written text at Command.Negate → Moves (at + 1) x n → Moves at (unary operator x) n
   unfolding mapExpr readsOf
   one-moves at n x e f at′ s =
       let k = kept Command.Negate e (λ bytes. refl) s in

@@ -13,7 +13,7 @@ use mir.Syntax.{w32}
 use mir.Val.{SFits}
 use Rattle.model.specs.Rules.Image.{binaryByte, exprCode, signalCode}
 use Rattle.model.specs.Rules.Machine.{operatorCode, codeAt, runCommand, runFrom, runCode}
-use Rattle.model.specs.Rules.Program.{Body, input, equation, Expr, constant, read, binary, negate, choose, Read}
+use Rattle.model.specs.Rules.Program.{Body, input, equation, Expr, constant, read, binary, unary, choose, Read}
 use Rattle.model.specs.Rules.Report.{exprCommands}
 use Rattle.model.specs.Says.Streams.{value, next}
 use Rattle.model.specs.Rules.Word.{fourBytes, wordBytes, binaryWord, negWord, ifWord}
@@ -63,9 +63,9 @@ module _ {code : List ℕ} {at : ℕ} where
   binary-at Min h = operator-at 0x35 h refl refl refl refl
   binary-at Max h = operator-at 0x36 h refl refl refl refl
 
-  pub negate-at : Stands code at (0x38 ∷ []) → codeAt code at ≡ Code.Negate
+  pub unary-at : Stands code at (0x38 ∷ []) → codeAt code at ≡ (Code.Unary operator)
   unfolding operatorCode
-  negate-at h = operator-at 0x38 h refl refl refl refl
+  unary-at h = operator-at 0x38 h refl refl refl refl
 
   pub if-at : Stands code at (0x3A ∷ []) → codeAt code at ≡ Code.If
   unfolding operatorCode
@@ -81,10 +81,10 @@ module _ {code : List ℕ} {at : ℕ} where
       let g = behind (exprCode x) (exprCode y ++ (binaryByte operator ∷ [])) h in
       (front (exprCode x) _ h, front (exprCode y) (binaryByte operator ∷ []) g, behind (exprCode y) (binaryByte operator ∷ []) g)
 
-  pub negate-parts : (x : Expr) → Stands code at (exprCode (negate x)) →
+  pub unary-parts : (x : Expr) → Stands code at (exprCode (unary operator x)) →
       Stands code at (exprCode x) × Stands code (at + length (exprCode x)) (0x38 ∷ [])
   unfolding exprCode
-  negate-parts x h = (front (exprCode x) (0x38 ∷ []) h, behind (exprCode x) (0x38 ∷ []) h)
+  unary-parts x h = (front (exprCode x) (0x38 ∷ []) h, behind (exprCode x) (0x38 ∷ []) h)
 
   pub choose-parts : (x y z : Expr) → Stands code at (exprCode (choose x y z)) →
       Stands code at (exprCode x) × Stands code (at + length (exprCode x)) (exprCode y) ×
@@ -105,7 +105,7 @@ unfolding exprCode wordBytes fourBytes
 commands-most (constant w) = omega arith
 commands-most (read ρ) = omega arith
 commands-most (binary operator x y) = simp length-append (omega (arith, commands-most x, commands-most y))
-commands-most (negate x) = simp length-append (omega (arith, commands-most x))
+commands-most (unary operator x) = simp length-append (omega (arith, commands-most x))
 commands-most (choose x y z) = simp length-append (omega (arith, commands-most x, commands-most y, commands-most z))
 
 module _ (code : List ℕ) (state samples : List ℤ) where
@@ -135,11 +135,11 @@ module _ (code : List ℕ) (state samples : List ℤ) where
       step f _ _ _ (binary-at operator (parts .2)) ∙
       ap (λ (k : ℕ). runFrom f code state samples k (binaryWord operator (value word x) (value word y) ∷ stack))
       (simp length-append (omega arith))
-  run-expr (negate x) f at stack fit h =
-      let parts = negate-parts x h in
+  run-expr (unary operator x) f at stack fit h =
+      let parts = unary-parts x h in
       ap (λ (k : ℕ). runFrom k code state samples at stack) (omega arith) ∙
       run-expr x (suc f) at stack fit (parts .0) ∙
-      step f _ _ _ (negate-at (parts .1)) ∙
+      step f _ _ _ (unary-at (parts .1)) ∙
       ap (λ (k : ℕ). runFrom f code state samples k (negWord (value word x) ∷ stack)) (simp length-append (omega arith))
   run-expr (choose x y z) f at stack fit h =
       let parts = choose-parts x y z h in

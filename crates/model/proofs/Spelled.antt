@@ -9,150 +9,74 @@ use native.Mathlib.Omega.{arith}
 use borrow.Author.Tests.{leb-true, ltb-true, eqb-true}
 use lib.Dec.{leb, ltb, eqb}
 use lib.ListN.{length}
-use Rattle.model.specs.Rules.Command.{keywordAt, commandAt}
-pub use Rattle.model.specs.Says.Grammar.{Spells, SpellsLinks, IsSignal, DeclaresOne, Declares}
+use Rattle.model.specs.Rules.Command.{declarationAt, operatorAt, isSignal}
 use Rattle.model.specs.Rules.Outcome.{Outcome, accepted, refuse, _▷_, provided, Parsed, parsed}
 use Rattle.model.specs.Rules.Program.{
-  Read,
   Expr,
   Link,
   Program,
   empty,
-  Limit,
-  unlimited,
-  limit,
-  count,
   operatorHere,
   node,
   parseExpr,
   parseLinks,
-  isSignal,
   declare,
-  isUnlimited,
-  commandHere,
+  declarationHere,
   parseCommands,
   parseWith,
   isAllowed,
 }
 use Rattle.model.specs.Rules.Width.{inProgram}
 use Rattle.model.specs.Rules.Word.{byteAt}
-use Rattle.model.specs.declared.Binary.{Binary}
-use Rattle.model.specs.declared.Command.{Command}
-use Rattle.model.specs.declared.Command.the-variants as Command
-use Rattle.model.specs.declared.Keyword.{Keyword}
-use Rattle.model.specs.declared.Keyword.the-variants as Keyword
+pub use Rattle.model.specs.Says.Grammar.{Spells, SpellsLinks, DeclaresOne, Declares}
+use Rattle.model.specs.Says.Stops.{HasRoom}
+use Rattle.model.specs.declared.Declaration.{Declaration}
+use Rattle.model.specs.declared.Declaration.the-variants as Declaration
+use Rattle.model.specs.declared.Operator.{Operator}
+use Rattle.model.specs.declared.Operator.the-variants as Operator
 use Rattle.model.proofs.Bounds.{depth}
-use Rattle.model.proofs.Commands.{keyword-of}
-use Rattle.model.proofs.Outcomes.{
-  Holds,
-  holds-value,
-  value-holds,
-  holds-then,
-  holds-map,
-  holds-provided,
-  provided-true,
-  accepted≢refused,
-}
-use Rattle.model.proofs.Written.{as-written}
-
--- IN or EQ, as a test.
-pub signal-is : (b : ℕ) → (isSignal b ≡ true) ↔ IsSignal b
-signal-is b = (go (eqb b 0x10) (eqb b 0x11) refl refl, back)
-  where
-    go : (i e : Bool) → eqb b 0x10 ≡ i → eqb b 0x11 ≡ e → i || e ≡ true → IsSignal b
-    go true e f g t = inl (eqb-true b 0x10 f)
-    go false true f g t = inr (eqb-true b 0x11 g)
-    go false false f g t = absurd (false≢true t)
-
-    back : IsSignal b → isSignal b ≡ true
-    back (inl h) = rw h
-    back (inr h) = rw h
-
-no-limit : (l : Limit) → isUnlimited l ≡ true → l ≡ unlimited
-no-limit unlimited e = refl
-no-limit (limit n) e = absurd (false≢true e)
-
--- The room that the keyword of a declaration asks for; others are none.
-module _ (p : Program) where
-  abbrev pub RoomFor : Keyword → Type 0
-  RoomFor Keyword.Missing = ⊥
-  RoomFor Keyword.Unknown = ⊥
-  RoomFor Keyword.End = Unit {0}
-  RoomFor Keyword.Input = count p < 64
-  RoomFor Keyword.Equation = count p < 64
-  RoomFor Keyword.Latency = length (p .chains) < 16
-  RoomFor Keyword.Link = ⊥
-  RoomFor Keyword.Cap = p .cap ≡ unlimited
-  RoomFor Keyword.Tag = Unit {0}
-  RoomFor Keyword.Constant = ⊥
-  RoomFor (Keyword.Read kind) = ⊥
-  RoomFor (Keyword.Binary operator) = ⊥
-  RoomFor Keyword.Negate = ⊥
-  RoomFor Keyword.If = ⊥
-
-  pub room-of : {k : Keyword} (j : Keyword) → k ≡ j → RoomFor k → RoomFor j
-  room-of j e r = subst RoomFor e r
-
-  -- A command that is judged fit, before its operands, has room.
-  pub here-room : (text : List ℕ) (at : ℕ) (k : Keyword) → commandHere text at p k ≡ accepted tt → RoomFor k
-  here-room text at Keyword.Missing e = absurd (accepted≢refused _ tt _ e refl)
-  here-room text at Keyword.Unknown e = absurd (accepted≢refused _ tt _ e refl)
-  here-room text at Keyword.End e = tt
-  here-room text at Keyword.Input e = ltb-true _ _ (provided-true _ 4 at e)
-  here-room text at Keyword.Equation e = ltb-true _ _ (provided-true _ 4 at e)
-  here-room text at Keyword.Latency e = ltb-true _ _ (provided-true _ 4 at e)
-  here-room text at Keyword.Link e = absurd (accepted≢refused _ tt _ e refl)
-  here-room text at Keyword.Cap e = no-limit (p .cap) (provided-true _ 5 at e)
-  here-room text at Keyword.Tag e = tt
-  here-room text at Keyword.Constant e = absurd (accepted≢refused _ tt _ e refl)
-  here-room text at (Keyword.Read kind) e = absurd (accepted≢refused _ tt _ e refl)
-  here-room text at (Keyword.Binary operator) e = absurd (accepted≢refused _ tt _ e refl)
-  here-room text at Keyword.Negate e = absurd (accepted≢refused _ tt _ e refl)
-  here-room text at Keyword.If e = absurd (accepted≢refused _ tt _ e refl)
+use Rattle.model.proofs.Commands.{written-byte}
+use Rattle.model.proofs.Outcomes.{Holds, holds-value, value-holds, holds-then, holds-map, holds-provided}
+use Rattle.model.proofs.Room.{signal-is, fit-declaration, signal-room, chain-room, cap-room}
+use Rattle.model.proofs.Written.{as-written, operator-as-written}
 
 module _ (least : ℕ) (text : List ℕ) where
   -- An expression read at `at`, at most d deep.
   abbrev Reads : ℕ → ℕ → Parsed Expr → Type 0
   Reads d at e = Spells least text at (e .value) (e .next) × (depth (e .value) ≤ d)
 
-  reads-node : (d : ℕ) (sub : ℕ → Outcome (Parsed Expr)) → ((a : ℕ) → Holds (Reads d a) (sub a)) → (at : ℕ) (c : Command) →
-      commandAt text at ≡ c → Holds (Reads (suc d) at) (node least sub text at c)
+  reads-node : (d : ℕ) (sub : ℕ → Outcome (Parsed Expr)) → ((a : ℕ) → Holds (Reads d a) (sub a)) → (at : ℕ) (c : Operator) →
+      operatorAt text at ≡ c → Holds (Reads (suc d) at) (node least sub text at c)
   unfolding node
-  reads-node d sub h at Command.EndsEarly e = tt
-  reads-node d sub h at Command.Unknown e = tt
-  reads-node d sub h at Command.OutOfRange e = tt
-  reads-node d sub h at Command.End e = tt
-  reads-node d sub h at (Command.Input period initial) e = tt
-  reads-node d sub h at (Command.Equation period initial weight) e = tt
-  reads-node d sub h at (Command.Latency mode bound) e = tt
-  reads-node d sub h at (Command.Link signal) e = tt
-  reads-node d sub h at (Command.Cap n) e = tt
-  reads-node d sub h at (Command.Tag label) e = tt
-  reads-node d sub h at (Command.Constant w) e = (Spells.constants (as-written _ tt e), omega arith)
-  reads-node d sub h at (Command.Read kind x) e =
-      holds-provided (Reads (suc d) at) (isAllowed least kind x) 5 at _ (λ t. (Spells.reads (as-written _ tt e) t, omega arith))
-  reads-node d sub h at (Command.Binary operator) e =
+  reads-node d sub h at Operator.EndsEarly e = tt
+  reads-node d sub h at Operator.Unknown e = tt
+  reads-node d sub h at Operator.OutOfRange e = tt
+  reads-node d sub h at (Operator.Constant w) e = (Spells.constants (operator-as-written _ tt e), omega arith)
+  reads-node d sub h at (Operator.Read kind x) e =
+      holds-provided (Reads (suc d) at) (isAllowed least kind x) 5 at _ (λ t.
+      (Spells.reads (operator-as-written _ tt e) t, omega arith))
+  reads-node d sub h at (Operator.Binary operator) e =
       holds-then (Reads d (at + 1)) (Reads (suc d) at) (sub (at + 1)) _ (h (at + 1)) (λ x u.
       holds-then (Reads d (x .next)) (Reads (suc d) at) (sub (x .next)) _ (h (x .next)) (λ y v.
-      (Spells.two (as-written _ tt e) (u .0) (v .0), omega arith)))
-  reads-node d sub h at Command.Negate e =
+      (Spells.two (operator-as-written _ tt e) (u .0) (v .0), omega arith)))
+  reads-node d sub h at (Operator.Unary operator) e =
       holds-then (Reads d (at + 1)) (Reads (suc d) at) (sub (at + 1)) _ (h (at + 1)) (λ x u.
-      (Spells.one (as-written _ tt e) (u .0), omega arith))
-  reads-node d sub h at Command.If e =
+      (Spells.one (operator-as-written _ tt e) (u .0), omega arith))
+  reads-node d sub h at Operator.If e =
       holds-then (Reads d (at + 1)) (Reads (suc d) at) (sub (at + 1)) _ (h (at + 1)) (λ x u.
       holds-then (Reads d (x .next)) (Reads (suc d) at) (sub (x .next)) _ (h (x .next)) (λ y v.
       holds-then (Reads d (y .next)) (Reads (suc d) at) (sub (y .next)) _ (h (y .next)) (λ z w.
-      (Spells.three (as-written _ tt e) (u .0) (v .0) (w .0), omega arith))))
+      (Spells.three (operator-as-written _ tt e) (u .0) (v .0) (w .0), omega arith))))
 
   reads-expr : (d at : ℕ) → Holds (Reads d at) (parseExpr least d text at)
   unfolding parseExpr
   reads-expr zero at =
-      let here = operatorHere text at (keywordAt text at) in
+      let here = operatorHere text at in
       holds-then (λ u. here ≡ accepted u) (Reads zero at) here _ (value-holds here) (λ u e. tt)
   reads-expr (suc d) at =
-      let here = operatorHere text at (keywordAt text at) in
+      let here = operatorHere text at in
       holds-then (λ u. here ≡ accepted u) (Reads (suc d) at) here _ (value-holds here) (λ u e.
-      reads-node d (λ n. parseExpr least d text n) (λ a. reads-expr d a) at (commandAt text at) refl)
+      reads-node d (λ n. parseExpr least d text n) (λ a. reads-expr d a) at (operatorAt text at) refl)
 
   -- An accepted expression is spelled, and nests at most d deep.
   pub spelled : (d at : ℕ) (e : Expr) (next : ℕ) → parseExpr least d text at ≡ parsed e next →
@@ -220,49 +144,49 @@ module _ (least : ℕ) (text : List ℕ) where
       onward {a} {l} {r} d =
           holds-map (Ended a l r) (Ended at label p) (next a l r) (λ q x. (x .0, Declares.onward d (x .1))) (h a l r)
 
-      declares : (c : Command) → commandAt text at ≡ c → RoomFor p (keywordAt text at) →
+      declares : (c : Declaration) → declarationAt text at ≡ c → HasRoom p (byteAt text at) →
           Holds (Ended at label p) (declare least next text at label p c)
       unfolding declare
-      declares Command.EndsEarly e room = tt
-      declares Command.Unknown e room = tt
-      declares Command.OutOfRange e room = tt
-      declares Command.End e room =
+      declares Declaration.EndsEarly e room = tt
+      declares Declaration.Unknown e room = tt
+      declares Declaration.OutOfRange e room = tt
+      declares Declaration.End e room =
           holds-provided (Ended at label p) (leb (length text) (at + 1)) 6 (at + 1) (accepted p) (λ t.
           (at, Declares.ends (as-written _ tt e) (leb-true _ _ t)))
-      declares (Command.Input period initial) e room =
-          onward (DeclaresOne.inputs (room-of p _ (keyword-of text at _ e) room) (as-written _ tt e))
-      declares (Command.Equation period initial weight) e room =
+      declares (Declaration.Input period initial) e room =
+          let w = as-written _ tt e in
+          onward (DeclaresOne.inputs (signal-room p room (inl (written-byte text at w))) w)
+      declares (Declaration.Equation period initial weight) e room =
+          let w = as-written _ tt e in
           holds-then (Reads 16 (at + inProgram 0x11)) (Ended at label p) (parseExpr least 16 text (at + inProgram 0x11)) _
           (reads-expr 16 (at + inProgram 0x11)) (λ x u.
-          onward (DeclaresOne.equations (room-of p _ (keyword-of text at _ e) room) (as-written _ tt e) (u .0) (u .1)))
-      declares (Command.Latency mode bound) e room =
+          onward (DeclaresOne.equations (signal-room p room (inr (written-byte text at w))) w (u .0) (u .1)))
+      declares (Declaration.Latency mode bound) e room =
+          let w = as-written _ tt e in
           holds-then (ReadsLinks 16 (at + 4) []) (Ended at label p) (parseLinks 16 text (at + 4) []) _
           (reads-links 16 (at + 4) []) (λ x u.
           holds-provided (Ended at label p) (leb 2 (length (x .value))) 5 at _ (λ t.
           onward
-          (DeclaresOne.chains (room-of p _ (keyword-of text at _ e) room) (as-written _ tt e) (rw (u .1) (u .2))
+          (DeclaresOne.chains (chain-room p room (written-byte text at w)) w (rw (u .1) (u .2))
           (leb-true 2 (length (x .value)) t) (rw (u .1) (u .3)))))
-      declares (Command.Link signal) e room = tt
-      declares (Command.Cap n) e room = onward (DeclaresOne.caps (room-of p _ (keyword-of text at _ e) room) (as-written _ tt e))
-      declares (Command.Tag given) e room =
+      declares (Declaration.Link signal) e room = tt
+      declares (Declaration.Cap n) e room =
+          let w = as-written _ tt e in
+          onward (DeclaresOne.caps (cap-room p room (written-byte text at w)) w)
+      declares (Declaration.Tag given) e room =
           let next = at + inProgram 0x15 in
           holds-provided (Ended at label p) (ltb next (length text)) _ _ _ (λ t.
           holds-provided (Ended at label p) (isSignal (byteAt text next)) _ _ _ (λ u.
           onward (DeclaresOne.tags (as-written _ tt e) (ltb-true next (length text) t) (signal-is (byteAt text next) .0 u))))
-      declares (Command.Constant w) e room = tt
-      declares (Command.Read kind x) e room = tt
-      declares (Command.Binary operator) e room = tt
-      declares Command.Negate e room = tt
-      declares Command.If e room = tt
 
   declares-commands : (left at label : ℕ) (p : Program) → Holds (Ended at label p) (parseCommands least left text at label p)
-  unfolding parseCommands commandAt
+  unfolding parseCommands
   declares-commands zero at label p = tt
   declares-commands (suc left) at label p =
-      let here = commandHere text at p (keywordAt text at) in
+      let here = declarationHere text at p in
       holds-then (λ u. here ≡ accepted u) (Ended at label p) here _ (value-holds here) (λ u e.
       declares (λ n l q. parseCommands least left text n l q) (λ a l q. declares-commands left a l q) at label p
-      (commandAt text at) refl (here-room p text at (keywordAt text at) e))
+      (declarationAt text at) refl (fit-declaration p text at e .1))
 
   -- An accepted text declares its program.
   pub declared : (p : Program) → parseWith least text ≡ accepted p → (end : ℕ) × Declares least text 0 0 empty end p

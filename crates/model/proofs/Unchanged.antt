@@ -101,7 +101,7 @@ module _ (text : List ℕ) where
   read-bytes {at} (Written.plain kind d h b) a = plain-bytes at kind d h b
   read-bytes (Written.sampled kind d h b r i) a = rw (factor-two kind _ d a)
   read-bytes (Written.binary operator h b) a = absurd a
-  read-bytes (Written.negate h b) a = absurd a
+  read-bytes (Written.unary operator h b) a = absurd a
   read-bytes (Written.choose h b) a = absurd a
 
   read-same : {at : ℕ} (kind : Kind) (x : Sampled) → Written text at (Command.Read kind x) →

@@ -12,14 +12,14 @@ use Rattle.model.specs.Rules.Program.{
   constant,
   read,
   binary,
-  negate,
+  unary,
   choose,
   Read,
   readsOf,
   bodyReads,
 }
 use Rattle.model.specs.Says.Streams.{value, next}
-use Rattle.model.specs.Rules.Word.{binaryWord, negWord}
+use Rattle.model.specs.Rules.Word.{binaryWord, unaryWord}
 
 pub all-split : {A : Type 0} (Q : A → Type 0) (xs ys : List A) → All Q (xs ++ ys) → All Q xs × All Q ys
 all-split Q [] ys q = (tt, q)
@@ -32,7 +32,7 @@ module _ (Q : Read → Type 0) (word word′ : Read → ℤ) (same : (ρ : Read)
   value-same (read ρ) q = same ρ (q .0)
   value-same (binary operator x y) q =
       let h = all-split Q (readsOf x) (readsOf y) q in ap₂ (binaryWord operator) (value-same x (h .0)) (value-same y (h .1))
-  value-same (negate x) q = ap negWord (value-same x q)
+  value-same (unary operator x) q = ap (unaryWord operator) (value-same x q)
   value-same (choose x y z) q =
       let h = all-split Q (readsOf x) (readsOf y ++ readsOf z) q in
       let g = all-split Q (readsOf y) (readsOf z) (h .1) in

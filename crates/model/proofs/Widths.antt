@@ -208,9 +208,9 @@ module _ (text : List ℕ) (at : ℕ) where
   text-span c (Written.binary operator h b) =
       spans (inExpression 0x30) (omega arith) h (rw b (binary-list operator)) (λ m g.
       Written.binary operator (long text m _ g h) (byte text m at (omega arith) ∙ b))
-  text-span c (Written.negate h b) =
+  text-span c (Written.unary operator h b) =
       spans (inExpression 0x38) (omega arith) h (rw b) (λ m g.
-      Written.negate (long text m _ g h) (byte text m at (omega arith) ∙ b))
+      Written.unary operator (long text m _ g h) (byte text m at (omega arith) ∙ b))
   text-span c (Written.choose h b) =
       spans (inExpression 0x3A) (omega arith) h (rw b) (λ m g.
       Written.choose (long text m _ g h) (byte text m at (omega arith) ∙ b))
@@ -270,9 +270,9 @@ module _ (code : List ℕ) (at : ℕ) where
   code-span c (CodeWritten.binary operator h b) =
       code-spans (inCode 0x30) (omega arith) h (rw b (operator-list operator)) (λ m g.
       CodeWritten.binary operator (long code m _ g h) (byte code m at (omega arith) ∙ b))
-  code-span c (CodeWritten.negate h b) =
+  code-span c (CodeWritten.unary operator h b) =
       code-spans (inCode 0x38) (omega arith) h (rw b) (λ m g.
-      CodeWritten.negate (long code m _ g h) (byte code m at (omega arith) ∙ b))
+      CodeWritten.unary operator (long code m _ g h) (byte code m at (omega arith) ∙ b))
   code-span c (CodeWritten.choose h b) =
       code-spans (inCode 0x3A) (omega arith) h (rw b) (λ m g.
       CodeWritten.choose (long code m _ g h) (byte code m at (omega arith) ∙ b))

@@ -24,20 +24,19 @@ use lib.Dec.{leb, ltb, eqb}
 use lib.ListN.{length}
 use Rattle.model.specs.Rules.Command.{
   whole,
-  ranged,
   firstJudged,
+  isPeriod,
   isFactor,
   isIndex,
   modeOf,
+  declarationOf,
+  declarationAt,
   plainRead,
   sampledRead,
   operatorOf,
-  keywordOf,
-  keywordAt,
-  commandOf,
-  commandAt,
+  operatorAt,
 }
-use Rattle.model.specs.Rules.Image.{binaryByte}
+use Rattle.model.specs.Rules.Image.{binaryByte, unaryByte}
 use Rattle.model.specs.Rules.Width.{inProgram, inExpression, inSchedule, inCode, readWidth}
 use Rattle.model.specs.Rules.Machine.{operatorCode, wholeCode, codeAt}
 use Rattle.model.specs.Rules.Schedule.{scheduleCommandAt}
@@ -46,17 +45,20 @@ use Rattle.model.specs.Says.Written.{
   InPeriods,
   InIndices,
   readByte,
-  Written,
-  Cut,
-  Outside,
-  OperatorByte,
+  DeclarationWritten,
+  DeclarationCut,
+  DeclarationOutside,
   DeclarationByte,
-  NoCommandByte,
+  OperatorWritten,
+  OperatorCut,
+  OperatorOutside,
+  OperatorByte,
   PutWritten,
   PutCut,
   NoPutByte,
   CodeWritten,
-  Whole,
+  DeclarationWhole,
+  OperatorWhole,
   PutWhole,
   CodeWhole,
 }
@@ -64,29 +66,39 @@ use Rattle.model.specs.declared.Binary.{Binary}
 use Rattle.model.specs.declared.Binary.the-variants.{Add, Sub, Mul, Less, Same, Min, Max}
 use Rattle.model.specs.declared.Code.{Code}
 use Rattle.model.specs.declared.Code.the-variants as Code
-use Rattle.model.specs.declared.Command.{Command}
-use Rattle.model.specs.declared.Command.the-variants as Command
-use Rattle.model.specs.declared.Keyword.{Keyword}
-use Rattle.model.specs.declared.Keyword.the-variants as Keyword
+use Rattle.model.specs.declared.Declaration.{Declaration}
+use Rattle.model.specs.declared.Declaration.the-variants as Declaration
 use Rattle.model.specs.declared.Kind.{Kind}
 use Rattle.model.specs.declared.Kind.the-variants.{Now, Last, When, LastWhen, Current}
+use Rattle.model.specs.declared.Operator.{Operator}
+use Rattle.model.specs.declared.Operator.the-variants as Operator
 use Rattle.model.specs.declared.ScheduleCommand.{ScheduleCommand}
 use Rattle.model.specs.declared.ScheduleCommand.the-variants as ScheduleCommand
-use Rattle.model.proofs.Commands.{period-bounds, KeywordOf, keyword-of}
-use Rattle.model.proofs.Keywords.{
-  read-keyword,
-  unknown-byte,
-  byte-inside,
-  read-some,
-  binary-keyword,
-  KeywordStands,
-  keyword-stands,
-  keyword-missing,
-  keyword-at,
-}
+use Rattle.model.specs.declared.Unary.{Unary}
+use Rattle.model.specs.declared.Unary.the-variants.{Negate}
 use Rattle.model.proofs.Outcomes.{not-true-false}
+use Rattle.model.proofs.Picks.{
+  chosen-all,
+  picked,
+  whole-all,
+  here-all,
+  there,
+  missing,
+  byte-inside,
+  operator-inside,
+  no-operator,
+  no-read,
+  no-binary,
+  plain-picked,
+  sampled-picked,
+  binary-picked,
+  unary-picked,
+}
 
 -- Ranges.
+pub period-bounds : (n : ℕ) → isPeriod n ≡ true → (1 ≤ n) × (n ≤ 240)
+period-bounds n e = let f = and-eq-true-iff (leb 1 n) (leb n 240) .0 e in (leb-true 1 n (f .0), leb-true n 240 (f .1))
+
 in-periods : (n : ℕ) → (leb 1 n && leb n 240 ≡ true) ↔ InPeriods n
 in-periods n = (
   period-bounds n,
@@ -122,13 +134,21 @@ fails i e q = false≢true (sym e ∙ i .1 q)
 failing : {b : Bool} {Q : Type 0} → (b ≡ true) ↔ Q → ¬ Q → b ≡ false
 failing {b} i u = not-true-false b (λ t. u (i .0 t))
 
--- What the bytes say where a command is decoded.
-data Decodes (text : List ℕ) (at : ℕ) : Command → Type 0 where
-  early : length text ≤ at → Decodes text at Command.EndsEarly
-  cut : Cut text at → Decodes text at Command.EndsEarly
-  outside : Outside text at → Decodes text at Command.OutOfRange
-  unknown : at < length text → NoCommandByte (byteAt text at) → Decodes text at Command.Unknown
-  written : {c : Command} → Written text at c → Decodes text at c
+-- What the bytes say where a declaration is decoded, and where an operator is.
+pub data DeclarationDecodes (text : List ℕ) (at : ℕ) : Declaration → Type 0 where
+  early : length text ≤ at → DeclarationDecodes text at Declaration.EndsEarly
+  cut : DeclarationCut text at → DeclarationDecodes text at Declaration.EndsEarly
+  outside : DeclarationOutside text at → DeclarationDecodes text at Declaration.OutOfRange
+  unknown : at < length text → ¬ DeclarationByte (byteAt text at) → ¬ (byteAt text at ≡ 0x13) →
+      DeclarationDecodes text at Declaration.Unknown
+  written : {c : Declaration} → DeclarationWritten text at c → DeclarationDecodes text at c
+
+pub data OperatorDecodes (text : List ℕ) (at : ℕ) : Operator → Type 0 where
+  early : length text ≤ at → OperatorDecodes text at Operator.EndsEarly
+  cut : OperatorCut text at → OperatorDecodes text at Operator.EndsEarly
+  outside : OperatorOutside text at → OperatorDecodes text at Operator.OutOfRange
+  unknown : at < length text → ¬ OperatorByte (byteAt text at) → OperatorDecodes text at Operator.Unknown
+  written : {c : Operator} → OperatorWritten text at c → OperatorDecodes text at c
 
 data PutDecodes (text : List ℕ) (at : ℕ) : ScheduleCommand → Type 0 where
   early : length text ≤ at → PutDecodes text at ScheduleCommand.EndsEarly
@@ -136,302 +156,388 @@ data PutDecodes (text : List ℕ) (at : ℕ) : ScheduleCommand → Type 0 where
   unknown : at < length text → NoPutByte (byteAt text at) → PutDecodes text at ScheduleCommand.Unknown
   written : {c : ScheduleCommand} → PutWritten text at c → PutDecodes text at c
 
-module _ (text : List ℕ) (at : ℕ) where
-  whole-decodes : (n : ℕ) (c : Command) → (length text < at + n → Cut text at) → (at + n ≤ length text → Decodes text at c) →
-      Decodes text at (whole text at n c)
-  whole-decodes n c f h = go (leb (at + n) (length text)) refl
-    where
-      go : (b : Bool) → leb (at + n) (length text) ≡ b → Decodes text at (cond b c Command.EndsEarly)
-      go true e = h (leb-true (at + n) (length text) e)
-      go false e = Decodes.cut (f (leb-false (at + n) (length text) e))
+-- A byte that is none of the six, and no LINK's, is no declaration's.
+no-declaration : {b : ℕ} → ¬ (b ≡ 0x00) → ¬ (b ≡ 0x10) → ¬ (b ≡ 0x11) → ¬ (b ≡ 0x12) → ¬ (b ≡ 0x14) → ¬ (b ≡ 0x15) →
+    ¬ DeclarationByte b
+no-declaration e i q l c t (DeclarationByte.end h) = e h
+no-declaration e i q l c t (DeclarationByte.input h) = i h
+no-declaration e i q l c t (DeclarationByte.equation h) = q h
+no-declaration e i q l c t (DeclarationByte.latency h) = l h
+no-declaration e i q l c t (DeclarationByte.cap h) = c h
+no-declaration e i q l c t (DeclarationByte.tag h) = t h
 
-  ranged-decodes : (b : Bool) (c : Command) → (b ≡ false → Outside text at) → (b ≡ true → Decodes text at c) →
-      Decodes text at (ranged b c)
-  ranged-decodes true c f h = h refl
-  ranged-decodes false c f h = Decodes.outside (f refl)
+-- Declarations.
+module _ (text : List ℕ) (at : ℕ) where
+  abbrev D : Declaration → Type 0
+  D c = DeclarationDecodes text at c
+
+  abbrev byte : ℕ
+  byte = byteAt text at
+
+  declaration-whole : (n : ℕ) (c : Declaration) → (length text < at + n → DeclarationCut text at) →
+      (at + n ≤ length text → D c) → D (whole Declaration.EndsEarly text at n c)
+  declaration-whole n c f h = whole-all D Declaration.EndsEarly text at n c (λ g. DeclarationDecodes.cut (f g)) h
+
+  -- IN, EQ and LAT: the byte after the command is judged before the rest is looked for.
+  judged-decodes : {Q : Type 0} (n : ℕ) (t : Bool) (c : Declaration) → 2 ≤ n → (t ≡ true) ↔ Q →
+      (length text < at + n → (at + 2 ≤ length text → Q) → DeclarationCut text at) →
+      (at + 2 ≤ length text → ¬ Q → DeclarationOutside text at) →
+      (at + n ≤ length text → Q → DeclarationWritten text at c) → D (firstJudged text at n t c)
+  judged-decodes n t c two i short out all =
+      declaration-whole 2 _ (λ g. short (omega arith) (λ h. absurd (omega arith))) (λ h.
+      chosen-all D t _ _ (λ r. declaration-whole n c (λ g. short g (λ _. i .0 r)) (λ g. DeclarationDecodes.written (all g (i .0 r))))
+      (λ f. DeclarationDecodes.outside (out h (fails i f))))
+
+  declaration-picks : at < length text → D (declarationOf byte text at)
+  unfolding declarationOf
+  declaration-picks lt =
+      let mode = byteAt text (at + 1) in
+      picked D byte 0x00 _ _ (λ b. DeclarationDecodes.written (DeclarationWritten.end (omega arith) b)) (λ e.
+      picked D byte 0x10 _ _ (λ b.
+      judged-decodes (inProgram 0x10) _ _ (omega arith) (in-periods (byteAt text (at + 1)))
+      (λ g h. DeclarationCut.input b g h) (λ g u. DeclarationOutside.input b g u) (λ g r. DeclarationWritten.input g b r)) (λ i.
+      picked D byte 0x11 _ _ (λ b.
+      judged-decodes (inProgram 0x11) _ _ (omega arith) (in-periods (byteAt text (at + 1)))
+      (λ g h. DeclarationCut.equation b g h) (λ g u. DeclarationOutside.equation b g u)
+      (λ g r. DeclarationWritten.equation g b r)) (λ q.
+      picked D byte 0x12 _ _ (λ b.
+      judged-decodes (inProgram 0x12) (leb mode 1) (Declaration.Latency (modeOf mode) (twoAt text (at + 2))) (omega arith)
+      (leb-true mode 1, le-leb mode 1)
+      (λ g h. DeclarationCut.latency b g h) (λ g u. DeclarationOutside.latency b g (omega (arith, u)))
+      (λ g r. DeclarationWritten.latency g b r)) (λ l.
+      picked D byte 0x13 _ _ (λ b.
+      declaration-whole (inProgram 0x13) _ (DeclarationCut.link b) (λ h. DeclarationDecodes.written (DeclarationWritten.link h b)))
+      (λ k.
+      picked D byte 0x14 _ _ (λ b.
+      declaration-whole (inProgram 0x14) _ (DeclarationCut.cap b) (λ h. DeclarationDecodes.written (DeclarationWritten.cap h b)))
+      (λ c.
+      picked D byte 0x15 _ _ (λ b.
+      declaration-whole (inProgram 0x15) _ (DeclarationCut.tag b) (λ h. DeclarationDecodes.written (DeclarationWritten.tag h b)))
+      (λ t. DeclarationDecodes.unknown lt (no-declaration e i q l c t) k)))))))
+
+  pub declaration-decodes : D (declarationAt text at)
+  unfolding declarationAt
+  declaration-decodes =
+      here-all D Declaration.EndsEarly text at _ (λ le. DeclarationDecodes.early le) declaration-picks
+
+  -- What is written, cut, outside its range or unknown is decoded so.
+  declaration-here : {c : Declaration} → at < length text → declarationOf byte text at ≡ c → declarationAt text at ≡ c
+  unfolding declarationAt
+  declaration-here lt e = rw (lt-ltb at (length text) lt, e)
+
+  judged-written : {Q : Type 0} (n : ℕ) (t : Bool) (c : Declaration) → 2 ≤ n → (t ≡ true) ↔ Q → at + n ≤ length text → Q →
+      firstJudged text at n t c ≡ c
+  judged-written n t c two i h q =
+      there Declaration.EndsEarly text at 2 _ (omega arith) ∙ rw (i .1 q) (there Declaration.EndsEarly text at n c h)
+
+  judged-cut : {Q : Type 0} (n : ℕ) (t : Bool) (c : Declaration) → (t ≡ true) ↔ Q → length text < at + n →
+      (at + 2 ≤ length text → Q) → firstJudged text at n t c ≡ Declaration.EndsEarly
+  judged-cut n t c i g h =
+      whole-all (λ d. d ≡ Declaration.EndsEarly) Declaration.EndsEarly text at 2 _ (λ _. refl) (λ two.
+      rw (i .1 (h two)) (missing Declaration.EndsEarly text at n c g))
+
+  judged-outside : {Q : Type 0} (n : ℕ) (t : Bool) (c : Declaration) → (t ≡ true) ↔ Q → at + 2 ≤ length text → ¬ Q →
+      firstJudged text at n t c ≡ Declaration.OutOfRange
+  judged-outside n t c i g u = there Declaration.EndsEarly text at 2 _ g ∙ rw (failing i u)
+
+  written-declaration : (c : Declaration) → DeclarationWritten text at c → (declarationAt text at ≡ c) × DeclarationWhole c
+  unfolding declarationOf
+  written-declaration c (DeclarationWritten.end h b) = (declaration-here (omega arith) (rw b), tt)
+  written-declaration c (DeclarationWritten.input h b r) =
+      (declaration-here (omega arith) (rw b (judged-written (inProgram 0x10) _ _ (omega arith) (in-periods _) h r)), tt)
+  written-declaration c (DeclarationWritten.equation h b r) =
+      (declaration-here (omega arith) (rw b (judged-written (inProgram 0x11) _ _ (omega arith) (in-periods _) h r)), tt)
+  written-declaration c (DeclarationWritten.latency h b r) = let mode = byteAt text (at + 1) in (
+    declaration-here (omega arith)
+        (rw b
+        (judged-written (inProgram 0x12) (leb mode 1) (Declaration.Latency (modeOf mode) (twoAt text (at + 2))) (omega arith)
+        (leb-true mode 1, le-leb mode 1) h r)),
+    tt,
+  )
+  written-declaration c (DeclarationWritten.link h b) =
+      (declaration-here (omega arith) (rw b (there Declaration.EndsEarly text at (inProgram 0x13) _ h)), tt)
+  written-declaration c (DeclarationWritten.cap h b) =
+      (declaration-here (omega arith) (rw b (there Declaration.EndsEarly text at (inProgram 0x14) _ h)), tt)
+  written-declaration c (DeclarationWritten.tag h b) =
+      (declaration-here (omega arith) (rw b (there Declaration.EndsEarly text at (inProgram 0x15) _ h)), tt)
+
+  pub declaration-cut-inside : DeclarationCut text at → at < length text
+  declaration-cut-inside (DeclarationCut.input b g h) = byte-inside text at (omega arith)
+  declaration-cut-inside (DeclarationCut.equation b g h) = byte-inside text at (omega arith)
+  declaration-cut-inside (DeclarationCut.latency b g h) = byte-inside text at (omega arith)
+  declaration-cut-inside (DeclarationCut.link b g) = byte-inside text at (omega arith)
+  declaration-cut-inside (DeclarationCut.cap b g) = byte-inside text at (omega arith)
+  declaration-cut-inside (DeclarationCut.tag b g) = byte-inside text at (omega arith)
+
+  cut-declaration : (c : DeclarationCut text at) → declarationOf byte text at ≡ Declaration.EndsEarly
+  unfolding declarationOf
+  cut-declaration (DeclarationCut.input b g h) = rw b (judged-cut (inProgram 0x10) _ _ (in-periods _) g h)
+  cut-declaration (DeclarationCut.equation b g h) = rw b (judged-cut (inProgram 0x11) _ _ (in-periods _) g h)
+  cut-declaration (DeclarationCut.latency b g h) =
+      let mode = byteAt text (at + 1) in
+      rw b
+      (judged-cut (inProgram 0x12) (leb mode 1) (Declaration.Latency (modeOf mode) (twoAt text (at + 2)))
+      (leb-true mode 1, le-leb mode 1) g h)
+  cut-declaration (DeclarationCut.link b g) = rw b (missing Declaration.EndsEarly text at (inProgram 0x13) _ g)
+  cut-declaration (DeclarationCut.cap b g) = rw b (missing Declaration.EndsEarly text at (inProgram 0x14) _ g)
+  cut-declaration (DeclarationCut.tag b g) = rw b (missing Declaration.EndsEarly text at (inProgram 0x15) _ g)
+
+  pub declaration-outside-inside : DeclarationOutside text at → at < length text
+  declaration-outside-inside (DeclarationOutside.input b g u) = omega arith
+  declaration-outside-inside (DeclarationOutside.equation b g u) = omega arith
+  declaration-outside-inside (DeclarationOutside.latency b g u) = omega arith
+
+  outside-declaration : DeclarationOutside text at → declarationOf byte text at ≡ Declaration.OutOfRange
+  unfolding declarationOf
+  outside-declaration (DeclarationOutside.input b g u) = rw b (judged-outside (inProgram 0x10) _ _ (in-periods _) g u)
+  outside-declaration (DeclarationOutside.equation b g u) = rw b (judged-outside (inProgram 0x11) _ _ (in-periods _) g u)
+  outside-declaration (DeclarationOutside.latency b g u) =
+      let mode = byteAt text (at + 1) in
+      rw b
+      (judged-outside (inProgram 0x12) (leb mode 1) (Declaration.Latency (modeOf mode) (twoAt text (at + 2)))
+      (leb-true mode 1, le-leb mode 1) g (λ le. omega arith))
+
+  unknown-declaration : ¬ DeclarationByte byte → ¬ (byte ≡ 0x13) → declarationOf byte text at ≡ Declaration.Unknown
+  unfolding declarationOf
+  unknown-declaration u k =
+      rw (
+        ne-eqb byte 0x00 (λ b. u (DeclarationByte.end b)),
+        ne-eqb byte 0x10 (λ b. u (DeclarationByte.input b)),
+        ne-eqb byte 0x11 (λ b. u (DeclarationByte.equation b)),
+        ne-eqb byte 0x12 (λ b. u (DeclarationByte.latency b)),
+        ne-eqb byte 0x13 k,
+        ne-eqb byte 0x14 (λ b. u (DeclarationByte.cap b)),
+        ne-eqb byte 0x15 (λ b. u (DeclarationByte.tag b)),
+      )
+
+  early-declaration : length text ≤ at → declarationAt text at ≡ Declaration.EndsEarly
+  unfolding declarationAt
+  early-declaration le = rw (le-ltb at (length text) le)
+
+  declaration-is : {c : Declaration} → DeclarationWhole c → D c → DeclarationWritten text at c
+  declaration-is w (DeclarationDecodes.written h) = h
+
+  declaration-early : D Declaration.EndsEarly → (length text ≤ at) ⊎ DeclarationCut text at
+  declaration-early (DeclarationDecodes.early le) = inl le
+  declaration-early (DeclarationDecodes.cut c) = inr c
+
+  declaration-out : D Declaration.OutOfRange → DeclarationOutside text at
+  declaration-out (DeclarationDecodes.outside o) = o
+
+  declaration-none : D Declaration.Unknown → (at < length text) × ¬ DeclarationByte byte × ¬ (byte ≡ 0x13)
+  declaration-none (DeclarationDecodes.unknown lt u k) = (lt, u, k)
+
+  -- A whole declaration is decoded exactly where its bytes are written.
+  pub declaration-written : (c : Declaration) → ((declarationAt text at ≡ c) × DeclarationWhole c) ↔ DeclarationWritten text at c
+  declaration-written c = (λ h. declaration-is (h .1) (subst D (h .0) declaration-decodes), written-declaration c)
+
+  -- It ends early exactly if no byte is left or it is cut; it is out of range exactly if an operand is outside its range; it is
+  -- unknown exactly if its byte is no declaration's and no LINK's.
+  pub declaration-cut : (declarationAt text at ≡ Declaration.EndsEarly) ↔ ((length text ≤ at) ⊎ DeclarationCut text at)
+  declaration-cut = (λ e. declaration-early (subst D e declaration-decodes), back)
+    where
+      back : (length text ≤ at) ⊎ DeclarationCut text at → declarationAt text at ≡ Declaration.EndsEarly
+      back (inl le) = early-declaration le
+      back (inr c) = declaration-here (declaration-cut-inside c) (cut-declaration c)
+
+  pub declaration-outside : (declarationAt text at ≡ Declaration.OutOfRange) ↔ DeclarationOutside text at
+  declaration-outside = (
+    λ e. declaration-out (subst D e declaration-decodes),
+    λ o. declaration-here (declaration-outside-inside o) (outside-declaration o),
+  )
+
+  pub declaration-unknown : (declarationAt text at ≡ Declaration.Unknown) ↔
+      ((at < length text) × ¬ DeclarationByte (byteAt text at) × ¬ (byteAt text at ≡ 0x13))
+  declaration-unknown = (
+    λ e. declaration-none (subst D e declaration-decodes),
+    λ h. declaration-here (h .0) (unknown-declaration (h .1) (h .2)),
+  )
+
+-- Operators.
+module _ (text : List ℕ) (at : ℕ) where
+  abbrev O : Operator → Type 0
+  O c = OperatorDecodes text at c
+
+  operator-whole : (n : ℕ) (c : Operator) → (length text < at + n → OperatorCut text at) → (at + n ≤ length text → O c) →
+      O (whole Operator.EndsEarly text at n c)
+  operator-whole n c f h = whole-all O Operator.EndsEarly text at n c (λ g. OperatorDecodes.cut (f g)) h
 
   plain-decodes : (kind : Kind) → readWidth kind ≡ inExpression 0x21 → byteAt text at ≡ readByte kind →
-      Decodes text at (plainRead kind text at)
+      O (plainRead kind text at)
   unfolding plainRead
   plain-decodes kind e b =
-      whole-decodes (inExpression 0x21) _ (λ g. Cut.read kind b (omega arith)) (λ h. Decodes.written (Written.plain kind e h b))
+      operator-whole (inExpression 0x21) _ (λ g. OperatorCut.read kind b (omega arith)) (λ h.
+      OperatorDecodes.written (OperatorWritten.plain kind e h b))
 
   sampled-decodes : (kind : Kind) → readWidth kind ≡ inExpression 0x23 → byteAt text at ≡ readByte kind →
-      Decodes text at (sampledRead kind text at)
+      O (sampledRead kind text at)
   unfolding sampledRead
   sampled-decodes kind e b =
       let i = byteAt text (at + 2) in
       let n = byteAt text (at + 3) in
-      whole-decodes (inExpression 0x23) _ (λ g. Cut.read kind b (omega arith)) (λ h.
-      ranged-decodes (isFactor n && isIndex i n) _ (λ f. Outside.sampled kind e h b (fails (in-ranges i n) f)) (λ t.
-      let r = in-ranges i n .0 t in
-      Decodes.written (Written.sampled kind e h b (r .0) (r .1))))
+      operator-whole (inExpression 0x23) _ (λ g. OperatorCut.read kind b (omega arith)) (λ h.
+      chosen-all O (isFactor n && isIndex i n) _ _
+      (λ t. let r = in-ranges i n .0 t in OperatorDecodes.written (OperatorWritten.sampled kind e h b (r .0) (r .1)))
+      (λ f. OperatorDecodes.outside (OperatorOutside.sampled kind e h b (fails (in-ranges i n) f))))
 
-  -- IN, EQ and LAT: the byte after the command is judged before the rest is looked for.
-  judged-decodes : {Q : Type 0} (n : ℕ) (t : Bool) (c : Command) → 2 ≤ n → (t ≡ true) ↔ Q →
-      (length text < at + n → (at + 2 ≤ length text → Q) → Cut text at) → (at + 2 ≤ length text → ¬ Q → Outside text at) →
-      (at + n ≤ length text → Q → Written text at c) →
-      Decodes text at (firstJudged text at n t c)
-  judged-decodes n t c two i short out all =
-      whole-decodes _ _ (λ g. short (omega arith) (λ h. absurd (omega arith))) (λ h.
-      ranged-decodes t _ (λ f. out (omega arith) (fails i f)) (λ r.
-      whole-decodes n c (λ g. short g (λ _. i .0 r)) (λ g. Decodes.written (all g (i .0 r)))))
+  binary-decodes : at < length text → (operator : Binary) → byteAt text at ≡ binaryByte operator → O (Operator.Binary operator)
+  binary-decodes lt operator b = OperatorDecodes.written (OperatorWritten.binary operator (omega arith) b)
 
-  keyword-decodes : (k : Keyword) → keywordAt text at ≡ k → KeywordStands text at k → Decodes text at (commandOf k text at)
-  unfolding commandOf
-  keyword-decodes Keyword.Missing e s = Decodes.early s
-  keyword-decodes Keyword.Unknown e s = Decodes.unknown s (unknown-byte (sym (keyword-at text at _ s refl) ∙ e))
-  keyword-decodes Keyword.End e s = Decodes.written (Written.end (omega (arith, s .0)) (s .1))
-  keyword-decodes Keyword.Input e s =
-      judged-decodes (inProgram 0x10) _ _ (omega arith) (in-periods (byteAt text (at + 1)))
-      (λ g h. Cut.input (s .1) g h) (λ g u. Outside.input (s .1) g u) (λ g r. Written.input g (s .1) r)
-  keyword-decodes Keyword.Equation e s =
-      judged-decodes (inProgram 0x11) _ _ (omega arith) (in-periods (byteAt text (at + 1)))
-      (λ g h. Cut.equation (s .1) g h) (λ g u. Outside.equation (s .1) g u) (λ g r. Written.equation g (s .1) r)
-  keyword-decodes Keyword.Latency e s =
-      let mode = byteAt text (at + 1) in
-      judged-decodes (inProgram 0x12) (leb mode 1) (Command.Latency (modeOf mode) (twoAt text (at + 2))) (omega arith)
-      (leb-true mode 1, le-leb mode 1)
-      (λ g h. Cut.latency (s .1) g h) (λ g u. Outside.latency (s .1) g (omega (arith, u))) (λ g r. Written.latency g (s .1) r)
-  keyword-decodes Keyword.Link e s =
-      whole-decodes (inProgram 0x13) _ (Cut.link (s .1)) (λ h. Decodes.written (Written.link h (s .1)))
-  keyword-decodes Keyword.Cap e s =
-      whole-decodes (inProgram 0x14) _ (Cut.cap (s .1)) (λ h. Decodes.written (Written.cap h (s .1)))
-  keyword-decodes Keyword.Tag e s =
-      whole-decodes (inProgram 0x15) _ (Cut.tag (s .1)) (λ h. Decodes.written (Written.tag h (s .1)))
-  keyword-decodes Keyword.Constant e s =
-      whole-decodes (inExpression 0x20) _ (Cut.constant (s .1)) (λ h. Decodes.written (Written.constant h (s .1)))
-  keyword-decodes (Keyword.Read Now) e s = plain-decodes Now refl (s .1)
-  keyword-decodes (Keyword.Read Last) e s = plain-decodes Last refl (s .1)
-  keyword-decodes (Keyword.Read When) e s = sampled-decodes When refl (s .1)
-  keyword-decodes (Keyword.Read LastWhen) e s = sampled-decodes LastWhen refl (s .1)
-  keyword-decodes (Keyword.Read Current) e s = sampled-decodes Current refl (s .1)
-  keyword-decodes (Keyword.Binary operator) e s = Decodes.written (Written.binary operator (omega (arith, s .0)) (s .1))
-  keyword-decodes Keyword.Negate e s = Decodes.written (Written.negate (omega (arith, s .0)) (s .1))
-  keyword-decodes Keyword.If e s = Decodes.written (Written.choose (omega (arith, s .0)) (s .1))
+  operator-picks : at < length text → O (operatorOf (byteAt text at) text at)
+  unfolding operatorOf
+  operator-picks lt =
+      let y = byteAt text at in
+      picked O y 0x20 _ _ (λ b.
+      operator-whole (inExpression 0x20) _ (OperatorCut.constant b) (λ h. OperatorDecodes.written (OperatorWritten.constant h b)))
+      (λ c.
+      picked O y 0x21 _ _ (plain-decodes Now refl) (λ r1.
+      picked O y 0x22 _ _ (plain-decodes Last refl) (λ r2.
+      picked O y 0x23 _ _ (sampled-decodes When refl) (λ r3.
+      picked O y 0x24 _ _ (sampled-decodes LastWhen refl) (λ r4.
+      picked O y 0x25 _ _ (sampled-decodes Current refl) (λ r5.
+      picked O y 0x30 _ _ (binary-decodes lt Add) (λ b0.
+      picked O y 0x31 _ _ (binary-decodes lt Sub) (λ b1.
+      picked O y 0x32 _ _ (binary-decodes lt Mul) (λ b2.
+      picked O y 0x33 _ _ (binary-decodes lt Less) (λ b3.
+      picked O y 0x34 _ _ (binary-decodes lt Same) (λ b4.
+      picked O y 0x35 _ _ (binary-decodes lt Min) (λ b5.
+      picked O y 0x36 _ _ (binary-decodes lt Max) (λ b6.
+      picked O y 0x38 _ _ (λ b. OperatorDecodes.written (OperatorWritten.unary Negate (omega arith) b)) (λ u.
+      picked O y 0x3A _ _ (λ b. OperatorDecodes.written (OperatorWritten.choose (omega arith) b)) (λ i.
+      OperatorDecodes.unknown lt
+      (no-operator c (no-read r1 r2 r3 r4 r5) (no-binary b0 b1 b2 b3 b4 b5 b6) u i))))))))))))))))
 
-  decodes : Decodes text at (commandAt text at)
-  unfolding commandAt
-  decodes = keyword-decodes (keywordAt text at) refl (keyword-stands text at (keywordAt text at) refl)
+  pub operator-decodes : O (operatorAt text at)
+  unfolding operatorAt
+  operator-decodes = here-all O Operator.EndsEarly text at _ (λ le. OperatorDecodes.early le) operator-picks
 
-  -- A command whose bytes are written is decoded.
-  written-keyword : (k : Keyword) → at < length text → keywordOf (byteAt text at) ≡ k → commandAt text at ≡ commandOf k text at
-  unfolding commandAt
-  written-keyword k lt e = ap (λ j. commandOf j text at) (keyword-at text at k lt e)
+  -- What is written, cut, outside its range or unknown is decoded so.
+  operator-here : {c : Operator} → at < length text → operatorOf (byteAt text at) text at ≡ c → operatorAt text at ≡ c
+  unfolding operatorAt
+  operator-here lt e = rw (lt-ltb at (length text) lt, e)
 
-  -- Operands that are there.
-  there : (n : ℕ) (c : Command) → at + n ≤ length text → whole text at n c ≡ c
-  there n c h = rw (le-leb (at + n) (length text) h)
-
-  fits : (t : Bool) (c : Command) → t ≡ true → ranged t c ≡ c
-  fits t c e = rw e
-
-  plain-written : (kind : Kind) → readWidth kind ≡ inExpression 0x21 → at + inExpression 0x21 ≤ length text →
-      commandOf (Keyword.Read kind) text at ≡ plainRead kind text at
-  unfolding commandOf
-  plain-written Now e h = refl
-  plain-written Last e h = refl
-  plain-written When e h = absurd (omega arith)
-  plain-written LastWhen e h = absurd (omega arith)
-  plain-written Current e h = absurd (omega arith)
-
-  sampled-written : (kind : Kind) → readWidth kind ≡ inExpression 0x23 → at + inExpression 0x23 ≤ length text →
-      commandOf (Keyword.Read kind) text at ≡ sampledRead kind text at
-  unfolding commandOf
-  sampled-written Now e h = absurd (omega arith)
-  sampled-written Last e h = absurd (omega arith)
-  sampled-written When e h = refl
-  sampled-written LastWhen e h = refl
-  sampled-written Current e h = refl
-
-  judged-written : {Q : Type 0} (n : ℕ) (t : Bool) (c : Command) → 2 ≤ n → (t ≡ true) ↔ Q → at + n ≤ length text → Q →
-      firstJudged text at n t c ≡ c
-  judged-written n t c two i h q = there _ _ (omega arith) ∙ fits t _ (i .1 q) ∙ there n c h
-
-  written-command : (c : Command) → Written text at c → (commandAt text at ≡ c) × Whole c
-  unfolding commandOf keywordOf operatorOf plainRead sampledRead
-  written-command c (Written.end h b) = (written-keyword Keyword.End (omega arith) (rw b), tt)
-  written-command c (Written.input h b r) = (
-    written-keyword Keyword.Input (omega arith) (rw b) ∙
-        judged-written (inProgram 0x10) _ _ (omega arith) (in-periods _) h r,
+  written-operator : (c : Operator) → OperatorWritten text at c → (operatorAt text at ≡ c) × OperatorWhole c
+  unfolding operatorOf plainRead sampledRead
+  written-operator c (OperatorWritten.constant h b) =
+      (operator-here (omega arith) (rw b (there Operator.EndsEarly text at (inExpression 0x20) _ h)), tt)
+  written-operator c (OperatorWritten.plain kind e h b) = (
+    operator-here (omega arith) (plain-picked text at kind e b ∙ there Operator.EndsEarly text at (inExpression 0x21) _ h),
     tt,
   )
-  written-command c (Written.equation h b r) = (
-    written-keyword Keyword.Equation (omega arith) (rw b) ∙
-        judged-written (inProgram 0x11) _ _ (omega arith) (in-periods _) h r,
+  written-operator c (OperatorWritten.sampled kind e h b r i) = (
+    operator-here (omega arith)
+        (sampled-picked text at kind e b ∙ there Operator.EndsEarly text at (inExpression 0x23) _ h ∙
+        rw (in-ranges _ _ .1 (r, i))),
     tt,
   )
-  written-command c (Written.latency h b r) = let mode = byteAt text (at + 1) in (
-    written-keyword Keyword.Latency (omega arith) (rw b) ∙
-        judged-written (inProgram 0x12) (leb mode 1) (Command.Latency (modeOf mode) (twoAt text (at + 2))) (omega arith)
-        (leb-true mode 1, le-leb mode 1) h r,
-    tt,
-  )
-  written-command c (Written.link h b) = (written-keyword Keyword.Link (omega arith) (rw b) ∙ there (inProgram 0x13) _ h, tt)
-  written-command c (Written.cap h b) = (written-keyword Keyword.Cap (omega arith) (rw b) ∙ there (inProgram 0x14) _ h, tt)
-  written-command c (Written.tag h b) = (written-keyword Keyword.Tag (omega arith) (rw b) ∙ there (inProgram 0x15) _ h, tt)
-  written-command c (Written.constant h b) =
-      (written-keyword Keyword.Constant (omega arith) (rw b) ∙ there (inExpression 0x20) _ h, tt)
-  written-command c (Written.plain kind e h b) = (
-    written-keyword (Keyword.Read kind) (omega arith) (read-keyword kind b) ∙ plain-written kind e h ∙
-        there (inExpression 0x21) _ h,
-    tt,
-  )
-  written-command c (Written.sampled kind e h b r i) = (
-    written-keyword (Keyword.Read kind) (omega arith) (read-keyword kind b) ∙ sampled-written kind e h ∙
-        there (inExpression 0x23) _ h ∙
-        fits _ _ (in-ranges _ _ .1 (r, i)),
-    tt,
-  )
-  written-command c (Written.binary operator h b) =
-      (written-keyword (Keyword.Binary operator) (omega arith) (binary-keyword operator b), tt)
-  written-command c (Written.negate h b) = (written-keyword Keyword.Negate (omega arith) (rw b), tt)
-  written-command c (Written.choose h b) = (written-keyword Keyword.If (omega arith) (rw b), tt)
+  written-operator c (OperatorWritten.binary operator h b) =
+      (operator-here (omega arith) (binary-picked text at operator b), tt)
+  written-operator c (OperatorWritten.unary operator h b) = (operator-here (omega arith) (unary-picked text at operator b), tt)
+  written-operator c (OperatorWritten.choose h b) = (operator-here (omega arith) (rw b), tt)
 
-  -- A command that is cut is decoded so.
-  missing : (n : ℕ) (c : Command) → length text < at + n → whole text at n c ≡ Command.EndsEarly
-  missing n c h = rw (lt-leb (at + n) (length text) h)
+  pub operator-cut-byte : OperatorCut text at → OperatorByte (byteAt text at)
+  operator-cut-byte (OperatorCut.constant b g) = OperatorByte.constant b
+  operator-cut-byte (OperatorCut.read kind b g) = OperatorByte.read kind b
 
-  fails-range : (t : Bool) (c : Command) → t ≡ false → ranged t c ≡ Command.OutOfRange
-  fails-range t c e = rw e
+  pub operator-outside-byte : OperatorOutside text at → OperatorByte (byteAt text at)
+  operator-outside-byte (OperatorOutside.sampled kind e h b u) = OperatorByte.read kind b
 
-  -- IN, EQ and LAT.
-  judged-cut : {Q : Type 0} (n : ℕ) (t : Bool) (c : Command) → (t ≡ true) ↔ Q → length text < at + n →
-      (at + 2 ≤ length text → Q) → firstJudged text at n t c ≡ Command.EndsEarly
-  judged-cut n t c i g h = go (leb (at + 2) (length text)) refl
-    where
-      go : (b : Bool) → leb (at + 2) (length text) ≡ b →
-          cond b (ranged t (whole text at n c)) Command.EndsEarly ≡ Command.EndsEarly
-      go true e = fits t _ (i .1 (h (leb-true _ _ e))) ∙ missing n c g
-      go false e = refl
+  plain-cut : (kind : Kind) → readWidth kind ≡ inExpression 0x21 → byteAt text at ≡ readByte kind →
+      length text < at + readWidth kind → operatorOf (byteAt text at) text at ≡ Operator.EndsEarly
+  unfolding plainRead
+  plain-cut kind e b g = plain-picked text at kind e b ∙ missing Operator.EndsEarly text at (inExpression 0x21) _ (omega arith)
 
-  judged-outside : {Q : Type 0} (n : ℕ) (t : Bool) (c : Command) → (t ≡ true) ↔ Q → at + 2 ≤ length text → ¬ Q →
-      firstJudged text at n t c ≡ Command.OutOfRange
-  judged-outside n t c i g u = there _ _ g ∙ fails-range t _ (failing i u)
+  sampled-cut : (kind : Kind) → readWidth kind ≡ inExpression 0x23 → byteAt text at ≡ readByte kind →
+      length text < at + readWidth kind → operatorOf (byteAt text at) text at ≡ Operator.EndsEarly
+  unfolding sampledRead
+  sampled-cut kind e b g =
+      sampled-picked text at kind e b ∙ missing Operator.EndsEarly text at (inExpression 0x23) _ (omega arith)
 
-  pub cut-inside : Cut text at → at < length text
-  cut-inside (Cut.input b g h) = byte-inside text at (omega arith)
-  cut-inside (Cut.equation b g h) = byte-inside text at (omega arith)
-  cut-inside (Cut.latency b g h) = byte-inside text at (omega arith)
-  cut-inside (Cut.link b g) = byte-inside text at (omega arith)
-  cut-inside (Cut.cap b g) = byte-inside text at (omega arith)
-  cut-inside (Cut.tag b g) = byte-inside text at (omega arith)
-  cut-inside (Cut.constant b g) = byte-inside text at (omega arith)
-  cut-inside (Cut.read kind b g) = byte-inside text at (omega (arith, read-some kind))
+  read-cut : (kind : Kind) → byteAt text at ≡ readByte kind → length text < at + readWidth kind →
+      operatorOf (byteAt text at) text at ≡ Operator.EndsEarly
+  read-cut Now b g = plain-cut Now refl b g
+  read-cut Last b g = plain-cut Last refl b g
+  read-cut When b g = sampled-cut When refl b g
+  read-cut LastWhen b g = sampled-cut LastWhen refl b g
+  read-cut Current b g = sampled-cut Current refl b g
 
-  read-cut : (kind : Kind) → length text < at + readWidth kind → commandOf (Keyword.Read kind) text at ≡ Command.EndsEarly
-  unfolding commandOf plainRead sampledRead
-  read-cut Now g = missing (inExpression 0x21) _ g
-  read-cut Last g = missing (inExpression 0x21) _ g
-  read-cut When g = missing (inExpression 0x23) _ g
-  read-cut LastWhen g = missing (inExpression 0x23) _ g
-  read-cut Current g = missing (inExpression 0x23) _ g
+  cut-operator : OperatorCut text at → operatorOf (byteAt text at) text at ≡ Operator.EndsEarly
+  unfolding operatorOf
+  cut-operator (OperatorCut.constant b g) = rw b (missing Operator.EndsEarly text at (inExpression 0x20) _ g)
+  cut-operator (OperatorCut.read kind b g) = read-cut kind b g
 
-  cut-keyword : (k : Keyword) → Cut text at → keywordOf (byteAt text at) ≡ k → commandOf k text at ≡ Command.EndsEarly →
-      commandAt text at ≡ Command.EndsEarly
-  cut-keyword k c e f = written-keyword k (cut-inside c) e ∙ f
-
-  cut-command : Cut text at → commandAt text at ≡ Command.EndsEarly
-  unfolding commandOf keywordOf operatorOf
-  cut-command (Cut.input b g h) =
-      cut-keyword Keyword.Input (Cut.input b g h) (rw b) (judged-cut (inProgram 0x10) _ _ (in-periods _) g h)
-  cut-command (Cut.equation b g h) =
-      cut-keyword Keyword.Equation (Cut.equation b g h) (rw b) (judged-cut (inProgram 0x11) _ _ (in-periods _) g h)
-  cut-command (Cut.latency b g h) =
-      let mode = byteAt text (at + 1) in
-      cut-keyword Keyword.Latency (Cut.latency b g h) (rw b)
-      (judged-cut (inProgram 0x12) (leb mode 1) (Command.Latency (modeOf mode) (twoAt text (at + 2)))
-      (leb-true mode 1, le-leb mode 1) g h)
-  cut-command (Cut.link b g) = cut-keyword Keyword.Link (Cut.link b g) (rw b) (missing (inProgram 0x13) _ g)
-  cut-command (Cut.cap b g) = cut-keyword Keyword.Cap (Cut.cap b g) (rw b) (missing (inProgram 0x14) _ g)
-  cut-command (Cut.tag b g) = cut-keyword Keyword.Tag (Cut.tag b g) (rw b) (missing (inProgram 0x15) _ g)
-  cut-command (Cut.constant b g) =
-      cut-keyword Keyword.Constant (Cut.constant b g) (rw b) (missing (inExpression 0x20) _ g)
-  cut-command (Cut.read kind b g) =
-      cut-keyword (Keyword.Read kind) (Cut.read kind b g) (read-keyword kind b) (read-cut kind g)
-
-  pub outside-inside : Outside text at → at < length text
-  outside-inside (Outside.input b g u) = omega arith
-  outside-inside (Outside.equation b g u) = omega arith
-  outside-inside (Outside.latency b g u) = omega arith
-  outside-inside (Outside.sampled kind e h b u) = omega arith
-
-  -- So is one with an operand outside its range.
-  outside-command : Outside text at → commandAt text at ≡ Command.OutOfRange
-  unfolding commandOf keywordOf sampledRead
-  outside-command (Outside.input b g u) =
-      written-keyword Keyword.Input (omega arith) (rw b) ∙ judged-outside (inProgram 0x10) _ _ (in-periods _) g u
-  outside-command (Outside.equation b g u) =
-      written-keyword Keyword.Equation (omega arith) (rw b) ∙ judged-outside (inProgram 0x11) _ _ (in-periods _) g u
-  outside-command (Outside.latency b g u) =
-      let mode = byteAt text (at + 1) in
-      written-keyword Keyword.Latency (omega arith) (rw b) ∙
-      judged-outside (inProgram 0x12) (leb mode 1) (Command.Latency (modeOf mode) (twoAt text (at + 2)))
-      (leb-true mode 1, le-leb mode 1) g (λ le. omega arith)
-  outside-command (Outside.sampled kind e h b u) =
+  outside-operator : OperatorOutside text at → operatorOf (byteAt text at) text at ≡ Operator.OutOfRange
+  unfolding sampledRead
+  outside-operator (OperatorOutside.sampled kind e h b u) =
       let i = byteAt text (at + 2) in
       let n = byteAt text (at + 3) in
-      written-keyword (Keyword.Read kind) (omega arith) (read-keyword kind b) ∙ sampled-written kind e h ∙
-      there (inExpression 0x23) _ h ∙ fails-range _ _ (failing (in-ranges i n) u)
+      sampled-picked text at kind e b ∙ there Operator.EndsEarly text at (inExpression 0x23) _ h ∙
+      rw (failing (in-ranges i n) u)
 
-  -- And so is a byte that is listed nowhere.
-  unknown-command : at < length text → NoCommandByte (byteAt text at) → commandAt text at ≡ Command.Unknown
-  unfolding commandOf
-  unknown-command lt u = go (keywordAt text at) refl (keyword-stands text at (keywordAt text at) refl)
+  unknown-operator : ¬ OperatorByte (byteAt text at) → operatorOf (byteAt text at) text at ≡ Operator.Unknown
+  unfolding operatorOf
+  unknown-operator u =
+      let y = byteAt text at in
+      rw (
+        ne-eqb y 0x20 (λ b. u (OperatorByte.constant b)),
+        ne-eqb y 0x21 (λ b. u (OperatorByte.read Now b)),
+        ne-eqb y 0x22 (λ b. u (OperatorByte.read Last b)),
+        ne-eqb y 0x23 (λ b. u (OperatorByte.read When b)),
+        ne-eqb y 0x24 (λ b. u (OperatorByte.read LastWhen b)),
+        ne-eqb y 0x25 (λ b. u (OperatorByte.read Current b)),
+        ne-eqb y 0x30 (λ b. u (OperatorByte.binary Add b)),
+        ne-eqb y 0x31 (λ b. u (OperatorByte.binary Sub b)),
+        ne-eqb y 0x32 (λ b. u (OperatorByte.binary Mul b)),
+        ne-eqb y 0x33 (λ b. u (OperatorByte.binary Less b)),
+        ne-eqb y 0x34 (λ b. u (OperatorByte.binary Same b)),
+        ne-eqb y 0x35 (λ b. u (OperatorByte.binary Min b)),
+        ne-eqb y 0x36 (λ b. u (OperatorByte.binary Max b)),
+        ne-eqb y 0x38 (λ b. u (OperatorByte.unary Negate b)),
+        ne-eqb y 0x3A (λ b. u (OperatorByte.choose b)),
+      )
+
+  early-operator : length text ≤ at → operatorAt text at ≡ Operator.EndsEarly
+  unfolding operatorAt
+  early-operator le = rw (le-ltb at (length text) le)
+
+  operator-is : {c : Operator} → OperatorWhole c → O c → OperatorWritten text at c
+  operator-is w (OperatorDecodes.written h) = h
+
+  operator-early : O Operator.EndsEarly → (length text ≤ at) ⊎ OperatorCut text at
+  operator-early (OperatorDecodes.early le) = inl le
+  operator-early (OperatorDecodes.cut c) = inr c
+
+  operator-out : O Operator.OutOfRange → OperatorOutside text at
+  operator-out (OperatorDecodes.outside o) = o
+
+  operator-none : O Operator.Unknown → (at < length text) × ¬ OperatorByte (byteAt text at)
+  operator-none (OperatorDecodes.unknown lt u) = (lt, u)
+
+  -- The same four of an operator.
+  pub operator-written : (c : Operator) → ((operatorAt text at ≡ c) × OperatorWhole c) ↔ OperatorWritten text at c
+  operator-written c = (λ h. operator-is (h .1) (subst O (h .0) operator-decodes), written-operator c)
+
+  pub operator-cut : (operatorAt text at ≡ Operator.EndsEarly) ↔ ((length text ≤ at) ⊎ OperatorCut text at)
+  operator-cut = (λ e. operator-early (subst O e operator-decodes), back)
     where
-      go : (k : Keyword) → keywordAt text at ≡ k → KeywordStands text at k → commandAt text at ≡ Command.Unknown
-      go Keyword.Missing e s = absurd (omega arith)
-      go Keyword.Unknown e s = written-keyword Keyword.Unknown lt (sym (keyword-at text at _ lt refl) ∙ e)
-      go Keyword.End e s = absurd (u .0 (DeclarationByte.end (s .1)))
-      go Keyword.Input e s = absurd (u .0 (DeclarationByte.input (s .1)))
-      go Keyword.Equation e s = absurd (u .0 (DeclarationByte.equation (s .1)))
-      go Keyword.Latency e s = absurd (u .0 (DeclarationByte.latency (s .1)))
-      go Keyword.Link e s = absurd (u .1 (s .1))
-      go Keyword.Cap e s = absurd (u .0 (DeclarationByte.cap (s .1)))
-      go Keyword.Tag e s = absurd (u .0 (DeclarationByte.tag (s .1)))
-      go Keyword.Constant e s = absurd (u .2 (OperatorByte.constant (s .1)))
-      go (Keyword.Read kind) e s = absurd (u .2 (OperatorByte.read kind (s .1)))
-      go (Keyword.Binary operator) e s = absurd (u .2 (OperatorByte.binary operator (s .1)))
-      go Keyword.Negate e s = absurd (u .2 (OperatorByte.negate (s .1)))
-      go Keyword.If e s = absurd (u .2 (OperatorByte.choose (s .1)))
+      back : (length text ≤ at) ⊎ OperatorCut text at → operatorAt text at ≡ Operator.EndsEarly
+      back (inl le) = early-operator le
+      back (inr c) = operator-here (operator-inside text at (operator-cut-byte c)) (cut-operator c)
 
-  early-command : length text ≤ at → commandAt text at ≡ Command.EndsEarly
-  unfolding commandAt commandOf
-  early-command le = ap (λ k. commandOf k text at) (keyword-missing text at le)
+  pub operator-outside : (operatorAt text at ≡ Operator.OutOfRange) ↔ OperatorOutside text at
+  operator-outside = (
+    λ e. operator-out (subst O e operator-decodes),
+    λ o. operator-here (operator-inside text at (operator-outside-byte o)) (outside-operator o),
+  )
 
-  decodes-written : {c : Command} → Whole c → Decodes text at c → Written text at c
-  decodes-written w (Decodes.written h) = h
+  pub operator-unknown : (operatorAt text at ≡ Operator.Unknown) ↔ ((at < length text) × ¬ OperatorByte (byteAt text at))
+  operator-unknown = (
+    λ e. operator-none (subst O e operator-decodes),
+    λ h. operator-here (h .0) (unknown-operator (h .1)),
+  )
 
-  decodes-cut : Decodes text at Command.EndsEarly → (length text ≤ at) ⊎ Cut text at
-  decodes-cut (Decodes.early le) = inl le
-  decodes-cut (Decodes.cut c) = inr c
-
-  decodes-outside : Decodes text at Command.OutOfRange → Outside text at
-  decodes-outside (Decodes.outside o) = o
-
-  decodes-unknown : Decodes text at Command.Unknown → (at < length text) × NoCommandByte (byteAt text at)
-  decodes-unknown (Decodes.unknown lt u) = (lt, u)
-
-  -- A whole command is decoded exactly where its bytes are written.
-  pub command-written : (c : Command) → ((commandAt text at ≡ c) × Whole c) ↔ Written text at c
-  command-written c = (λ h. decodes-written (h .1) (subst (Decodes text at) (h .0) decodes), written-command c)
-
-  -- It ends early exactly if no byte is left or it is cut; it is out of range exactly if an operand is outside its range; it is
-  -- unknown exactly if its byte is listed nowhere.
-  pub command-cut : (commandAt text at ≡ Command.EndsEarly) ↔ ((length text ≤ at) ⊎ Cut text at)
-  command-cut = (λ e. decodes-cut (subst (Decodes text at) e decodes), back)
-    where
-      back : (length text ≤ at) ⊎ Cut text at → commandAt text at ≡ Command.EndsEarly
-      back (inl le) = early-command le
-      back (inr c) = cut-command c
-
-  pub command-outside : (commandAt text at ≡ Command.OutOfRange) ↔ Outside text at
-  command-outside = (λ e. decodes-outside (subst (Decodes text at) e decodes), outside-command)
-
-  pub command-unknown : (commandAt text at ≡ Command.Unknown) ↔ ((at < length text) × NoCommandByte (byteAt text at))
-  command-unknown = (λ e. decodes-unknown (subst (Decodes text at) e decodes), λ h. unknown-command (h .0) (h .1))
-
-  -- The same of a schedule's commands.
+-- Schedules.
+module _ (text : List ℕ) (at : ℕ) where
   put-decodes : PutDecodes text at (scheduleCommandAt text at)
   unfolding scheduleCommandAt
   put-decodes =
@@ -500,14 +606,17 @@ module _ (text : List ℕ) (at : ℕ) where
 
 -- What is written is decoded, and what is decoded whole is written.
 module _ {text : List ℕ} {at : ℕ} where
-  pub decoded : {c : Command} → Written text at c → commandAt text at ≡ c
-  decoded {c} w = command-written text at c .1 w .0
+  pub decoded : {c : Declaration} → DeclarationWritten text at c → declarationAt text at ≡ c
+  decoded {c} w = declaration-written text at c .1 w .0
 
-  pub keyword-written : {c : Command} → Written text at c → KeywordOf c (keywordAt text at)
-  keyword-written {c} w = keyword-of text at c (decoded w)
+  pub as-written : (c : Declaration) → DeclarationWhole c → declarationAt text at ≡ c → DeclarationWritten text at c
+  as-written c w e = declaration-written text at c .0 (e, w)
 
-  pub as-written : (c : Command) → Whole c → commandAt text at ≡ c → Written text at c
-  as-written c w e = command-written text at c .0 (e, w)
+  pub operator-decoded : {c : Operator} → OperatorWritten text at c → operatorAt text at ≡ c
+  operator-decoded {c} w = operator-written text at c .1 w .0
+
+  pub operator-as-written : (c : Operator) → OperatorWhole c → operatorAt text at ≡ c → OperatorWritten text at c
+  operator-as-written c w e = operator-written text at c .0 (e, w)
 
   pub put-decoded : {c : ScheduleCommand} → PutWritten text at c → scheduleCommandAt text at ≡ c
   put-decoded {c} w = put-written text at c .1 w .0
@@ -552,7 +661,7 @@ module _ (code : List ℕ) (at : ℕ) where
       (code-pick 0x34 _ _ (λ e w. CodeWritten.binary Same (omega arith) e)
       (code-pick 0x35 _ _ (λ e w. CodeWritten.binary Min (omega arith) e)
       (code-pick 0x36 _ _ (λ e w. CodeWritten.binary Max (omega arith) e)
-      (code-pick 0x38 _ _ (λ e w. CodeWritten.negate (omega arith) e)
+      (code-pick 0x38 _ _ (λ e w. CodeWritten.unary Negate (omega arith) e)
       (code-pick 0x3A _ _ (λ e w. CodeWritten.choose (omega arith) e) (λ w. absurd w)))))))))
 
   code-reads : CodeReads (codeAt code at)
@@ -564,16 +673,16 @@ module _ (code : List ℕ) (at : ℕ) where
       (code-pick 0x52 _ _ (λ e. code-whole (inCode 0x52) _ (λ h w. CodeWritten.fetch h e))
       (code-pick 0x5F _ _ (λ e. code-whole (inCode 0x5F) _ (λ h w. CodeWritten.store h e)) (code-operator lt)))))
 
-  written-operator : (operator : Binary) → at < length code → byteAt code at ≡ binaryByte operator →
+  written-binary : (operator : Binary) → at < length code → byteAt code at ≡ binaryByte operator →
       codeAt code at ≡ Code.Binary operator
   unfolding codeAt operatorCode
-  written-operator Add lt e = rw (lt-ltb at (length code) lt, e)
-  written-operator Sub lt e = rw (lt-ltb at (length code) lt, e)
-  written-operator Mul lt e = rw (lt-ltb at (length code) lt, e)
-  written-operator Less lt e = rw (lt-ltb at (length code) lt, e)
-  written-operator Same lt e = rw (lt-ltb at (length code) lt, e)
-  written-operator Min lt e = rw (lt-ltb at (length code) lt, e)
-  written-operator Max lt e = rw (lt-ltb at (length code) lt, e)
+  written-binary Add lt e = rw (lt-ltb at (length code) lt, e)
+  written-binary Sub lt e = rw (lt-ltb at (length code) lt, e)
+  written-binary Mul lt e = rw (lt-ltb at (length code) lt, e)
+  written-binary Less lt e = rw (lt-ltb at (length code) lt, e)
+  written-binary Same lt e = rw (lt-ltb at (length code) lt, e)
+  written-binary Min lt e = rw (lt-ltb at (length code) lt, e)
+  written-binary Max lt e = rw (lt-ltb at (length code) lt, e)
 
   -- An operand that is there.
   operand-there : (n : ℕ) (c : Code) → at + n ≤ length code → wholeCode code at n c ≡ c
@@ -589,8 +698,8 @@ module _ (code : List ℕ) (at : ℕ) where
       (rw (lt-ltb at (length code) (omega arith), b) (operand-there (inCode 0x52) _ h), tt)
   written-code c (CodeWritten.store h b) =
       (rw (lt-ltb at (length code) (omega arith), b) (operand-there (inCode 0x5F) _ h), tt)
-  written-code c (CodeWritten.binary operator h b) = (written-operator operator (omega arith) b, tt)
-  written-code c (CodeWritten.negate h b) = (rw (lt-ltb at (length code) (omega arith), b), tt)
+  written-code c (CodeWritten.binary operator h b) = (written-binary operator (omega arith) b, tt)
+  written-code c (CodeWritten.unary Negate h b) = (rw (lt-ltb at (length code) (omega arith), b), tt)
   written-code c (CodeWritten.choose h b) = (rw (lt-ltb at (length code) (omega arith), b), tt)
 
   pub code-written : (c : Code) → ((codeAt code at ≡ c) × CodeWhole c) ↔ CodeWritten code at c

@@ -38,7 +38,7 @@ module _ (code : List ℕ) (at : ℕ) (here : at < length code) where
   unfolding codeAt
   is-store e = rw (inside, e)
 
-  is-negate : byteAt code at ≡ 0x38 → codeAt code at ≡ Code.Negate
+  is-negate : byteAt code at ≡ 0x38 → codeAt code at ≡ (Code.Unary operator)
   unfolding codeAt operatorCode
   is-negate e = rw (inside, e)
 
@@ -125,7 +125,7 @@ module _ (code : List ℕ) (n own : ℕ) (state samples : List ℤ) where
       pub store : byteAt code at ≡ 0x5F → (at + 2 ≤ length code) × Command stored total ran at stack height (Code.Store (byteAt code (at + 1)))
       store e = whole 2 _ (seen (is-store code at here e) (command g))
 
-      pub negate : byteAt code at ≡ 0x38 → Command stored total ran at stack height Code.Negate
+      pub negate : byteAt code at ≡ 0x38 → Command stored total ran at stack height (Code.Unary operator)
       negate e = seen (is-negate code at here e) (command g)
 
       pub choose : byteAt code at ≡ 0x3A → Command stored total ran at stack height Code.If
@@ -186,7 +186,7 @@ module _ (code : List ℕ) (n own : ℕ) (state samples : List ℤ) where
     unfolding commandOk runCommand countCommand
     last {x} c = let p = both (eqb x own && eqb height 1) _ (c .judged) in (eqb-true height 1 (both (eqb x own) (eqb height 1) (p .0) .1), c .does, c .counted)
 
-    pub negated : Command stored total ran at stack height Code.Negate → (1 ≤ height) × Goes stored total (ran + 1) (at + 1) (onOne negWord stack) height
+    pub negated : Command stored total ran at stack height (Code.Unary operator) → (1 ≤ height) × Goes stored total (ran + 1) (at + 1) (onOne negWord stack) height
     unfolding commandOk runCommand countCommand
     negated c = let p = both (leb 1 height) _ (c .judged) in
         (leb-true 1 height (p .0), record { left = c .fewer; good = p .1; runs = c .does; counts = omega (arith, c .counted); most = c .few })

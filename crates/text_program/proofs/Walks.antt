@@ -16,7 +16,7 @@ use Rattle.model.specs.Rules.Program.{
   constant,
   read,
   binary,
-  negate,
+  unary,
   choose,
   operatorHere,
   parseExpr,
@@ -120,9 +120,9 @@ walks-read ρ e = made (read ρ) e (record { goes = refl; counts = refl; codes =
 
 module _ {l l₁ : List ℕ} {count to : ℕ} {a : Walk} (x : Expr) (m : Read-as x l count to l₁ a) where
   pub walks-one : {r : Walked} → r ≡ Walked.Next (record { at = a .at; reads = a .reads; code = a .code + 1 }) →
-      Walks (parsed (negate x) (a .at)) l count to l₁ r
+      Walks (parsed (unary operator x) (a .at)) l count to l₁ r
   unfolding readsOf exprCode
-  walks-one e = made (negate x) e (longer 1 m) refl (length-append (exprCode x) (0x38 ∷ []))
+  walks-one e = made (unary operator x) e (longer 1 m) refl (length-append (exprCode x) (0x38 ∷ []))
 
   module _ {l₂ : List ℕ} {b : Walk} (y : Expr) (n : Read-as y l₁ (a .reads) (a .code) l₂ b) where
     pub walks-two : (o : Binary) {r : Walked} → r ≡ Walked.Next (record { at = b .at; reads = b .reads; code = b .code + 1 }) →

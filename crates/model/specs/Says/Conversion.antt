@@ -32,7 +32,7 @@ module _ (program buffer : List ℕ) where
   -- Refused: 1, then 2 to 6 by the earlier rule, then 17 with the result's length.
   pub data ConvertRefusedAt : ℕ → ℕ → Type 0 where
     long : 8192 < length program → ConvertRefusedAt 1 0
-    stopped : {n x : ℕ} → length program ≤ 8192 → Stops earlierFactor program 0 0 empty n x → ConvertRefusedAt n x
+    stopped : {n x : ℕ} → length program ≤ 8192 → Stops earlierFactor program 0 0 empty (fault n x) → ConvertRefusedAt n x
     space : {p : Program} → length program ≤ 8192 → LegalWith earlierFactor program p →
         length buffer < length (rewrite program) → ConvertRefusedAt 17 (length (rewrite program))
 

@@ -21,7 +21,7 @@ use Rattle.model.specs.Rules.Program.{
   constant,
   read,
   binary,
-  negate,
+  unary,
   choose,
   Read,
 }
@@ -71,7 +71,7 @@ unfoldable pub mapExpr : (Read → Read) → Expr → Expr
 mapExpr f (constant w) = constant w
 mapExpr f (read ρ) = read (f ρ)
 mapExpr f (binary operator x y) = binary operator (mapExpr f x) (mapExpr f y)
-mapExpr f (negate x) = negate (mapExpr f x)
+mapExpr f (unary operator x) = unary operator (mapExpr f x)
 mapExpr f (choose x y z) = choose (mapExpr f x) (mapExpr f y) (mapExpr f z)
 
 abbrev pub mapBody : (Read → Read) → Body → Body

@@ -5,19 +5,21 @@ use mathlib.Core.List.{List, [], _∷_, _++_}
 use mathlib.Core.Logic.{_⊎_}
 use mathlib.Core.Path.{_≡_}
 use lib.ListN.{length, take, drop}
-use Rattle.model.specs.Rules.Image.{binaryByte}
+use Rattle.model.specs.Rules.Image.{binaryByte, unaryByte}
 use Rattle.model.specs.Rules.Word.{IsWord, twoBytes, fourBytes, wordBytes}
 use Rattle.model.specs.Says.Written.{InPeriods, readByte}
 use Rattle.model.specs.declared.Code.{Code}
 use Rattle.model.specs.declared.Code.the-variants as Code
-use Rattle.model.specs.declared.Command.{Command}
-use Rattle.model.specs.declared.Command.the-variants as Command
+use Rattle.model.specs.declared.Declaration.{Declaration}
+use Rattle.model.specs.declared.Declaration.the-variants as Declaration
 use Rattle.model.specs.declared.Index.{Index}
 use Rattle.model.specs.declared.Index.the-variants.{Fixed, Open}
 use Rattle.model.specs.declared.Kind.{Kind}
 use Rattle.model.specs.declared.Kind.the-variants.{Now, Last, When, LastWhen, Current}
 use Rattle.model.specs.declared.Mode.{Mode}
 use Rattle.model.specs.declared.Mode.the-variants.{Exists, Backward}
+use Rattle.model.specs.declared.Operator.{Operator}
+use Rattle.model.specs.declared.Operator.the-variants as Operator
 use Rattle.model.specs.declared.Sampled.{Sampled}
 use Rattle.model.specs.declared.ScheduleCommand.{ScheduleCommand}
 use Rattle.model.specs.declared.ScheduleCommand.the-variants as ScheduleCommand
@@ -40,23 +42,29 @@ operandBytes When x = x .signal ∷ indexByte (x .index) ∷ x .factor ∷ []
 operandBytes LastWhen x = x .signal ∷ indexByte (x .index) ∷ x .factor ∷ []
 operandBytes Current x = x .signal ∷ indexByte (x .index) ∷ x .factor ∷ []
 
--- A command of the program text. What was not read whole has no bytes.
-abbrev pub commandBytes : Command → List ℕ
-commandBytes Command.EndsEarly = []
-commandBytes Command.Unknown = []
-commandBytes Command.OutOfRange = []
-commandBytes Command.End = 0x00 ∷ []
-commandBytes (Command.Input period initial) = 0x10 ∷ period ∷ wordBytes initial
-commandBytes (Command.Equation period initial weight) = 0x11 ∷ period ∷ (wordBytes initial ++ twoBytes weight)
-commandBytes (Command.Latency mode bound) = 0x12 ∷ modeByte mode ∷ twoBytes bound
-commandBytes (Command.Link signal) = 0x13 ∷ signal ∷ []
-commandBytes (Command.Cap n) = 0x14 ∷ fourBytes n
-commandBytes (Command.Tag label) = 0x15 ∷ twoBytes label
-commandBytes (Command.Constant w) = 0x20 ∷ wordBytes w
-commandBytes (Command.Read kind x) = readByte kind ∷ operandBytes kind x
-commandBytes (Command.Binary operator) = binaryByte operator ∷ []
-commandBytes Command.Negate = 0x38 ∷ []
-commandBytes Command.If = 0x3A ∷ []
+-- A declaration. What was not read whole has no bytes.
+abbrev pub declarationBytes : Declaration → List ℕ
+declarationBytes Declaration.EndsEarly = []
+declarationBytes Declaration.Unknown = []
+declarationBytes Declaration.OutOfRange = []
+declarationBytes Declaration.End = 0x00 ∷ []
+declarationBytes (Declaration.Input period initial) = 0x10 ∷ period ∷ wordBytes initial
+declarationBytes (Declaration.Equation period initial weight) = 0x11 ∷ period ∷ (wordBytes initial ++ twoBytes weight)
+declarationBytes (Declaration.Latency mode bound) = 0x12 ∷ modeByte mode ∷ twoBytes bound
+declarationBytes (Declaration.Link signal) = 0x13 ∷ signal ∷ []
+declarationBytes (Declaration.Cap n) = 0x14 ∷ fourBytes n
+declarationBytes (Declaration.Tag label) = 0x15 ∷ twoBytes label
+
+-- An operator of an expression.
+abbrev pub operatorBytes : Operator → List ℕ
+operatorBytes Operator.EndsEarly = []
+operatorBytes Operator.Unknown = []
+operatorBytes Operator.OutOfRange = []
+operatorBytes (Operator.Constant w) = 0x20 ∷ wordBytes w
+operatorBytes (Operator.Read kind x) = readByte kind ∷ operandBytes kind x
+operatorBytes (Operator.Binary operator) = binaryByte operator ∷ []
+operatorBytes (Operator.Unary operator) = unaryByte operator ∷ []
+operatorBytes Operator.If = 0x3A ∷ []
 
 -- A command of the schedule text.
 abbrev pub putBytes : ScheduleCommand → List ℕ
@@ -74,7 +82,7 @@ codeBytes (Code.Load x) = 0x51 ∷ x ∷ []
 codeBytes (Code.Fetch x) = 0x52 ∷ x ∷ []
 codeBytes (Code.Store x) = 0x5F ∷ x ∷ []
 codeBytes (Code.Binary operator) = binaryByte operator ∷ []
-codeBytes Code.Negate = 0x38 ∷ []
+codeBytes (Code.Unary operator) = unaryByte operator ∷ []
 codeBytes Code.If = 0x3A ∷ []
 
 -- i is below n, or open. NOW and LAST have factor 1 and index 0, and neither in the text.
@@ -90,22 +98,27 @@ RangedRead LastWhen x = InPeriods (x .factor) × IndexBelow (x .factor) (x .inde
 RangedRead Current x = InPeriods (x .factor) × IndexBelow (x .factor) (x .index)
 
 -- The operands are within their ranges, and the command was read whole.
-abbrev pub Ranged : Command → Type 0
-Ranged Command.EndsEarly = ⊥
-Ranged Command.Unknown = ⊥
-Ranged Command.OutOfRange = ⊥
-Ranged Command.End = Unit {0}
-Ranged (Command.Input period initial) = InPeriods period × IsWord initial
-Ranged (Command.Equation period initial weight) = InPeriods period × IsWord initial × (weight ≤ 65535)
-Ranged (Command.Latency mode bound) = bound ≤ 65535
-Ranged (Command.Link signal) = Unit {0}
-Ranged (Command.Cap n) = n < 2 ^ 32
-Ranged (Command.Tag label) = label ≤ 65535
-Ranged (Command.Constant w) = IsWord w
-Ranged (Command.Read kind x) = RangedRead kind x
-Ranged (Command.Binary operator) = Unit {0}
-Ranged Command.Negate = Unit {0}
-Ranged Command.If = Unit {0}
+abbrev pub DeclarationRanged : Declaration → Type 0
+DeclarationRanged Declaration.EndsEarly = ⊥
+DeclarationRanged Declaration.Unknown = ⊥
+DeclarationRanged Declaration.OutOfRange = ⊥
+DeclarationRanged Declaration.End = Unit {0}
+DeclarationRanged (Declaration.Input period initial) = InPeriods period × IsWord initial
+DeclarationRanged (Declaration.Equation period initial weight) = InPeriods period × IsWord initial × (weight ≤ 65535)
+DeclarationRanged (Declaration.Latency mode bound) = bound ≤ 65535
+DeclarationRanged (Declaration.Link signal) = Unit {0}
+DeclarationRanged (Declaration.Cap n) = n < 2 ^ 32
+DeclarationRanged (Declaration.Tag label) = label ≤ 65535
+
+abbrev pub OperatorRanged : Operator → Type 0
+OperatorRanged Operator.EndsEarly = ⊥
+OperatorRanged Operator.Unknown = ⊥
+OperatorRanged Operator.OutOfRange = ⊥
+OperatorRanged (Operator.Constant w) = IsWord w
+OperatorRanged (Operator.Read kind x) = RangedRead kind x
+OperatorRanged (Operator.Binary operator) = Unit {0}
+OperatorRanged (Operator.Unary operator) = Unit {0}
+OperatorRanged Operator.If = Unit {0}
 
 abbrev pub CodeRanged : Code → Type 0
 CodeRanged Code.EndsEarly = ⊥
@@ -115,7 +128,7 @@ CodeRanged (Code.Load x) = Unit {0}
 CodeRanged (Code.Fetch x) = Unit {0}
 CodeRanged (Code.Store x) = Unit {0}
 CodeRanged (Code.Binary operator) = Unit {0}
-CodeRanged Code.Negate = Unit {0}
+CodeRanged (Code.Unary operator) = Unit {0}
 CodeRanged Code.If = Unit {0}
 
 -- Bytes stand at an offset of a text.

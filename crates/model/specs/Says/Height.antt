@@ -8,6 +8,7 @@ use Rattle.model.specs.Rules.Width.{inCode}
 use Rattle.model.specs.declared.Binary.{Binary}
 use Rattle.model.specs.declared.Code.{Code}
 use Rattle.model.specs.declared.Code.the-variants as Code
+use Rattle.model.specs.declared.Unary.{Unary}
 
 -- A command of this many bytes changes the height from one to another. PUSH, LOAD and FETCH put a word on the stack; an
 -- operator takes its operands off and puts its value on.
@@ -16,7 +17,7 @@ pub data Changes : Code → ℕ → ℕ → ℕ → Type 0 where
   load : {height x : ℕ} → Changes (Code.Load x) (inCode 0x51) height (suc height)
   fetch : {height x : ℕ} → Changes (Code.Fetch x) (inCode 0x52) height (suc height)
   binary : {height : ℕ} {operator : Binary} → Changes (Code.Binary operator) (inCode 0x30) (suc (suc height)) (suc height)
-  negate : {height : ℕ} → Changes Code.Negate (inCode 0x38) (suc height) (suc height)
+  unary : {height : ℕ} {operator : Unary} → Changes (Code.Unary operator) (inCode 0x38) (suc height) (suc height)
   choose : {height : ℕ} → Changes Code.If (inCode 0x3A) (suc (suc (suc height))) (suc height)
 
 -- The code, run from an offset with the stack at a height, goes on to its STORE, and the stack never holds more than `most`

@@ -1,44 +1,56 @@
 -- What the lists of widths say of the decoders.
 use Prim.Native.Nat.{ℕ, _+_, _≤_, _<_}
-use mathlib.Core.Bool.{Bool, true, false, _||_}
+use mathlib.Core.Bool.{Bool, true, false}
 use mathlib.Core.List.{List, [], _∷_}
 use mathlib.Core.Logic.{_↔_}
 use mathlib.Core.Path.{_≡_}
-use lib.Dec.{eqb}
 use lib.ListN.{take}
-use Rattle.model.specs.Rules.Command.{keywordOf, commandAt}
+use Rattle.model.specs.Rules.Command.{declarationAt, operatorAt}
 use Rattle.model.specs.Rules.Machine.{codeAt}
-use Rattle.model.specs.Rules.Outcome.{Outcome, accepted, refused}
-use Rattle.model.specs.Rules.Program.{empty, operatorHere, commandHere}
 use Rattle.model.specs.Rules.Schedule.{scheduleCommandAt}
-use Rattle.model.specs.Rules.Width.{programWidth, expressionWidth, scheduleWidth, codeWidth}
+use Rattle.model.specs.Rules.Width.{isListed, programWidth, expressionWidth, scheduleWidth, codeWidth}
 use Rattle.model.specs.Rules.Word.{byteAt}
-use Rattle.model.specs.Says.Written.{Whole, PutWhole, CodeWhole}
+use Rattle.model.specs.Says.Written.{DeclarationWhole, OperatorWhole, PutWhole, CodeWhole}
 use Rattle.model.specs.declared.Code.{Code}
 use Rattle.model.specs.declared.Code.the-variants as Code
+use Rattle.model.specs.declared.Declaration.{Declaration}
+use Rattle.model.specs.declared.Declaration.the-variants as Declaration
+use Rattle.model.specs.declared.Operator.{Operator}
+use Rattle.model.specs.declared.Operator.the-variants as Operator
 use Rattle.model.specs.declared.ScheduleCommand.{ScheduleCommand}
 use Rattle.model.specs.declared.ScheduleCommand.the-variants as ScheduleCommand
 use Rattle.model.specs.declared.Width.{Width}
 use Rattle.model.specs.declared.Width.the-variants.{Bytes, Unlisted}
 
-abbrev pub isListed : Width → Bool
-isListed (Bytes n) = true
-isListed Unlisted = false
+-- The bytes that are known: those that aren't unknown, whatever follows them.
+abbrev isDeclarationKnown : Declaration → Bool
+isDeclarationKnown Declaration.EndsEarly = true
+isDeclarationKnown Declaration.Unknown = false
+isDeclarationKnown Declaration.OutOfRange = true
+isDeclarationKnown Declaration.End = true
+isDeclarationKnown (Declaration.Input period initial) = true
+isDeclarationKnown (Declaration.Equation period initial weight) = true
+isDeclarationKnown (Declaration.Latency mode bound) = true
+isDeclarationKnown (Declaration.Link signal) = true
+isDeclarationKnown (Declaration.Cap n) = true
+isDeclarationKnown (Declaration.Tag label) = true
 
--- Whether reading goes on at a command.
-abbrev isAccepted : {A : Type 0} → Outcome A → Bool
-isAccepted (accepted x) = true
-isAccepted (refused f) = false
-
--- The bytes that are known: in a program text those that aren't refused by 3, and LINK, which stands after LAT only; in an
--- expression those that aren't refused by 3.
 abbrev pub knownInProgram : ℕ → Bool
-knownInProgram b = isAccepted (commandHere [] 0 empty (keywordOf b)) || eqb b 0x13
+knownInProgram b = isDeclarationKnown (declarationAt (b ∷ []) 0)
+
+abbrev isOperatorKnown : Operator → Bool
+isOperatorKnown Operator.EndsEarly = true
+isOperatorKnown Operator.Unknown = false
+isOperatorKnown Operator.OutOfRange = true
+isOperatorKnown (Operator.Constant w) = true
+isOperatorKnown (Operator.Read kind operands) = true
+isOperatorKnown (Operator.Binary operator) = true
+isOperatorKnown (Operator.Unary operator) = true
+isOperatorKnown Operator.If = true
 
 abbrev pub knownInExpression : ℕ → Bool
-knownInExpression b = isAccepted (operatorHere [] 0 (keywordOf b))
+knownInExpression b = isOperatorKnown (operatorAt (b ∷ []) 0)
 
--- In a schedule text and in a code: those that aren't unknown, whatever follows them.
 abbrev isPutKnown : ScheduleCommand → Bool
 isPutKnown ScheduleCommand.EndsEarly = true
 isPutKnown ScheduleCommand.Unknown = false
@@ -56,7 +68,7 @@ isCodeKnown (Code.Load x) = true
 isCodeKnown (Code.Fetch x) = true
 isCodeKnown (Code.Store x) = true
 isCodeKnown (Code.Binary operator) = true
-isCodeKnown Code.Negate = true
+isCodeKnown (Code.Unary operator) = true
 isCodeKnown Code.If = true
 
 abbrev pub knownInCode : ℕ → Bool
@@ -75,7 +87,7 @@ pub record ListOf {C : Type 0} (width : ℕ → Width) (known : ℕ → Bool) (d
 
 -- The four lists.
 pub record WidthsListed : Type 0 where
-  pub program : ListOf programWidth knownInProgram commandAt Whole
-  pub expression : ListOf expressionWidth knownInExpression commandAt Whole
+  pub program : ListOf programWidth knownInProgram declarationAt DeclarationWhole
+  pub expression : ListOf expressionWidth knownInExpression operatorAt OperatorWhole
   pub schedule : ListOf scheduleWidth knownInSchedule scheduleCommandAt PutWhole
   pub code : ListOf codeWidth knownInCode codeAt CodeWhole

@@ -26,7 +26,7 @@ use Rattle.model.specs.Says.Conditions.{
 }
 use Rattle.model.specs.Says.Grammar.{LegalProgram, LegalSchedule}
 use Rattle.model.specs.Rules.Load.{load}
-use Rattle.model.specs.Rules.Outcome.{Parsed}
+use Rattle.model.specs.Rules.Outcome.{fault, Parsed}
 use Rattle.model.specs.Rules.Program.{leastFactor, Program, Read, Link, Chain, empty, count}
 use Rattle.model.specs.Rules.Schedule.{Schedule, Put}
 use Rattle.model.specs.Says.Stops.{Stops, StopsPuts}
@@ -68,7 +68,7 @@ pub data RefusedAt (program schedule : List ℕ) : ℕ → ℕ → Type 0 where
   -- 1 text too long (0).
   long : ¬ ShortEnough program schedule → RefusedAt program schedule 1 0
   -- 2 to 6: the program text stops.
-  stopped : {n x : ℕ} → ShortEnough program schedule → Stops leastFactor program 0 0 empty n x → RefusedAt program schedule n x
+  stopped : {n x : ℕ} → ShortEnough program schedule → Stops leastFactor program 0 0 empty (fault n x) → RefusedAt program schedule n x
   -- 7 and 8 in order of offset.
   unrated : {n x : ℕ} {p : Program} → ShortEnough program schedule → LegalProgram program p →
       LowestFault (RateFault p) n x → RefusedAt program schedule n x
@@ -79,7 +79,7 @@ pub data RefusedAt (program schedule : List ℕ) : ℕ → ℕ → Type 0 where
   unlinked : {n x h : ℕ} {p : Program} → ShortEnough program schedule → LegalProgram program p → DeclaredAndRated p →
       Least p h → LowestFault (ChainFault p (Linked p) 10) n x → RefusedAt program schedule n x
   -- 11: the schedule text stops.
-  unread : {x h : ℕ} {p : Program} → LegalRates program schedule p h → StopsPuts schedule 0 x →
+  unread : {x h : ℕ} {p : Program} → LegalRates program schedule p h → StopsPuts schedule 0 (fault 11 x) →
       RefusedAt program schedule 11 x
   -- 12 and 13 together, PUT after PUT.
   misplaced : {n x h : ℕ} {p : Program} {puts : Parsed (List Put)} → LegalRates program schedule p h →

@@ -11,21 +11,21 @@ use Rattle.model.specs.Rules.Program.{
   constant,
   read,
   binary,
-  negate,
+  unary,
   choose,
   Read,
   count,
   signalAt,
 }
 use Rattle.model.specs.Rules.Reads.{uses}
-use Rattle.model.specs.Rules.Word.{binaryWord, negWord, ifWord}
+use Rattle.model.specs.Rules.Word.{binaryWord, unaryWord, ifWord}
 
 -- The value of an expression, given the word of each read.
 unfoldable pub value : (Read → ℤ) → Expr → ℤ
 value word (constant w) = w
 value word (read ρ) = word ρ
 value word (binary operator x y) = binaryWord operator (value word x) (value word y)
-value word (negate x) = negWord (value word x)
+value word (unary operator x) = unaryWord operator (value word x)
 value word (choose x y z) = ifWord (value word x) (value word y) (value word z)
 
 -- The next word of a signal: an input's is given.

@@ -23,7 +23,7 @@ BeforeStore n own (Code.Load x) = x < n
 BeforeStore n own (Code.Fetch x) = x ≡ own
 BeforeStore n own (Code.Store x) = ⊥
 BeforeStore n own (Code.Binary operator) = Unit {0}
-BeforeStore n own Code.Negate = Unit {0}
+BeforeStore n own (Code.Unary operator) = Unit {0}
 BeforeStore n own Code.If = Unit {0}
 
 -- The code from an offset on, where the working stack holds `height` words: it ends with STORE of its own signal, the stack

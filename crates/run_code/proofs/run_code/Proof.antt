@@ -48,7 +48,7 @@ at-store : (m : tie.At-match-keys1 Inv-loop μ-loop)
     → let l = m .before .before .before in (l .loop .at + 2 ≤ length (code l)) × Here l (Code.Store (byteAt (code l) (l .loop .at + 1)))
 at-store m = store _ _ _ _ _ (m .before .before .loop-test .taken) (m .before .before .before .loop .inv) (m .match .keys1)
 
-at-negate : (m : tie.At-match-keys2 Inv-loop μ-loop) → Here (m .before .before .before) Code.Negate
+at-negate : (m : tie.At-match-keys2 Inv-loop μ-loop) → Here (m .before .before .before) (Code.Unary operator)
 at-negate m = negate _ _ _ _ _ (m .before .before .loop-test .taken) (m .before .before .before .loop .inv) (m .match .keys2)
 
 at-if : (m : tie.At-match-keys3 Inv-loop μ-loop) → Here (m .before .before .before) Code.If
