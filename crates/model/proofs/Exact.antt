@@ -36,16 +36,16 @@ use Rattle.model.proofs.Parses.{with-legal, schedule-legal}
 use Rattle.model.proofs.Stopped.{with-stops, schedule-stops}
 
 -- 2 to 6.
-pub text-judged : (least : ℕ) (text : List ℕ) → Judged (LegalWith least text) (Stops least text 0 0 empty) (parseWith least text)
-text-judged least text = record { accepts = with-legal least text; refuses = with-stops least text }
+pub text-judged : (least : ℕ) (text : List ℕ) → Judged (LegalWith least text) (λ n x. Stops least text 0 0 empty (fault n x)) (parseWith least text)
+text-judged least text = record { accepts = with-legal least text; refuses = λ n x. with-stops least text (fault n x) }
 
-program-judged : (text : List ℕ) → Judged (LegalProgram text) (Stops leastFactor text 0 0 empty) (parseProgram text)
+program-judged : (text : List ℕ) → Judged (LegalProgram text) (λ n x. Stops leastFactor text 0 0 empty (fault n x)) (parseProgram text)
 program-judged text = text-judged leastFactor text
 
 -- 11.
 schedule-judged : (text : List ℕ) →
-    Judged (LegalSchedule text) (λ n x. _≡_ {A = ℕ} n 11 × StopsPuts text 0 x) (parseSchedule text)
-schedule-judged text = record { accepts = schedule-legal text; refuses = schedule-stops text }
+    Judged (LegalSchedule text) (λ n x. StopsPuts text 0 (fault n x)) (parseSchedule text)
+schedule-judged text = record { accepts = schedule-legal text; refuses = λ n x. schedule-stops text (fault n x) }
 
 -- The checks after 13, and those after 10.
 abbrev afterPlaces : Program → ℕ → Schedule → Outcome Pair
@@ -76,13 +76,10 @@ module _ (program schedule : List ℕ) where
   answers-schedule : (p : Program) (h : ℕ) → LegalRates program schedule p h → Answers Q R (afterRates schedule p h)
   unfolding Q R
   answers-schedule p h r =
-      answers-then Q R (parseSchedule schedule) _ (schedule-judged schedule) unread (λ puts legal.
+      answers-then Q R (parseSchedule schedule) _ (schedule-judged schedule) (λ n x s. RefusedAt.unread r s) (λ puts legal.
       answers-then Q R (placed p puts) _ (placed-judged p schedule puts legal) (λ n x f. misplaced puts legal f) (λ s places.
       answers-runs p h s (record { rates = r; puts = puts; legal = legal; placed = places })))
     where
-      unread : (n x : ℕ) → _≡_ {A = ℕ} n 11 × StopsPuts schedule 0 x → RefusedAt program schedule n x
-      unread n x s = rw (s .0) (RefusedAt.unread r (s .1))
-
       misplaced : {n x : ℕ} (puts : Parsed (List Put)) → LegalSchedule schedule puts → PlacedFault p puts n x →
           RefusedAt program schedule n x
       misplaced puts legal (PlacedFault.put f) = RefusedAt.misplaced r legal f
@@ -158,7 +155,7 @@ module _ (program schedule : List ℕ) where
       accepted-then _ _ _ (hypercycle-judged p .accepts h .1 least) ∙
       refused-then _ _ _ (linked-judged p .refuses _ _ .1 f)
   refused-back (RefusedAt.unread r f) =
-      rates-passed r ∙ refused-then _ _ _ (schedule-judged schedule .refuses 11 _ .1 (refl, f))
+      rates-passed r ∙ refused-then _ _ _ (schedule-judged schedule .refuses _ _ .1 f)
   refused-back (RefusedAt.misplaced {p = p} {puts = puts} r legal f) =
       rates-passed r ∙
       accepted-then _ _ _ (schedule-judged schedule .accepts puts .1 legal) ∙

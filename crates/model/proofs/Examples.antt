@@ -7,8 +7,8 @@ use lib.ListN.{length, getD, replicate}
 use Rattle.model.specs.Rules.Outcome.{_▷_, provided, lowest}
 use Rattle.model.specs.Rules.Search.{firstFrom, first, allBelow, tableFrom, table, chosen, joinFrom, sum}
 use Rattle.model.specs.Rules.Word.{bitsOf, wordOf, nearest, addWord, subWord, mulWord, negWord, lessWord, sameWord, minWord, maxWord, ifWord, twoAt, fourAt, wordAt, twoBytes, fourBytes, wordBytes}
-use Rattle.model.specs.Rules.Command.{operatorOf, keywordOf, keywordAt, plainRead, sampledRead, commandOf, commandAt}
-use Rattle.model.specs.Rules.Program.{node, parseExpr, parseLinks, declare, parseCommands, parseWith, readsOf}
+use Rattle.model.specs.Rules.Command.{declarationOf, declarationAt, plainRead, sampledRead, operatorOf, operatorAt}
+use Rattle.model.specs.Rules.Program.{operatorHere, node, parseExpr, parseLinks, declare, roomFor, declarationHere, parseCommands, parseWith, readsOf}
 use Rattle.model.specs.Rules.Rates.{readFaults, linkFaults, declaredAndRated, isMultiple, hypercycle, countReads, isLinked, linked}
 use Rattle.model.specs.Rules.Schedule.{scheduleCommandAt, scheduleCommand, parsePuts, parseSchedule, isPut, putFaults, putsFaults, putPhase, scheduleOf, placed}
 use Rattle.model.specs.Rules.Reads.{due, stored, between, share, ordered, place, settle, settled, isMet, met}
@@ -227,5 +227,5 @@ cases =
 
 -- The definitions answer every question of the table as the paper does.
 pub examples : map (λ c. answerTo (c .question)) cases ≡ map (λ c. c .answer) cases
-unfolding _▷_ provided lowest firstFrom first allBelow tableFrom table chosen joinFrom sum bitsOf wordOf nearest addWord subWord mulWord negWord lessWord sameWord minWord maxWord ifWord twoAt fourAt wordAt twoBytes fourBytes wordBytes operatorOf keywordOf keywordAt plainRead sampledRead commandOf commandAt node parseExpr parseLinks declare parseCommands parseWith readsOf readFaults linkFaults declaredAndRated isMultiple hypercycle countReads isLinked linked scheduleCommandAt scheduleCommand parsePuts parseSchedule isPut putFaults putsFaults putPhase scheduleOf placed due stored between share ordered place settle settled isMet met value load loaded readOf readsBack used back source latencyOf runLatency fromOf windowOf keeps timely exprCode codes runList runLists offsets records codesAt lengthOf head imageOf tailOf writtenOf operatorCode codeAt listOffset codeOffset listOf codeOf commandOk codeOkFrom codeOk headOk listsOk entriesOk codesOk wellFormed imagePart lentOk runCommand runFrom runCode runSignals nextPosition resetWords cycleWords resetOf cycleOf shortEnough pairOf verdictOf compileOf listCommands cycleCommands highest countsOf reportOf callOf after logAfter lentAt digitsUpTo natural decimal spaced lineOf scriptCommandAt scriptCommand scriptFrom scriptAt isInputOf inputsOnly checkOf callsFrom linesFrom trialOf
+unfolding _▷_ provided lowest firstFrom first allBelow tableFrom table chosen joinFrom sum bitsOf wordOf nearest addWord subWord mulWord negWord lessWord sameWord minWord maxWord ifWord twoAt fourAt wordAt twoBytes fourBytes wordBytes declarationOf declarationAt plainRead sampledRead operatorOf operatorAt operatorHere node parseExpr parseLinks declare roomFor declarationHere parseCommands parseWith readsOf readFaults linkFaults declaredAndRated isMultiple hypercycle countReads isLinked linked scheduleCommandAt scheduleCommand parsePuts parseSchedule isPut putFaults putsFaults putPhase scheduleOf placed due stored between share ordered place settle settled isMet met value load loaded readOf readsBack used back source latencyOf runLatency fromOf windowOf keeps timely exprCode codes runList runLists offsets records codesAt lengthOf head imageOf tailOf writtenOf operatorCode codeAt listOffset codeOffset listOf codeOf commandOk codeOkFrom codeOk headOk listsOk entriesOk codesOk wellFormed imagePart lentOk runCommand runFrom runCode runSignals nextPosition resetWords cycleWords resetOf cycleOf shortEnough pairOf verdictOf compileOf listCommands cycleCommands highest countsOf reportOf callOf after logAfter lentAt digitsUpTo natural decimal spaced lineOf scriptCommandAt scriptCommand scriptFrom scriptAt isInputOf inputsOnly checkOf callsFrom linesFrom trialOf
 examples = refl

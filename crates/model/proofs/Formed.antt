@@ -124,10 +124,10 @@ module _ (Q : Read → Type 0) (n own : ℕ) (known : (ρ : Read) → Q ρ → �
       rw (le-leb 2 (height + 1 + 1) (omega arith))
       (ap₂ (codeOkFrom f code n own) (simp length-append (omega arith)) (omega arith))
   expr-ok (unary operator x) f at height fit q room h =
-      let parts = unary-parts x h in
+      let parts = unary-parts operator x h in
       ap (λ (k : ℕ). codeOkFrom k code n own at height) (omega arith) ∙
       expr-ok x (suc f) at height fit q (omega arith) (parts .0) ∙
-      step code n own f _ _ _ (unary-at (parts .1)) ∙
+      step code n own f _ _ _ (unary-at operator (parts .1)) ∙
       rw (le-leb 1 (height + 1) (omega arith))
       (ap (λ (k : ℕ). codeOkFrom f code n own k (height + 1)) (simp length-append (omega arith)))
   expr-ok (choose x y z) f at height fit q room h =

@@ -114,9 +114,9 @@ module _ (most : ℕ) (code : List ℕ) where
       (Within.onward {height = suc (suc height)} (binary-at operator (parts .2)) (omega (arith, height-some y)) Changes.binary
       (moved (simp length-append (omega arith)) next)))
   expr-within (unary operator x) at height fit room h next =
-      let parts = unary-parts x h in
+      let parts = unary-parts operator x h in
       expr-within x at height fit room (parts .0)
-      (Within.onward {height = suc height} (unary-at (parts .1)) (omega (arith, height-some x)) Changes.unary
+      (Within.onward {height = suc height} (unary-at operator (parts .1)) (omega (arith, height-some x)) Changes.unary
       (moved (simp length-append (omega arith)) next))
   expr-within (choose x y z) at height fit room h next =
       let parts = choose-parts x y z h in
@@ -170,9 +170,9 @@ module _ (most : ℕ) (code : List ℕ) where
         goes-on (simp length-append (omega (arith, n .changes .0))) (omega (arith, n .changes .1)) (n .next),
       )
   within-expr (unary operator x) at height fit h here =
-      let parts = unary-parts x h in
+      let parts = unary-parts operator x h in
       let first = within-expr x at height fit (parts .0) here in
-      let n = next-of _ (unary-at (parts .1)) tt (first .1) in (
+      let n = next-of _ (unary-at operator (parts .1)) tt (first .1) in (
         first .0,
         goes-on (simp length-append (omega (arith, n .changes .0))) (omega (arith, n .changes .1)) (n .next),
       )

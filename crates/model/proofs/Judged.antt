@@ -10,7 +10,7 @@ use borrow.Author.Tests.{leb-true, ltb-true, le-leb, lt-ltb, eqb-true, eq-eqb}
 use lib.Dec.{leb, ltb, eqb}
 use lib.ListN.{length, getD}
 use Rattle.model.specs.Says.Feasible.{All, Multiple}
-use Rattle.model.specs.Rules.Command.{declarationAt}
+use Rattle.model.specs.Rules.Command.{isOperator, declarationAt, operatorAt}
 use Rattle.model.specs.Rules.Compile.{shortEnough}
 use Rattle.model.specs.Says.Conditions.{_among_, ShortEnough, ReadIn, LinkIn, DeclaredAndRated, Least, Linked}
 use Rattle.model.specs.Says.Grammar.{LegalProgram}
@@ -31,6 +31,8 @@ use Rattle.model.specs.Rules.Rates.{
 }
 use Rattle.model.specs.Says.Refusals.{LowestFault, RateFault, ChainFault}
 use Rattle.model.specs.Rules.Search.{first, joinFrom}
+use Rattle.model.specs.Rules.Word.{byteAt}
+use Rattle.model.specs.Says.Written.{OperatorByte}
 use Rattle.model.specs.declared.Declaration.the-variants as Declaration
 use Rattle.model.specs.declared.Fault.{Fault}
 use Rattle.model.specs.declared.Found.{Found}
@@ -56,6 +58,9 @@ use Rattle.model.proofs.Faults.{
 }
 use Rattle.model.proofs.Hypercycle.{hypercycle-least, hypercycle-none}
 use Rattle.model.proofs.Legal.{Legal, legal, SpellsRead, SpellsChain, signal-reads, links-command}
+use Rattle.model.proofs.Commands.{written-byte, operator-of}
+use Rattle.model.proofs.Picks.{operator-byte}
+use Rattle.model.proofs.Written.{as-written, operator-as-written}
 use Rattle.model.proofs.Outcomes.{not-below, not-true-false, accepted≢refused}
 use Rattle.model.proofs.Parses.{program-legal}
 use Rattle.model.proofs.Verdict.{Rated, reads-rated, links-declared}
@@ -256,20 +261,22 @@ module _ (text : List ℕ) (p : Program) (l : LegalProgram text p) where
       all-among (λ l. declarationAt text (l .place) ≡ Declaration.Link (l .signal)) (i .0 .links)
       (links-command (chain-spelled (i .0) (i .1) .links)) a (i .2)
 
+  no-link : {b : ℕ} → OperatorByte b → b ≡ 0x13 → ⊥
+  no-link {b} o e = false≢true (sym (ap isOperator e) ∙ operator-byte b .1 o)
+
   same-read : (r s : ℕ) (ρ σ : Read) → ReadIn p r ρ → ReadIn p s σ → ρ .place ≡ σ .place →
       ρ .operands .signal ≡ σ .operands .signal
   same-read r s ρ σ i j e =
       let a = read-spelled r ρ i in
       let b = read-spelled s σ j in
-      let same : ρ .operands ≡ σ .operands = cc (a, b, ap (declarationAt text) e) in
+      let same : ρ .operands ≡ σ .operands = cc (a, b, ap (operatorAt text) e) in
       ap (λ (x : Sampled). x .signal) same
 
   not-both : (r : ℕ) (ρ : Read) (a : Link) → ReadIn p r ρ → LinkIn p a → ρ .place ≡ a .place → ⊥
   not-both r ρ a i j e =
-      let u = read-spelled r ρ i in
-      let v = link-spelled a j in
-      let z : _≡_ {A = ℕ} 0 1 = cc (u, v, ap (declarationAt text) e) in
-      omega arith
+      let o = operator-of text (ρ .place) (operator-as-written _ tt (read-spelled r ρ i)) in
+      let l = written-byte text (a .place) (as-written _ tt (link-spelled a j)) in
+      no-link o (ap (byteAt text) e ∙ l)
 
   rate-single : (n m x y : ℕ) → RateFault p n x → RateFault p m y → x ≡ y → n ≡ m
   rate-single n m x y (RateFault.undeclaredRead r ρ i u) (RateFault.undeclaredRead s σ j v) e = refl

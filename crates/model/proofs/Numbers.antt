@@ -15,9 +15,10 @@ use Rattle.model.specs.Rules.Outcome.{accepted, fault}
 use Rattle.model.specs.Rules.Program.{Program, Chain}
 use Rattle.model.specs.Says.Refusals.{RateFault, ChainFault, PutFault, MetFault, LoadFault, RefusedAt}
 use Rattle.model.specs.Rules.Schedule.{Schedule, Put}
-use Rattle.model.specs.Says.Stops.{StopsExpr, StopsLinks, Stops}
+use Rattle.model.specs.Says.Stops.{StopsExpr, StopsLinks, Stops, StopsPuts}
 use Rattle.model.specs.Rules.Tail.{Bears}
 use Rattle.model.specs.Says.WellFormed.{WellFormed}
+use Rattle.model.specs.declared.Fault.{Fault}
 use Rattle.model.proofs.CallsExact.{compile-exactly}
 use Rattle.model.proofs.Commands.{Bytes}
 use Rattle.model.proofs.Exact.{accepted-exactly}
@@ -26,22 +27,22 @@ use Rattle.model.proofs.Rewritten.{rewrite-legal}
 use Rattle.model.proofs.Verdict.{pair-bounded}
 
 -- 2 to 6.
-links-number : {text : List ℕ} {room at n x : ℕ} → StopsLinks text room at n x → 1 ≤ n
+links-number : {text : List ℕ} {room at : ℕ} {f : Fault} → StopsLinks text room at f → 1 ≤ f .number
 links-number (StopsLinks.many e) = omega arith
 links-number (StopsLinks.cut e lt) = omega arith
 links-number (StopsLinks.link e le s) = links-number s
 
 module _ {least : ℕ} {text : List ℕ} where
-  expr-number : {d at n x : ℕ} → StopsExpr least text d at n x → 1 ≤ n
+  expr-number : {d at : ℕ} {f : Fault} → StopsExpr least text d at f → 1 ≤ f .number
   expr-number (StopsExpr.early le) = omega arith
   expr-number (StopsExpr.unknown lt u) = omega arith
   expr-number (StopsExpr.deep i) = omega arith
-  expr-number (StopsExpr.cut i e) = omega arith
-  expr-number (StopsExpr.outside i e) = omega arith
+  expr-number (StopsExpr.cut e) = omega arith
+  expr-number (StopsExpr.outside e) = omega arith
   expr-number (StopsExpr.single e t) = omega arith
   expr-number (StopsExpr.operand w h lt u s) = expr-number s
 
-  pub stops-number : {at label n x : ℕ} {p : Program} → Stops least text at label p n x → 1 ≤ n
+  pub stops-number : {at label : ℕ} {p : Program} {f : Fault} → Stops least text at label p f → 1 ≤ f .number
   stops-number (Stops.onward d s) = stops-number s
   stops-number (Stops.early le) = omega arith
   stops-number (Stops.unknown lt u) = omega arith
@@ -57,7 +58,15 @@ module _ {least : ℕ} {text : List ℕ} where
   stops-number (Stops.unfollowed e le) = omega arith
   stops-number (Stops.stray e lt u) = omega arith
 
--- 7 to 16.
+-- 11.
+puts-number : {text : List ℕ} {at : ℕ} {f : Fault} → StopsPuts text at f → 1 ≤ f .number
+puts-number (StopsPuts.onward e s) = puts-number s
+puts-number (StopsPuts.early le) = omega arith
+puts-number (StopsPuts.cut c) = omega arith
+puts-number (StopsPuts.unknown lt u) = omega arith
+puts-number (StopsPuts.trailing e lt) = omega arith
+
+-- 7 to 10, 12 to 16.
 rate-number : {p : Program} {n x : ℕ} → RateFault p n x → 1 ≤ n
 rate-number (RateFault.undeclaredRead r ρ i u) = omega arith
 rate-number (RateFault.undeclaredLink l i u) = omega arith
@@ -83,7 +92,7 @@ pair-number (RefusedAt.stopped short f) = stops-number f
 pair-number (RefusedAt.unrated short l f) = rate-number (f .fault)
 pair-number (RefusedAt.unbounded short l r f) = omega arith
 pair-number (RefusedAt.unlinked short l r h f) = chain-number (omega arith) (f .fault)
-pair-number (RefusedAt.unread r f) = omega arith
+pair-number (RefusedAt.unread r f) = puts-number f
 pair-number (RefusedAt.misplaced r l f) = put-number (f .fault)
 pair-number (RefusedAt.missing r l c x lt u) = omega arith
 pair-number (RefusedAt.unmet c f) = met-number (f .fault)

@@ -33,11 +33,11 @@ use Rattle.model.specs.Says.Refusals.{RateFault, ChainFault, PutFault, M
 use Rattle.model.specs.Rules.Schedule.{Schedule, Put}
 use Rattle.model.specs.Says.Stops.{StopsExpr, StopsLinks, Stops, StopsPuts}
 use Rattle.model.specs.declared.Fault.{Fault}
-use Rattle.model.proofs.Commands.{Bytes, command-sound}
+use Rattle.model.proofs.Commands.{Bytes, declaration-sound, operator-sound}
 use Rattle.model.proofs.Exact.{refused-exactly}
 use Rattle.model.proofs.Judged.{read-spelled, chain-spelled, link-spelled}
 use Rattle.model.proofs.JudgedRuns.{load-repeats}
-use Rattle.model.proofs.Keywords.{byte-inside, signal-inside, operator-inside}
+use Rattle.model.proofs.Picks.{byte-inside, signal-inside, operator-inside}
 use Rattle.model.proofs.Outcomes.{accepted≢refused, accepted-same, then-accepted}
 use Rattle.model.proofs.Puts.{put-sound, puts-end}
 use Rattle.model.proofs.Stopped.{
@@ -48,25 +48,25 @@ use Rattle.model.proofs.Stopped.{
 }
 use Rattle.model.proofs.Tails.{written-length}
 use Rattle.model.proofs.Verdict.{pair-bounded}
-use Rattle.model.proofs.Written.{outside-inside, decoded, put-decoded}
+use Rattle.model.proofs.Written.{declaration-outside-inside, operator-outside-byte, decoded, operator-decoded, put-decoded}
 
 -- 2 to 6 and 11: a text stops within it or at its end.
 module _ (text : List ℕ) where
-  expr-inside : {least d at n x : ℕ} → StopsExpr least text d at n x → x ≤ length text
+  expr-inside : {least d at : ℕ} {f : Fault} → StopsExpr least text d at f → f .place ≤ length text
   expr-inside (StopsExpr.early le) = omega arith
   expr-inside (StopsExpr.unknown lt u) = omega arith
   expr-inside (StopsExpr.deep {at = at} o) = omega (arith, operator-inside text at o)
-  expr-inside (StopsExpr.cut i e) = omega arith
-  expr-inside (StopsExpr.outside {at = at} o u) = omega (arith, operator-inside text at o)
-  expr-inside (StopsExpr.single {at = at} w t) = omega (arith, command-sound text at _ (decoded w) .1)
+  expr-inside (StopsExpr.cut e) = omega arith
+  expr-inside (StopsExpr.outside {at = at} u) = omega (arith, operator-inside text at (operator-outside-byte text at u))
+  expr-inside (StopsExpr.single {at = at} w t) = omega (arith, operator-sound text at _ (operator-decoded w) .1)
   expr-inside (StopsExpr.operand w h lt u s) = expr-inside s
 
-  links-inside : {room at n x : ℕ} → at ≤ length text → StopsLinks text room at n x → x ≤ length text
+  links-inside : {room at : ℕ} {f : Fault} → at ≤ length text → StopsLinks text room at f → f .place ≤ length text
   links-inside le (StopsLinks.many e) = le
   links-inside le (StopsLinks.cut e lt) = omega arith
   links-inside le (StopsLinks.link e next s) = links-inside next s
 
-  pub commands-inside : {least at label n x : ℕ} {p : Program} → Stops least text at label p n x → x ≤ length text
+  pub commands-inside : {least at label : ℕ} {p : Program} {f : Fault} → Stops least text at label p f → f .place ≤ length text
   commands-inside (Stops.onward d s) = commands-inside s
   commands-inside (Stops.early le) = omega arith
   commands-inside (Stops.unknown lt u) = omega arith
@@ -74,15 +74,15 @@ module _ (text : List ℕ) where
   commands-inside (Stops.chains {at = at} b many) = omega (arith, byte-inside text at (omega arith))
   commands-inside (Stops.second {at = at} b u) = omega (arith, byte-inside text at (omega arith))
   commands-inside (Stops.cut r e) = omega arith
-  commands-inside (Stops.outside {at = at} r o) = omega (arith, outside-inside text at o)
+  commands-inside (Stops.outside {at = at} r o) = omega (arith, declaration-outside-inside text at o)
   commands-inside (Stops.expression room e s) = expr-inside s
-  commands-inside (Stops.links {at = at} room e s) = links-inside (command-sound text at _ (decoded e)) s
-  commands-inside (Stops.short {at = at} room e u lt) = omega (arith, command-sound text at _ (decoded e))
+  commands-inside (Stops.links {at = at} room e s) = links-inside (declaration-sound text at _ (decoded e)) s
+  commands-inside (Stops.short {at = at} room e u lt) = omega (arith, declaration-sound text at _ (decoded e))
   commands-inside (Stops.trailing e lt) = omega arith
   commands-inside (Stops.unfollowed e le) = omega arith
   commands-inside (Stops.stray e lt u) = omega arith
 
-  puts-inside : {at x : ℕ} → StopsPuts text at x → x ≤ length text
+  puts-inside : {at : ℕ} {f : Fault} → StopsPuts text at f → f .place ≤ length text
   puts-inside (StopsPuts.onward e s) = puts-inside s
   puts-inside (StopsPuts.early le) = omega arith
   puts-inside (StopsPuts.cut c) = omega arith
@@ -105,16 +105,16 @@ module _ (text : List ℕ) where
   -- 7, 8, 10, 14, 16: and so do the reads, LINKs and LATs.
   module _ (p : Program) (l : LegalProgram text p) where
     read-inside : (r : ℕ) (ρ : Read) → ReadIn p r ρ → ρ .place ≤ length text
-    read-inside r ρ i = omega (arith, command-sound text (ρ .place) _ (read-spelled text p l r ρ i) .1)
+    read-inside r ρ i = omega (arith, operator-sound text (ρ .place) _ (read-spelled text p l r ρ i) .1)
 
     rate-inside : {n x : ℕ} → RateFault p n x → x ≤ length text
     rate-inside (RateFault.undeclaredRead r ρ i u) = read-inside r ρ i
-    rate-inside (RateFault.undeclaredLink a i u) = omega (arith, command-sound text (a .place) _ (link-spelled text p l a i))
+    rate-inside (RateFault.undeclaredLink a i u) = omega (arith, declaration-sound text (a .place) _ (link-spelled text p l a i))
     rate-inside (RateFault.brokenRule r ρ i d u) = read-inside r ρ i
 
     chain-inside : {Q : Chain → Type 0} {number n x : ℕ} → ChainFault p Q number n x → x ≤ length text
     chain-inside (ChainFault.broken c i u) =
-        omega (arith, command-sound text (c .place) _ (chain-spelled text p l c i .command))
+        omega (arith, declaration-sound text (c .place) _ (chain-spelled text p l c i .command))
 
     met-inside : {s : Schedule} {n x : ℕ} → MetFault p s n x → x ≤ length text
     met-inside (MetFault.unmet r ρ i u) = read-inside r ρ i
@@ -150,16 +150,16 @@ refusal-small {program} (RefusedAt.untimely {p = p} c m o f) =
     omega (arith, c .rates .short .0, chain-inside program p (c .rates .legal) (f .fault))
 
 -- What holds of a call's refusal.
-call-refused : {A : Type 0} (R : ℕ → ℕ → Type 0) (lent : List A) (o : Outcome (Job A)) (f : Fault) → Refuses R o →
-    effect lent o .answer ≡ refused f → R (f .number) (f .place)
+call-refused : {A : Type 0} (R : Fault → Type 0) (lent : List A) (o : Outcome (Job A)) (f : Fault) → Refuses R o →
+    effect lent o .answer ≡ refused f → R f
 call-refused R lent (accepted job) f h e = absurd (accepted≢refused _ (job .yields) f refl e)
 call-refused R lent (refused g) f h e = refuses-fault {A = ℕ} R (refused g) f h e
 
-abbrev Small : ℕ → ℕ → Type 0
-Small n x = x ≤ 65791
+abbrev Small : Fault → Type 0
+Small f = f .place ≤ 65791
 
-abbrev Zero : ℕ → ℕ → Type 0
-Zero n x = x ≡ 0
+abbrev Zero : Fault → Type 0
+Zero f = f .place ≡ 0
 
 module _ (program schedule : List ℕ) where
   pair-small : Refuses Small (pairOf program schedule)

@@ -8,10 +8,10 @@ use native.Mathlib.Omega.{arith}
 use borrow.Author.Tests.{eqb-true, eqb-false, eq-eqb, le-ltb, le-leb}
 use lib.Dec.{eqb}
 use lib.IntN.{ℤ}
-use lib.ListN.{length, getD, take, drop, length-append, length-drop, length-map, List·getD-append}
+use lib.ListN.{length, getD, take, drop, length-append, length-drop, length-map, List·getD-append, List·getD-eq-default}
 use lib.Seq.{drop-drop, drop-append-seam, getD-drop, getD-take, length-take-le}
 use Rattle.model.specs.Says.Feasible.{All}
-use Rattle.model.specs.Rules.Command.{keywordAt, commandOf, commandAt}
+use Rattle.model.specs.Rules.Command.{isOperator, declarationAt}
 use Rattle.model.specs.Says.Convert.{isSingle, singleKind, mapExpr, mapSignal, mapLink, mapChain, bareRead, bare, Renamed}
 use Rattle.model.specs.Says.Grammar.{depth, Spells, SpellsLinks, IsSignal, DeclaresOne, Declares, LegalWith, LegalProgram}
 use Rattle.model.specs.Rules.Program.{
@@ -39,78 +39,112 @@ use Rattle.model.specs.Rules.Program.{
   readsOf,
   bodyReads,
 }
-use Rattle.model.specs.Rules.Rewrite.{widthOf, bytesAfter, rewriteAt, rewriteFrom, rewrite}
+use Rattle.model.specs.Rules.Rewrite.{
+  Command,
+  ofDeclaration,
+  ofOperator,
+  commandAt,
+  declarationWidth,
+  operatorWidth,
+  widthOf,
+  operatorAfter,
+  bytesAfter,
+  rewriteAt,
+  rewriteFrom,
+  rewrite,
+}
 use Rattle.model.specs.Rules.Word.{byteAt, twoAt, fourAt, wordOf, wordAt}
 use Rattle.model.specs.Rules.Width.{readWidth}
-use Rattle.model.specs.Says.Written.{readByte, Written}
+use Rattle.model.specs.Says.Written.{readByte, DeclarationWritten, OperatorWritten}
 use Rattle.model.specs.declared.Binary.{Binary}
-use Rattle.model.specs.declared.Command.{Command}
-use Rattle.model.specs.declared.Command.the-variants as Command
+use Rattle.model.specs.declared.Declaration.{Declaration}
+use Rattle.model.specs.declared.Declaration.the-variants as Declaration
 use Rattle.model.specs.declared.Index.{Index}
 use Rattle.model.specs.declared.Index.the-variants.{Fixed, Open}
 use Rattle.model.specs.declared.Kind.{Kind}
 use Rattle.model.specs.declared.Kind.the-variants.{Now, Last, When, LastWhen, Current}
 use Rattle.model.specs.declared.Mode.{Mode}
+use Rattle.model.specs.declared.Operator.{Operator}
+use Rattle.model.specs.declared.Operator.the-variants as Operator
 use Rattle.model.specs.declared.Sampled.{Sampled}
+use Rattle.model.specs.declared.Unary.{Unary}
 use Rattle.model.proofs.All.{all-append}
-use Rattle.model.proofs.Commands.{ReadSound, command-sound, link-command}
+use Rattle.model.proofs.Commands.{ReadSound, link-decoded, operator-of, operator-sound}
 use Rattle.model.proofs.Converted.{single-twice, count-bare}
 use Rattle.model.proofs.Decide.{InRange}
-use Rattle.model.proofs.Keywords.{signal-inside}
-use Rattle.model.proofs.Written.{decoded}
+use Rattle.model.proofs.Picks.{signal-inside, operator-byte}
+use Rattle.model.proofs.Written.{decoded, operator-decoded}
 
--- A command that is written lies within the text, and takes a byte at least.
-width-some : (kind : Kind) → 1 ≤ readWidth kind
+-- A command that is written, of either kind.
+abbrev pub CommandWritten : List ℕ → ℕ → Command → Type 0
+CommandWritten text at (ofDeclaration d) = DeclarationWritten text at d
+CommandWritten text at (ofOperator o) = OperatorWritten text at o
+
+no-operator : {text : List ℕ} {at : ℕ} {d : Declaration} → DeclarationWritten text at d → isOperator (byteAt text at) ≡ false
+no-operator (DeclarationWritten.end h b) = rw b
+no-operator (DeclarationWritten.input h b r) = rw b
+no-operator (DeclarationWritten.equation h b r) = rw b
+no-operator (DeclarationWritten.latency h b r) = rw b
+no-operator (DeclarationWritten.link h b) = rw b
+no-operator (DeclarationWritten.cap h b) = rw b
+no-operator (DeclarationWritten.tag h b) = rw b
+
+pub command-decoded : (text : List ℕ) (at : ℕ) (c : Command) → CommandWritten text at c → commandAt text at ≡ c
+unfolding commandAt
+command-decoded text at (ofDeclaration d) w = rw (no-operator w) (ap ofDeclaration (decoded w))
+command-decoded text at (ofOperator o) w =
+    rw (operator-byte (byteAt text at) .1 (operator-of text at w)) (ap ofOperator (operator-decoded w))
+
+-- It lies within the text, and takes a byte at least.
+width-some : (kind : Kind) → 2 ≤ readWidth kind
 width-some Now = omega arith
 width-some Last = omega arith
 width-some When = omega arith
 width-some LastWhen = omega arith
 width-some Current = omega arith
 
-pub written-inside : {text : List ℕ} {at : ℕ} {c : Command} → Written text at c →
-    (at + widthOf c ≤ length text) × (1 ≤ widthOf c)
-written-inside (Written.end h b) = (h, omega arith)
-written-inside (Written.input h b r) = (h, omega arith)
-written-inside (Written.equation h b r) = (h, omega arith)
-written-inside (Written.latency h b r) = (h, omega arith)
-written-inside (Written.link h b) = (h, omega arith)
-written-inside (Written.cap h b) = (h, omega arith)
-written-inside (Written.tag h b) = (h, omega arith)
-written-inside (Written.constant h b) = (h, omega arith)
-written-inside (Written.plain kind e h b) = (omega arith, width-some kind)
-written-inside (Written.sampled kind e h b r i) = (omega arith, width-some kind)
-written-inside (Written.binary operator h b) = (h, omega arith)
-written-inside (Written.unary operator h b) = (h, omega arith)
-written-inside (Written.choose h b) = (h, omega arith)
+declaration-inside : {text : List ℕ} {at : ℕ} {d : Declaration} → DeclarationWritten text at d →
+    (at + declarationWidth d ≤ length text) × (1 ≤ declarationWidth d)
+declaration-inside (DeclarationWritten.end h b) = (h, omega arith)
+declaration-inside (DeclarationWritten.input h b r) = (h, omega arith)
+declaration-inside (DeclarationWritten.equation h b r) = (h, omega arith)
+declaration-inside (DeclarationWritten.latency h b r) = (h, omega arith)
+declaration-inside (DeclarationWritten.link h b) = (h, omega arith)
+declaration-inside (DeclarationWritten.cap h b) = (h, omega arith)
+declaration-inside (DeclarationWritten.tag h b) = (h, omega arith)
 
-width-two : (kind : Kind) → 2 ≤ readWidth kind
-width-two Now = omega arith
-width-two Last = omega arith
-width-two When = omega arith
-width-two LastWhen = omega arith
-width-two Current = omega arith
+operator-inside : {text : List ℕ} {at : ℕ} {o : Operator} → OperatorWritten text at o →
+    (at + operatorWidth o ≤ length text) × (1 ≤ operatorWidth o)
+operator-inside (OperatorWritten.constant h b) = (h, omega arith)
+operator-inside (OperatorWritten.plain kind e h b) = (omega arith, omega (arith, width-some kind))
+operator-inside (OperatorWritten.sampled kind e h b r i) = (omega arith, omega (arith, width-some kind))
+operator-inside (OperatorWritten.binary operator h b) = (h, omega arith)
+operator-inside (OperatorWritten.unary operator h b) = (h, omega arith)
+operator-inside (OperatorWritten.choose h b) = (h, omega arith)
+
+pub command-inside : (text : List ℕ) (at : ℕ) (c : Command) → CommandWritten text at c →
+    (at + widthOf c ≤ length text) × (1 ≤ widthOf c)
+command-inside text at (ofDeclaration d) w = declaration-inside w
+command-inside text at (ofOperator o) w = operator-inside w
 
 -- No command grows.
-after-shorter : (c : Command) (bytes : List ℕ) → length bytes ≤ widthOf c → length (bytesAfter c bytes) ≤ widthOf c
-after-shorter Command.EndsEarly bytes h = h
-after-shorter Command.Unknown bytes h = h
-after-shorter Command.OutOfRange bytes h = h
-after-shorter Command.End bytes h = h
-after-shorter (Command.Input period initial) bytes h = h
-after-shorter (Command.Equation period initial weight) bytes h = h
-after-shorter (Command.Latency mode bound) bytes h = h
-after-shorter (Command.Link signal) bytes h = h
-after-shorter (Command.Cap n) bytes h = h
-after-shorter (Command.Tag label) bytes h = h
-after-shorter (Command.Constant w) bytes h = h
-after-shorter (Command.Read kind x) bytes h = go (eqb (x .factor) 1)
+operator-shorter : (o : Operator) (bytes : List ℕ) → length bytes ≤ operatorWidth o → length (operatorAfter o bytes) ≤ operatorWidth o
+operator-shorter Operator.EndsEarly bytes h = h
+operator-shorter Operator.Unknown bytes h = h
+operator-shorter Operator.OutOfRange bytes h = h
+operator-shorter (Operator.Constant w) bytes h = h
+operator-shorter (Operator.Read kind x) bytes h = go (eqb (x .factor) 1)
   where
     go : (b : Bool) → length (cond b (readByte (singleKind kind) ∷ x .signal ∷ []) bytes) ≤ readWidth kind
-    go true = omega (arith, width-two kind)
+    go true = omega (arith, width-some kind)
     go false = h
-after-shorter (Command.Binary operator) bytes h = h
-after-shorter Command.Negate bytes h = h
-after-shorter Command.If bytes h = h
+operator-shorter (Operator.Binary operator) bytes h = h
+operator-shorter (Operator.Unary operator) bytes h = h
+operator-shorter Operator.If bytes h = h
+
+after-shorter : (c : Command) (bytes : List ℕ) → length bytes ≤ widthOf c → length (bytesAfter c bytes) ≤ widthOf c
+after-shorter (ofDeclaration d) bytes h = h
+after-shorter (ofOperator o) bytes h = operator-shorter o bytes h
 
 -- With factor 1 an index in range is 0, or open.
 range-single : (n : ℕ) (i : Index) → n ≡ 1 → InRange n i → isSingle n i ≡ true
@@ -221,37 +255,45 @@ module _ (text new : List ℕ) where
     first-copied le = byte-copied 0 (omega arith) at at′ (omega arith) (omega arith)
 
   -- A command whose bytes are copied is the same command.
-  written-copied : {at at′ : ℕ} {c : Command} → Written text at c → Copied at at′ (widthOf c) → Written new at′ c
-  written-copied (Written.end h b) c = Written.end (c .inside) (first-copied c (omega arith) ∙ b)
-  written-copied {at} {at′} (Written.input h b r) c =
+  declaration-copied : {at at′ : ℕ} {d : Declaration} → DeclarationWritten text at d → Copied at at′ (declarationWidth d) →
+      DeclarationWritten new at′ d
+  declaration-copied (DeclarationWritten.end h b) c = DeclarationWritten.end (c .inside) (first-copied c (omega arith) ∙ b)
+  declaration-copied {at} {at′} (DeclarationWritten.input h b r) c =
       let e = c .bytes 1 (omega arith) in
-      rw (← e, ← word-copied c 2 (omega arith)) (Written.input (c .inside) (first-copied c (omega arith) ∙ b) (rw e r))
-  written-copied {at} {at′} (Written.equation h b r) c =
+      rw (← e, ← word-copied c 2 (omega arith)) (DeclarationWritten.input (c .inside) (first-copied c (omega arith) ∙ b) (rw e r))
+  declaration-copied {at} {at′} (DeclarationWritten.equation h b r) c =
       let e = c .bytes 1 (omega arith) in
       rw (← e, ← word-copied c 2 (omega arith), ← two-copied c 6 (omega arith))
-      (Written.equation (c .inside) (first-copied c (omega arith) ∙ b) (rw e r))
-  written-copied (Written.latency h b r) c =
+      (DeclarationWritten.equation (c .inside) (first-copied c (omega arith) ∙ b) (rw e r))
+  declaration-copied (DeclarationWritten.latency h b r) c =
       let e = c .bytes 1 (omega arith) in
-      rw (← e, ← two-copied c 2 (omega arith)) (Written.latency (c .inside) (first-copied c (omega arith) ∙ b) (rw e r))
-  written-copied (Written.link h b) c =
-      rw (← c .bytes 1 (omega arith)) (Written.link (c .inside) (first-copied c (omega arith) ∙ b))
-  written-copied (Written.cap h b) c =
-      rw (← four-copied c 1 (omega arith)) (Written.cap (c .inside) (first-copied c (omega arith) ∙ b))
-  written-copied (Written.tag h b) c =
-      rw (← two-copied c 1 (omega arith)) (Written.tag (c .inside) (first-copied c (omega arith) ∙ b))
-  written-copied (Written.constant h b) c =
-      rw (← word-copied c 1 (omega arith)) (Written.constant (c .inside) (first-copied c (omega arith) ∙ b))
-  written-copied (Written.plain kind e h b) c =
+      rw (← e, ← two-copied c 2 (omega arith)) (DeclarationWritten.latency (c .inside) (first-copied c (omega arith) ∙ b) (rw e r))
+  declaration-copied (DeclarationWritten.link h b) c =
+      rw (← c .bytes 1 (omega arith)) (DeclarationWritten.link (c .inside) (first-copied c (omega arith) ∙ b))
+  declaration-copied (DeclarationWritten.cap h b) c =
+      rw (← four-copied c 1 (omega arith)) (DeclarationWritten.cap (c .inside) (first-copied c (omega arith) ∙ b))
+  declaration-copied (DeclarationWritten.tag h b) c =
+      rw (← two-copied c 1 (omega arith)) (DeclarationWritten.tag (c .inside) (first-copied c (omega arith) ∙ b))
+
+  operator-copied : {at at′ : ℕ} {o : Operator} → OperatorWritten text at o → Copied at at′ (operatorWidth o) →
+      OperatorWritten new at′ o
+  operator-copied (OperatorWritten.constant h b) c =
+      rw (← word-copied c 1 (omega arith)) (OperatorWritten.constant (c .inside) (first-copied c (omega arith) ∙ b))
+  operator-copied (OperatorWritten.plain kind e h b) c =
       rw (← c .bytes 1 (omega arith))
-      (Written.plain kind e (omega (arith, c .inside)) (first-copied c (omega arith) ∙ b))
-  written-copied (Written.sampled kind e h b r i) c =
+      (OperatorWritten.plain kind e (omega (arith, c .inside)) (first-copied c (omega arith) ∙ b))
+  operator-copied (OperatorWritten.sampled kind e h b r i) c =
       let f = c .bytes 2 (omega arith) in
       let g = c .bytes 3 (omega arith) in
       rw (← c .bytes 1 (omega arith), ← f, ← g)
-      (Written.sampled kind e (omega (arith, c .inside)) (first-copied c (omega arith) ∙ b) (rw g r) (rw (f, g) i))
-  written-copied (Written.binary operator h b) c = Written.binary operator (c .inside) (first-copied c (omega arith) ∙ b)
-  written-copied (Written.unary operator h b) c = Written.unary operator (c .inside) (first-copied c (omega arith) ∙ b)
-  written-copied (Written.choose h b) c = Written.choose (c .inside) (first-copied c (omega arith) ∙ b)
+      (OperatorWritten.sampled kind e (omega (arith, c .inside)) (first-copied c (omega arith) ∙ b) (rw g r) (rw (f, g) i))
+  operator-copied (OperatorWritten.binary operator h b) c = OperatorWritten.binary operator (c .inside) (first-copied c (omega arith) ∙ b)
+  operator-copied (OperatorWritten.unary operator h b) c = OperatorWritten.unary operator (c .inside) (first-copied c (omega arith) ∙ b)
+  operator-copied (OperatorWritten.choose h b) c = OperatorWritten.choose (c .inside) (first-copied c (omega arith) ∙ b)
+
+  written-copied : {at at′ : ℕ} (c : Command) → CommandWritten text at c → Copied at at′ (widthOf c) → CommandWritten new at′ c
+  written-copied (ofDeclaration d) w k = declaration-copied w k
+  written-copied (ofOperator o) w k = operator-copied w k
 
   -- What stands from `at′` on in the new text is what stands from `at` on in the text, rewritten.
   pub record Stands (at at′ : ℕ) : Type 0 where
@@ -266,27 +308,27 @@ module _ (text new : List ℕ) where
     pub next : Stands (at + widthOf c) (at′ + length (rewriteAt text at c))
     pub bytes : (i : ℕ) → i < length (rewriteAt text at c) → byteAt new (at′ + i) ≡ getD (rewriteAt text at c) i 0
 
-  bytes-shorter : {at : ℕ} {c : Command} → Written text at c → length (rewriteAt text at c) ≤ widthOf c
+  bytes-shorter : (at : ℕ) (c : Command) → CommandWritten text at c → length (rewriteAt text at c) ≤ widthOf c
   unfolding rewriteAt
-  bytes-shorter {at} {c} w =
+  bytes-shorter at c w =
       after-shorter c _
       (omega (
         arith,
-        length-take-le (widthOf c) (drop at text) (omega (arith, length-drop at text, written-inside w .0)),
+        length-take-le (widthOf c) (drop at text) (omega (arith, length-drop at text, command-inside text at c w .0)),
       ))
 
-  stands-steps : {at at′ : ℕ} {c : Command} → Written text at c → Stands at at′ → Steps at at′ c
+  stands-steps : {at at′ : ℕ} (c : Command) → CommandWritten text at c → Stands at at′ → Steps at at′ c
   unfolding rewriteFrom
-  stands-steps {at} {at′} {c} w s = go (s .left) (s .enough) (s .rest)
+  stands-steps {at} {at′} c w s = go (s .left) (s .enough) (s .rest)
     where
       P : List ℕ
       P = rewriteAt text at c
 
       here : commandAt text at ≡ c
-      here = decoded w
+      here = command-decoded text at c w
 
       go : (left : ℕ) → length text ≤ left + at → drop at′ new ≡ rewriteFrom left text at → Steps at at′ c
-      go zero le e = absurd (omega (arith, written-inside w))
+      go zero le e = absurd (omega (arith, command-inside text at c w))
       go (suc left) le e =
           let R = rewriteFrom left text (at + widthOf c) in
           let f : drop at′ new ≡ P ++ R = e ∙ ap (λ d. rewriteAt text at d ++ rewriteFrom left text (at + widthOf d)) here in
@@ -294,9 +336,9 @@ module _ (text new : List ℕ) where
             next =
                 record {
                   left = left;
-                  enough = omega (arith, written-inside w .1);
+                  enough = omega (arith, command-inside text at c w .1);
                   inside = omega (arith, length-drop at′ new, ap length f, length-append P R, s .inside);
-                  shorter = omega (arith, bytes-shorter w, s .shorter);
+                  shorter = omega (arith, bytes-shorter at c w, s .shorter);
                   rest = sym (drop-drop (length P) at′ new) ∙ ap (drop (length P)) f ∙ drop-append-seam P R;
                 };
             bytes = λ i lt. sym (getD-drop at′ new i 0) ∙ ap (λ l. getD l i 0) f ∙ List·getD-append P R 0 i lt;
@@ -304,18 +346,18 @@ module _ (text new : List ℕ) where
 
   -- A command whose bytes are kept stands in the new text too.
   pub record Kept (at at′ : ℕ) (c : Command) : Type 0 where
-    pub here : Written new at′ c
+    pub here : CommandWritten new at′ c
     pub next : Stands (at + widthOf c) (at′ + widthOf c)
     pub first : byteAt new at′ ≡ byteAt text at
 
-  steps-kept : {at at′ : ℕ} {c : Command} → Written text at c →
+  steps-kept : {at at′ : ℕ} (c : Command) → CommandWritten text at c →
       bytesAfter c (take (widthOf c) (drop at text)) ≡ take (widthOf c) (drop at text) → Stands at at′ → Kept at at′ c
   unfolding rewriteAt
-  steps-kept {at} {at′} {c} w e s =
+  steps-kept {at} {at′} c w e s =
       let n = widthOf c in
       let P = take n (drop at text) in
-      let wide : length P ≡ n = length-take-le n (drop at text) (omega (arith, length-drop at text, written-inside w .0)) in
-      let steps = stands-steps w s in
+      let wide : length P ≡ n = length-take-le n (drop at text) (omega (arith, length-drop at text, command-inside text at c w .0)) in
+      let steps = stands-steps c w s in
       let next : Stands (at + n) (at′ + n) = subst (λ m. Stands (at + n) (at′ + m)) (ap length e ∙ wide) (steps .next) in
       let copied : Copied at at′ n =
       record {
@@ -324,32 +366,32 @@ module _ (text new : List ℕ) where
             steps .bytes i (rw (e, wide) lt) ∙ ap (λ l. getD l i 0) e ∙ getD-take n (drop at text) i 0 lt ∙ getD-drop at text i 0;
       } in
       record {
-        here = written-copied w copied;
+        here = written-copied c w copied;
         next = next;
-        first = first-copied copied (written-inside w .1);
+        first = first-copied copied (command-inside text at c w .1);
       }
 
-  kept : {at at′ : ℕ} (c : Command) → Written text at c → ((bytes : List ℕ) → bytesAfter c bytes ≡ bytes) → Stands at at′ →
+  kept : {at at′ : ℕ} (c : Command) → CommandWritten text at c → ((bytes : List ℕ) → bytesAfter c bytes ≡ bytes) → Stands at at′ →
       Kept at at′ c
-  kept c w same s = steps-kept w (same _) s
+  kept c w same s = steps-kept c w (same _) s
 
   -- A read stands in the new text, converted.
   pub record ReadMoved (at at′ : ℕ) (kind : Kind) (x : Sampled) : Type 0 where
     pub read : Kind
     pub operands : Sampled
-    pub here : Written new at′ (Command.Read read operands)
+    pub here : OperatorWritten new at′ (Operator.Read read operands)
     pub same : bareRead (record { place = at; kind = kind; operands = x }) ≡
         bareRead (record { place = at′; kind = read; operands = operands })
     pub next : Stands (at + readWidth kind) (at′ + readWidth read)
     pub allowed : Allowed read operands
 
-  read-moved : {at at′ : ℕ} (kind : Kind) (x : Sampled) → Written text at (Command.Read kind x) → Stands at at′ →
+  read-moved : {at at′ : ℕ} (kind : Kind) (x : Sampled) → OperatorWritten text at (Operator.Read kind x) → Stands at at′ →
       ReadMoved at at′ kind x
   unfolding rewriteAt
   read-moved {at} {at′} kind x w s = go (eqb (x .factor) 1) refl
     where
       sound : ReadSound x
-      sound = command-sound text at (Command.Read kind x) (decoded w) .0
+      sound = operator-sound text at (Operator.Read kind x) (operator-decoded w) .0
 
       made : ℕ → Kind → Read
       made n a = record { place = 0; kind = a; operands = record { signal = x .signal; factor = n; index = Fixed 0 } }
@@ -359,8 +401,8 @@ module _ (text new : List ℕ) where
           let one : x .factor ≡ 1 = eqb-true _ _ t in
           let single : isSingle (x .factor) (x .index) ≡ true = range-single (x .factor) (x .index) one (sound .range) in
           let P : List ℕ = readByte (singleKind kind) ∷ x .signal ∷ [] in
-          let p : rewriteAt text at (Command.Read kind x) ≡ P = rw t in
-          let steps = stands-steps w s in
+          let p : rewriteAt text at (ofOperator (Operator.Read kind x)) ≡ P = rw t in
+          let steps = stands-steps (ofOperator (Operator.Read kind x)) w s in
           let next : Stands (at + readWidth kind) (at′ + 2) =
           subst (λ l. Stands (at + readWidth kind) (at′ + length l)) p (steps .next) in
           let zeroth : at′ ≡ at′ + 0 = omega arith in
@@ -370,13 +412,13 @@ module _ (text new : List ℕ) where
           record {
             read = singleKind kind;
             operands = record { signal = byteAt new (at′ + 1); factor = 1; index = Fixed 0 };
-            here = Written.plain (singleKind kind) (single-width kind) (next .inside) byte;
+            here = OperatorWritten.plain (singleKind kind) (single-width kind) (next .inside) byte;
             same = rw (single, signal, one) (ap (λ a. made 1 a) (sym (single-twice kind)));
             next = rw (single-width kind) next;
             allowed = inl (single-width kind);
           }
       go false t =
-          let k = steps-kept w (rw t) s in
+          let k = steps-kept (ofOperator (Operator.Read kind x)) w (rw t) s in
           record {
             read = kind;
             operands = x;
@@ -399,10 +441,10 @@ module _ (text new : List ℕ) where
   abbrev Moves : (at : ℕ) (e : Expr) (next : ℕ) → Type 0
   Moves at e next = (at′ : ℕ) → Stands at at′ → ExprMoved e next at′
 
-  constant-moves : (at : ℕ) (w : ℤ) → Written text at (Command.Constant w) → Moves at (constant w) (at + 5)
+  constant-moves : (at : ℕ) (w : ℤ) → OperatorWritten text at (Operator.Constant w) → Moves at (constant w) (at + 5)
   unfolding mapExpr readsOf
   constant-moves at w e at′ s =
-      let k = kept (Command.Constant w) e (λ bytes. refl) s in
+      let k = kept (ofOperator (Operator.Constant w)) e (λ bytes. refl) s in
       record {
         expr = constant w;
         end = at′ + 5;
@@ -412,7 +454,7 @@ module _ (text new : List ℕ) where
         allowed = tt;
       }
 
-  read-moves : (at : ℕ) (kind : Kind) (x : Sampled) → Written text at (Command.Read kind x) →
+  read-moves : (at : ℕ) (kind : Kind) (x : Sampled) → OperatorWritten text at (Operator.Read kind x) →
       Moves at (read (record { place = at; kind = kind; operands = x })) (at + readWidth kind)
   unfolding mapExpr readsOf
   read-moves at kind x e at′ s =
@@ -426,11 +468,11 @@ module _ (text new : List ℕ) where
         allowed = (k .allowed, tt);
       }
 
-  two-moves : (at m n : ℕ) (operator : Binary) (x y : Expr) → Written text at (Command.Binary operator) →
+  two-moves : (at m n : ℕ) (operator : Binary) (x y : Expr) → OperatorWritten text at (Operator.Binary operator) →
       Moves (at + 1) x m → Moves m y n → Moves at (binary operator x y) n
   unfolding mapExpr readsOf
   two-moves at m n operator x y e f g at′ s =
-      let k = kept (Command.Binary operator) e (λ bytes. refl) s in
+      let k = kept (ofOperator (Operator.Binary operator)) e (λ bytes. refl) s in
       let a = f (at′ + 1) (k .next) in
       let b = g (a .end) (a .onward) in
       record {
@@ -442,25 +484,26 @@ module _ (text new : List ℕ) where
         allowed = all-append AllowedRead (readsOf (a .expr)) (readsOf (b .expr)) (a .allowed) (b .allowed);
       }
 
-  one-moves : (at n : ℕ) (x : Expr) → Written text at Command.Negate → Moves (at + 1) x n → Moves at (unary operator x) n
+  one-moves : (at n : ℕ) (operator : Unary) (x : Expr) → OperatorWritten text at (Operator.Unary operator) → Moves (at + 1) x n →
+      Moves at (unary operator x) n
   unfolding mapExpr readsOf
-  one-moves at n x e f at′ s =
-      let k = kept Command.Negate e (λ bytes. refl) s in
+  one-moves at n operator x e f at′ s =
+      let k = kept (ofOperator (Operator.Unary operator)) e (λ bytes. refl) s in
       let a = f (at′ + 1) (k .next) in
       record {
-        expr = negate (a .expr);
+        expr = unary operator (a .expr);
         end = a .end;
         spells = Spells.one (k .here) (a .spells);
-        same = ap negate (a .same);
+        same = ap (unary operator) (a .same);
         onward = a .onward;
         allowed = a .allowed;
       }
 
-  three-moves : (at m n o : ℕ) (x y z : Expr) → Written text at Command.If → Moves (at + 1) x m → Moves m y n →
+  three-moves : (at m n o : ℕ) (x y z : Expr) → OperatorWritten text at Operator.If → Moves (at + 1) x m → Moves m y n →
       Moves n z o → Moves at (choose x y z) o
   unfolding mapExpr readsOf
   three-moves at m n o x y z e f g h at′ s =
-      let k = kept Command.If e (λ bytes. refl) s in
+      let k = kept (ofOperator Operator.If) e (λ bytes. refl) s in
       let a = f (at′ + 1) (k .next) in
       let b = g (a .end) (a .onward) in
       let c = h (b .end) (b .onward) in
@@ -481,7 +524,7 @@ module _ (text new : List ℕ) where
   expr-moves (Spells.constants e) = constant-moves _ _ e
   expr-moves (Spells.reads e t) = read-moves _ _ _ e
   expr-moves (Spells.two e a b) = two-moves _ _ _ _ _ _ e (expr-moves a) (expr-moves b)
-  expr-moves (Spells.one e a) = one-moves _ _ _ e (expr-moves a)
+  expr-moves (Spells.one e a) = one-moves _ _ _ _ e (expr-moves a)
   expr-moves (Spells.three e a b c) = three-moves _ _ _ _ _ _ _ e (expr-moves a) (expr-moves b) (expr-moves c)
 
   -- The LINKs of a chain.
@@ -505,11 +548,11 @@ module _ (text new : List ℕ) where
       ((at′ : ℕ) → Stands (at + 2) at′ → LinksMoved ls n at′) → (at′ : ℕ) → Stands at at′ →
       LinksMoved (record { place = at; signal = byteAt text (at + 1) } ∷ ls) n at′
   link-moves at n ls e le f at′ s =
-      let k = kept (Command.Link (byteAt text (at + 1))) (Written.link le e) (λ bytes. refl) s in
+      let k = kept (ofDeclaration (Declaration.Link (byteAt text (at + 1)))) (DeclarationWritten.link le e) (λ bytes. refl) s in
       let b : byteAt new at′ ≡ 0x13 = k .first ∙ e in
       let i : at′ + 2 ≤ length new = k .next .inside in
-      let same : Command.Link (byteAt text (at + 1)) ≡ Command.Link (byteAt new (at′ + 1)) =
-      sym (decoded (k .here)) ∙ link-command new at′ b i in
+      let same : Declaration.Link (byteAt text (at + 1)) ≡ Declaration.Link (byteAt new (at′ + 1)) =
+      sym (decoded (k .here)) ∙ link-decoded new at′ b i in
       let signal : byteAt text (at + 1) ≡ byteAt new (at′ + 1) = cc in
       let m = f (at′ + 2) (k .next) in
       record {
@@ -540,13 +583,14 @@ module _ (text new : List ℕ) where
 
   -- Nothing stands after the text.
   pub none-after : (left at : ℕ) → length text ≤ at → rewriteFrom left text at ≡ []
-  unfolding rewriteFrom rewriteAt commandAt keywordAt commandOf
+  unfolding rewriteFrom rewriteAt commandAt declarationAt
   none-after zero at le = refl
-  none-after (suc left) at le = rw (le-ltb at (length text) le) (none-after left (at + 0) (omega arith))
+  none-after (suc left) at le =
+      rw (List·getD-eq-default text 0 le, le-ltb at (length text) le) (none-after left (at + 0) (omega arith))
 
-  end-moves : (at label : ℕ) (p : Program) → Written text at Command.End → length text ≤ at + 1 → Declaring at label p p
+  end-moves : (at label : ℕ) (p : Program) → DeclarationWritten text at Declaration.End → length text ≤ at + 1 → Declaring at label p p
   end-moves at label p e le at′ p′ same allowed s =
-      let k = kept Command.End e (λ bytes. refl) s in
+      let k = kept (ofDeclaration Declaration.End) e (λ bytes. refl) s in
       let n = k .next in
       let g : length new ≤ at′ + 1 =
       omega (arith, length-drop (at′ + 1) new, ap length (n .rest ∙ none-after (n .left) (at + 1) le)) in
@@ -556,16 +600,16 @@ module _ (text new : List ℕ) where
         declares = Declares.ends (k .here) g;
         same = same;
         allowed = allowed;
-        short = omega (arith, s .shorter, written-inside e .0);
+        short = omega (arith, s .shorter, declaration-inside e .0);
       }
 
   input-moves : (at label period : ℕ) (initial : ℤ) (p q : Program) → count p < 64 →
-      Written text at (Command.Input period initial) →
+      DeclarationWritten text at (Declaration.Input period initial) →
       Declaring (at + 6) 0
       (withSignal p (record { place = at; period = period; initial = initial; body = input; label = label })) q →
       Declaring at label p q
   input-moves at label period initial p q room e f at′ p′ same allowed s =
-      let k = kept (Command.Input period initial) e (λ bytes. refl) s in
+      let k = kept (ofDeclaration (Declaration.Input period initial)) e (λ bytes. refl) s in
       let fits : count p′ < 64 = omega (arith, count-same p p′ same) in
       let x′ : Signal = record { place = at′; period = period; initial = initial; body = input; label = label } in
       let m =
@@ -580,12 +624,12 @@ module _ (text new : List ℕ) where
       }
 
   equation-moves : (at label next period weight : ℕ) (initial : ℤ) (x : Expr) (p q : Program) → count p < 64 →
-      Written text at (Command.Equation period initial weight) → Moves (at + 8) x next → depth x ≤ 16 →
+      DeclarationWritten text at (Declaration.Equation period initial weight) → Moves (at + 8) x next → depth x ≤ 16 →
       Declaring next 0
       (withSignal p (record { place = at; period = period; initial = initial; body = equation weight x; label = label })) q →
       Declaring at label p q
   equation-moves at label next period weight initial x p q room e g deep f at′ p′ same allowed s =
-      let k = kept (Command.Equation period initial weight) e (λ bytes. refl) s in
+      let k = kept (ofDeclaration (Declaration.Equation period initial weight)) e (λ bytes. refl) s in
       let a = g (at′ + 8) (k .next) in
       let fits : count p′ < 64 = omega (arith, count-same p p′ same) in
       let x′ : Signal =
@@ -609,11 +653,11 @@ module _ (text new : List ℕ) where
       }
 
   chain-moves : (at label next bound : ℕ) (mode : Mode) (ls : List Link) (p q : Program) → length (p .chains) < 16 →
-      Written text at (Command.Latency mode bound) → ((b : ℕ) → Stands (at + 4) b → LinksMoved ls next b) → 2 ≤ length ls →
+      DeclarationWritten text at (Declaration.Latency mode bound) → ((b : ℕ) → Stands (at + 4) b → LinksMoved ls next b) → 2 ≤ length ls →
       length ls ≤ 16 → Declaring next 0 (withChain p (record { place = at; mode = mode; bound = bound; links = ls })) q →
       Declaring at label p q
   chain-moves at label next bound mode ls p q room e g low high f at′ p′ same allowed s =
-      let k = kept (Command.Latency mode bound) e (λ bytes. refl) s in
+      let k = kept (ofDeclaration (Declaration.Latency mode bound)) e (λ bytes. refl) s in
       let a = g (at′ + 4) (k .next) in
       let fits : length (p′ .chains) < 16 = omega (arith, chains-same p p′ same) in
       let c′ : Chain = record { place = at′; mode = mode; bound = bound; links = a .links } in
@@ -634,10 +678,10 @@ module _ (text new : List ℕ) where
         short = m .short;
       }
 
-  cap-moves : (at label n : ℕ) (p q : Program) → p .cap ≡ unlimited → Written text at (Command.Cap n) →
+  cap-moves : (at label n : ℕ) (p q : Program) → p .cap ≡ unlimited → DeclarationWritten text at (Declaration.Cap n) →
       Declaring (at + 5) 0 (withCap p n) q → Declaring at label p q
   cap-moves at label n p q room e f at′ p′ same allowed s =
-      let k = kept (Command.Cap n) e (λ bytes. refl) s in
+      let k = kept (ofDeclaration (Declaration.Cap n)) e (λ bytes. refl) s in
       let m = f (at′ + 5) (withCap p′ n) (ap (λ b. withCap b n) same) allowed (k .next) in
       record {
         program = m .program;
@@ -649,10 +693,10 @@ module _ (text new : List ℕ) where
       }
 
   -- A TAG stands where it stood, and IN or EQ after it.
-  tag-moves : (at label given : ℕ) (p q : Program) → Written text at (Command.Tag given) → IsSignal (byteAt text (at + 3)) →
+  tag-moves : (at label given : ℕ) (p q : Program) → DeclarationWritten text at (Declaration.Tag given) → IsSignal (byteAt text (at + 3)) →
       Follows (at + 3) → Declaring (at + 3) given p q → Declaring at label p q
   tag-moves at label given p q e signal follows f at′ p′ same allowed s =
-      let k = kept (Command.Tag given) e (λ bytes. refl) s in
+      let k = kept (ofDeclaration (Declaration.Tag given)) e (λ bytes. refl) s in
       let stays = follows (at′ + 3) (k .next) in
       let m = f (at′ + 3) p′ same allowed (k .next) in
       let here : IsSignal (byteAt new (at′ + 3)) = rw stays signal in
@@ -667,14 +711,14 @@ module _ (text new : List ℕ) where
 
   -- A declaration keeps its first byte, so that a chain ends where it ended.
   one-follows : {at label next given : ℕ} {p q : Program} → DeclaresOne 1 text at label p next given q → Follows at
-  one-follows (DeclaresOne.inputs room e) b s = kept (Command.Input _ _) e (λ bytes. refl) s .first
-  one-follows (DeclaresOne.equations room e x deep) b s = kept (Command.Equation _ _ _) e (λ bytes. refl) s .first
-  one-follows (DeclaresOne.chains room e l low high) b s = kept (Command.Latency _ _) e (λ bytes. refl) s .first
-  one-follows (DeclaresOne.caps room e) b s = kept (Command.Cap _) e (λ bytes. refl) s .first
-  one-follows (DeclaresOne.tags e more signal) b s = kept (Command.Tag _) e (λ bytes. refl) s .first
+  one-follows (DeclaresOne.inputs room e) b s = kept (ofDeclaration (Declaration.Input _ _)) e (λ bytes. refl) s .first
+  one-follows (DeclaresOne.equations room e x deep) b s = kept (ofDeclaration (Declaration.Equation _ _ _)) e (λ bytes. refl) s .first
+  one-follows (DeclaresOne.chains room e l low high) b s = kept (ofDeclaration (Declaration.Latency _ _)) e (λ bytes. refl) s .first
+  one-follows (DeclaresOne.caps room e) b s = kept (ofDeclaration (Declaration.Cap _)) e (λ bytes. refl) s .first
+  one-follows (DeclaresOne.tags e more signal) b s = kept (ofDeclaration (Declaration.Tag _)) e (λ bytes. refl) s .first
 
   declares-follows : {at label end : ℕ} {p q : Program} → Declares 1 text at label p end q → Follows at
-  declares-follows (Declares.ends e le) b s = kept Command.End e (λ bytes. refl) s .first
+  declares-follows (Declares.ends e le) b s = kept (ofDeclaration Declaration.End) e (λ bytes. refl) s .first
   declares-follows (Declares.onward d r) b s = one-follows d b s
 
   declared-moves : {at label next given : ℕ} {p r : Program} (q : Program) → DeclaresOne 1 text at label p next given r →

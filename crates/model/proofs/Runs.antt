@@ -11,14 +11,16 @@ use lib.IntN.{ℤ, pos}
 use lib.ListN.{length, getD, length-append}
 use mir.Syntax.{w32}
 use mir.Val.{SFits}
-use Rattle.model.specs.Rules.Image.{binaryByte, exprCode, signalCode}
+use Rattle.model.specs.Rules.Image.{binaryByte, unaryByte, exprCode, signalCode}
 use Rattle.model.specs.Rules.Machine.{operatorCode, codeAt, runCommand, runFrom, runCode}
 use Rattle.model.specs.Rules.Program.{Body, input, equation, Expr, constant, read, binary, unary, choose, Read}
 use Rattle.model.specs.Rules.Report.{exprCommands}
 use Rattle.model.specs.Says.Streams.{value, next}
-use Rattle.model.specs.Rules.Word.{fourBytes, wordBytes, binaryWord, negWord, ifWord}
+use Rattle.model.specs.Rules.Word.{fourBytes, wordBytes, binaryWord, unaryWord, ifWord}
 use Rattle.model.specs.declared.Binary.{Binary}
 use Rattle.model.specs.declared.Binary.the-variants.{Add, Sub, Mul, Less, Same, Min, Max}
+use Rattle.model.specs.declared.Unary.{Unary}
+use Rattle.model.specs.declared.Unary.the-variants.{Negate}
 use Rattle.model.specs.declared.Code.{Code}
 use Rattle.model.specs.declared.Code.the-variants as Code
 use Rattle.model.proofs.Bounds.{Words, BodyWords}
@@ -63,9 +65,9 @@ module _ {code : List ℕ} {at : ℕ} where
   binary-at Min h = operator-at 0x35 h refl refl refl refl
   binary-at Max h = operator-at 0x36 h refl refl refl refl
 
-  pub unary-at : Stands code at (0x38 ∷ []) → codeAt code at ≡ (Code.Unary operator)
+  pub unary-at : (operator : Unary) → Stands code at (unaryByte operator ∷ []) → codeAt code at ≡ Code.Unary operator
   unfolding operatorCode
-  unary-at h = operator-at 0x38 h refl refl refl refl
+  unary-at Negate h = operator-at 0x38 h refl refl refl refl
 
   pub if-at : Stands code at (0x3A ∷ []) → codeAt code at ≡ Code.If
   unfolding operatorCode
@@ -81,10 +83,10 @@ module _ {code : List ℕ} {at : ℕ} where
       let g = behind (exprCode x) (exprCode y ++ (binaryByte operator ∷ [])) h in
       (front (exprCode x) _ h, front (exprCode y) (binaryByte operator ∷ []) g, behind (exprCode y) (binaryByte operator ∷ []) g)
 
-  pub unary-parts : (x : Expr) → Stands code at (exprCode (unary operator x)) →
-      Stands code at (exprCode x) × Stands code (at + length (exprCode x)) (0x38 ∷ [])
+  pub unary-parts : (operator : Unary) (x : Expr) → Stands code at (exprCode (unary operator x)) →
+      Stands code at (exprCode x) × Stands code (at + length (exprCode x)) (unaryByte operator ∷ [])
   unfolding exprCode
-  unary-parts x h = (front (exprCode x) (0x38 ∷ []) h, behind (exprCode x) (0x38 ∷ []) h)
+  unary-parts operator x h = (front (exprCode x) (unaryByte operator ∷ []) h, behind (exprCode x) (unaryByte operator ∷ []) h)
 
   pub choose-parts : (x y z : Expr) → Stands code at (exprCode (choose x y z)) →
       Stands code at (exprCode x) × Stands code (at + length (exprCode x)) (exprCode y) ×
@@ -136,11 +138,11 @@ module _ (code : List ℕ) (state samples : List ℤ) where
       ap (λ (k : ℕ). runFrom f code state samples k (binaryWord operator (value word x) (value word y) ∷ stack))
       (simp length-append (omega arith))
   run-expr (unary operator x) f at stack fit h =
-      let parts = unary-parts x h in
+      let parts = unary-parts operator x h in
       ap (λ (k : ℕ). runFrom k code state samples at stack) (omega arith) ∙
       run-expr x (suc f) at stack fit (parts .0) ∙
-      step f _ _ _ (unary-at (parts .1)) ∙
-      ap (λ (k : ℕ). runFrom f code state samples k (negWord (value word x) ∷ stack)) (simp length-append (omega arith))
+      step f _ _ _ (unary-at operator (parts .1)) ∙
+      ap (λ (k : ℕ). runFrom f code state samples k (unaryWord operator (value word x) ∷ stack)) (simp length-append (omega arith))
   run-expr (choose x y z) f at stack fit h =
       let parts = choose-parts x y z h in
       ap (λ (k : ℕ). runFrom k code state samples at stack) (omega arith) ∙

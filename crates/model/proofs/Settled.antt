@@ -8,7 +8,7 @@ use Rattle.model.specs.Rules.Compile.{Pair}
 use Rattle.model.specs.Says.Conditions.{ReadIn, LegalPair}
 use Rattle.model.specs.Rules.Program.{Read}
 use Rattle.model.specs.Rules.Reads.{rateOf, settled}
-use Rattle.model.proofs.Commands.{command-sound}
+use Rattle.model.proofs.Commands.{operator-sound}
 use Rattle.model.proofs.Decide.{settles-once}
 use Rattle.model.proofs.Judged.{read-spelled}
 
@@ -26,4 +26,4 @@ settled-exactly program schedule q legal r ρ within i =
     let met = legal .met r ρ within in
     let spelled = read-spelled program p (legal .places .rates .legal) r ρ within in
     settles-once (ρ .kind) (rateOf p s (x .signal)) (rateOf p s r) (x .factor) (x .index)
-    (command-sound program (ρ .place) _ spelled .2) (met .periods) (met .line) i
+    (operator-sound program (ρ .place) _ spelled .2) (met .periods) (met .line) i

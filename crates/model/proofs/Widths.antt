@@ -1,7 +1,7 @@
 -- The lists of widths belong to the decoders (`widths-listed`): which bytes they list, by one computed test a list, and how far
 -- a command reaches. Assumes nothing.
 use Prim.Native.Nat.{ℕ, _+_, _≤_, _<_}
-use mathlib.Core.Bool.{Bool, true, false, _&&_, Bool·beq, and-eq-true-iff}
+use mathlib.Core.Bool.{Bool, true, false, Bool·beq}
 use mathlib.Core.List.{List, [], _∷_}
 use mathlib.Core.Logic.{_↔_}
 use mathlib.Core.Path.{_≡_, refl, sym, ap, _∙_}
@@ -10,12 +10,10 @@ use borrow.Author.Tests.{eqb-true}
 use lib.Dec.{eqb}
 use lib.ListN.{length, take, length-take}
 use lib.Seq.{getD-take}
-use Rattle.model.specs.Rules.Command.{operatorOf, keywordOf, commandAt}
-use Rattle.model.specs.Rules.Image.{binaryByte}
+use Rattle.model.specs.Rules.Command.{declarationOf, declarationAt, plainRead, sampledRead, operatorOf, operatorAt}
+use Rattle.model.specs.Rules.Image.{binaryByte, unaryByte}
 use Rattle.model.specs.Rules.Machine.{operatorCode, codeAt}
-use Rattle.model.specs.Rules.Outcome.{provided}
 use Rattle.model.specs.Says.Reach.{
-  isListed,
   knownInProgram,
   knownInExpression,
   knownInSchedule,
@@ -26,6 +24,7 @@ use Rattle.model.specs.Says.Reach.{
 use Rattle.model.specs.Rules.Schedule.{scheduleCommandAt}
 use Rattle.model.specs.Rules.Search.{allBelow}
 use Rattle.model.specs.Rules.Width.{
+  isListed,
   programWidth,
   expressionWidth,
   scheduleWidth,
@@ -37,18 +36,31 @@ use Rattle.model.specs.Rules.Width.{
   readWidth,
 }
 use Rattle.model.specs.Rules.Word.{byteAt, twoAt, fourAt, wordAt}
-use Rattle.model.specs.Says.Written.{readByte, Written, PutWritten, CodeWritten, Whole, PutWhole, CodeWhole}
+use Rattle.model.specs.Says.Written.{
+  readByte,
+  DeclarationWritten,
+  OperatorWritten,
+  PutWritten,
+  CodeWritten,
+  DeclarationWhole,
+  OperatorWhole,
+  PutWhole,
+  CodeWhole,
+}
 use Rattle.model.specs.declared.Binary.{Binary}
 use Rattle.model.specs.declared.Binary.the-variants.{Add, Sub, Mul, Less, Same, Min, Max}
 use Rattle.model.specs.declared.Code.{Code}
-use Rattle.model.specs.declared.Command.{Command}
+use Rattle.model.specs.declared.Declaration.{Declaration}
 use Rattle.model.specs.declared.Kind.{Kind}
 use Rattle.model.specs.declared.Kind.the-variants.{Now, Last, When, LastWhen, Current}
+use Rattle.model.specs.declared.Operator.{Operator}
 use Rattle.model.specs.declared.ScheduleCommand.{ScheduleCommand}
+use Rattle.model.specs.declared.Unary.{Unary}
+use Rattle.model.specs.declared.Unary.the-variants.{Negate}
 use Rattle.model.specs.declared.Width.{Width}
 use Rattle.model.specs.declared.Width.the-variants.{Bytes, Unlisted}
 use Rattle.model.proofs.Decide.{beq-true, all-true}
-use Rattle.model.proofs.Written.{command-written, put-written, code-written}
+use Rattle.model.proofs.Written.{declaration-written, operator-written, put-written, code-written}
 
 -- Two tests that agree on all bytes.
 agree : (f g : ℕ → Bool) → allBelow 256 (λ b. Bool·beq (f b) (g b)) ≡ true → (b : ℕ) → b < 256 → f b ≡ g b
@@ -56,11 +68,11 @@ agree f g e b lt = beq-true (f b) (g b) (all-true 256 (λ b. Bool·beq (f b) (g 
 
 -- The four lists, each by one test.
 program-listed : (b : ℕ) → b < 256 → isListed (programWidth b) ≡ knownInProgram b
-unfolding allBelow keywordOf operatorOf provided
+unfolding allBelow declarationAt declarationOf
 program-listed = agree (λ b. isListed (programWidth b)) knownInProgram refl
 
 expression-listed : (b : ℕ) → b < 256 → isListed (expressionWidth b) ≡ knownInExpression b
-unfolding allBelow keywordOf operatorOf
+unfolding allBelow operatorAt operatorOf plainRead sampledRead
 expression-listed = agree (λ b. isListed (expressionWidth b)) knownInExpression refl
 
 schedule-listed : (b : ℕ) → b < 256 → isListed (scheduleWidth b) ≡ knownInSchedule b
@@ -133,87 +145,110 @@ module _ {C : Type 0} (decode : List ℕ → ℕ → C) (Read : C → Type 0) (S
           stands (take m text) at (decode text at) .1 (s .again m (omega (arith, only (s .bytes) (s .confirmed)))) .0,
     )
 
--- The commands of a program text: a byte that one list has the other has not.
-abbrev text-lists : ℕ → ℕ → Bool
-text-lists b n = at-most (programWidth b) n && at-most (expressionWidth b) n
+-- The declarations.
+abbrev program-lists : ℕ → ℕ → Bool
+program-lists b n = at-most (programWidth b) n
 
-read-list : (kind : Kind) (n : ℕ) → readWidth kind ≡ n → text-lists (readByte kind) n ≡ true
+module _ (text : List ℕ) (at : ℕ) where
+  abbrev Spans : Declaration → Type 0
+  Spans c = Span declarationAt DeclarationWhole DeclarationWritten program-lists text at c
+
+  spans : {c : Declaration} (n : ℕ) → 0 < n → at + n ≤ length text → program-lists (byteAt text at) n ≡ true →
+      ((m : ℕ) → at + n ≤ m → DeclarationWritten (take m text) at c) → Spans c
+  spans = spanned declarationAt DeclarationWhole DeclarationWritten program-lists
+
+  declaration-span : (c : Declaration) → DeclarationWritten text at c → Spans c
+  declaration-span c (DeclarationWritten.end h b) =
+      spans (inProgram 0x00) (omega arith) h (rw b) (λ m g.
+      DeclarationWritten.end (long text m _ g h) (byte text m at (omega arith) ∙ b))
+  declaration-span c (DeclarationWritten.input h b r) =
+      spans (inProgram 0x10) (omega arith) h (rw b) (λ m g.
+      rw (← byte text m (at + 1) (omega arith), ← word text m (at + 2) (omega arith))
+      (DeclarationWritten.input (long text m _ g h) (byte text m at (omega arith) ∙ b) (rw (byte text m (at + 1) (omega arith)) r)))
+  declaration-span c (DeclarationWritten.equation h b r) =
+      spans (inProgram 0x11) (omega arith) h (rw b) (λ m g.
+      rw (← byte text m (at + 1) (omega arith), ← word text m (at + 2) (omega arith), ← two text m (at + 6) (omega arith))
+      (DeclarationWritten.equation (long text m _ g h) (byte text m at (omega arith) ∙ b)
+      (rw (byte text m (at + 1) (omega arith)) r)))
+  declaration-span c (DeclarationWritten.latency h b r) =
+      spans (inProgram 0x12) (omega arith) h (rw b) (λ m g.
+      rw (← byte text m (at + 1) (omega arith), ← two text m (at + 2) (omega arith))
+      (DeclarationWritten.latency (long text m _ g h) (byte text m at (omega arith) ∙ b)
+      (rw (byte text m (at + 1) (omega arith)) r)))
+  declaration-span c (DeclarationWritten.link h b) =
+      spans (inProgram 0x13) (omega arith) h (rw b) (λ m g.
+      rw (← byte text m (at + 1) (omega arith))
+      (DeclarationWritten.link (long text m _ g h) (byte text m at (omega arith) ∙ b)))
+  declaration-span c (DeclarationWritten.cap h b) =
+      spans (inProgram 0x14) (omega arith) h (rw b) (λ m g.
+      rw (← four text m (at + 1) (omega arith))
+      (DeclarationWritten.cap (long text m _ g h) (byte text m at (omega arith) ∙ b)))
+  declaration-span c (DeclarationWritten.tag h b) =
+      spans (inProgram 0x15) (omega arith) h (rw b) (λ m g.
+      rw (← two text m (at + 1) (omega arith))
+      (DeclarationWritten.tag (long text m _ g h) (byte text m at (omega arith) ∙ b)))
+
+-- The operators of an expression; those of a code.
+abbrev expression-lists : ℕ → ℕ → Bool
+expression-lists b n = at-most (expressionWidth b) n
+
+abbrev code-lists : ℕ → ℕ → Bool
+code-lists b n = at-most (codeWidth b) n
+
+read-list : (kind : Kind) (n : ℕ) → readWidth kind ≡ n → expression-lists (readByte kind) n ≡ true
 read-list Now n e = rw (← e)
 read-list Last n e = rw (← e)
 read-list When n e = rw (← e)
 read-list LastWhen n e = rw (← e)
 read-list Current n e = rw (← e)
 
-binary-list : (operator : Binary) → text-lists (binaryByte operator) (inExpression 0x30) ≡ true
-binary-list Add = refl
-binary-list Sub = refl
-binary-list Mul = refl
-binary-list Less = refl
-binary-list Same = refl
-binary-list Min = refl
-binary-list Max = refl
+-- Those with two operands and with one have one width each, in an expression and in a code.
+binary-list : (operator : Binary) → (expression-lists (binaryByte operator) (inExpression 0x30) ≡ true) ×
+    (code-lists (binaryByte operator) (inCode 0x30) ≡ true)
+binary-list Add = (refl, refl)
+binary-list Sub = (refl, refl)
+binary-list Mul = (refl, refl)
+binary-list Less = (refl, refl)
+binary-list Same = (refl, refl)
+binary-list Min = (refl, refl)
+binary-list Max = (refl, refl)
+
+unary-list : (operator : Unary) → (expression-lists (unaryByte operator) (inExpression 0x38) ≡ true) ×
+    (code-lists (unaryByte operator) (inCode 0x38) ≡ true)
+unary-list Negate = (refl, refl)
 
 module _ (text : List ℕ) (at : ℕ) where
-  abbrev Spans : Command → Type 0
-  Spans c = Span commandAt Whole Written text-lists text at c
+  abbrev OperatorSpans : Operator → Type 0
+  OperatorSpans c = Span operatorAt OperatorWhole OperatorWritten expression-lists text at c
 
-  spans : {c : Command} (n : ℕ) → 0 < n → at + n ≤ length text → text-lists (byteAt text at) n ≡ true →
-      ((m : ℕ) → at + n ≤ m → Written (take m text) at c) → Spans c
-  spans = spanned commandAt Whole Written text-lists
+  operator-spans : {c : Operator} (n : ℕ) → 0 < n → at + n ≤ length text → expression-lists (byteAt text at) n ≡ true →
+      ((m : ℕ) → at + n ≤ m → OperatorWritten (take m text) at c) → OperatorSpans c
+  operator-spans = spanned operatorAt OperatorWhole OperatorWritten expression-lists
 
-  text-span : (c : Command) → Written text at c → Spans c
-  text-span c (Written.end h b) =
-      spans (inProgram 0x00) (omega arith) h (rw b) (λ m g.
-      Written.end (long text m _ g h) (byte text m at (omega arith) ∙ b))
-  text-span c (Written.input h b r) =
-      spans (inProgram 0x10) (omega arith) h (rw b) (λ m g.
-      rw (← byte text m (at + 1) (omega arith), ← word text m (at + 2) (omega arith))
-      (Written.input (long text m _ g h) (byte text m at (omega arith) ∙ b) (rw (byte text m (at + 1) (omega arith)) r)))
-  text-span c (Written.equation h b r) =
-      spans (inProgram 0x11) (omega arith) h (rw b) (λ m g.
-      rw (← byte text m (at + 1) (omega arith), ← word text m (at + 2) (omega arith), ← two text m (at + 6) (omega arith))
-      (Written.equation (long text m _ g h) (byte text m at (omega arith) ∙ b)
-      (rw (byte text m (at + 1) (omega arith)) r)))
-  text-span c (Written.latency h b r) =
-      spans (inProgram 0x12) (omega arith) h (rw b) (λ m g.
-      rw (← byte text m (at + 1) (omega arith), ← two text m (at + 2) (omega arith))
-      (Written.latency (long text m _ g h) (byte text m at (omega arith) ∙ b)
-      (rw (byte text m (at + 1) (omega arith)) r)))
-  text-span c (Written.link h b) =
-      spans (inProgram 0x13) (omega arith) h (rw b) (λ m g.
-      rw (← byte text m (at + 1) (omega arith))
-      (Written.link (long text m _ g h) (byte text m at (omega arith) ∙ b)))
-  text-span c (Written.cap h b) =
-      spans (inProgram 0x14) (omega arith) h (rw b) (λ m g.
-      rw (← four text m (at + 1) (omega arith))
-      (Written.cap (long text m _ g h) (byte text m at (omega arith) ∙ b)))
-  text-span c (Written.tag h b) =
-      spans (inProgram 0x15) (omega arith) h (rw b) (λ m g.
-      rw (← two text m (at + 1) (omega arith))
-      (Written.tag (long text m _ g h) (byte text m at (omega arith) ∙ b)))
-  text-span c (Written.constant h b) =
-      spans (inExpression 0x20) (omega arith) h (rw b) (λ m g.
+  operator-span : (c : Operator) → OperatorWritten text at c → OperatorSpans c
+  operator-span c (OperatorWritten.constant h b) =
+      operator-spans (inExpression 0x20) (omega arith) h (rw b) (λ m g.
       rw (← word text m (at + 1) (omega arith))
-      (Written.constant (long text m _ g h) (byte text m at (omega arith) ∙ b)))
-  text-span c (Written.plain kind w h b) =
-      spans (inExpression 0x21) (omega arith) h (rw b (read-list kind _ w)) (λ m g.
+      (OperatorWritten.constant (long text m _ g h) (byte text m at (omega arith) ∙ b)))
+  operator-span c (OperatorWritten.plain kind w h b) =
+      operator-spans (inExpression 0x21) (omega arith) h (rw b (read-list kind _ w)) (λ m g.
       rw (← byte text m (at + 1) (omega arith))
-      (Written.plain kind w (long text m _ g h) (byte text m at (omega arith) ∙ b)))
-  text-span c (Written.sampled kind w h b r i) =
-      spans (inExpression 0x23) (omega arith) h (rw b (read-list kind _ w)) (λ m g.
+      (OperatorWritten.plain kind w (long text m _ g h) (byte text m at (omega arith) ∙ b)))
+  operator-span c (OperatorWritten.sampled kind w h b r i) =
+      operator-spans (inExpression 0x23) (omega arith) h (rw b (read-list kind _ w)) (λ m g.
       let n = byte text m (at + 3) (omega arith) in
       let j = byte text m (at + 2) (omega arith) in
       rw (← byte text m (at + 1) (omega arith), ← j, ← n)
-      (Written.sampled kind w (long text m _ g h) (byte text m at (omega arith) ∙ b) (rw n r) (rw (n, j) i)))
-  text-span c (Written.binary operator h b) =
-      spans (inExpression 0x30) (omega arith) h (rw b (binary-list operator)) (λ m g.
-      Written.binary operator (long text m _ g h) (byte text m at (omega arith) ∙ b))
-  text-span c (Written.unary operator h b) =
-      spans (inExpression 0x38) (omega arith) h (rw b) (λ m g.
-      Written.unary operator (long text m _ g h) (byte text m at (omega arith) ∙ b))
-  text-span c (Written.choose h b) =
-      spans (inExpression 0x3A) (omega arith) h (rw b) (λ m g.
-      Written.choose (long text m _ g h) (byte text m at (omega arith) ∙ b))
+      (OperatorWritten.sampled kind w (long text m _ g h) (byte text m at (omega arith) ∙ b) (rw n r) (rw (n, j) i)))
+  operator-span c (OperatorWritten.binary operator h b) =
+      operator-spans (inExpression 0x30) (omega arith) h (rw b (binary-list operator .0)) (λ m g.
+      OperatorWritten.binary operator (long text m _ g h) (byte text m at (omega arith) ∙ b))
+  operator-span c (OperatorWritten.unary operator h b) =
+      operator-spans (inExpression 0x38) (omega arith) h (rw b (unary-list operator .0)) (λ m g.
+      OperatorWritten.unary operator (long text m _ g h) (byte text m at (omega arith) ∙ b))
+  operator-span c (OperatorWritten.choose h b) =
+      operator-spans (inExpression 0x3A) (omega arith) h (rw b) (λ m g.
+      OperatorWritten.choose (long text m _ g h) (byte text m at (omega arith) ∙ b))
 
 -- The commands of a schedule text.
 abbrev put-lists : ℕ → ℕ → Bool
@@ -230,18 +265,6 @@ put-span text at c (PutWritten.put h b) =
     (PutWritten.put (long text m _ g h) (byte text m at (omega arith) ∙ b)))
 
 -- The commands of a code.
-abbrev code-lists : ℕ → ℕ → Bool
-code-lists b n = at-most (codeWidth b) n
-
-operator-list : (operator : Binary) → code-lists (binaryByte operator) (inCode 0x30) ≡ true
-operator-list Add = refl
-operator-list Sub = refl
-operator-list Mul = refl
-operator-list Less = refl
-operator-list Same = refl
-operator-list Min = refl
-operator-list Max = refl
-
 module _ (code : List ℕ) (at : ℕ) where
   abbrev CodeSpans : Code → Type 0
   CodeSpans c = Span codeAt CodeWhole CodeWritten code-lists code at c
@@ -268,19 +291,14 @@ module _ (code : List ℕ) (at : ℕ) where
       rw (← byte code m (at + 1) (omega arith))
       (CodeWritten.store (long code m _ g h) (byte code m at (omega arith) ∙ b)))
   code-span c (CodeWritten.binary operator h b) =
-      code-spans (inCode 0x30) (omega arith) h (rw b (operator-list operator)) (λ m g.
+      code-spans (inCode 0x30) (omega arith) h (rw b (binary-list operator .1)) (λ m g.
       CodeWritten.binary operator (long code m _ g h) (byte code m at (omega arith) ∙ b))
   code-span c (CodeWritten.unary operator h b) =
-      code-spans (inCode 0x38) (omega arith) h (rw b) (λ m g.
+      code-spans (inCode 0x38) (omega arith) h (rw b (unary-list operator .1)) (λ m g.
       CodeWritten.unary operator (long code m _ g h) (byte code m at (omega arith) ∙ b))
   code-span c (CodeWritten.choose h b) =
       code-spans (inCode 0x3A) (omega arith) h (rw b) (λ m g.
       CodeWritten.choose (long code m _ g h) (byte code m at (omega arith) ∙ b))
-
--- What both lists of a program text confirm.
-confirmed-both : (b n : ℕ) → text-lists b n ≡ true →
-    (at-most (programWidth b) n ≡ true) × (at-most (expressionWidth b) n ≡ true)
-confirmed-both b n = and-eq-true-iff (at-most (programWidth b) n) (at-most (expressionWidth b) n) .0
 
 -- A byte has a width exactly if the decoder of its kind of text knows it, and a command that is read whole reaches exactly as
 -- far as its width.
@@ -291,15 +309,15 @@ widths-listed =
           record {
             listed = program-listed;
             reaches = λ text at n r e.
-                reach commandAt Whole Written text-lists command-written text-span text at n r
-                (λ k t. has (programWidth (byteAt text at)) n k e (confirmed-both (byteAt text at) k t .0));
+                reach declarationAt DeclarationWhole DeclarationWritten program-lists declaration-written declaration-span
+                text at n r (λ k t. has (programWidth (byteAt text at)) n k e t);
           };
       expression =
           record {
             listed = expression-listed;
             reaches = λ text at n r e.
-                reach commandAt Whole Written text-lists command-written text-span text at n r
-                (λ k t. has (expressionWidth (byteAt text at)) n k e (confirmed-both (byteAt text at) k t .1));
+                reach operatorAt OperatorWhole OperatorWritten expression-lists operator-written operator-span text at n r
+                (λ k t. has (expressionWidth (byteAt text at)) n k e t);
           };
       schedule =
           record {

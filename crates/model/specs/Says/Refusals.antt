@@ -79,8 +79,8 @@ pub data RefusedAt (program schedule : List ℕ) : ℕ → ℕ → Type 0 where
   unlinked : {n x h : ℕ} {p : Program} → ShortEnough program schedule → LegalProgram program p → DeclaredAndRated p →
       Least p h → LowestFault (ChainFault p (Linked p) 10) n x → RefusedAt program schedule n x
   -- 11: the schedule text stops.
-  unread : {x h : ℕ} {p : Program} → LegalRates program schedule p h → StopsPuts schedule 0 (fault 11 x) →
-      RefusedAt program schedule 11 x
+  unread : {n x h : ℕ} {p : Program} → LegalRates program schedule p h → StopsPuts schedule 0 (fault n x) →
+      RefusedAt program schedule n x
   -- 12 and 13 together, PUT after PUT.
   misplaced : {n x h : ℕ} {p : Program} {puts : Parsed (List Put)} → LegalRates program schedule p h →
       LegalSchedule schedule puts → LowestFault (PutFault p (puts .value)) n x → RefusedAt program schedule n x
