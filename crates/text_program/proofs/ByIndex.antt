@@ -6,11 +6,11 @@ use native.Mathlib.Omega.{arith}
 use lib.ListN.{length, getD, drop, List·getD-map}
 use lib.Seq.{drop-cons, drop-length}
 use Rattle.model.specs.Says.Feasible.{All}
-use Rattle.model.specs.Rules.Command.{commandAt}
+use Rattle.model.specs.Rules.Command.{operatorAt}
 use Rattle.model.specs.Rules.Outcome.{Outcome, accepted, refused, lowest}
 use Rattle.model.specs.Rules.Program.{Program, Read, Signal, Link, Chain, noSignal, count, signalAt, bodyReads, parseProgram}
 use Rattle.model.specs.Rules.Search.{joinFrom}
-use Rattle.model.specs.declared.Command.the-variants as Command
+use Rattle.model.specs.declared.Operator.the-variants as Operator
 use Rattle.model.specs.declared.Fault.{Fault}
 use Rattle.model.specs.declared.Index.the-variants.{Fixed}
 use Rattle.model.specs.declared.Kind.the-variants.{Now}
@@ -290,8 +290,8 @@ module _ {text reads firsts : List ℕ} {n : ℕ} (ix : Indexed text reads first
           (rw z at (tabled .stand x (i - getD firsts x 0) below-count seen)) ∙
           List·getD-map (λ (ρ : Read). ρ .place) (bodyReads (signalAt p x .body)) (i - getD firsts x 0) noRead
 
-      pub spells : commandAt text (readAt p x (i - getD firsts x 0) .place) ≡
-          Command.Read (readAt p x (i - getD firsts x 0) .kind) (readAt p x (i - getD firsts x 0) .operands)
+      pub spells : operatorAt text (readAt p x (i - getD firsts x 0) .place) ≡
+          Operator.Read (readAt p x (i - getD firsts x 0) .kind) (readAt p x (i - getD firsts x 0) .operands)
       spells =
           all-at (SpellsRead text) (bodyReads (signalAt p x .body)) noRead (signal-reads (legal text p e .1) x below-count)
           (i - getD firsts x 0) seen
@@ -301,12 +301,12 @@ module _ {text reads firsts : List ℕ} {n : ℕ} (ix : Indexed text reads first
           record {
             kind = readAt p x (i - getD firsts x 0) .kind;
             operands = readAt p x (i - getD firsts x 0) .operands;
-            is = ap (commandAt text) place-is ∙ spells;
+            is = ap (operatorAt text) place-is ∙ spells;
           }
 
       pub taken-is : (r : Taken) → ReadTaken text (getD reads i 0) r →
           r ≡ record { kind = readAt p x (i - getD firsts x 0) .kind; operands = readAt p x (i - getD firsts x 0) .operands }
-      taken-is r h = h .is _ _ (ap (commandAt text) place-is ∙ spells)
+      taken-is r h = h .is _ _ (ap (operatorAt text) place-is ∙ spells)
 
 pub rises-at : {text reads firsts : List ℕ} {n : ℕ} (ix : Indexed text reads firsts n) (x : ℕ) → x < n → getD firsts x 0 ≤ getD firsts (x + 1) 0
 rises-at ix x lt =

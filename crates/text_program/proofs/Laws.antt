@@ -6,20 +6,22 @@ use Prim.Native.Nat.{ℕ, zero, suc, _+_, _-_, _≤_, _<_}
 use native.Mathlib.Omega.{arith}
 use lib.Dec.{leb, ltb, eqb}
 use lib.ListN.{length, List·getD-eq-default}
-use borrow.Author.Tests.{ltb-true, le-ltb, lt-ltb, le-leb, lt-leb, eq-eqb, ne-eqb}
-use Rattle.model.specs.Rules.Command.{keywordAt, keywordOf, commandOf, commandAt}
+use borrow.Author.Tests.{leb-true, leb-false, ltb-true, le-ltb, lt-ltb, le-leb, lt-leb, eq-eqb, ne-eqb}
+use denote.Enum.Declared.{tagOf, declared}
+use types.Run.{OneOf, miss}
+use Rattle.model.specs.Rules.Command.{isSignal, declarationOf, declarationAt}
 use Rattle.model.specs.Rules.Outcome.{Outcome, accepted, refused, fault, refuse, _▷_, provided, Parsed, parsed}
-use Rattle.model.specs.Rules.Program.{Link, operatorHere, parseLinks, isSignal}
+use Rattle.model.specs.Rules.Program.{Link, parseLinks}
 use Rattle.model.specs.Rules.Width.{readWidth}
 use Rattle.model.specs.Rules.Word.{byteAt}
-use Rattle.model.specs.declared.Command.{Command}
-use Rattle.model.specs.declared.Command.the-variants as Command
+use Rattle.model.specs.declared.Declaration.{Declaration}
+use Rattle.model.specs.declared.Declaration.the-variants as Declaration
 use Rattle.model.specs.declared.Fault.{Fault}
-use Rattle.model.specs.declared.Keyword.{Keyword}
 use Rattle.model.specs.declared.Kind.{Kind}
 use Rattle.model.specs.declared.Kind.the-variants.{Now, Last, When, LastWhen, Current}
-use Rattle.model.specs.declared.Keyword.the-variants as Keyword
-use Rattle.text_program.specs.Results.{hereOf, linksOf, chainOf, tagOf}
+use Rattle.model.proofs.Declaration.{enum}
+use Rattle.text_program.specs.Results.{hereOf, linksOf, chainOf}
+use Rattle.text_program.specs.Results as Results
 use Rattle.text_program.specs.declared.Entry.the-variants as Entry
 use Rattle.text_program.specs.declared.LinksRead.{LinksRead}
 use Rattle.text_program.specs.declared.LinksRead.the-variants as Read
@@ -49,6 +51,31 @@ width-most Current = omega arith
 -- The LINKs of a chain end, are too many, are cut, or go on.
 abbrev pub linkAt : List ℕ → ℕ → Link
 linkAt text at = record { place = at; signal = byteAt text (at + 1) }
+
+-- One LINK is there, or cut.
+abbrev others : List ℕ
+others = 0 ∷ 1 ∷ 2 ∷ 3 ∷ 4 ∷ 5 ∷ 6 ∷ 8 ∷ 9 ∷ []
+
+module _ (text : List ℕ) (at : ℕ) {r : Declaration} (e : r ≡ declarationOf 0x13 text at) where
+  pub link-missing : OneOf others (tagOf (declared enum) r) → length text < at + 2
+  unfolding declarationOf
+  link-missing k = go (leb (at + 2) (length text)) refl
+    where
+      go : (b : Bool) → leb (at + 2) (length text) ≡ b → length text < at + 2
+      go true t =
+          let q : r ≡ Declaration.Link (byteAt text (at + 1)) = rw t at e in
+          absurd (miss others 7 tt (subst (λ d. OneOf others (tagOf (declared enum) d)) q k))
+      go false t = leb-false _ _ t
+
+  pub link-there : {signal : ℕ} → r ≡ Declaration.Link signal → at + 2 ≤ length text
+  unfolding declarationOf
+  link-there {signal} q = go (leb (at + 2) (length text)) refl
+    where
+      go : (b : Bool) → leb (at + 2) (length text) ≡ b → at + 2 ≤ length text
+      go true t = leb-true _ _ t
+      go false t =
+          let early : r ≡ Declaration.EndsEarly = rw t at e in
+          let z : _≡_ {A = ℕ} 0 1 = cc (early, q) in absurd (omega arith)
 
 pub links-end : (room : ℕ) (text : List ℕ) (at : ℕ) (links : List Link) → (byteAt text at ≡ 0x13 → ⊥) →
     parseLinks room text at links ≡ parsed links at
@@ -100,21 +127,22 @@ chain-refused at count to (refused q) {r} {f} e g = let z : f ≡ q = cc in ap S
 
 -- The step of a TAG from the byte after it.
 module _ (text : List ℕ) (at label count to : ℕ) where
-  pub tag-ends : length text ≤ at + 3 → Step.Refused (fault 2 (length text)) ≡ tagOf text at label count to
-  unfolding tagOf
+  pub tag-ends : length text ≤ at + 3 → Step.Refused (fault 2 (length text)) ≡ Results.tagOf text at label count to
+  unfolding Results.tagOf
   tag-ends h = rw (le-ltb (at + 3) (length text) h)
 
   abbrev tagBy : Bool → Step
   tagBy t = cond t (Step.Adds (Entry.Label label) (record { at = at + 3; reads = count; code = to })) (Step.Refused (fault 3 at))
 
-  pub tag-by : (t : Bool) → at + 3 < length text → isSignal (byteAt text (at + 3)) ≡ t → tagBy t ≡ tagOf text at label count to
-  unfolding tagOf
+  pub tag-by : (t : Bool) → at + 3 < length text → isSignal (byteAt text (at + 3)) ≡ t → tagBy t ≡ Results.tagOf text at label count to
+  unfolding Results.tagOf
   tag-by t h e = rw (lt-ltb (at + 3) (length text) h) (ap tagBy (sym e))
 
--- A command that does not end early stands within the text.
-pub command-inside : (text : List ℕ) (at : ℕ) {k : Command} → commandAt text at ≡ k → (Command.EndsEarly ≡ k → ⊥) → at < length text
-unfolding commandAt keywordAt commandOf
-command-inside text at {k} e h = go (ltb at (length text)) refl
+-- A declaration that does not end early stands within the text.
+pub declaration-inside : (text : List ℕ) (at : ℕ) {k : Declaration} → declarationAt text at ≡ k → (Declaration.EndsEarly ≡ k → ⊥) →
+    at < length text
+unfolding declarationAt
+declaration-inside text at {k} e h = go (ltb at (length text)) refl
   where
     go : (b : Bool) → ltb at (length text) ≡ b → at < length text
     go true f = ltb-true _ _ f

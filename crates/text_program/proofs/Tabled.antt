@@ -10,8 +10,7 @@ use lib.ListN.{length, getD, set, length-append, length-map, length-set, List·g
 use lib.Seq.{sets, length-sets, getD-append-seam, getD-set-same, getD-set-other}
 use denote.Enum.Declared.{tagOf, declared}
 use borrow.Author.Tests.{le-ltb}
-use Rattle.model.specs.Rules.Command.{keywordAt}
-use Rattle.model.specs.Rules.Outcome.{accepted, refused, fault, refuse, _▷_}
+use Rattle.model.specs.Rules.Outcome.{accepted, refused, fault, refuse, _▷_, provided}
 use Rattle.model.specs.Rules.Program.{
   Program,
   Read,
@@ -26,6 +25,7 @@ use Rattle.model.specs.Rules.Program.{
   withCap,
   bodyReads,
   weightOf,
+  declarationHere,
   parseCommands,
   parseWith,
 }
@@ -481,7 +481,7 @@ program-stops {least} {text} {at = at} {label = label} r lt reads′ (Step.Refus
 -- So is the end of the text.
 commands-past : (least left : ℕ) (text : List ℕ) (at label : ℕ) (p : Program) → length text ≤ at →
     parseCommands least left text at label p ≡ refuse 2 (length text)
-unfolding parseCommands keywordAt _▷_
+unfolding parseCommands declarationHere provided _▷_
 commands-past least zero text at label p h = refl
 commands-past least (suc left) text at label p h = rw (le-ltb at (length text) h)
 

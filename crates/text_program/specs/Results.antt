@@ -4,8 +4,9 @@ use mathlib.Core.Bool.{cond}
 use mathlib.Core.List.{List}
 use lib.Dec.{leb, ltb}
 use lib.ListN.{length}
+use Rattle.model.specs.Rules.Command.{isSignal}
 use Rattle.model.specs.Rules.Outcome.{Outcome, accepted, refused, fault, Parsed}
-use Rattle.model.specs.Rules.Program.{Link, isSignal}
+use Rattle.model.specs.Rules.Program.{Link}
 use Rattle.model.specs.Rules.Width.{inProgram}
 use Rattle.model.specs.Rules.Word.{byteAt}
 use Rattle.text_program.specs.declared.Entry.the-variants as Entry

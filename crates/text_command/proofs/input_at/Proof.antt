@@ -7,7 +7,7 @@ use lib.ListN.{length, getD}
 use Prim.Native.Nat.{_+_}
 use mathlib.Core.Path.{_≡_, sym, _∙_}
 use mathlib.Core.Bool.{true, false}
-use Rattle.model.specs.Rules.Command.{commandOf, isPeriod}
+use Rattle.model.specs.Rules.Command.{declarationOf, isPeriod}
 use borrow.Author.Needs.{needs}
 use Rattle.text_command.proofs.input_at.Statement.{statement}
 use Rattle.text_command.proofs.input_at.Tie as tie
@@ -16,7 +16,7 @@ sub-left : tie.Need-sub-left
 sub-left c = search needs
 
 returns : tie.Need-returns
-unfolding commandOf
+unfolding declarationOf
 returns c =
     let a = c .before .before .args in
     let s = now (a .text) in
@@ -32,7 +32,7 @@ is-period-requires : tie.Need-is-period-requires
 is-period-requires c κs = search needs
 
 returns-2 : tie.Need-returns-2
-unfolding commandOf
+unfolding declarationOf
 returns-2 c =
     let a = c .before .before .before .before .before .args in
     let s = now (a .text) in
@@ -43,7 +43,7 @@ in-program-requires : tie.Need-in-program-requires
 in-program-requires c κs = search needs
 
 returns-3 : tie.Need-returns-3
-unfolding commandOf
+unfolding declarationOf
 returns-3 c =
     let a = c .before .before .before .before .before .before .before .args in
     let s = now (a .text) in
@@ -57,7 +57,7 @@ word-at-requires : tie.Need-word-at-requires
 word-at-requires c κs = search needs
 
 returns-4 : tie.Need-returns-4
-unfolding commandOf
+unfolding declarationOf
 returns-4 c =
     let a = c .before .before .before .before .before .before .before .before .args in
     let s = now (a .text) in

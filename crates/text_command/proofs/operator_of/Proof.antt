@@ -1,12 +1,33 @@
 -- `text_command::operator_of` meets its contract. Assumes nothing.
-use borrow.Author.Tests.{ne-eqb}
+use native.Mathlib.Omega.{arith}
+use mathlib.Core.Path.{sym, ap, _∙_}
 use Rattle.model.specs.Rules.Command.{operatorOf}
+use Rattle.model.specs.declared.Operator.the-variants as Operator
+use Rattle.text_command.proofs.Operands.{plain-is, sampled-is, binary-is, unknown-is}
+use borrow.Author.Needs.{needs}
 use Rattle.text_command.proofs.operator_of.Statement.{statement}
 use Rattle.text_command.proofs.operator_of.Tie as tie
 
+constant-at-requires : tie.Need-constant-at-requires
+constant-at-requires c κs = search needs
+
+kind-of-requires : tie.Need-kind-of-requires
+kind-of-requires c κs = search needs
+
+plain-read-requires : tie.Need-plain-read-requires
+plain-read-requires c κs = search needs
+
+kind-of-requires-2 : tie.Need-kind-of-requires-2
+kind-of-requires-2 c κs = search needs
+
+sampled-read-requires : tie.Need-sampled-read-requires
+sampled-read-requires c κs = search needs
+
+binary-of-requires : tie.Need-binary-of-requires
+binary-of-requires c κs = search needs
+
 returns : tie.Need-returns
-unfolding operatorOf
-returns c = rw (c .match .keys1)
+returns c = rw (c .before .match .keys1) (c .constant-at .ensures)
 
 returns-2 : tie.Need-returns-2
 unfolding operatorOf
@@ -17,80 +38,45 @@ unfolding operatorOf
 returns-3 c = rw (c .match .keys3)
 
 returns-4 : tie.Need-returns-4
-unfolding operatorOf
-returns-4 c = rw (c .match .keys4)
+returns-4 c =
+    (rw (c .before .kind-of .ensures) at (c .plain-read .ensures)) ∙
+    sym (plain-is _ _ _ (omega (arith, c .before .before .before .if1 .left)) (omega (arith, c .before .before .if2 .taken)))
 
 returns-5 : tie.Need-returns-5
-unfolding operatorOf
-returns-5 c = rw (c .match .keys5)
+returns-5 c =
+    (rw (c .before .kind-of2 .ensures) at (c .sampled-read .ensures)) ∙
+    sym (sampled-is _ _ _ (omega (arith, c .before .before .before .if2 .left)) (omega (arith, c .before .before .if3 .taken)))
 
 returns-6 : tie.Need-returns-6
-unfolding operatorOf
-returns-6 c = rw (c .match .keys6)
+returns-6 c =
+    ap Operator.Binary (c .binary-of .ensures) ∙
+    sym (binary-is _ _ _ (omega (arith, c .before .before .if4 .left)) (omega (arith, c .before .if5 .taken)))
 
 returns-7 : tie.Need-returns-7
-unfolding operatorOf
-returns-7 c = rw (c .match .keys7)
+returns-7 c =
+    let no = c .before .match .rest in
+    sym (unknown-is _ _ _ (λ l h. no .0 .0 .1 (omega arith)) (λ l h. omega arith) (no .0 .1) (no .1))
 
 returns-8 : tie.Need-returns-8
-unfolding operatorOf
-returns-8 c = rw (c .match .keys8)
+returns-8 c =
+    let no = c .before .before .before .before .match .rest in
+    sym (unknown-is _ _ _ (λ l h. omega arith) (λ l h. omega arith) (no .0 .1) (no .1))
 
 returns-9 : tie.Need-returns-9
-unfolding operatorOf
-returns-9 c = rw (c .match .keys9)
-
-returns-10 : tie.Need-returns-10
-unfolding operatorOf
-returns-10 c = rw (c .match .keys10)
-
-returns-11 : tie.Need-returns-11
-unfolding operatorOf
-returns-11 c = rw (c .match .keys11)
-
-returns-12 : tie.Need-returns-12
-unfolding operatorOf
-returns-12 c = rw (c .match .keys12)
-
-returns-13 : tie.Need-returns-13
-unfolding operatorOf
-returns-13 c = rw (c .match .keys13)
-
-returns-14 : tie.Need-returns-14
-unfolding operatorOf
-returns-14 c = rw (c .match .keys14)
-
-returns-15 : tie.Need-returns-15
-unfolding operatorOf
-returns-15 c = rw (c .match .keys15)
-
-returns-16 : tie.Need-returns-16
-unfolding operatorOf
-returns-16 c =
-    let b = c .before .args .byte in
-    let no = c .match .rest in
-    simp (
-      ne-eqb b 32 (no .0 .0 .0 .0 .0 .0 .0 .0 .0 .0 .0 .0 .0 .0 .1),
-      ne-eqb b 33 (no .0 .0 .0 .0 .0 .0 .0 .0 .0 .0 .0 .0 .0 .1),
-      ne-eqb b 34 (no .0 .0 .0 .0 .0 .0 .0 .0 .0 .0 .0 .0 .1),
-      ne-eqb b 35 (no .0 .0 .0 .0 .0 .0 .0 .0 .0 .0 .0 .1),
-      ne-eqb b 36 (no .0 .0 .0 .0 .0 .0 .0 .0 .0 .0 .1),
-      ne-eqb b 37 (no .0 .0 .0 .0 .0 .0 .0 .0 .0 .1),
-      ne-eqb b 48 (no .0 .0 .0 .0 .0 .0 .0 .0 .1),
-      ne-eqb b 49 (no .0 .0 .0 .0 .0 .0 .0 .1),
-      ne-eqb b 50 (no .0 .0 .0 .0 .0 .0 .1),
-      ne-eqb b 51 (no .0 .0 .0 .0 .0 .1),
-      ne-eqb b 52 (no .0 .0 .0 .0 .1),
-      ne-eqb b 53 (no .0 .0 .0 .1),
-      ne-eqb b 54 (no .0 .0 .1),
-      ne-eqb b 56 (no .0 .1),
-      ne-eqb b 58 (no .1),
-    )
+returns-9 c =
+    let no = c .before .before .before .before .before .match .rest in
+    sym (unknown-is _ _ _ (λ l h. omega arith) (λ l h. omega arith) (no .0 .1) (no .1))
 
 pub operator-of-spec : {M : Type 1} → statement M
 operator-of-spec =
     tie.close
     (tie.spec
+    constant-at-requires
+    kind-of-requires
+    plain-read-requires
+    kind-of-requires-2
+    sampled-read-requires
+    binary-of-requires
     returns
     returns-2
     returns-3
@@ -99,11 +85,4 @@ operator-of-spec =
     returns-6
     returns-7
     returns-8
-    returns-9
-    returns-10
-    returns-11
-    returns-12
-    returns-13
-    returns-14
-    returns-15
-    returns-16)
+    returns-9)

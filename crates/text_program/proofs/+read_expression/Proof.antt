@@ -12,8 +12,8 @@ use borrow.Fn.PlainCycle.{Measures, is, falls, and}
 use Rattle.model.specs.Rules.Outcome.{_▷_, provided, parsed}
 use Rattle.model.specs.Rules.Program.{constant, read, node, parseExpr}
 use Rattle.model.specs.Rules.Width.{readWidth}
-use Rattle.model.specs.declared.Command.{Command}
-use Rattle.model.specs.declared.Command.the-variants as Command
+use Rattle.model.specs.declared.Operator.{Operator}
+use Rattle.model.specs.declared.Operator.the-variants as Operator
 use Rattle.model.specs.declared.Kind.{Kind}
 use Rattle.model.specs.declared.Sampled.{Sampled}
 use Rattle.text_program.specs.Walks.{Room, Walks}
@@ -106,26 +106,26 @@ module _ (t : ℕ) (c : lts.After-operator-from (known t) (given t) own.Post) wh
   room : Room (length text) at count to size
   room = c .before .before .before .before .pre .1
 
-  module _ (o : Command) (e : c .operator-from .result ≡ o) where
+  module _ (o : Operator) (e : c .operator-from .result ≡ o) where
     step : parseExpr least depth text at ≡ node least (λ n. parseExpr least (depth - 1) text n) text at o
     step =
         parse-node least depth text at (c .before .if1 .left) ∙
-        ap (λ (x : Command). node least (λ n. parseExpr least (depth - 1) text n) text at x) (sym (c .operator-from .ensures) ∙ e)
+        ap (λ (x : Operator). node least (λ n. parseExpr least (depth - 1) text n) text at x) (sym (c .operator-from .ensures) ∙ e)
 
-    inside : (Command.EndsEarly ≡ o → ⊥) → at < length text
+    inside : (Operator.EndsEarly ≡ o → ⊥) → at < length text
     inside h = operator-inside least text at (sym (c .operator-from .ensures) ∙ e) h
 
-  constant-inside : {w : ℤ} → c .operator-from .result ≡ Command.Constant w → at + 5 ≤ length text
+  constant-inside : {w : ℤ} → c .operator-from .result ≡ Operator.Constant w → at + 5 ≤ length text
   unfolding node
   constant-inside {w} e = parsed-spans least depth text at (constant w) (at + 5) (step _ e) .inside
 
   -- A read has a factor that is allowed.
-  read-step : {kind : Kind} {x : Sampled} → c .operator-from .result ≡ Command.Read kind x →
+  read-step : {kind : Kind} {x : Sampled} → c .operator-from .result ≡ Operator.Read kind x →
       parseExpr least depth text at ≡ parsed (read (record { place = at; kind = kind; operands = x })) (at + readWidth kind)
   unfolding node _▷_ provided
   read-step e = step _ e ∙ rw (read-allowed least text at (sym (c .operator-from .ensures) ∙ e))
 
-  read-inside : {kind : Kind} {x : Sampled} → c .operator-from .result ≡ Command.Read kind x → at + readWidth kind ≤ length text
+  read-inside : {kind : Kind} {x : Sampled} → c .operator-from .result ≡ Operator.Read kind x → at + readWidth kind ≤ length text
   unfolding node
   read-inside {kind} {x} e =
       parsed-spans least depth text at (read (record { place = at; kind = kind; operands = x })) (at + readWidth kind) (read-step e) .inside
@@ -169,59 +169,17 @@ refuse-walk-requires-3 t c κs = search needs
 enum-told-4 : (t : ℕ) → lts.Need-enum-told-4 (known t) (given t) own.Post
 enum-told-4 t c = search needs
 
-refuse-walk-requires-4 : (t : ℕ) → lts.Need-refuse-walk-requires-4 (known t) (given t) own.Post
-refuse-walk-requires-4 t c κs = search needs
-
-enum-told-5 : (t : ℕ) → lts.Need-enum-told-5 (known t) (given t) own.Post
-enum-told-5 t c = search needs
-
-refuse-walk-requires-5 : (t : ℕ) → lts.Need-refuse-walk-requires-5 (known t) (given t) own.Post
-refuse-walk-requires-5 t c κs = search needs
-
-enum-told-6 : (t : ℕ) → lts.Need-enum-told-6 (known t) (given t) own.Post
-enum-told-6 t c = search needs
-
-refuse-walk-requires-6 : (t : ℕ) → lts.Need-refuse-walk-requires-6 (known t) (given t) own.Post
-refuse-walk-requires-6 t c κs = search needs
-
-enum-told-7 : (t : ℕ) → lts.Need-enum-told-7 (known t) (given t) own.Post
-enum-told-7 t c = search needs
-
-refuse-walk-requires-7 : (t : ℕ) → lts.Need-refuse-walk-requires-7 (known t) (given t) own.Post
-refuse-walk-requires-7 t c κs = search needs
-
-enum-told-8 : (t : ℕ) → lts.Need-enum-told-8 (known t) (given t) own.Post
-enum-told-8 t c = search needs
-
-refuse-walk-requires-8 : (t : ℕ) → lts.Need-refuse-walk-requires-8 (known t) (given t) own.Post
-refuse-walk-requires-8 t c κs = search needs
-
-enum-told-9 : (t : ℕ) → lts.Need-enum-told-9 (known t) (given t) own.Post
-enum-told-9 t c = search needs
-
-refuse-walk-requires-9 : (t : ℕ) → lts.Need-refuse-walk-requires-9 (known t) (given t) own.Post
-refuse-walk-requires-9 t c κs = search needs
-
-enum-told-10 : (t : ℕ) → lts.Need-enum-told-10 (known t) (given t) own.Post
-enum-told-10 t c = search needs
-
-refuse-walk-requires-10 : (t : ℕ) → lts.Need-refuse-walk-requires-10 (known t) (given t) own.Post
-refuse-walk-requires-10 t c κs = search needs
-
-enum-told-11 : (t : ℕ) → lts.Need-enum-told-11 (known t) (given t) own.Post
-enum-told-11 t c = search needs
-
 in-expression-requires : (t : ℕ) → lts.Need-in-expression-requires (known t) (given t) own.Post
 in-expression-requires t c κs = search needs
 
 add-moved-on : (t : ℕ) → lts.Need-add-moved-on (known t) (given t) own.Post
-add-moved-on t c = omega (arith, constant-inside t (c .before .before .before) (c .before .enum-told11 .given .1), room t (c .before .before .before) .short, room t (c .before .before .before) .small)
+add-moved-on t c = omega (arith, constant-inside t (c .before .before .before) (c .before .enum-told4 .given .1), room t (c .before .before .before) .short, room t (c .before .before .before) .small)
 
 in-code-requires : (t : ℕ) → lts.Need-in-code-requires (known t) (given t) own.Post
 in-code-requires t c κs = search needs
 
 add-moved-on-2 : (t : ℕ) → lts.Need-add-moved-on-2 (known t) (given t) own.Post
-add-moved-on-2 t c = omega (arith, constant-inside t (c .before .before .before .before) (c .before .before .enum-told11 .given .1), room t (c .before .before .before .before) .short, room t (c .before .before .before .before) .small)
+add-moved-on-2 t c = omega (arith, constant-inside t (c .before .before .before .before) (c .before .before .enum-told4 .given .1), room t (c .before .before .before .before) .short, room t (c .before .before .before .before) .small)
 
 moved-on-requires : (t : ℕ) → lts.Need-moved-on-requires (known t) (given t) own.Post
 moved-on-requires t c κs = search needs
@@ -256,14 +214,14 @@ add-moved-on-5 t c = omega (arith, read-inside t (c .before .before .before .bef
 moved-on-requires-2 : (t : ℕ) → lts.Need-moved-on-requires-2 (known t) (given t) own.Post
 moved-on-requires-2 t c κs = search needs
 
-enum-told-12 : (t : ℕ) → lts.Need-enum-told-12 (known t) (given t) own.Post
-enum-told-12 t c = search needs
+enum-told-5 : (t : ℕ) → lts.Need-enum-told-5 (known t) (given t) own.Post
+enum-told-5 t c = search needs
 
 in-expression-requires-2 : (t : ℕ) → lts.Need-in-expression-requires-2 (known t) (given t) own.Post
 in-expression-requires-2 t c κs = search needs
 
 add-first-at : (t : ℕ) → lts.Need-add-first-at (known t) (given t) own.Post
-add-first-at t c = omega (arith, inside t (c .before .before .before) _ (c .before .enum-told12 .given .1) (λ e. let z : _≡_ {A = ℕ} 0 1 = cc in omega arith), room t (c .before .before .before) .short)
+add-first-at t c = omega (arith, inside t (c .before .before .before) _ (c .before .enum-told5 .given .1) (λ e. let z : _≡_ {A = ℕ} 0 1 = cc in omega arith), room t (c .before .before .before) .short)
 
 sub-read-expression : (t : ℕ) → lts.Need-sub-read-expression (known t) (given t) own.Post
 sub-read-expression t c = search needs
@@ -274,15 +232,15 @@ read-expression-requires t c κs = (omega (arith, c .before .before .before .bef
 enum-known-first : (t : ℕ) → lts.Need-enum-known-first (known t) (given t) own.Post
 enum-known-first t c = search needs
 
-enum-told-13 : (t : ℕ) → lts.Need-enum-told-13 (known t) (given t) own.Post
-enum-told-13 t c = search needs
+enum-told-6 : (t : ℕ) → lts.Need-enum-told-6 (known t) (given t) own.Post
+enum-told-6 t c = search needs
 
 same-length : (t : ℕ) → lts.Need-same-length (known t) (given t) own.Post
 same-length t c = search needs
 
 returns-2 : (t : ℕ) → lts.Need-returns-2 (known t) (given t) own.Post
 unfolding node
-returns-2 t c = rw (step t (c .before .before .before .before .before .before .before .before .before) _ (c .before .before .before .before .before .before .before .enum-told12 .given .1)) (stop _ _ (rw (c .before .before .before .before .before .before .in-expression2 .ensures) at (c .before .before .before .before .read-expression .ensures)) (c .enum-told13 .given .1))
+returns-2 t c = rw (step t (c .before .before .before .before .before .before .before .before .before) _ (c .before .before .before .before .before .before .before .enum-told5 .given .1)) (stop _ _ (rw (c .before .before .before .before .before .before .in-expression2 .ensures) at (c .before .before .before .before .read-expression .ensures)) (c .enum-told6 .given .1))
 
 sub-read-expression-2 : (t : ℕ) → lts.Need-sub-read-expression-2 (known t) (given t) own.Post
 sub-read-expression-2 t c = search needs
@@ -293,15 +251,15 @@ read-expression-requires-2 t c κs = (omega (arith, c .before .before .before .b
 enum-known-second : (t : ℕ) → lts.Need-enum-known-second (known t) (given t) own.Post
 enum-known-second t c = search needs
 
-enum-told-14 : (t : ℕ) → lts.Need-enum-told-14 (known t) (given t) own.Post
-enum-told-14 t c = search needs
+enum-told-7 : (t : ℕ) → lts.Need-enum-told-7 (known t) (given t) own.Post
+enum-told-7 t c = search needs
 
 same-length-2 : (t : ℕ) → lts.Need-same-length-2 (known t) (given t) own.Post
 same-length-2 t c = search needs
 
 returns-3 : (t : ℕ) → lts.Need-returns-3 (known t) (given t) own.Post
 unfolding node
-returns-3 t c = rw (step t (c .before .before .before .before .before .before .before .before .before .before .before .before .before .before .before .before) _ (c .before .before .before .before .before .before .before .before .before .before .before .before .before .before .enum-told12 .given .1)) (go-on _ _ (rw (c .before .before .before .before .before .before .before .before .before .before .before .before .before .in-expression2 .ensures) at (c .before .before .before .before .before .before .before .before .before .before .before .read-expression .ensures)) (c .before .before .before .before .before .before .before .first .given .1) (λ x m. stop _ _ (c .before .before .before .before .read-expression2 .ensures) (c .enum-told14 .given .1)))
+returns-3 t c = rw (step t (c .before .before .before .before .before .before .before .before .before .before .before .before .before .before .before .before) _ (c .before .before .before .before .before .before .before .before .before .before .before .before .before .before .enum-told5 .given .1)) (go-on _ _ (rw (c .before .before .before .before .before .before .before .before .before .before .before .before .before .in-expression2 .ensures) at (c .before .before .before .before .before .before .before .before .before .before .before .read-expression .ensures)) (c .before .before .before .before .before .before .before .first .given .1) (λ x m. stop _ _ (c .before .before .before .before .read-expression2 .ensures) (c .enum-told7 .given .1)))
 
 in-code-requires-3 : (t : ℕ) → lts.Need-in-code-requires-3 (known t) (given t) own.Post
 in-code-requires-3 t c κs = search needs
@@ -312,14 +270,14 @@ add-moved-on-6 t c = let h = more t (c .before .before .before .before .before .
 moved-on-requires-3 : (t : ℕ) → lts.Need-moved-on-requires-3 (known t) (given t) own.Post
 moved-on-requires-3 t c κs = search needs
 
-enum-told-15 : (t : ℕ) → lts.Need-enum-told-15 (known t) (given t) own.Post
-enum-told-15 t c = search needs
+enum-told-8 : (t : ℕ) → lts.Need-enum-told-8 (known t) (given t) own.Post
+enum-told-8 t c = search needs
 
 in-expression-requires-3 : (t : ℕ) → lts.Need-in-expression-requires-3 (known t) (given t) own.Post
 in-expression-requires-3 t c κs = search needs
 
 add-operand-at : (t : ℕ) → lts.Need-add-operand-at (known t) (given t) own.Post
-add-operand-at t c = omega (arith, inside t (c .before .before .before) _ (c .before .enum-told15 .given .1) (λ e. let z : _≡_ {A = ℕ} 0 1 = cc in omega arith), room t (c .before .before .before) .short)
+add-operand-at t c = omega (arith, inside t (c .before .before .before) _ (c .before .enum-told8 .given .1) (λ e. let z : _≡_ {A = ℕ} 0 1 = cc in omega arith), room t (c .before .before .before) .short)
 
 sub-read-expression-3 : (t : ℕ) → lts.Need-sub-read-expression-3 (known t) (given t) own.Post
 sub-read-expression-3 t c = search needs
@@ -330,15 +288,15 @@ read-expression-requires-3 t c κs = (omega (arith, c .before .before .before .b
 enum-known-operand : (t : ℕ) → lts.Need-enum-known-operand (known t) (given t) own.Post
 enum-known-operand t c = search needs
 
-enum-told-16 : (t : ℕ) → lts.Need-enum-told-16 (known t) (given t) own.Post
-enum-told-16 t c = search needs
+enum-told-9 : (t : ℕ) → lts.Need-enum-told-9 (known t) (given t) own.Post
+enum-told-9 t c = search needs
 
 same-length-3 : (t : ℕ) → lts.Need-same-length-3 (known t) (given t) own.Post
 same-length-3 t c = search needs
 
 returns-4 : (t : ℕ) → lts.Need-returns-4 (known t) (given t) own.Post
 unfolding node
-returns-4 t c = rw (step t (c .before .before .before .before .before .before .before .before .before) _ (c .before .before .before .before .before .before .before .enum-told15 .given .1)) (stop _ _ (rw (c .before .before .before .before .before .before .in-expression3 .ensures) at (c .before .before .before .before .read-expression3 .ensures)) (c .enum-told16 .given .1))
+returns-4 t c = rw (step t (c .before .before .before .before .before .before .before .before .before) _ (c .before .before .before .before .before .before .before .enum-told8 .given .1)) (stop _ _ (rw (c .before .before .before .before .before .before .in-expression3 .ensures) at (c .before .before .before .before .read-expression3 .ensures)) (c .enum-told9 .given .1))
 
 in-code-requires-4 : (t : ℕ) → lts.Need-in-code-requires-4 (known t) (given t) own.Post
 in-code-requires-4 t c κs = search needs
@@ -349,14 +307,14 @@ add-moved-on-7 t c = let h = one t (c .before .before .before .before .before .b
 moved-on-requires-4 : (t : ℕ) → lts.Need-moved-on-requires-4 (known t) (given t) own.Post
 moved-on-requires-4 t c κs = search needs
 
-enum-told-17 : (t : ℕ) → lts.Need-enum-told-17 (known t) (given t) own.Post
-enum-told-17 t c = search needs
+enum-told-10 : (t : ℕ) → lts.Need-enum-told-10 (known t) (given t) own.Post
+enum-told-10 t c = search needs
 
 in-expression-requires-4 : (t : ℕ) → lts.Need-in-expression-requires-4 (known t) (given t) own.Post
 in-expression-requires-4 t c κs = search needs
 
 add-condition-at : (t : ℕ) → lts.Need-add-condition-at (known t) (given t) own.Post
-add-condition-at t c = omega (arith, inside t (c .before .before .before) _ (c .before .enum-told17 .given .1) (λ e. let z : _≡_ {A = ℕ} 0 1 = cc in omega arith), room t (c .before .before .before) .short)
+add-condition-at t c = omega (arith, inside t (c .before .before .before) _ (c .before .enum-told10 .given .1) (λ e. let z : _≡_ {A = ℕ} 0 1 = cc in omega arith), room t (c .before .before .before) .short)
 
 sub-read-expression-4 : (t : ℕ) → lts.Need-sub-read-expression-4 (known t) (given t) own.Post
 sub-read-expression-4 t c = search needs
@@ -367,15 +325,15 @@ read-expression-requires-4 t c κs = (omega (arith, c .before .before .before .b
 enum-known-condition : (t : ℕ) → lts.Need-enum-known-condition (known t) (given t) own.Post
 enum-known-condition t c = search needs
 
-enum-told-18 : (t : ℕ) → lts.Need-enum-told-18 (known t) (given t) own.Post
-enum-told-18 t c = search needs
+enum-told-11 : (t : ℕ) → lts.Need-enum-told-11 (known t) (given t) own.Post
+enum-told-11 t c = search needs
 
 same-length-4 : (t : ℕ) → lts.Need-same-length-4 (known t) (given t) own.Post
 same-length-4 t c = search needs
 
 returns-5 : (t : ℕ) → lts.Need-returns-5 (known t) (given t) own.Post
 unfolding node
-returns-5 t c = rw (step t (c .before .before .before .before .before .before .before .before .before) _ (c .before .before .before .before .before .before .before .enum-told17 .given .1)) (stop _ _ (rw (c .before .before .before .before .before .before .in-expression4 .ensures) at (c .before .before .before .before .read-expression4 .ensures)) (c .enum-told18 .given .1))
+returns-5 t c = rw (step t (c .before .before .before .before .before .before .before .before .before) _ (c .before .before .before .before .before .before .before .enum-told10 .given .1)) (stop _ _ (rw (c .before .before .before .before .before .before .in-expression4 .ensures) at (c .before .before .before .before .read-expression4 .ensures)) (c .enum-told11 .given .1))
 
 sub-read-expression-5 : (t : ℕ) → lts.Need-sub-read-expression-5 (known t) (given t) own.Post
 sub-read-expression-5 t c = search needs
@@ -386,15 +344,15 @@ read-expression-requires-5 t c κs = (omega (arith, c .before .before .before .b
 enum-known-first-2 : (t : ℕ) → lts.Need-enum-known-first-2 (known t) (given t) own.Post
 enum-known-first-2 t c = search needs
 
-enum-told-19 : (t : ℕ) → lts.Need-enum-told-19 (known t) (given t) own.Post
-enum-told-19 t c = search needs
+enum-told-12 : (t : ℕ) → lts.Need-enum-told-12 (known t) (given t) own.Post
+enum-told-12 t c = search needs
 
 same-length-5 : (t : ℕ) → lts.Need-same-length-5 (known t) (given t) own.Post
 same-length-5 t c = search needs
 
 returns-6 : (t : ℕ) → lts.Need-returns-6 (known t) (given t) own.Post
 unfolding node
-returns-6 t c = rw (step t (c .before .before .before .before .before .before .before .before .before .before .before .before .before .before .before .before) _ (c .before .before .before .before .before .before .before .before .before .before .before .before .before .before .enum-told17 .given .1)) (go-on _ _ (rw (c .before .before .before .before .before .before .before .before .before .before .before .before .before .in-expression4 .ensures) at (c .before .before .before .before .before .before .before .before .before .before .before .read-expression4 .ensures)) (c .before .before .before .before .before .before .before .condition .given .1) (λ x m. stop _ _ (c .before .before .before .before .read-expression5 .ensures) (c .enum-told19 .given .1)))
+returns-6 t c = rw (step t (c .before .before .before .before .before .before .before .before .before .before .before .before .before .before .before .before) _ (c .before .before .before .before .before .before .before .before .before .before .before .before .before .before .enum-told10 .given .1)) (go-on _ _ (rw (c .before .before .before .before .before .before .before .before .before .before .before .before .before .in-expression4 .ensures) at (c .before .before .before .before .before .before .before .before .before .before .before .read-expression4 .ensures)) (c .before .before .before .before .before .before .before .condition .given .1) (λ x m. stop _ _ (c .before .before .before .before .read-expression5 .ensures) (c .enum-told12 .given .1)))
 
 sub-read-expression-6 : (t : ℕ) → lts.Need-sub-read-expression-6 (known t) (given t) own.Post
 sub-read-expression-6 t c = search needs
@@ -405,15 +363,15 @@ read-expression-requires-6 t c κs = (omega (arith, c .before .before .before .b
 enum-known-second-2 : (t : ℕ) → lts.Need-enum-known-second-2 (known t) (given t) own.Post
 enum-known-second-2 t c = search needs
 
-enum-told-20 : (t : ℕ) → lts.Need-enum-told-20 (known t) (given t) own.Post
-enum-told-20 t c = search needs
+enum-told-13 : (t : ℕ) → lts.Need-enum-told-13 (known t) (given t) own.Post
+enum-told-13 t c = search needs
 
 same-length-6 : (t : ℕ) → lts.Need-same-length-6 (known t) (given t) own.Post
 same-length-6 t c = search needs
 
 returns-7 : (t : ℕ) → lts.Need-returns-7 (known t) (given t) own.Post
 unfolding node
-returns-7 t c = rw (step t (c .before .before .before .before .before .before .before .before .before .before .before .before .before .before .before .before .before .before .before .before .before .before .before) _ (c .before .before .before .before .before .before .before .before .before .before .before .before .before .before .before .before .before .before .before .before .before .enum-told17 .given .1)) (go-on _ _ (rw (c .before .before .before .before .before .before .before .before .before .before .before .before .before .before .before .before .before .before .before .before .in-expression4 .ensures) at (c .before .before .before .before .before .before .before .before .before .before .before .before .before .before .before .before .before .before .read-expression4 .ensures)) (c .before .before .before .before .before .before .before .before .before .before .before .before .before .before .condition .given .1) (λ x m. go-on _ _ (c .before .before .before .before .before .before .before .before .before .before .before .read-expression5 .ensures) (c .before .before .before .before .before .before .before .first2 .given .1) (λ y n. stop _ _ (c .before .before .before .before .read-expression6 .ensures) (c .enum-told20 .given .1))))
+returns-7 t c = rw (step t (c .before .before .before .before .before .before .before .before .before .before .before .before .before .before .before .before .before .before .before .before .before .before .before) _ (c .before .before .before .before .before .before .before .before .before .before .before .before .before .before .before .before .before .before .before .before .before .enum-told10 .given .1)) (go-on _ _ (rw (c .before .before .before .before .before .before .before .before .before .before .before .before .before .before .before .before .before .before .before .before .in-expression4 .ensures) at (c .before .before .before .before .before .before .before .before .before .before .before .before .before .before .before .before .before .before .read-expression4 .ensures)) (c .before .before .before .before .before .before .before .before .before .before .before .before .before .before .condition .given .1) (λ x m. go-on _ _ (c .before .before .before .before .before .before .before .before .before .before .before .read-expression5 .ensures) (c .before .before .before .before .before .before .before .first2 .given .1) (λ y n. stop _ _ (c .before .before .before .before .read-expression6 .ensures) (c .enum-told13 .given .1))))
 
 in-code-requires-5 : (t : ℕ) → lts.Need-in-code-requires-5 (known t) (given t) own.Post
 in-code-requires-5 t c κs = search needs
@@ -438,63 +396,35 @@ returns-10 t c = walks-refused _ (step t (c .before .before .before) _ (c .befor
 
 returns-11 : (t : ℕ) → lts.Need-returns-11 (known t) (given t) own.Post
 unfolding node
-returns-11 t c = walks-refused _ (step t (c .before .before .before) _ (c .before .enum-told4 .given .1)) (c .refuse-walk4 .ensures)
-
-returns-12 : (t : ℕ) → lts.Need-returns-12 (known t) (given t) own.Post
-unfolding node
-returns-12 t c = walks-refused _ (step t (c .before .before .before) _ (c .before .enum-told5 .given .1)) (c .refuse-walk5 .ensures)
-
-returns-13 : (t : ℕ) → lts.Need-returns-13 (known t) (given t) own.Post
-unfolding node
-returns-13 t c = walks-refused _ (step t (c .before .before .before) _ (c .before .enum-told6 .given .1)) (c .refuse-walk6 .ensures)
-
-returns-14 : (t : ℕ) → lts.Need-returns-14 (known t) (given t) own.Post
-unfolding node
-returns-14 t c = walks-refused _ (step t (c .before .before .before) _ (c .before .enum-told7 .given .1)) (c .refuse-walk7 .ensures)
-
-returns-15 : (t : ℕ) → lts.Need-returns-15 (known t) (given t) own.Post
-unfolding node
-returns-15 t c = walks-refused _ (step t (c .before .before .before) _ (c .before .enum-told8 .given .1)) (c .refuse-walk8 .ensures)
-
-returns-16 : (t : ℕ) → lts.Need-returns-16 (known t) (given t) own.Post
-unfolding node
-returns-16 t c = walks-refused _ (step t (c .before .before .before) _ (c .before .enum-told9 .given .1)) (c .refuse-walk9 .ensures)
-
-returns-17 : (t : ℕ) → lts.Need-returns-17 (known t) (given t) own.Post
-unfolding node
-returns-17 t c = walks-refused _ (step t (c .before .before .before) _ (c .before .enum-told10 .given .1)) (c .refuse-walk10 .ensures)
-
-returns-18 : (t : ℕ) → lts.Need-returns-18 (known t) (given t) own.Post
-unfolding node
-returns-18 t c = rw (step t (c .before .before .before .before .before) _ (c .before .before .before .enum-told11 .given .1)) (walks-constant _ _ (rw (c .before .before .in-expression .ensures, c .before .in-code .ensures) at (c .moved-on .ensures)))
+returns-11 t c = rw (step t (c .before .before .before .before .before) _ (c .before .before .before .enum-told4 .given .1)) (walks-constant _ _ (rw (c .before .before .in-expression .ensures, c .before .in-code .ensures) at (c .moved-on .ensures)))
 
 same-length-7 : (t : ℕ) → lts.Need-same-length-7 (known t) (given t) own.Post
 same-length-7 t c = search needs
 
-returns-19 : (t : ℕ) → lts.Need-returns-19 (known t) (given t) own.Post
+returns-12 : (t : ℕ) → lts.Need-returns-12 (known t) (given t) own.Post
 unfolding node
-returns-19 t c = rw (read-step t (c .before .before .before .before .before .before) (c .before .before .before .before .operator .given .1)) (walks-read _ (rw (c .before .before .of-read .ensures, c .before .in-code2 .ensures) at (c .moved-on2 .ensures)))
+returns-12 t c = rw (read-step t (c .before .before .before .before .before .before) (c .before .before .before .before .operator .given .1)) (walks-read _ (rw (c .before .before .of-read .ensures, c .before .in-code2 .ensures) at (c .moved-on2 .ensures)))
 
 same-length-8 : (t : ℕ) → lts.Need-same-length-8 (known t) (given t) own.Post
 same-length-8 t c = search needs
 
-returns-20 : (t : ℕ) → lts.Need-returns-20 (known t) (given t) own.Post
+returns-13 : (t : ℕ) → lts.Need-returns-13 (known t) (given t) own.Post
 unfolding node
-returns-20 t c = rw (step t (c .before .before .before .before .before .before .before .before .before .before .before .before .before .before .before .before .before .before .before .before) _ (c .before .before .before .before .before .before .before .before .before .before .before .before .before .before .before .before .before .before .enum-told12 .given .1)) (go-on _ _ (rw (c .before .before .before .before .before .before .before .before .before .before .before .before .before .before .before .before .before .in-expression2 .ensures) at (c .before .before .before .before .before .before .before .before .before .before .before .before .before .before .before .read-expression .ensures)) (c .before .before .before .before .before .before .before .before .before .before .before .first .given .1) (λ x m. go-on _ _ (c .before .before .before .before .before .before .before .before .read-expression2 .ensures) (c .before .before .before .before .second .given .1) (λ y n. walks-two x m y n _ (rw (c .before .before .in-code3 .ensures) at (c .moved-on3 .ensures)))))
+returns-13 t c = rw (step t (c .before .before .before .before .before .before .before .before .before .before .before .before .before .before .before .before .before .before .before .before) _ (c .before .before .before .before .before .before .before .before .before .before .before .before .before .before .before .before .before .before .enum-told5 .given .1)) (go-on _ _ (rw (c .before .before .before .before .before .before .before .before .before .before .before .before .before .before .before .before .before .in-expression2 .ensures) at (c .before .before .before .before .before .before .before .before .before .before .before .before .before .before .before .read-expression .ensures)) (c .before .before .before .before .before .before .before .before .before .before .before .first .given .1) (λ x m. go-on _ _ (c .before .before .before .before .before .before .before .before .read-expression2 .ensures) (c .before .before .before .before .second .given .1) (λ y n. walks-two x m y n _ (rw (c .before .before .in-code3 .ensures) at (c .moved-on3 .ensures)))))
 
 same-length-9 : (t : ℕ) → lts.Need-same-length-9 (known t) (given t) own.Post
 same-length-9 t c = search needs
 
-returns-21 : (t : ℕ) → lts.Need-returns-21 (known t) (given t) own.Post
+returns-14 : (t : ℕ) → lts.Need-returns-14 (known t) (given t) own.Post
 unfolding node
-returns-21 t c = rw (step t (c .before .before .before .before .before .before .before .before .before .before .before .before .before) _ (c .before .before .before .before .before .before .before .before .before .before .before .enum-told15 .given .1)) (go-on _ _ (rw (c .before .before .before .before .before .before .before .before .before .before .in-expression3 .ensures) at (c .before .before .before .before .before .before .before .before .read-expression3 .ensures)) (c .before .before .before .before .operand .given .1) (λ x m. walks-one x m (rw (c .before .before .in-code4 .ensures) at (c .moved-on4 .ensures))))
+returns-14 t c = rw (step t (c .before .before .before .before .before .before .before .before .before .before .before .before .before) _ (c .before .before .before .before .before .before .before .before .before .before .before .enum-told8 .given .1)) (go-on _ _ (rw (c .before .before .before .before .before .before .before .before .before .before .in-expression3 .ensures) at (c .before .before .before .before .before .before .before .before .read-expression3 .ensures)) (c .before .before .before .before .operand .given .1) (λ x m. walks-one x m _ (rw (c .before .before .in-code4 .ensures) at (c .moved-on4 .ensures))))
 
 same-length-10 : (t : ℕ) → lts.Need-same-length-10 (known t) (given t) own.Post
 same-length-10 t c = search (needs, c .before .before .before .before .before .before .before .before .before .before .before .before .before .before .before .before .before .before .before .before .before .reads4 .given)
 
-returns-22 : (t : ℕ) → lts.Need-returns-22 (known t) (given t) own.Post
+returns-15 : (t : ℕ) → lts.Need-returns-15 (known t) (given t) own.Post
 unfolding node
-returns-22 t c = rw (step t (c .before .before .before .before .before .before .before .before .before .before .before .before .before .before .before .before .before .before .before .before .before .before .before .before .before .before .before) _ (c .before .before .before .before .before .before .before .before .before .before .before .before .before .before .before .before .before .before .before .before .before .before .before .before .before .enum-told17 .given .1)) (go-on _ _ (rw (c .before .before .before .before .before .before .before .before .before .before .before .before .before .before .before .before .before .before .before .before .before .before .before .before .in-expression4 .ensures) at (c .before .before .before .before .before .before .before .before .before .before .before .before .before .before .before .before .before .before .before .before .before .before .read-expression4 .ensures)) (c .before .before .before .before .before .before .before .before .before .before .before .before .before .before .before .before .before .before .condition .given .1) (λ x m. go-on _ _ (c .before .before .before .before .before .before .before .before .before .before .before .before .before .before .before .read-expression5 .ensures) (c .before .before .before .before .before .before .before .before .before .before .before .first2 .given .1) (λ y n. go-on _ _ (c .before .before .before .before .before .before .before .before .read-expression6 .ensures) (c .before .before .before .before .second2 .given .1) (λ z k. walks-three x m y n z k (rw (c .before .before .in-code5 .ensures) at (c .moved-on5 .ensures))))))
+returns-15 t c = rw (step t (c .before .before .before .before .before .before .before .before .before .before .before .before .before .before .before .before .before .before .before .before .before .before .before .before .before .before .before) _ (c .before .before .before .before .before .before .before .before .before .before .before .before .before .before .before .before .before .before .before .before .before .before .before .before .before .enum-told10 .given .1)) (go-on _ _ (rw (c .before .before .before .before .before .before .before .before .before .before .before .before .before .before .before .before .before .before .before .before .before .before .before .before .in-expression4 .ensures) at (c .before .before .before .before .before .before .before .before .before .before .before .before .before .before .before .before .before .before .before .before .before .before .read-expression4 .ensures)) (c .before .before .before .before .before .before .before .before .before .before .before .before .before .before .before .before .before .before .condition .given .1) (λ x m. go-on _ _ (c .before .before .before .before .before .before .before .before .before .before .before .before .before .before .before .read-expression5 .ensures) (c .before .before .before .before .before .before .before .before .before .before .before .first2 .given .1) (λ y n. go-on _ _ (c .before .before .before .before .before .before .before .before .read-expression6 .ensures) (c .before .before .before .before .second2 .given .1) (λ z k. walks-three x m y n z k (rw (c .before .before .in-code5 .ensures) at (c .moved-on5 .ensures))))))
 
 pub +read-expression-spec : {M : Type 1} → statement M
 +read-expression-spec =
@@ -509,20 +439,6 @@ pub +read-expression-spec : {M : Type 1} → statement M
     (enum-told-3 t)
     (refuse-walk-requires-3 t)
     (enum-told-4 t)
-    (refuse-walk-requires-4 t)
-    (enum-told-5 t)
-    (refuse-walk-requires-5 t)
-    (enum-told-6 t)
-    (refuse-walk-requires-6 t)
-    (enum-told-7 t)
-    (refuse-walk-requires-7 t)
-    (enum-told-8 t)
-    (refuse-walk-requires-8 t)
-    (enum-told-9 t)
-    (refuse-walk-requires-9 t)
-    (enum-told-10 t)
-    (refuse-walk-requires-10 t)
-    (enum-told-11 t)
     (in-expression-requires t)
     (add-moved-on t)
     (in-code-requires t)
@@ -538,55 +454,55 @@ pub +read-expression-spec : {M : Type 1} → statement M
     (in-code-requires-2 t)
     (add-moved-on-5 t)
     (moved-on-requires-2 t)
-    (enum-told-12 t)
+    (enum-told-5 t)
     (in-expression-requires-2 t)
     (add-first-at t)
     (sub-read-expression t)
     (read-expression-requires t)
     (enum-known-first t)
-    (enum-told-13 t)
+    (enum-told-6 t)
     (same-length t)
     (returns-2 t)
     (sub-read-expression-2 t)
     (read-expression-requires-2 t)
     (enum-known-second t)
-    (enum-told-14 t)
+    (enum-told-7 t)
     (same-length-2 t)
     (returns-3 t)
     (in-code-requires-3 t)
     (add-moved-on-6 t)
     (moved-on-requires-3 t)
-    (enum-told-15 t)
+    (enum-told-8 t)
     (in-expression-requires-3 t)
     (add-operand-at t)
     (sub-read-expression-3 t)
     (read-expression-requires-3 t)
     (enum-known-operand t)
-    (enum-told-16 t)
+    (enum-told-9 t)
     (same-length-3 t)
     (returns-4 t)
     (in-code-requires-4 t)
     (add-moved-on-7 t)
     (moved-on-requires-4 t)
-    (enum-told-17 t)
+    (enum-told-10 t)
     (in-expression-requires-4 t)
     (add-condition-at t)
     (sub-read-expression-4 t)
     (read-expression-requires-4 t)
     (enum-known-condition t)
-    (enum-told-18 t)
+    (enum-told-11 t)
     (same-length-4 t)
     (returns-5 t)
     (sub-read-expression-5 t)
     (read-expression-requires-5 t)
     (enum-known-first-2 t)
-    (enum-told-19 t)
+    (enum-told-12 t)
     (same-length-5 t)
     (returns-6 t)
     (sub-read-expression-6 t)
     (read-expression-requires-6 t)
     (enum-known-second-2 t)
-    (enum-told-20 t)
+    (enum-told-13 t)
     (same-length-6 t)
     (returns-7 t)
     (in-code-requires-5 t)
@@ -596,18 +512,11 @@ pub +read-expression-spec : {M : Type 1} → statement M
     (returns-9 t)
     (returns-10 t)
     (returns-11 t)
-    (returns-12 t)
-    (returns-13 t)
-    (returns-14 t)
-    (returns-15 t)
-    (returns-16 t)
-    (returns-17 t)
-    (returns-18 t)
     (same-length-7 t)
-    (returns-19 t)
+    (returns-12 t)
     (same-length-8 t)
-    (returns-20 t)
+    (returns-13 t)
     (same-length-9 t)
-    (returns-21 t)
+    (returns-14 t)
     (same-length-10 t)
-    (returns-22 t))
+    (returns-15 t))

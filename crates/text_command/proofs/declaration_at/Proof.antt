@@ -1,4 +1,4 @@
--- `text_command::command_at` meets its contract. Assumes nothing.
+-- `text_command::declaration_at` meets its contract. Assumes nothing.
 use Prim.Native.Nat.{ℕ, _<_}
 use mathlib.Core.List.{List}
 use mathlib.Core.Path.{_≡_, sym, _∙_}
@@ -6,27 +6,30 @@ use native.Mathlib.Omega.{arith}
 use borrow.Author.Tests.{lt-ltb, le-ltb, ne-eqb}
 use denote.Ref.{now}
 use lib.ListN.{length}
-use Rattle.model.specs.Rules.Command.{keywordOf, keywordAt, commandOf, commandAt}
+use Rattle.model.specs.Rules.Command.{declarationOf, declarationAt}
 use Rattle.model.specs.Rules.Word.{byteAt}
 use borrow.Author.Needs.{needs}
-use Rattle.text_command.proofs.command_at.Statement.{statement}
-use Rattle.text_command.proofs.command_at.Tie as tie
+use Rattle.text_command.proofs.declaration_at.Statement.{statement}
+use Rattle.text_command.proofs.declaration_at.Tie as tie
 
-of-byte : (text : List ℕ) (at : ℕ) → at < length text → commandAt text at ≡ commandOf (keywordOf (byteAt text at)) text at
-unfolding commandAt keywordAt
+of-byte : (text : List ℕ) (at : ℕ) → at < length text → declarationAt text at ≡ declarationOf (byteAt text at) text at
+unfolding declarationAt
 of-byte text at lt = rw (lt-ltb at (length text) lt)
 
 -- the text at hand, after the test of its length
-inside : (c : tie.Else1) → commandAt (now (c .before .before .args .text)) (c .before .before .args .at) ≡
-    commandOf (keywordOf (byteAt (now (c .before .before .args .text)) (c .before .before .args .at))) (now (c .before .before .args .text)) (c .before .before .args .at)
+abbrev text : tie.Else1 → List ℕ
+text c = now (c .before .before .args .text)
+
+inside : (c : tie.Else1) →
+    declarationAt (text c) (c .before .before .args .at) ≡
+    declarationOf (byteAt (text c) (c .before .before .args .at)) (text c) (c .before .before .args .at)
 inside c = of-byte _ _ (c .if1 .left)
 
 returns : tie.Need-returns
-unfolding commandAt keywordAt commandOf
+unfolding declarationAt
 returns c =
     let a = c .before .before .args in
-    let s = now (a .text) in
-    rw (le-ltb (a .at) (length s) (omega arith))
+    rw (le-ltb (a .at) (length (now (a .text))) (omega arith))
 
 shared-slice-read-byte : tie.Need-shared-slice-read-byte
 shared-slice-read-byte c = search needs
@@ -49,44 +52,34 @@ cap-at-requires c κs = search needs
 tag-at-requires : tie.Need-tag-at-requires
 tag-at-requires c κs = search needs
 
-operand-at-requires : tie.Need-operand-at-requires
-operand-at-requires c κs = search needs
-
 returns-2 : tie.Need-returns-2
-unfolding keywordOf commandOf
+unfolding declarationOf
 returns-2 c = sym (inside (c .before .before) ∙ rw (c .match .keys1))
 
 returns-3 : tie.Need-returns-3
-unfolding keywordOf
 returns-3 c = c .input-at .ensures ∙ sym (inside (c .before .before .before) ∙ rw (c .before .match .keys2))
 
 returns-4 : tie.Need-returns-4
-unfolding keywordOf
 returns-4 c = c .equation-at .ensures ∙ sym (inside (c .before .before .before) ∙ rw (c .before .match .keys3))
 
 returns-5 : tie.Need-returns-5
-unfolding keywordOf
 returns-5 c = c .latency-at .ensures ∙ sym (inside (c .before .before .before) ∙ rw (c .before .match .keys4))
 
 returns-6 : tie.Need-returns-6
-unfolding keywordOf
 returns-6 c = c .link-at .ensures ∙ sym (inside (c .before .before .before) ∙ rw (c .before .match .keys5))
 
 returns-7 : tie.Need-returns-7
-unfolding keywordOf
 returns-7 c = c .cap-at .ensures ∙ sym (inside (c .before .before .before) ∙ rw (c .before .match .keys6))
 
 returns-8 : tie.Need-returns-8
-unfolding keywordOf
 returns-8 c = c .tag-at .ensures ∙ sym (inside (c .before .before .before) ∙ rw (c .before .match .keys7))
 
 returns-9 : tie.Need-returns-9
-unfolding keywordOf
+unfolding declarationOf
 returns-9 c =
-    let e = c .before .before .before in
-    let b = byteAt (now (e .before .before .args .text)) (e .before .before .args .at) in
-    let no = c .before .match .rest in
-    c .operand-at .ensures ∙
+    let e = c .before .before in
+    let b = byteAt (text e) (e .before .before .args .at) in
+    let no = c .match .rest in
     sym (inside e ∙
     simp (
       ne-eqb b 0 (no .0 .0 .0 .0 .0 .0 .1),
@@ -98,8 +91,8 @@ returns-9 c =
       ne-eqb b 21 (no .1),
     ))
 
-pub command-at-spec : {M : Type 1} → statement M
-command-at-spec =
+pub declaration-at-spec : {M : Type 1} → statement M
+declaration-at-spec =
     tie.close
     (tie.spec
     returns
@@ -110,7 +103,6 @@ command-at-spec =
     link-at-requires
     cap-at-requires
     tag-at-requires
-    operand-at-requires
     returns-2
     returns-3
     returns-4
