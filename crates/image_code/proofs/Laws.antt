@@ -11,23 +11,23 @@ use lib.Seq.{sets, length-sets}
 use types.Run.{OneOf, miss}
 use denote.Enum.Declared.{tagOf, declared}
 use Rattle.model.specs.Says.Feasible.{All}
-use Rattle.model.specs.Rules.Command.{commandAt}
+use Rattle.model.specs.Rules.Command.{operatorAt}
 use Rattle.model.specs.Rules.Image.{exprCode}
 use Rattle.model.specs.Rules.Program.{leastFactor, Expr}
 use Rattle.model.specs.Rules.Report.{exprCommands, exprHeight}
 use Rattle.model.specs.Rules.Width.{readWidth}
 use Rattle.model.specs.Rules.Word.{wordBytes, fourBytes}
-use Rattle.model.specs.declared.Command.{Command}
-use Rattle.model.specs.declared.Command.the-variants as Command
+use Rattle.model.specs.declared.Operator.{Operator}
+use Rattle.model.specs.declared.Operator.the-variants as Operator
 use Rattle.model.specs.declared.Kind.{Kind}
 use Rattle.model.specs.declared.Kind.the-variants.{Now, Last, When, LastWhen, Current}
 use Rattle.model.specs.Says.Grammar.{depth}
 use Rattle.model.proofs.Bounds.{depth-some}
-use Rattle.model.proofs.Command.{enum}
-use Rattle.model.proofs.Commands.{command-sound}
+use Rattle.model.proofs.Operator.{enum}
+use Rattle.model.proofs.Commands.{operator-sound}
 use Rattle.model.proofs.Heights.{height-some}
 use Rattle.model.proofs.Stretches.{sets-append}
-use Rattle.model.proofs.Written.{decoded}
+use Rattle.model.proofs.Written.{operator-decoded}
 use Rattle.model.specs.Says.Grammar.{Spells}
 use Rattle.image_code.specs.Code.{Puts, Room, Emits}
 use Rattle.image_code.specs.Shape.{Lead, noLead, leadOf}
@@ -54,7 +54,7 @@ abbrev pub Below : ℕ → Expr → Type 0
 Below d x = depth x ≤ d
 
 -- An expression, taken apart.
-pub record Opened (text : List ℕ) (at : ℕ) (e : Expr) (n : ℕ) (c : Command) : Type 0 where
+pub record Opened (text : List ℕ) (at : ℕ) (e : Expr) (n : ℕ) (c : Operator) : Type 0 where
   pub operator : leadOf c .operator ≡ true
   pub operands : List Expr
   pub spelled : SpellsAll text (at + leadOf c .width) operands n
@@ -65,21 +65,21 @@ pub record Opened (text : List ℕ) (at : ℕ) (e : Expr) (n : ℕ) (c : Command
   pub deep : (d : ℕ) → depth e ≤ suc d → All (Below d) operands
 
 module _ {text : List ℕ} where
-  opens : {at n : ℕ} {e : Expr} → Spells leastFactor text at e n → (c : Command) × (commandAt text at ≡ c) × Opened text at e n c
+  opens : {at n : ℕ} {e : Expr} → Spells leastFactor text at e n → (c : Operator) × (operatorAt text at ≡ c) × Opened text at e n c
   unfolding exprCode codeOfAll commandsOfAll heightOfAll
   opens (Spells.constants {w = w} e) = (
-    Command.Constant w,
-    decoded e,
+    Operator.Constant w,
+    operator-decoded e,
     record { operator = refl; operands = []; spelled = none; arity = refl; code = refl; commands = refl; height = refl; deep = λ d h. tt },
   )
   opens (Spells.reads {kind = kind} {x = x} e a) = (
-    Command.Read kind x,
-    decoded e,
+    Operator.Read kind x,
+    operator-decoded e,
     record { operator = refl; operands = []; spelled = none; arity = refl; code = refl; commands = refl; height = refl; deep = λ d h. tt },
   )
   opens (Spells.two {operator = operator} {x = x} {y = y} e u v) = (
-    Command.Binary operator,
-    decoded e,
+    Operator.Binary operator,
+    operator-decoded e,
     record {
       operator = refl;
       operands = x ∷ y ∷ [];
@@ -91,9 +91,9 @@ module _ {text : List ℕ} where
       deep = λ d h. (omega arith, (omega arith, tt));
     },
   )
-  opens (Spells.one {x = x} e u) = (
-    Command.Negate,
-    decoded e,
+  opens (Spells.one {operator = operator} {x = x} e u) = (
+    Operator.Unary operator,
+    operator-decoded e,
     record {
       operator = refl;
       operands = x ∷ [];
@@ -106,8 +106,8 @@ module _ {text : List ℕ} where
     },
   )
   opens (Spells.three {x = x} {y = y} {z = z} e u v w) = (
-    Command.If,
-    decoded e,
+    Operator.If,
+    operator-decoded e,
     record {
       operator = refl;
       operands = x ∷ y ∷ z ∷ [];
@@ -120,7 +120,7 @@ module _ {text : List ℕ} where
     },
   )
 
-  pub opened : {at n : ℕ} {e : Expr} (c : Command) → commandAt text at ≡ c → Spells leastFactor text at e n → Opened text at e n c
+  pub opened : {at n : ℕ} {e : Expr} (c : Operator) → operatorAt text at ≡ c → Spells leastFactor text at e n → Opened text at e n c
   opened {at} {n} {e} c q u = let o = opens u in subst (Opened text at e n) (sym (o .1) ∙ q) (o .2)
 
 pub puts-length : {l l′ xs : List ℕ} {to m next end : ℕ} → Puts l to xs m l′ next end → length l′ ≡ length l
@@ -146,7 +146,7 @@ pub record Rooms (d : ℕ) (text : List ℕ) (at n to k t : ℕ) : Type 0 where
   pub count : length exprs ≡ k
   pub fits : to + (length (codeOfAll exprs) + t) ≤ n
 
-module _ {d : ℕ} {text : List ℕ} {at n to : ℕ} (c : Command) (q : commandAt text at ≡ c) (r : Room d text at n to) where
+module _ {d : ℕ} {text : List ℕ} {at n to : ℕ} (c : Operator) (q : operatorAt text at ≡ c) (r : Room d text at n to) where
   pub positive : 0 < d
   positive = omega (arith, depth-some (r .expr), r .deep)
 
@@ -242,7 +242,7 @@ module _ {text : List ℕ} {at to : ℕ} {l : List ℕ} where
           join p (ws .puts xs n (subst (λ (a : ℕ). SpellsAll text a xs n) (sym (p .goes)) v) (omega arith))
 
   -- The operator after its operands.
-  pub emits-last : {n₁ e₁ n₂ e₂ : ℕ} {l₁ l₂ : List ℕ} (c : Command) → commandAt text at ≡ c →
+  pub emits-last : {n₁ e₁ n₂ e₂ : ℕ} {l₁ l₂ : List ℕ} (c : Operator) → operatorAt text at ≡ c →
       EmitsAll text (at + leadOf c .width) (leadOf c .arity) l to l₁ n₁ e₁ → Puts l₁ e₁ (leadOf c .last) n₁ l₂ n₂ e₂ →
       Emits text at l to l₂ n₂ e₂
   emits-last c q ws p =
@@ -254,28 +254,21 @@ module _ {text : List ℕ} {at to : ℕ} {l : List ℕ} where
             record { goes = g .goes ∙ f .goes; ends = rw (o .code) (g .ends); holds = rw (o .code) (g .holds) };
       }
 
--- A command that is none of an expression.
+-- What is no operator.
 abbrev pub others : List ℕ
-others = 0 ∷ 1 ∷ 2 ∷ 3 ∷ 4 ∷ 5 ∷ 6 ∷ 7 ∷ 8 ∷ 9 ∷ []
+others = 0 ∷ 1 ∷ 2 ∷ []
 
-pub no-lead : (c : Command) → OneOf others (tagOf (declared enum) c) → leadOf c ≡ noLead
-no-lead Command.EndsEarly h = refl
-no-lead Command.Unknown h = refl
-no-lead Command.OutOfRange h = refl
-no-lead Command.End h = refl
-no-lead (Command.Input period initial) h = refl
-no-lead (Command.Equation period initial weight) h = refl
-no-lead (Command.Latency mode bound) h = refl
-no-lead (Command.Link signal) h = refl
-no-lead (Command.Cap n) h = refl
-no-lead (Command.Tag label) h = refl
-no-lead (Command.Constant w) h = absurd (miss others 10 tt h)
-no-lead (Command.Read kind x) h = absurd (miss others 11 tt h)
-no-lead (Command.Binary operator) h = absurd (miss others 12 tt h)
-no-lead Command.Negate h = absurd (miss others 13 tt h)
-no-lead Command.If h = absurd (miss others 14 tt h)
+pub no-lead : (c : Operator) → OneOf others (tagOf (declared enum) c) → leadOf c ≡ noLead
+no-lead Operator.EndsEarly h = refl
+no-lead Operator.Unknown h = refl
+no-lead Operator.OutOfRange h = refl
+no-lead (Operator.Constant w) h = absurd (miss others 3 tt h)
+no-lead (Operator.Read kind x) h = absurd (miss others 4 tt h)
+no-lead (Operator.Binary operator) h = absurd (miss others 5 tt h)
+no-lead (Operator.Unary operator) h = absurd (miss others 6 tt h)
+no-lead Operator.If h = absurd (miss others 7 tt h)
 
-pub no-operator : (c : Command) → OneOf others (tagOf (declared enum) c) → leadOf c .operator ≡ true → ⊥
+pub no-operator : (c : Operator) → OneOf others (tagOf (declared enum) c) → leadOf c .operator ≡ true → ⊥
 no-operator c h e = false≢true (sym (ap (λ (x : Lead). x .operator) (no-lead c h)) ∙ e)
 
 pub read-some : (kind : Kind) → 2 ≤ readWidth kind
@@ -286,23 +279,16 @@ read-some LastWhen = omega arith
 read-some Current = omega arith
 
 -- What a command of an expression spans is some bytes of the text.
-pub spans : (text : List ℕ) (at : ℕ) (c : Command) → commandAt text at ≡ c → leadOf c .operator ≡ true →
+pub spans : (text : List ℕ) (at : ℕ) (c : Operator) → operatorAt text at ≡ c → leadOf c .operator ≡ true →
     (1 ≤ leadOf c .width) × (at + leadOf c .width ≤ length text)
-spans text at Command.EndsEarly q e = absurd (false≢true e)
-spans text at Command.Unknown q e = absurd (false≢true e)
-spans text at Command.OutOfRange q e = absurd (false≢true e)
-spans text at Command.End q e = absurd (false≢true e)
-spans text at (Command.Input period initial) q e = absurd (false≢true e)
-spans text at (Command.Equation period initial weight) q e = absurd (false≢true e)
-spans text at (Command.Latency mode bound) q e = absurd (false≢true e)
-spans text at (Command.Link signal) q e = absurd (false≢true e)
-spans text at (Command.Cap n) q e = absurd (false≢true e)
-spans text at (Command.Tag label) q e = absurd (false≢true e)
-spans text at (Command.Constant w) q e = (omega arith, command-sound text at _ q .1)
-spans text at (Command.Read kind x) q e = (omega (arith, read-some kind), command-sound text at _ q .1)
-spans text at (Command.Binary operator) q e = (omega arith, command-sound text at _ q)
-spans text at Command.Negate q e = (omega arith, command-sound text at _ q)
-spans text at Command.If q e = (omega arith, command-sound text at _ q)
+spans text at Operator.EndsEarly q e = absurd (false≢true e)
+spans text at Operator.Unknown q e = absurd (false≢true e)
+spans text at Operator.OutOfRange q e = absurd (false≢true e)
+spans text at (Operator.Constant w) q e = (omega arith, operator-sound text at _ q .1)
+spans text at (Operator.Read kind x) q e = (omega (arith, read-some kind), operator-sound text at _ q .1)
+spans text at (Operator.Binary operator) q e = (omega arith, operator-sound text at _ q)
+spans text at (Operator.Unary operator) q e = (omega arith, operator-sound text at _ q)
+spans text at Operator.If q e = (omega arith, operator-sound text at _ q)
 
 pub word-length : (w : ℤ) → length (wordBytes w) ≡ 4
 unfolding wordBytes fourBytes

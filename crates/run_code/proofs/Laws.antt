@@ -10,11 +10,13 @@ use lib.Dec.{leb, ltb, eqb}
 use lib.IntN.{ℤ, pos}
 use lib.ListN.{length, getD}
 use Rattle.model.specs.Rules.Machine.{operatorCode, codeAt, wholeCode, commandOk, codeOkFrom, runCommand, runFrom, countCommand, countFrom, onOne, onTwo, onThree}
-use Rattle.model.specs.Rules.Word.{byteAt, wordAt, binaryWord, negWord, ifWord}
+use Rattle.model.specs.Rules.Word.{byteAt, wordAt, binaryWord, unaryWord, ifWord}
 use Rattle.run_code.specs.Leaf.{leafWord, leafOk, leafLength}
 use Rattle.model.specs.declared.Binary.{Binary}
 use Rattle.model.specs.declared.Code.{Code}
 use Rattle.model.specs.declared.Code.the-variants as Code
+use Rattle.model.specs.declared.Unary.{Unary}
+use Rattle.model.specs.declared.Unary.the-variants.{Negate}
 use Rattle.model.proofs.Tests.{never, by, both}
 
 -- The command at an offset within a code, by its byte.
@@ -38,7 +40,7 @@ module _ (code : List ℕ) (at : ℕ) (here : at < length code) where
   unfolding codeAt
   is-store e = rw (inside, e)
 
-  is-negate : byteAt code at ≡ 0x38 → codeAt code at ≡ (Code.Unary operator)
+  is-negate : byteAt code at ≡ 0x38 → codeAt code at ≡ Code.Unary Negate
   unfolding codeAt operatorCode
   is-negate e = rw (inside, e)
 
@@ -125,7 +127,7 @@ module _ (code : List ℕ) (n own : ℕ) (state samples : List ℤ) where
       pub store : byteAt code at ≡ 0x5F → (at + 2 ≤ length code) × Command stored total ran at stack height (Code.Store (byteAt code (at + 1)))
       store e = whole 2 _ (seen (is-store code at here e) (command g))
 
-      pub negate : byteAt code at ≡ 0x38 → Command stored total ran at stack height (Code.Unary operator)
+      pub negate : byteAt code at ≡ 0x38 → Command stored total ran at stack height (Code.Unary Negate)
       negate e = seen (is-negate code at here e) (command g)
 
       pub choose : byteAt code at ≡ 0x3A → Command stored total ran at stack height Code.If
@@ -186,9 +188,10 @@ module _ (code : List ℕ) (n own : ℕ) (state samples : List ℤ) where
     unfolding commandOk runCommand countCommand
     last {x} c = let p = both (eqb x own && eqb height 1) _ (c .judged) in (eqb-true height 1 (both (eqb x own) (eqb height 1) (p .0) .1), c .does, c .counted)
 
-    pub negated : Command stored total ran at stack height (Code.Unary operator) → (1 ≤ height) × Goes stored total (ran + 1) (at + 1) (onOne negWord stack) height
+    pub negated : (operator : Unary) → Command stored total ran at stack height (Code.Unary operator) →
+        (1 ≤ height) × Goes stored total (ran + 1) (at + 1) (onOne (unaryWord operator) stack) height
     unfolding commandOk runCommand countCommand
-    negated c = let p = both (leb 1 height) _ (c .judged) in
+    negated operator c = let p = both (leb 1 height) _ (c .judged) in
         (leb-true 1 height (p .0), record { left = c .fewer; good = p .1; runs = c .does; counts = omega (arith, c .counted); most = c .few })
 
     pub chosen : Command stored total ran at stack height Code.If → (3 ≤ height) × Goes stored total (ran + 1) (at + 1) (onThree ifWord stack) (height - 2)

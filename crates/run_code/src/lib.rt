@@ -1,6 +1,7 @@
 // Runs the code of one signal. The code is known to be well formed, so nothing is checked again here.
 use model::Binary;
 use model::Code;
+use model::Unary;
 use run_stack::Stack;
 ghost use mathlib.Core.Path.{_≡_};
 ghost use mathlib.Core.Bool.{true};
@@ -107,7 +108,7 @@ pub fn run_code(code: &[u8], n: u8, own: u8, state: &[i32], samples: &[i32]) -> 
                     count: count,
                 };
             }
-            0x38 => stack = stack.negate(),
+            0x38 => stack = stack.unary(Unary::Negate),
             0x3A => stack = stack.choose(),
             _ => stack = stack.binary(operator(byte)),
         }

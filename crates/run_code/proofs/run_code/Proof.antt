@@ -11,6 +11,7 @@ use Rattle.model.specs.Rules.Machine.{operatorCode, codeOk, runFrom, runCode, c
 use Rattle.model.specs.Rules.Word.{byteAt, binaryWord}
 use Rattle.model.specs.declared.Code.{Code}
 use Rattle.model.specs.declared.Code.the-variants as Code
+use Rattle.model.specs.declared.Unary.the-variants.{Negate}
 use Rattle.model.proofs.Counts.{code-most}
 use Rattle.run_stack.specs.View.{view}
 use Rattle.word.proofs.Laws.{kept}
@@ -48,7 +49,7 @@ at-store : (m : tie.At-match-keys1 Inv-loop μ-loop)
     → let l = m .before .before .before in (l .loop .at + 2 ≤ length (code l)) × Here l (Code.Store (byteAt (code l) (l .loop .at + 1)))
 at-store m = store _ _ _ _ _ (m .before .before .loop-test .taken) (m .before .before .before .loop .inv) (m .match .keys1)
 
-at-negate : (m : tie.At-match-keys2 Inv-loop μ-loop) → Here (m .before .before .before) (Code.Unary operator)
+at-negate : (m : tie.At-match-keys2 Inv-loop μ-loop) → Here (m .before .before .before) (Code.Unary Negate)
 at-negate m = negate _ _ _ _ _ (m .before .before .loop-test .taken) (m .before .before .before .loop .inv) (m .match .keys2)
 
 at-if : (m : tie.At-match-keys3 Inv-loop μ-loop) → Here (m .before .before .before) Code.If
@@ -155,8 +156,8 @@ returns c =
     let ends = last _ _ _ _ _ (at-store (p .before) .1) in
     (kept (p .pop .result .word) (c .struct-told .given .0 .1) ∙ sym (ap (λ (s : List ℤ). getD s 0 (pos 0)) (p .pop .ensures .0)) ∙ ends .1, ends .2)
 
-negate-requires : tie.Need-negate-requires Inv-loop μ-loop
-negate-requires c κs = (negated _ _ _ _ _ (at-negate c) .0, c .before .before .before .loop .inv .most)
+unary-requires : tie.Need-unary-requires Inv-loop μ-loop
+unary-requires c κs = (negated _ _ _ _ _ Negate (at-negate c) .0, c .before .before .before .loop .inv .most)
 
 loop-less : tie.Need-loop-less Inv-loop μ-loop
 loop-less c = omega arith
@@ -164,7 +165,7 @@ loop-less c = omega arith
 loop-again : tie.Need-loop-again Inv-loop μ-loop
 loop-again c =
     rw (one (c .before .before .before .before))
-    (moved _ _ _ _ _ (c .negate .ensures .0) (c .negate .ensures .1) (negated _ _ _ _ _ (at-negate (c .before)) .1))
+    (moved _ _ _ _ _ (c .unary .ensures .0) (c .unary .ensures .1) (negated _ _ _ _ _ Negate (at-negate (c .before)) .1))
 
 choose-requires : tie.Need-choose-requires Inv-loop μ-loop
 choose-requires c κs = (chosen _ _ _ _ _ (at-if c) .0, c .before .before .before .loop .inv .most)
@@ -267,7 +268,7 @@ run-code-spec =
     add-count
     pop-requires
     returns
-    negate-requires
+    unary-requires
     loop-less
     loop-again
     choose-requires
