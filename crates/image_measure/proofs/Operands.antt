@@ -6,12 +6,12 @@ use mathlib.Core.Path.{_≡_, refl, sym, subst, _∙_}
 use native.Mathlib.Omega.{arith}
 use lib.ListN.{length}
 use Rattle.model.specs.Says.Feasible.{All}
-use Rattle.model.specs.Rules.Command.{commandAt}
+use Rattle.model.specs.Rules.Command.{operatorAt}
 use Rattle.model.specs.Says.Grammar.{depth, Spells}
 use Rattle.model.specs.Rules.Image.{exprCode}
 use Rattle.model.specs.Rules.Program.{Expr, constant, read, binary, unary, choose}
 use Rattle.model.specs.Rules.Report.{exprCommands, exprHeight}
-use Rattle.model.specs.declared.Command.{Command}
+use Rattle.model.specs.declared.Operator.{Operator}
 use Rattle.model.proofs.Bounds.{depth-some}
 use Rattle.model.proofs.Heights.{height-some}
 use Rattle.model.proofs.Runs.{commands-most}
@@ -30,7 +30,7 @@ pub record NestsAll (d : ℕ) (text : List ℕ) (at k : ℕ) : Type 0 where
   pub deep : All (Below d) exprs
   pub count : length exprs ≡ k
 
-module _ {d : ℕ} {text : List ℕ} {at : ℕ} (c : Command) (q : commandAt text at ≡ c) (r : Nests d text at) where
+module _ {d : ℕ} {text : List ℕ} {at : ℕ} (c : Operator) (q : operatorAt text at ≡ c) (r : Nests d text at) where
   pub positive : 0 < d
   positive = omega (arith, depth-some (r .expr), r .deep)
 
@@ -137,7 +137,7 @@ module _ {text : List ℕ} {at : ℕ} where
           )
 
   -- The operator after its operands.
-  pub measures-last : {m r : Measure} (c : Command) → commandAt text at ≡ c → 0 < leadOf c .arity →
+  pub measures-last : {m r : Measure} (c : Operator) → operatorAt text at ≡ c → 0 < leadOf c .arity →
       MeasuresAll text (at + leadOf c .width) (leadOf c .arity) m → Operated m r → Measures text at r
   measures-last c q lt ws p =
       record {
@@ -152,7 +152,7 @@ module _ {text : List ℕ} {at : ℕ} where
       }
 
   -- A leaf.
-  pub measures-leaf : {m : Measure} (c : Command) → commandAt text at ≡ c → leadOf c .arity ≡ 0 → m .next ≡ at + leadOf c .width →
+  pub measures-leaf : {m : Measure} (c : Operator) → operatorAt text at ≡ c → leadOf c .arity ≡ 0 → m .next ≡ at + leadOf c .width →
       m .commands ≡ 1 → m .height ≡ 1 → Measures text at m
   unfolding commandsOfAll heightOfAll
   measures-leaf {m} c q z goes one low =

@@ -9,11 +9,10 @@ use lib.ListN.{length}
 use denote.Ref.{now}
 use borrow.Fn.Kinds.{In}
 use borrow.Fn.PlainCycle.{Measures, is as at-measure, falls, and}
-use Rattle.model.specs.Rules.Command.{commandAt}
-use Rattle.model.specs.declared.Command.{Command}
+use Rattle.model.specs.Rules.Command.{operatorAt}
+use Rattle.model.specs.declared.Operator.{Operator}
 use Rattle.image_code.specs.Shape.{leadOf}
 use Rattle.image_code.proofs.Laws.{no-operator, spans}
-use Rattle.image_code.proofs.Spans.{operator-is}
 use Rattle.image_measure.specs.Measure.{Nests}
 use Rattle.image_measure.proofs.Operands.{
   NestsAll,
@@ -82,9 +81,9 @@ module _ (t : ℕ) (c : lts.After-operator-at (known t) (given t) own.Post) wher
   short : length text ≤ 8192
   short = c .before .before .pre .1 .1
 
-  module _ (o : Command) (e : c .operator-at .result ≡ o) where
-    is : commandAt text at ≡ o
-    is = sym (operator-is (nests .spelled)) ∙ sym (c .operator-at .ensures) ∙ e
+  module _ (o : Operator) (e : c .operator-at .result ≡ o) where
+    is : operatorAt text at ≡ o
+    is = sym (c .operator-at .ensures) ∙ e
 
     some : 0 < depth
     some = positive o is nests
@@ -107,14 +106,14 @@ in-expression-requires t c κs = search needs
 add-next : (t : ℕ) → lts.Need-add-next (known t) (given t) own.Post
 add-next t c = omega (arith, inside t (c .before .before .before) _ (c .before .enum-told .given .1), short t (c .before .before .before))
 
-enum-known-command : (t : ℕ) → lts.Need-enum-known-command (known t) (given t) own.Post
-enum-known-command t c = search needs
+enum-known-decoded : (t : ℕ) → lts.Need-enum-known-decoded (known t) (given t) own.Post
+enum-known-decoded t c = search needs
 
 of-read-requires : (t : ℕ) → lts.Need-of-read-requires (known t) (given t) own.Post
 of-read-requires t c κs = search needs
 
 add-next-2 : (t : ℕ) → lts.Need-add-next-2 (known t) (given t) own.Post
-add-next-2 t c = omega (arith, inside t (c .before .before .before .before) _ (c .before .before .command .given .1), c .of-read .ensures, short t (c .before .before .before .before))
+add-next-2 t c = omega (arith, inside t (c .before .before .before .before) _ (c .before .before .decoded .given .1), c .of-read .ensures, short t (c .before .before .before .before))
 
 enum-told-2 : (t : ℕ) → lts.Need-enum-told-2 (known t) (given t) own.Post
 enum-told-2 t c = search needs
@@ -227,7 +226,7 @@ returns t c =
     (ap (λ (k : ℕ). at t (c .before .before .before) + k) (c .in-expression .ensures)) refl refl
 
 returns-2 : (t : ℕ) → lts.Need-returns-2 (known t) (given t) own.Post
-returns-2 t c = measures-leaf _ (is t (c .before .before .before .before) _ (c .before .before .command .given .1)) refl (ap (λ (k : ℕ). at t (c .before .before .before .before) + k) (c .of-read .ensures)) refl refl
+returns-2 t c = measures-leaf _ (is t (c .before .before .before .before) _ (c .before .before .decoded .given .1)) refl (ap (λ (k : ℕ). at t (c .before .before .before .before) + k) (c .of-read .ensures)) refl refl
 
 returns-3 : (t : ℕ) → lts.Need-returns-3 (known t) (given t) own.Post
 returns-3 t c = measures-last _ (is t (c .before .before .before .before .before .before .before) _ (c .before .before .before .before .before .enum-told2 .given .1)) (omega arith) (measures-more (rw (c .before .before .before .before .in-expression2 .ensures) at (c .before .before .before .measure-expression .ensures)) (measures-one (c .before .before .measure-expression2 .ensures)) (c .before .joined .ensures)) (c .operated .ensures)
@@ -248,7 +247,7 @@ pub +measure-expression-spec : {M : Type 1} → statement M
     (enum-told t)
     (in-expression-requires t)
     (add-next t)
-    (enum-known-command t)
+    (enum-known-decoded t)
     (of-read-requires t)
     (add-next-2 t)
     (enum-told-2 t)
