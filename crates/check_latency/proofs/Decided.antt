@@ -15,17 +15,17 @@ use Rattle.latency_rule.specs.Hops.{HopsOf}
 use Rattle.latency_rule.specs.declared.Hop.{Hop}
 use Rattle.latency_rule.proofs.Chain.{timely-is, small-is}
 use Rattle.model.specs.Says.Feasible.{All}
-use Rattle.model.specs.Rules.Command.{commandAt}
+use Rattle.model.specs.Rules.Command.{declarationAt}
 use Rattle.model.specs.Rules.Latency.{readsBack, backwards, source, fromOf, windowOf, keepsFrom, keeps}
 use Rattle.model.specs.Rules.Program.{Program, Read, count, signalAt}
 use Rattle.model.specs.Rules.Rates.{isLinked}
 use Rattle.model.specs.Rules.Reads.{Rate, rateOf, runCycle}
 use Rattle.model.specs.Rules.Schedule.{Schedule, phaseOf}
-use Rattle.model.specs.declared.Command.{Command}
-use Rattle.model.specs.declared.Command.the-variants as Command
+use Rattle.model.specs.declared.Declaration.{Declaration}
+use Rattle.model.specs.declared.Declaration.the-variants as Declaration
 use Rattle.model.specs.declared.Mode.{Mode}
 use Rattle.model.proofs.All.{all-at}
-use Rattle.model.proofs.Command.{enum}
+use Rattle.model.proofs.Declaration.{enum}
 use Rattle.model.proofs.Decide.{met-settled}
 use Rattle.model.proofs.Legal.{legal, SpellsChain}
 use Rattle.model.proofs.Links.{LinkedBack, linked-backwards, declared-backwards, chain-met}
@@ -77,7 +77,7 @@ early n h q f i ln lh lf li =
 -- Where the command of a chain stands.
 pub chain-command : (text : List ℕ) (tables : Tables) (periods phases : List ℕ) (h : ℕ) (p : Program) (s : Schedule) (chain : ℕ) →
     Timed text tables periods phases h p s → chain < tables .chains →
-    commandAt text (getD (tables .starts) chain 0) ≡ Command.Latency (chainAt p chain .mode) (chainAt p chain .bound)
+    declarationAt text (getD (tables .starts) chain 0) ≡ Declaration.Latency (chainAt p chain .mode) (chainAt p chain .bound)
 chain-command text tables periods phases h p s chain t lt =
     let k = t .joined .known in
     let l : chain < length (p .chains) = omega (arith, k .tables-are .counts .chains-are) in
@@ -85,9 +85,9 @@ chain-command text tables periods phases h p s chain t lt =
 
 -- The commands other than LAT.
 abbrev others : List ℕ
-others = 0 ∷ 1 ∷ 2 ∷ 3 ∷ 4 ∷ 5 ∷ 7 ∷ 8 ∷ 9 ∷ 10 ∷ 11 ∷ 12 ∷ 13 ∷ 14 ∷ []
+others = 0 ∷ 1 ∷ 2 ∷ 3 ∷ 4 ∷ 5 ∷ 7 ∷ 8 ∷ 9 ∷ []
 
-pub missed : (c : Command) {mode : Mode} {bound : ℕ} → c ≡ Command.Latency mode bound → OneOf others (tagOf (sum enum) c) → ⊥
+pub missed : (c : Declaration) {mode : Mode} {bound : ℕ} → c ≡ Declaration.Latency mode bound → OneOf others (tagOf (sum enum) c) → ⊥
 missed c e k = miss others 6 tt (subst (λ y. OneOf others (tagOf (sum enum) y)) e k)
 
 pub decided : (text : List ℕ) (tables : Tables) (periods phases : List ℕ) (h : ℕ) (p : Program) (s : Schedule) (chain : ℕ) (route : Route) →

@@ -1,6 +1,6 @@
 // The hops of a chain, each by the one read of the link before.
 use latency_rule::Hop;
-use model::Command;
+use model::Declaration;
 use model::Fault;
 use model::Found;
 use model::Index;
@@ -178,9 +178,9 @@ fn keeps_time(
     ensures { λ r. ⌜ ((p : Program) (s : Schedule) → Timed (now (text .entry)) tables (now (periods .entry)) (now (phases .entry)) h p s → r ≡ keeps p s h (chainAt p chain)) ⌝ }
 {
     let starts = tables.starts;
-    let command = text_command::command_at(text, starts[chain]);
-    let Command::Latency(mode, bound) = command else {
-        return true;
+    let declaration = text_command::declaration_at(text, starts[chain]);
+    let Declaration::Latency(mode, bound) = declaration else {
+        return false;
     };
     let route = follow(text, reads, tables, periods, phases, chain);
     let last = timing_at(periods, phases, route.last as usize);

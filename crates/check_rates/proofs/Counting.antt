@@ -10,12 +10,12 @@ use borrow.Author.Tests.{eq-eqb, ne-eqb, eqb-true}
 use lib.Dec.{eqb}
 use lib.ListN.{length, getD, drop, drop-of-length-le, List·getD-eq-default}
 use lib.Seq.{drop-cons, drop-length}
-use Rattle.model.specs.Rules.Command.{commandAt}
+use Rattle.model.specs.Rules.Command.{operatorAt}
 use Rattle.model.specs.Rules.Outcome.{accepted}
 use Rattle.model.specs.Rules.Program.{Program, Read, noSignal, count, signalAt, bodyReads, parseProgram}
 use Rattle.model.specs.Rules.Latency.{readOf}
 use Rattle.model.specs.Rules.Rates.{countReads}
-use Rattle.model.specs.declared.Command.the-variants as Command
+use Rattle.model.specs.declared.Operator.the-variants as Operator
 use Rattle.model.specs.declared.Found.the-variants.{At, Nowhere}
 use Rattle.model.specs.declared.Kind.{Kind}
 use Rattle.model.specs.declared.Sampled.{Sampled}
@@ -28,7 +28,7 @@ use Rattle.check_rates.specs.Answers.{oneRead}
 use Rattle.text_program.proofs.ByIndex.{noRead, readAt, all-seen, seen, place-is, spells}
 
 -- The signal of a read stands in its second byte.
-pub signal-byte : (text : List ℕ) (at : ℕ) (kind : Kind) (x : Sampled) → commandAt text at ≡ Command.Read kind x →
+pub signal-byte : (text : List ℕ) (at : ℕ) (kind : Kind) (x : Sampled) → operatorAt text at ≡ Operator.Read kind x →
     (x .signal ≡ getD text (at + 1) 0) × (at + 2 ≤ length text)
 signal-byte text at kind x e = (go (decLt (getD text at 0) 0x23), h .inside)
   where
@@ -184,12 +184,12 @@ module _ (text : List ℕ) (p : Program) (e : parseProgram text ≡ accepted p) 
           let z : _≡_ {A = ℕ} 0 1 = cc in
           absurd (omega arith)
 
-  pub one-spelled : commandAt text at ≡ Command.Read (only .kind) (only .operands)
+  pub one-spelled : operatorAt text at ≡ Operator.Read (only .kind) (only .operands)
   one-spelled =
       let ρs = bodyReads (signalAt p x .body) in
       let f = found-one w ρs at one in
       let many : 1 ≤ countReads w ρs = omega (arith, eqb-true (countReads w ρs) 1 (f .0)) in
-      subst (λ (m : ℕ). commandAt text m ≡ Command.Read (only .kind) (only .operands)) (f .1)
+      subst (λ (m : ℕ). operatorAt text m ≡ Operator.Read (only .kind) (only .operands)) (f .1)
       (read-of (SpellsRead text) w ρs (signal-reads (legal text p e .1) x declared) many .0)
 
   pub one-stands : ReadStands text at

@@ -17,7 +17,7 @@ use Rattle.model.specs.Rules.Search.{joinFrom}
 use Rattle.model.specs.Rules.Word.{byteAt}
 use Rattle.model.specs.declared.Fault.{Fault}
 use Rattle.model.proofs.All.{all-at}
-use Rattle.model.proofs.Commands.{command-sound}
+use Rattle.model.proofs.Commands.{declaration-sound}
 use Rattle.model.proofs.Legal.{SpellsChain, legal}
 use Rattle.model.proofs.Outcomes.{accepted-same}
 use Rattle.text_command.specs.Operator.{ReadTaken}
@@ -188,7 +188,7 @@ module _ (text : List ℕ) (t : Tables) (h : ReadAs text t) (p : Program) (e : p
     length-is = tables .lengths x (omega (arith, chains-are))
 
     pub chain-inside : getD (t .starts) x 0 + 4 ≤ length text
-    chain-inside = omega (arith, start-is, command-sound text (chainAt p x .place) _ (chain-stands .command))
+    chain-inside = omega (arith, start-is, declaration-sound text (chainAt p x .place) _ (chain-stands .command))
 
     module _ (i : ℕ) (li : i < getD (t .lengths) x 0) where
       pub link-seen : i < length (chainAt p x .links)

@@ -11,7 +11,7 @@ use Rattle.model.specs.Rules.Image.{signalCode, joined, offsets, records}
 use Rattle.model.specs.Rules.Program.{Program, Signal, Body, input, equation, noSignal, count}
 use Rattle.model.specs.Rules.Search.{joinFrom}
 use Rattle.model.specs.Rules.Word.{twoBytes, fourBytes, wordAt, wordBytes}
-use Rattle.model.proofs.Commands.{command-sound}
+use Rattle.model.proofs.Commands.{declaration-sound}
 use Rattle.model.proofs.Legal.{SpellsBody, SpellsSignal}
 use Rattle.text_program.specs.Tables.{Sums, codeIn}
 use Rattle.image_write.specs.Codes.{codesFrom, CodesAt}
@@ -116,8 +116,8 @@ pub initial-word : (text : List ℕ) (σ : Signal) → SpellsSignal text σ →
 initial-word text σ h = go (σ .body) h
   where
     go : (b : Body) → SpellsBody text σ b → (σ .initial ≡ wordAt text (σ .place + 2)) × (σ .place + 6 ≤ length text)
-    go input e = let f = command-sound text (σ .place) _ e in (f .2, f .3)
-    go (equation weight x) e = let f = command-sound text (σ .place) _ (e .0) in (f .2, omega (arith, f .3))
+    go input e = let f = declaration-sound text (σ .place) _ e in (f .2, f .3)
+    go (equation weight x) e = let f = declaration-sound text (σ .place) _ (e .0) in (f .2, omega (arith, f .3))
 
 pub record-length : (w : ℤ) (o : ℕ) → length (wordBytes w ++ twoBytes o) ≡ 6
 unfolding wordBytes fourBytes twoBytes

@@ -14,12 +14,21 @@ use lib.IntN.{ℤ, pos}
 use lib.ListN.{length, getD, take, drop}
 use Rattle.model.specs.Says.Feasible.{SettlesAt, Feasible}
 use Rattle.model.specs.Says.Calls.{Call, callOf, stateBy, logBy}
-use Rattle.model.specs.Rules.Command.{commandAt}
+use Rattle.model.specs.Rules.Command.{declarationAt, operatorAt}
 use Rattle.model.specs.Rules.Compile.{Pair, pairOf, verdictOf, compileOf}
 use Rattle.model.specs.Says.Conditions.{_among_, ReadIn, LegalPairWith, LegalPair}
 use Rattle.model.specs.Says.Conversion.{earlierFactor, ConvertsExactly, ConversionKeeps}
 use Rattle.model.specs.Rules.Decimal.{natural, decimal, lineOf, SaysNumber, SaysWord}
-use Rattle.model.specs.Says.Enums.{Ranged, CodeRanged, BytesAt, commandBytes, putBytes, codeBytes}
+use Rattle.model.specs.Says.Enums.{
+  declarationBytes,
+  operatorBytes,
+  putBytes,
+  codeBytes,
+  DeclarationRanged,
+  OperatorRanged,
+  CodeRanged,
+  BytesAt,
+}
 use Rattle.model.specs.Says.Exactness.{
   Exactly,
   sizeOf,
@@ -54,11 +63,16 @@ use Rattle.model.specs.Says.TrialRefusals.{LegalScript, TrialRefusedAt}
 use Rattle.model.specs.Says.WellFormed.{WellFormed}
 use Rattle.model.specs.Rules.Word.{byteAt, NearestResults}
 use Rattle.model.specs.Says.Written.{
-  Written,
-  Cut,
-  Outside,
-  NoCommandByte,
-  Whole,
+  DeclarationWritten,
+  DeclarationCut,
+  DeclarationOutside,
+  DeclarationByte,
+  DeclarationWhole,
+  OperatorWritten,
+  OperatorCut,
+  OperatorOutside,
+  OperatorByte,
+  OperatorWhole,
   PutWritten,
   PutCut,
   NoPutByte,
@@ -67,8 +81,10 @@ use Rattle.model.specs.Says.Written.{
   CodeWhole,
 }
 use Rattle.model.specs.declared.Code.{Code}
-use Rattle.model.specs.declared.Command.{Command}
-use Rattle.model.specs.declared.Command.the-variants as Command
+use Rattle.model.specs.declared.Declaration.{Declaration}
+use Rattle.model.specs.declared.Declaration.the-variants as Declaration
+use Rattle.model.specs.declared.Operator.{Operator}
+use Rattle.model.specs.declared.Operator.the-variants as Operator
 use Rattle.model.specs.declared.Fault.{Fault}
 use Rattle.model.specs.declared.Found.the-variants.{At}
 use Rattle.model.specs.declared.ScheduleCommand.{ScheduleCommand}
@@ -317,10 +333,15 @@ tail-alike image tail tail′ lent lent′ formed b b′ state c =
 pub widths-listed : WidthsListed
 widths-listed = Widths.widths-listed
 
--- A command is decoded exactly where its bytes are written, each case of the enum with its byte and its operands: in a program
--- text, in a schedule text and in an image's code.
-pub command-written : (text : List ℕ) (at : ℕ) (c : Command) → ((commandAt text at ≡ c) × Whole c) ↔ Written text at c
-command-written = Commands.command-written
+-- A command is decoded exactly where its bytes are written, each case of its enum with its byte and its operands: a declaration
+-- and an operator of a program text, a command of a schedule text and of an image's code.
+pub declaration-written : (text : List ℕ) (at : ℕ) (c : Declaration) →
+    ((declarationAt text at ≡ c) × DeclarationWhole c) ↔ DeclarationWritten text at c
+declaration-written = Commands.declaration-written
+
+pub operator-written : (text : List ℕ) (at : ℕ) (c : Operator) →
+    ((operatorAt text at ≡ c) × OperatorWhole c) ↔ OperatorWritten text at c
+operator-written = Commands.operator-written
 
 pub put-written : (text : List ℕ) (at : ℕ) (c : ScheduleCommand) →
     ((scheduleCommandAt text at ≡ c) × PutWhole c) ↔ PutWritten text at c
@@ -330,8 +351,13 @@ pub code-written : (code : List ℕ) (at : ℕ) (c : Code) → ((codeAt code at 
 code-written = Commands.code-written
 
 -- Each case of an enum has the paper's byte and values: where these bytes stand, the command is written.
-pub command-bytes : (text : List ℕ) (at : ℕ) (c : Command) → Ranged c → BytesAt text at (commandBytes c) → Written text at c
-command-bytes = Enums.command-bytes
+pub declaration-bytes : (text : List ℕ) (at : ℕ) (c : Declaration) → DeclarationRanged c → BytesAt text at (declarationBytes c) →
+    DeclarationWritten text at c
+declaration-bytes = Enums.declaration-bytes
+
+pub operator-bytes : (text : List ℕ) (at : ℕ) (c : Operator) → OperatorRanged c → BytesAt text at (operatorBytes c) →
+    OperatorWritten text at c
+operator-bytes = Enums.operator-bytes
 
 pub put-bytes : (text : List ℕ) (at : ℕ) (c : ScheduleCommand) → PutWhole c → BytesAt text at (putBytes c) → PutWritten text at c
 put-bytes = Enums.put-bytes
@@ -341,15 +367,28 @@ code-bytes = Enums.code-bytes
 
 -- It is decoded as one that ends early exactly if no byte is left or it is cut, as one out of range exactly if an operand is
 -- outside its range, and as unknown exactly if its byte is no command.
-pub command-cut : (text : List ℕ) (at : ℕ) → (commandAt text at ≡ Command.EndsEarly) ↔ ((length text ≤ at) ⊎ Cut text at)
-command-cut = Commands.command-cut
+pub declaration-cut : (text : List ℕ) (at : ℕ) →
+    (declarationAt text at ≡ Declaration.EndsEarly) ↔ ((length text ≤ at) ⊎ DeclarationCut text at)
+declaration-cut = Commands.declaration-cut
 
-pub command-outside : (text : List ℕ) (at : ℕ) → (commandAt text at ≡ Command.OutOfRange) ↔ Outside text at
-command-outside = Commands.command-outside
+pub declaration-outside : (text : List ℕ) (at : ℕ) → (declarationAt text at ≡ Declaration.OutOfRange) ↔ DeclarationOutside text at
+declaration-outside = Commands.declaration-outside
 
-pub command-unknown : (text : List ℕ) (at : ℕ) →
-    (commandAt text at ≡ Command.Unknown) ↔ ((at < length text) × NoCommandByte (byteAt text at))
-command-unknown = Commands.command-unknown
+pub declaration-unknown : (text : List ℕ) (at : ℕ) →
+    (declarationAt text at ≡ Declaration.Unknown) ↔
+    ((at < length text) × ¬ DeclarationByte (byteAt text at) × ¬ (byteAt text at ≡ 0x13))
+declaration-unknown = Commands.declaration-unknown
+
+pub operator-cut : (text : List ℕ) (at : ℕ) →
+    (operatorAt text at ≡ Operator.EndsEarly) ↔ ((length text ≤ at) ⊎ OperatorCut text at)
+operator-cut = Commands.operator-cut
+
+pub operator-outside : (text : List ℕ) (at : ℕ) → (operatorAt text at ≡ Operator.OutOfRange) ↔ OperatorOutside text at
+operator-outside = Commands.operator-outside
+
+pub operator-unknown : (text : List ℕ) (at : ℕ) →
+    (operatorAt text at ≡ Operator.Unknown) ↔ ((at < length text) × ¬ OperatorByte (byteAt text at))
+operator-unknown = Commands.operator-unknown
 
 pub put-cut : (text : List ℕ) (at : ℕ) →
     (scheduleCommandAt text at ≡ ScheduleCommand.EndsEarly) ↔ ((length text ≤ at) ⊎ PutCut text at)

@@ -270,13 +270,7 @@ fn judge(holds: bool, number: u8, at: usize) -> Reached
 }
 
 // Whether a declaration may stand at `at` after so many signals and chains: 2, 3, then counts and second CAP.
-fn declaration_here(
-    text: &[u8],
-    at: usize,
-    signals: usize,
-    chains: usize,
-    capped: bool,
-) -> Reached
+fn declaration_here(text: &[u8], at: usize, signals: usize, chains: usize, capped: bool) -> Reached
     ensures { λ r. ⌜ ((p : Program) → Counts p signals chains capped → r ≡ hereOf at (declarationHere (now (text .entry)) at p)) ⌝ }
 {
     if text.len() <= at {
