@@ -22,12 +22,12 @@ use Rattle.model.specs.declared.Operator.the-variants as Operator
 use Rattle.model.specs.declared.Kind.{Kind}
 use Rattle.model.specs.declared.Kind.the-variants.{Now, Last, When, LastWhen, Current}
 use Rattle.model.specs.Says.Grammar.{depth}
-use Rattle.model.proofs.Bounds.{depth-some}
+use Rattle.model.proofs.Images.Bounds.{depth-some}
 use Rattle.model.proofs.Operator.{enum}
-use Rattle.model.proofs.Commands.{operator-sound}
-use Rattle.model.proofs.Heights.{height-some}
-use Rattle.model.proofs.Stretches.{sets-append}
-use Rattle.model.proofs.Written.{operator-decoded}
+use Rattle.model.proofs.Texts.Commands.{operator-sound}
+use Rattle.model.proofs.Images.Bounds.{height-some}
+use Rattle.model.proofs.Images.Stretches.{sets-append}
+use Rattle.model.proofs.Texts.Written.{operator-decoded}
 use Rattle.model.specs.Says.Grammar.{Spells}
 use Rattle.image_code.specs.Code.{Puts, Room, Emits}
 use Rattle.image_code.specs.Shape.{Lead, noLead, leadOf}

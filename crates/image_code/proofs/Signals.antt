@@ -8,13 +8,13 @@ use Rattle.model.specs.Rules.Command.{declarationAt}
 use Rattle.model.specs.Rules.Image.{exprCode, signalCode}
 use Rattle.model.specs.Rules.Program.{leastFactor, Expr, Signal, Body, input, equation}
 use Rattle.model.specs.Rules.Word.{byteAt}
-use Rattle.model.specs.Says.Enums.{declarationBytes}
+use Rattle.model.specs.Says.Written.{declarationBytes}
 use Rattle.model.specs.Says.Grammar.{depth}
 use Rattle.model.specs.Says.Written.{DeclarationWhole}
 use Rattle.model.specs.declared.Declaration.{Declaration}
-use Rattle.model.proofs.Commands.{declaration-sound, written-byte}
-use Rattle.model.proofs.Written.{as-written}
-use Rattle.model.proofs.Legal.{SpellsBody, SpellsSignal}
+use Rattle.model.proofs.Texts.Commands.{declaration-sound, written-byte}
+use Rattle.model.proofs.Texts.Written.{as-written}
+use Rattle.model.proofs.Texts.Legal.{SpellsBody, SpellsSignal}
 use Rattle.model.specs.Says.Grammar.{Spells}
 use Rattle.image_code.specs.Code.{Puts, Room, Emits, SignalRoom, EmitsSignal}
 use Rattle.image_code.proofs.Laws.{puts-length, join}

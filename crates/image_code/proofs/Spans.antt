@@ -4,8 +4,8 @@ use mathlib.Core.List.{List}
 use lib.ListN.{length}
 use Rattle.model.specs.Rules.Program.{leastFactor, Expr}
 use Rattle.model.specs.Says.Grammar.{Spells}
-use Rattle.model.proofs.Commands.{operator-sound}
-use Rattle.model.proofs.Written.{operator-decoded}
+use Rattle.model.proofs.Texts.Commands.{operator-sound}
+use Rattle.model.proofs.Texts.Written.{operator-decoded}
 
 -- What spells an expression lies within the text.
 module _ {text : List ℕ} where

@@ -19,8 +19,8 @@ use Rattle.model.specs.declared.Kind.{Kind}
 use Rattle.model.specs.declared.Operator.{Operator}
 use Rattle.model.specs.declared.Operator.the-variants as Operator
 use Rattle.model.specs.declared.Sampled.{Sampled}
-use Rattle.model.proofs.Picks.{operator-byte}
-use Rattle.model.proofs.Written.{operator-cut, operator-unknown}
+use Rattle.model.proofs.Texts.Picks.{operator-byte}
+use Rattle.model.proofs.Texts.Written.{operator-cut, operator-unknown}
 use Rattle.text_program.specs.Factors.{restricted, operatorFrom}
 
 module _ (least : ℕ) (sub : ℕ → Outcome (Parsed Expr)) (text : List ℕ) (at : ℕ) where

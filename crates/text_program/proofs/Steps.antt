@@ -29,16 +29,16 @@ use Rattle.model.specs.Rules.Program.{
   readsOf,
 }
 use Rattle.model.specs.Rules.Word.{byteAt}
-use Rattle.model.specs.Says.Enums.{declarationBytes}
-use Rattle.model.specs.Says.Stops.{HasRoom}
+use Rattle.model.specs.Says.Written.{declarationBytes}
+use Rattle.model.specs.Says.Grammar.{HasRoom}
 use Rattle.model.specs.Says.Written.{DeclarationWhole}
 use Rattle.model.specs.declared.Declaration.{Declaration}
 use Rattle.model.specs.declared.Declaration.the-variants as Declaration
 use Rattle.model.specs.declared.Fault.{Fault}
 use Rattle.model.specs.declared.Mode.{Mode}
-use Rattle.model.proofs.Commands.{declaration-sound, written-byte}
-use Rattle.model.proofs.Room.{fit-declaration, signal-room, chain-room}
-use Rattle.model.proofs.Written.{as-written}
+use Rattle.model.proofs.Texts.Commands.{declaration-sound, written-byte}
+use Rattle.model.proofs.Texts.Room.{fit-declaration, signal-room, chain-room}
+use Rattle.model.proofs.Texts.Written.{as-written}
 use Rattle.text_program.specs.Results.{chainOf, tagOf, endOf}
 use Rattle.text_program.specs.Steps.{Adds, Stepped}
 use Rattle.text_program.specs.Walks.{placesOf, Moves, EquationBy, WalksEquation}

@@ -29,10 +29,10 @@ use Rattle.model.specs.declared.Unary.{Unary}
 use Rattle.model.specs.declared.Fault.{Fault}
 use Rattle.model.specs.declared.Kind.{Kind}
 use Rattle.model.specs.declared.Kind.the-variants.{Now, Last, When, LastWhen, Current}
-use Rattle.model.proofs.Commands.{operator-sound}
-use Rattle.model.proofs.Spelled.{spelled}
-use Rattle.model.proofs.Written.{operator-decoded}
-use Rattle.model.proofs.Stretches.{sets-append}
+use Rattle.model.proofs.Texts.Commands.{operator-sound}
+use Rattle.model.proofs.Texts.Spelled.{spelled}
+use Rattle.model.proofs.Texts.Written.{operator-decoded}
+use Rattle.model.proofs.Images.Stretches.{sets-append}
 use Rattle.text_program.specs.Walks.{placesOf, Room, Moves, WalksBy, Walks, EquationBy, WalksEquation, deepOf}
 use Rattle.text_program.specs.declared.Entry.{Entry}
 use Rattle.text_program.specs.declared.Step.{Step}

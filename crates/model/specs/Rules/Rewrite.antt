@@ -2,12 +2,11 @@
 -- every other byte is kept. All command bytes of a program text differ, so that one walk from command to command meets
 -- declarations, operators, reads and LINKs in the order of their offsets.
 use Prim.Native.Nat.{ℕ, zero, suc, _+_}
-use mathlib.Core.Bool.{Bool, true, false, cond}
+use mathlib.Core.Bool.{cond}
 use mathlib.Core.List.{List, [], _∷_, _++_}
 use lib.Dec.{leb, eqb}
 use lib.ListN.{length, take, drop}
 use Rattle.model.specs.Rules.Command.{isOperator, declarationAt, operatorAt}
-use Rattle.model.specs.Says.Convert.{singleKind}
 use Rattle.model.specs.Rules.Machine.{Effect, effect}
 use Rattle.model.specs.Rules.Outcome.{accepted, _▷_, provided}
 use Rattle.model.specs.Rules.Program.{parseWith}
@@ -18,6 +17,8 @@ use Rattle.model.specs.declared.Declaration.{Declaration}
 use Rattle.model.specs.declared.Declaration.the-variants as Declaration
 use Rattle.model.specs.declared.Operator.{Operator}
 use Rattle.model.specs.declared.Operator.the-variants as Operator
+use Rattle.model.specs.declared.Kind.{Kind}
+use Rattle.model.specs.declared.Kind.the-variants.{Now, Last, When, LastWhen, Current}
 
 -- A command of either kind.
 pub data Command : Type 0 where
@@ -51,6 +52,14 @@ operatorWidth (Operator.Read kind x) = readWidth kind
 operatorWidth (Operator.Binary operator) = inExpression 0x30
 operatorWidth (Operator.Unary operator) = inExpression 0x38
 operatorWidth Operator.If = inExpression 0x3A
+
+-- The kind and the index of a read after the conversion; the factor, which is 1 if they change, and the signal stay.
+abbrev pub singleKind : Kind → Kind
+singleKind Now = Now
+singleKind Last = Last
+singleKind When = Now
+singleKind LastWhen = Last
+singleKind Current = Now
 
 abbrev pub widthOf : Command → ℕ
 widthOf (ofDeclaration d) = declarationWidth d

@@ -41,6 +41,7 @@ use Rattle.model.specs.declared.Operator.the-variants as Operator
 use Rattle.model.specs.declared.Sampled.{Sampled}
 use Rattle.model.specs.declared.ScheduleCommand.the-variants as ScheduleCommand
 use Rattle.model.specs.declared.Unary.{Unary}
+use Rattle.model.specs.declared.Operator.{Operator}
 
 -- How deep an expression nests; a leaf is 1.
 abbrev pub depth : Expr → ℕ
@@ -125,3 +126,11 @@ pub data SpellsPuts (text : List ℕ) : ℕ → List Put → ℕ → Type 0 wher
 -- A legal schedule text: its PUTs, and the offset of its END.
 abbrev pub LegalSchedule : List ℕ → Parsed (List Put) → Type 0
 LegalSchedule text puts = SpellsPuts text 0 (puts .value) (puts .next)
+
+-- The counts and a second CAP leave room for the command of a byte, after those of p.
+pub data HasRoom (p : Program) (b : ℕ) : Type 0 where
+  end : b ≡ 0x00 → HasRoom p b
+  signal : IsSignal b → count p < 64 → HasRoom p b
+  latency : b ≡ 0x12 → length (p .chains) < 16 → HasRoom p b
+  cap : b ≡ 0x14 → p .cap ≡ unlimited → HasRoom p b
+  tag : b ≡ 0x15 → HasRoom p b
