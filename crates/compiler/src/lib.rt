@@ -2,6 +2,7 @@
 use model::Compiled;
 use model::Fault;
 use text_program::Judged;
+use text_schedule::Slots;
 ghost use mathlib.Core.Path.{_≡_};
 ghost use Rattle.model.specs.Rules.Compile.{compiledOf, compileOf};
 ghost use Rattle.model.specs.declared.Fault.{Fault};
@@ -33,7 +34,7 @@ pub fn compile(program: &[u8], schedule: &[u8], image: &mut [u8]) -> Compiled
     };
     let tables = checked.tables;
     let periods = tables.periods;
-    let slots = checked.slots;
+    let slots: Slots = checked.slots;
     let order = slots.order;
     let phases = slots.phases;
     let h = checked.hypercycle;
