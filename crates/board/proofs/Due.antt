@@ -7,7 +7,7 @@ use native.Mathlib.Omega.{arith}
 use Rattle.model.specs.Rules.Search.{first}
 use Rattle.model.specs.declared.Found.{Found}
 use Rattle.model.specs.declared.Found.the-variants.{At, Nowhere}
-use Rattle.model.proofs.Decide.{is-first}
+use Rattle.model.proofs.Pairs.Decide.{is-first}
 use Rattle.board.specs.Board.{placeAfter, dueAfter, placeFound, nextDue}
 use Rattle.board.specs.declared.Board.{Board}
 

@@ -24,13 +24,13 @@ use Rattle.model.specs.Rules.Schedule.{Schedule, phaseOf}
 use Rattle.model.specs.declared.Command.{Command}
 use Rattle.model.specs.declared.Command.the-variants as Command
 use Rattle.model.specs.declared.Mode.{Mode}
-use Rattle.model.proofs.All.{all-at}
+use Rattle.model.proofs.Basics.All.{all-at}
 use Rattle.model.proofs.Command.{enum}
-use Rattle.model.proofs.Decide.{met-settled}
-use Rattle.model.proofs.Legal.{legal, SpellsChain}
-use Rattle.model.proofs.Links.{LinkedBack, linked-backwards, declared-backwards, chain-met}
-use Rattle.model.proofs.Verdict.{links-declared, chains-linked}
-use Rattle.model.proofs.Window.{ChainMet, source-count}
+use Rattle.model.proofs.Pairs.Decide.{met-settled}
+use Rattle.model.proofs.Texts.Legal.{legal, SpellsChain}
+use Rattle.model.proofs.Pairs.Links.{LinkedBack, linked-backwards, declared-backwards, chain-met}
+use Rattle.model.proofs.Pairs.Verdict.{links-declared, chains-linked}
+use Rattle.model.proofs.Pairs.Links.{ChainMet, source-count}
 use Rattle.check_rates.specs.Answers.{periodAt}
 use Rattle.text_program.specs.Tables.{noChain, chainAt}
 use Rattle.text_program.specs.declared.Tables.{Tables}

@@ -16,10 +16,10 @@ use Rattle.model.specs.Rules.Program.{Program, Link, Read, count, signalAt, bod
 use Rattle.model.specs.Rules.Rates.{countReads, isLinked}
 use Rattle.model.specs.Rules.Schedule.{Schedule}
 use Rattle.model.specs.Rules.Word.{byteAt}
-use Rattle.model.proofs.All.{all-at}
-use Rattle.model.proofs.Legal.{legal, SpellsChain}
+use Rattle.model.proofs.Basics.All.{all-at}
+use Rattle.model.proofs.Texts.Legal.{legal, SpellsChain}
 use Rattle.model.specs.Says.Grammar.{SpellsLinks}
-use Rattle.model.proofs.Verdict.{links-declared, chains-linked}
+use Rattle.model.proofs.Pairs.Verdict.{links-declared, chains-linked}
 use Rattle.text_program.specs.Tables.{noChain, chainAt}
 use Rattle.text_program.specs.declared.Tables.{Tables}
 use Rattle.check_latency.specs.Timely.{Known, Joined, Along, RouteOf}

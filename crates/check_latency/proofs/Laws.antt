@@ -9,7 +9,7 @@ use mathlib.Core.List.{List, [], _∷_}
 use Rattle.model.specs.Says.Feasible.{All}
 use Rattle.model.specs.Rules.Latency.{readOf}
 use Rattle.model.specs.Rules.Rates.{countReads}
-use Rattle.model.proofs.Links.{read-of}
+use Rattle.model.proofs.Pairs.Links.{read-of}
 use Rattle.model.specs.Rules.Program.{Program, Read, count, signalAt}
 use Rattle.model.specs.Rules.Reads.{Rate, rateOf, line, settle}
 use Rattle.model.specs.Rules.Schedule.{Schedule, phaseOf}
@@ -17,8 +17,8 @@ use Rattle.model.specs.Rules.Search.{first}
 use Rattle.model.specs.declared.Found.{Found}
 use Rattle.model.specs.declared.Found.the-variants.{At, Nowhere}
 use Rattle.model.specs.declared.Kind.{Kind}
-use Rattle.model.proofs.Decide.{is-first}
-use Rattle.model.proofs.Legal.{legal}
+use Rattle.model.proofs.Pairs.Decide.{is-first}
+use Rattle.model.proofs.Texts.Legal.{legal}
 use Rattle.check_rates.specs.Answers.{periodAt}
 use Rattle.text_program.specs.declared.Tables.{Tables}
 use Rattle.check_latency.specs.Timely.{ByteFound, Known}

@@ -10,8 +10,8 @@ use borrow.Author.Tests.{eq-eqb, ne-eqb}
 use lib.ListN.{length, getD, set}
 use lib.Seq.{getD-set-same, getD-set-other}
 use Rattle.model.specs.Rules.Reads.{Rate, runCycle, due}
-use Rattle.model.proofs.Rate.{stored-is}
-use Rattle.model.proofs.Turns.{due-run}
+use Rattle.model.proofs.Pairs.Rate.{stored-is}
+use Rattle.model.proofs.Pairs.Rate.{due-run}
 
 -- What a signal of weight w adds to the load of cycle c.
 abbrev added : Rate → ℕ → ℕ → ℕ

@@ -16,8 +16,8 @@ use Rattle.model.specs.Rules.Rates.{declaredAndRated, hypercycle, linked}
 use Rattle.model.specs.Rules.Reads.{met}
 use Rattle.model.specs.Rules.Schedule.{Schedule, Put, parseSchedule, placed}
 use Rattle.model.specs.declared.Fault.{Fault}
-use Rattle.model.proofs.Legal.{legal, signal-period}
-use Rattle.model.proofs.Outcomes.{then-accepted, accepted-then, refused-then, then-then, then-same, provided-true}
+use Rattle.model.proofs.Texts.Legal.{legal, signal-period}
+use Rattle.model.proofs.Basics.Outcomes.{then-accepted, accepted-then, refused-then, then-then, then-same, provided-true}
 use Rattle.check_rates.specs.Answers.{cyclesOf, TabledAs}
 use Rattle.text_program.specs.Results.{judgementOf}
 use Rattle.check_rates.specs.declared.Cycles.{Cycles}

@@ -1,6 +1,6 @@
 // The checks of a pair in the stated order.
-use model::Fault;
 use check_rates::Cycles;
+use model::Fault;
 use text_program::Judged;
 use text_program::Tables;
 use text_schedule::Ended;

@@ -12,10 +12,10 @@ use Rattle.model.specs.Rules.Outcome.{Outcome, accepted, refused, fault, lowest
 use Rattle.model.specs.Rules.Program.{leastFactor, Chain, Program, parseProgram}
 use Rattle.model.specs.Rules.Search.{joinFrom}
 use Rattle.model.specs.declared.Fault.{Fault}
-use Rattle.model.proofs.All.{all-append, all-map}
-use Rattle.model.proofs.Legal.{links-end}
+use Rattle.model.proofs.Basics.All.{all-append, all-map}
+use Rattle.model.proofs.Texts.Legal.{links-end}
 use Rattle.model.specs.Says.Grammar.{DeclaresOne, Declares}
-use Rattle.model.proofs.Spelled.{declared}
+use Rattle.model.proofs.Texts.Spelled.{declared}
 use Rattle.text_program.specs.Tables.{noChain, chainAt}
 use Rattle.check_rates.proofs.Joined.{each, join-each, Beyond, lowest-inside}
 use Rattle.text_program.proofs.Walks.{spans}

@@ -16,10 +16,10 @@ use Rattle.model.specs.Says.Grammar.{SpellsLinks}
 use Rattle.model.specs.Rules.Search.{joinFrom}
 use Rattle.model.specs.Rules.Word.{byteAt}
 use Rattle.model.specs.declared.Fault.{Fault}
-use Rattle.model.proofs.All.{all-at}
-use Rattle.model.proofs.Commands.{command-sound}
-use Rattle.model.proofs.Legal.{SpellsChain, legal}
-use Rattle.model.proofs.Outcomes.{accepted-same}
+use Rattle.model.proofs.Basics.All.{all-at}
+use Rattle.model.proofs.Texts.Commands.{command-sound}
+use Rattle.model.proofs.Texts.Legal.{SpellsChain, legal}
+use Rattle.model.proofs.Basics.Outcomes.{accepted-same}
 use Rattle.text_command.specs.Operator.{ReadTaken}
 use Rattle.text_command.specs.declared.Taken.{Taken}
 use Rattle.text_program.specs.Results.{judgementOf}

@@ -10,9 +10,9 @@ use Rattle.model.specs.Rules.Outcome.{accepted}
 use Rattle.model.specs.Rules.Program.{Link, Program, signalAt, parseProgram, bodyReads}
 use Rattle.model.specs.Rules.Rates.{countReads, isLinked}
 use Rattle.model.specs.Rules.Word.{byteAt}
-use Rattle.model.proofs.All.{all-at}
-use Rattle.model.proofs.Commands.{command-sound}
-use Rattle.model.proofs.Legal.{legal, SpellsChain}
+use Rattle.model.proofs.Basics.All.{all-at}
+use Rattle.model.proofs.Texts.Commands.{command-sound}
+use Rattle.model.proofs.Texts.Legal.{legal, SpellsChain}
 use Rattle.model.specs.Says.Grammar.{SpellsLinks}
 use Rattle.text_program.specs.Tables.{noChain, chainAt, TablesOf}
 use Rattle.text_program.specs.declared.Tables.{Tables}

@@ -14,8 +14,8 @@ use Rattle.model.specs.Rules.Reads.{rateOf, isMet, met}
 use Rattle.model.specs.Rules.Schedule.{Schedule}
 use Rattle.model.specs.Rules.Search.{joinFrom}
 use Rattle.model.specs.declared.Fault.{Fault}
-use Rattle.model.proofs.All.{all-at}
-use Rattle.model.proofs.Verdict.{Rated, reads-rated}
+use Rattle.model.proofs.Basics.All.{all-at}
+use Rattle.model.proofs.Pairs.Verdict.{Rated, reads-rated}
 use Rattle.text_command.specs.Operator.{ReadTaken}
 use Rattle.text_command.specs.declared.Taken.{Taken}
 use Rattle.text_program.specs.Tables.{PeriodsOf, SlotsOf, Indexed}

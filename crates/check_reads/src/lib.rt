@@ -2,8 +2,8 @@
 use model::Fault;
 use model::Kind;
 use model::Sampled;
-use text_program::Judged;
 use read_rule::Timing;
+use text_program::Judged;
 ghost use mathlib.Core.Path.{_≡_};
 ghost use Prim.Native.Nat.{_≤_, _<_};
 ghost use Rattle.model.specs.Rules.Outcome.{accepted};

@@ -22,12 +22,12 @@ use Rattle.model.specs.declared.Command.the-variants as Command
 use Rattle.model.specs.declared.Kind.{Kind}
 use Rattle.model.specs.declared.Kind.the-variants.{Now, Last, When, LastWhen, Current}
 use Rattle.model.specs.Says.Grammar.{depth}
-use Rattle.model.proofs.Bounds.{depth-some}
+use Rattle.model.proofs.Images.Bounds.{depth-some}
 use Rattle.model.proofs.Command.{enum}
-use Rattle.model.proofs.Commands.{command-sound}
-use Rattle.model.proofs.Heights.{height-some}
-use Rattle.model.proofs.Stretches.{sets-append}
-use Rattle.model.proofs.Written.{decoded}
+use Rattle.model.proofs.Texts.Commands.{command-sound}
+use Rattle.model.proofs.Images.Bounds.{height-some}
+use Rattle.model.proofs.Images.Stretches.{sets-append}
+use Rattle.model.proofs.Texts.Written.{decoded}
 use Rattle.model.specs.Says.Grammar.{Spells}
 use Rattle.image_code.specs.Code.{Puts, Room, Emits}
 use Rattle.image_code.specs.Shape.{Lead, noLead, leadOf}

@@ -14,7 +14,7 @@ use Rattle.model.specs.declared.Command.{Command}
 use Rattle.model.specs.declared.Command.the-variants as Command
 use Rattle.model.specs.Says.Grammar.{depth}
 use Rattle.model.proofs.Command.{enum}
-use Rattle.model.proofs.Legal.{SpellsBody, SpellsSignal}
+use Rattle.model.proofs.Texts.Legal.{SpellsBody, SpellsSignal}
 use Rattle.model.specs.Says.Grammar.{Spells}
 use Rattle.image_code.specs.Code.{Puts, Room, Emits, SignalRoom, EmitsSignal}
 use Rattle.image_code.proofs.Laws.{puts-length, join}

@@ -15,8 +15,8 @@ use Rattle.model.specs.declared.Binary.the-variants as Binary
 use Rattle.model.specs.declared.Command.{Command}
 use Rattle.model.specs.declared.Kind.{Kind}
 use Rattle.model.specs.declared.Kind.the-variants.{Now, Last, When, LastWhen, Current}
-use Rattle.model.proofs.Commands.{command-sound}
-use Rattle.model.proofs.Written.{decoded}
+use Rattle.model.proofs.Texts.Commands.{command-sound}
+use Rattle.model.proofs.Texts.Written.{decoded}
 use Rattle.model.specs.Says.Grammar.{Spells}
 use Rattle.text_command.specs.Operator.{operatorAt}
 use Rattle.text_command.proofs.Operands.{command-is}

@@ -12,12 +12,12 @@ use Rattle.model.specs.Rules.Image.{exprCode}
 use Rattle.model.specs.Rules.Program.{Expr, constant, read, binary, negate, choose}
 use Rattle.model.specs.Rules.Report.{exprCommands, exprHeight}
 use Rattle.model.specs.declared.Command.{Command}
-use Rattle.model.proofs.Bounds.{depth-some}
-use Rattle.model.proofs.Heights.{height-some}
-use Rattle.model.proofs.Runs.{commands-most}
+use Rattle.model.proofs.Images.Bounds.{depth-some}
+use Rattle.model.proofs.Images.Bounds.{height-some}
+use Rattle.model.proofs.Images.Runs.{commands-most}
 use Rattle.image_code.specs.Shape.{leadOf}
 use Rattle.image_code.proofs.Laws.{SpellsAll, Below, commandsOfAll, heightOfAll, opened}
-use Rattle.model.proofs.Legal.{expr-code}
+use Rattle.model.proofs.Texts.Legal.{expr-code}
 use Rattle.image_code.proofs.Spans.{inside}
 use Rattle.image_measure.specs.Measure.{Nests, Tells, Measures, Joined, Operated}
 use Rattle.image_measure.specs.declared.Measure.{Measure}

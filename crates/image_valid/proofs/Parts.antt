@@ -16,7 +16,7 @@ use Rattle.model.specs.Rules.Machine.{stretch, hyperOf, countOf, listOffset, co
 use Rattle.model.specs.Rules.Search.{allBelow}
 use Rattle.model.specs.Rules.Word.{byteAt, twoAt}
 use Rattle.image_valid.proofs.All.{all-none, all-fails, all-same, all-at}
-use Rattle.model.proofs.Tests.{never, by, both}
+use Rattle.model.proofs.Basics.Tests.{never, by, both}
 
 pub record Head (image : List ℕ) : Type 0 where
   pub four : 4 ≤ length image

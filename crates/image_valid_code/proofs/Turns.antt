@@ -12,7 +12,7 @@ use Rattle.model.specs.Rules.Machine.{operatorCode, wholeCode, codeAt, commandO
 use Rattle.model.specs.Rules.Word.{byteAt, wordAt}
 use Rattle.model.specs.declared.Code.{Code}
 use Rattle.model.specs.declared.Code.the-variants as Code
-use Rattle.model.proofs.Tests.{by}
+use Rattle.model.proofs.Basics.Tests.{by}
 use Rattle.image_valid_code.specs.Shape.{shapeOf, lengthOf, afterOf, lastOf}
 
 -- the command whose byte is b

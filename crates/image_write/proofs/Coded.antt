@@ -11,12 +11,12 @@ use Rattle.model.specs.Rules.Image.{signalCode, joined, offsets, records}
 use Rattle.model.specs.Rules.Program.{Program, Signal, Body, input, equation, noSignal, count}
 use Rattle.model.specs.Rules.Search.{joinFrom}
 use Rattle.model.specs.Rules.Word.{twoBytes, fourBytes, wordAt, wordBytes}
-use Rattle.model.proofs.Commands.{command-sound}
-use Rattle.model.proofs.Legal.{SpellsBody, SpellsSignal}
+use Rattle.model.proofs.Texts.Commands.{command-sound}
+use Rattle.model.proofs.Texts.Legal.{SpellsBody, SpellsSignal}
 use Rattle.text_program.specs.Tables.{Sums, codeIn}
 use Rattle.image_write.specs.Codes.{codesFrom, CodesAt}
-use Rattle.model.proofs.Stretches.{joined-cons}
-use Rattle.model.proofs.Left.{Parts, parts-length}
+use Rattle.model.proofs.Images.Stretches.{joined-cons}
+use Rattle.model.proofs.Basics.Left.{Parts, parts-length}
 
 dropped : {A : Type 0} (l : List A) (x : ℕ) (d : A) → x < length l → drop x l ≡ getD l x d ∷ drop (x + 1) l
 dropped l x d lt = drop-cons l x d lt ∙ ap (λ (k : ℕ). getD l x d ∷ drop k l) (sym (add-one x))

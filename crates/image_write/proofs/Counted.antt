@@ -8,12 +8,12 @@ use lib.ListN.{length, getD, length-append}
 use Rattle.model.specs.Rules.Image.{joined}
 use Rattle.model.specs.Rules.Reads.{Rate, due, stored}
 use Rattle.model.specs.Rules.Search.{table, tableFrom, joinFrom}
-use Rattle.model.proofs.Rate.{stored-is, stored-low, stored-high, stored-none}
-use Rattle.model.proofs.Turns.{due-run, run-due}
+use Rattle.model.proofs.Pairs.Rate.{stored-is, stored-low, stored-high, stored-none}
+use Rattle.model.proofs.Pairs.Rate.{due-run, run-due}
 use Rattle.image_write.specs.Lists.{rateAt, runOf, listBy, listsBy}
-use Rattle.model.proofs.Stretches.{joined-cons}
+use Rattle.model.proofs.Images.Stretches.{joined-cons}
 use Rattle.image_write.proofs.Listed.{table-same, listFrom, list-starts, list-step, list-ends}
-use Rattle.model.proofs.Left.{parts-length}
+use Rattle.model.proofs.Basics.Left.{parts-length}
 
 -- A run stores one element.
 module _ (a : Rate) (x : ℕ) (v : a .phase < a .period) where

@@ -13,15 +13,15 @@ use Rattle.model.specs.Rules.Reads.{rateOf, due}
 use Rattle.model.specs.Rules.Schedule.{Schedule}
 use Rattle.model.specs.Rules.Search.{table, chosen}
 use Rattle.model.specs.Rules.Word.{twoBytes}
-use Rattle.model.proofs.Legal.{legal, signal-spelled, signal-period}
-use Rattle.model.proofs.Stretches.{table-length, table-at, image-length}
+use Rattle.model.proofs.Texts.Legal.{legal, signal-spelled, signal-period}
+use Rattle.model.proofs.Images.Stretches.{table-length, table-at, image-length}
 use Rattle.text_program.specs.declared.Tables.{Tables}
 use Rattle.image_write.specs.Codes.{signalsIn, signalsOf, codesFrom, Declared, CodesAt}
 use Rattle.image_write.specs.Lists.{isDue, listBy, listsBy, pairs, Timed, Phased}
 use Rattle.text_program.specs.Prepared.{Prepared}
 use Rattle.model.specs.Rules.Writing.{Wrote}
 use Rattle.image_write.proofs.Coded.{code-sum, codes-by, codes-end}
-use Rattle.model.proofs.Left.{Parts}
+use Rattle.model.proofs.Basics.Left.{Parts}
 use Rattle.image_write.proofs.Listed.{table-same}
 
 -- Where the code starts, and where it ends.

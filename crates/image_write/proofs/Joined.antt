@@ -8,10 +8,10 @@ use lib.ListN.{length, getD, length-append}
 use Rattle.model.specs.Rules.Image.{joined, offsets}
 use Rattle.model.specs.Rules.Search.{table, tableFrom, chosen, joinFrom}
 use Rattle.model.specs.Rules.Word.{twoBytes}
-use Rattle.model.proofs.Stretches.{table-length}
+use Rattle.model.proofs.Images.Stretches.{table-length}
 use Rattle.image_write.specs.Lists.{isDue, listBy, listsBy, pairs}
-use Rattle.model.proofs.Left.{Parts}
-use Rattle.model.proofs.Stretches.{joined-cons}
+use Rattle.model.proofs.Basics.Left.{Parts}
+use Rattle.model.proofs.Images.Stretches.{joined-cons}
 use Rattle.image_write.proofs.Listed.{table-starts, table-step, table-ends}
 
 -- Where the number is not looked at, it does not matter where the count starts.

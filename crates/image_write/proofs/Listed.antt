@@ -12,7 +12,7 @@ use lib.Dec.{eqb}
 use Rattle.check_load.proofs.Runs.{due-first, due-next, due-between}
 use Rattle.model.specs.Rules.Reads.{Rate, due}
 use Rattle.model.specs.Rules.Search.{table, tableFrom, chosen}
-use Rattle.model.proofs.Left.{Parts}
+use Rattle.model.proofs.Basics.Left.{Parts}
 use Rattle.image_write.specs.Lists.{rateAt, isDue, runOf, listBy, NextRun}
 
 chosen-step : (test : ℕ → Bool) (x : ℕ) (xs : List ℕ) → chosen test (x ∷ xs) ≡ runOf (test x) x ++ chosen test xs

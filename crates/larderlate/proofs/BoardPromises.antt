@@ -4,18 +4,18 @@ use mathlib.Core.List.{List, _∷_}
 use mathlib.Core.Path.{_≡_, subst}
 use lib.IntN.{ℤ}
 use lib.ListN.{length}
-use Rattle.model.specs.Says.Calls.{stateBy, logBy, Supplied, Holds}
+use Rattle.theorems.specs.Held.{stateBy, logBy, Supplied, Holds}
 use Rattle.model.specs.Rules.Compile.{pairOf}
 use Rattle.model.specs.Rules.Image.{imageOf}
-use Rattle.model.specs.Says.Lists.{KeptBy}
+use Rattle.theorems.specs.Lists.{KeptBy}
 use Rattle.model.specs.Rules.Machine.{stretch}
 use Rattle.model.specs.Rules.Outcome.{accepted}
 use Rattle.model.specs.Rules.Program.{Program}
 use Rattle.model.specs.Rules.Reads.{settled}
 use Rattle.model.specs.Rules.Schedule.{Schedule}
-use Rattle.model.specs.Says.Streams.{Satisfies}
+use Rattle.theorems.specs.Streams.{Satisfies}
 use Rattle.model.specs.Rules.Tail.{Bears}
-use Rattle.model.proofs.Commands as Texts
+use Rattle.model.proofs.Texts.Commands as Texts
 use Rattle.board.specs.Board.{placeWords}
 use Rattle.board.specs.Events.{Event, load, Scene, loadBy, afterEvent, afterEvents, Throughout, Untouched, ownCycles}
 use Rattle.board.proofs.Promises.{place-alone, place-cycles}

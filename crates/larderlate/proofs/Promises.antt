@@ -13,28 +13,33 @@ use lib.Dec.{leb, ltb}
 use lib.IntN.{ℤ, pos}
 use lib.ListN.{length, getD, take, drop}
 use Rattle.model.specs.Says.Feasible.{SettlesAt, Feasible}
-use Rattle.model.specs.Says.Calls.{Call, callOf, stateBy, logBy}
+use Rattle.model.specs.Says.Calls.{Call, callOf}
+use Rattle.theorems.specs.Held.{stateBy, logBy}
 use Rattle.model.specs.Rules.Command.{commandAt}
 use Rattle.model.specs.Rules.Compile.{Pair, pairOf, verdictOf, compileOf}
-use Rattle.model.specs.Says.Conditions.{_among_, ReadIn, LegalPairWith, LegalPair}
-use Rattle.model.specs.Says.Conversion.{earlierFactor, ConvertsExactly, ConversionKeeps}
-use Rattle.model.specs.Rules.Decimal.{natural, decimal, lineOf, SaysNumber, SaysWord}
-use Rattle.model.specs.Says.Enums.{Ranged, CodeRanged, BytesAt, commandBytes, putBytes, codeBytes}
-use Rattle.model.specs.Says.Exactness.{
-  Exactly,
-  sizeOf,
-  Compiles,
-  CompileRefusedAt,
-  Resets,
-  ResetRefusedAt,
-  Cycles,
-  CycleRefusedAt,
-}
-use Rattle.model.specs.Says.Height.{Within}
+use Rattle.theorems.specs.Conditions.{_among_, ReadIn, LegalPairWith, LegalPair}
+use Rattle.theorems.specs.Conversion.{earlierFactor, ConvertsExactly, ConversionKeeps}
+use Rattle.model.specs.Rules.Decimal.{natural, decimal, lineOf}
+use Rattle.theorems.specs.Decimals.{SaysNumber, SaysWord}
+use Rattle.theorems.specs.Enums.{Ranged, CodeRanged, BytesAt, commandBytes, putBytes, codeBytes}
+use Rattle.theorems.specs.Exactness.{Exactly, sizeOf, Compiles, CompileRefusedAt, Resets, ResetRefusedAt, Cycles, CycleRefusedAt}
+use Rattle.theorems.specs.Height.{Within}
 use Rattle.model.specs.Rules.Image.{lengthOf, imageOf, tailOf, writtenOf, writtenLength}
 use Rattle.model.specs.Rules.Latency.{readsBack, backwards, back, source, latencyOf}
-use Rattle.model.specs.Says.Lists.{Kept, KeptBy, Memory, afterReset, Lent, owns, leftAll, ownAnswers, ownLog, OthersRefused, AsWithout}
-use Rattle.model.specs.Says.Lists.{SettleAlike, Agree, EndsWith}
+use Rattle.theorems.specs.Lists.{
+  Kept,
+  KeptBy,
+  Memory,
+  afterReset,
+  Lent,
+  owns,
+  leftAll,
+  ownAnswers,
+  ownLog,
+  OthersRefused,
+  AsWithout,
+}
+use Rattle.theorems.specs.Lists.{SettleAlike, Agree, EndsWith}
 use Rattle.model.specs.Rules.Machine.{effect, isPosition, hyperOf, countOf, statedLength, listOf, codeOf, countSignals}
 use Rattle.model.specs.Rules.Machine.{wellFormed, imagePart, lentOk, cycleWords, cycleCount, resetOf, cycleOf, codeAt}
 use Rattle.model.specs.Rules.Outcome.{Outcome, accepted, refused, refuse, fault, _▷_, provided}
@@ -42,17 +47,19 @@ use Rattle.model.specs.Rules.Program.{Program, Chain, Read, count, signalAt, pa
 use Rattle.model.specs.Rules.Rates.{hypercycle}
 use Rattle.model.specs.Rules.Reads.{rateOf, runCycle, settled}
 use Rattle.model.specs.Rules.Report.{highest, countsOf, toldOf, reportOf}
-use Rattle.model.specs.Says.Reach.{WidthsListed}
-use Rattle.model.specs.Says.Refusals.{RefusedAt}
+use Rattle.theorems.specs.Reach.{WidthsListed}
+use Rattle.theorems.specs.Refusals.{RefusedAt}
 use Rattle.model.specs.Rules.Rewrite.{rewrite, convertOf}
 use Rattle.model.specs.Rules.Schedule.{Schedule, phaseOf, scheduleCommandAt}
 use Rattle.model.specs.Rules.Script.{Action, scriptOf, noSamples, callsFrom, cyclesOf}
-use Rattle.model.specs.Says.Streams.{Satisfies}
+use Rattle.theorems.specs.Streams.{Satisfies}
 use Rattle.model.specs.Rules.Tail.{tailIn, Bears, Tells}
-use Rattle.model.specs.Rules.Trial.{trialOf, wordsAfter, inputsOf}
-use Rattle.model.specs.Says.TrialRefusals.{LegalScript, TrialRefusedAt}
-use Rattle.model.specs.Says.WellFormed.{WellFormed}
-use Rattle.model.specs.Rules.Word.{byteAt, NearestResults}
+use Rattle.model.specs.Rules.Trial.{trialOf}
+use Rattle.theorems.specs.Trials.{wordsAfter, inputsOf}
+use Rattle.theorems.specs.TrialRefusals.{LegalScript, TrialRefusedAt}
+use Rattle.theorems.specs.WellFormed.{WellFormed}
+use Rattle.model.specs.Rules.Word.{byteAt}
+use Rattle.theorems.specs.Nearest.{NearestResults}
 use Rattle.model.specs.Says.Written.{
   Written,
   Cut,
@@ -74,39 +81,42 @@ use Rattle.model.specs.declared.Found.the-variants.{At}
 use Rattle.model.specs.declared.ScheduleCommand.{ScheduleCommand}
 use Rattle.model.specs.declared.ScheduleCommand.the-variants as ScheduleCommand
 use Rattle.model.specs.declared.Sizes.{Sizes}
-use Rattle.model.proofs.Among as Among
-use Rattle.model.proofs.Bounds.{Bounded}
-use Rattle.model.proofs.CallsExact as CallsExact
-use Rattle.model.proofs.Commands as Texts
-use Rattle.model.proofs.Counts.{cycle-count, counts-length, counts-at, counts-past, count-fits}
-use Rattle.model.proofs.Conversions as Conversions
-use Rattle.model.proofs.Decimals as Decimals
-use Rattle.model.proofs.Demand as Demand
-use Rattle.model.proofs.Enums as Enums
-use Rattle.model.proofs.Exact as Exact
-use Rattle.model.proofs.Examples as Examples
-use Rattle.model.proofs.FormedExactly as FormedExactly
-use Rattle.model.proofs.Heights.{stack-least, stack-31}
-use Rattle.model.proofs.Latency as Latency
-use Rattle.model.proofs.Legal.{signal-label}
-use Rattle.model.proofs.Nearest as Nearest
-use Rattle.model.proofs.Numbers as Numbers
-use Rattle.model.proofs.Outcomes.{accepted≢refused}
-use Rattle.model.proofs.Offsets.{OffsetsFit, offsets-fit}
-use Rattle.model.proofs.Places.{refusal-small, places-small, places-zero}
-use Rattle.model.proofs.Refused as Refused
-use Rattle.model.proofs.Scripts.{script-actions}
-use Rattle.model.proofs.Settled as Settled
-use Rattle.model.proofs.Stretches.{image-length, length-bytes}
-use Rattle.model.proofs.Tails as Tails
-use Rattle.model.proofs.Tails.{lent-formed, part-bytes, tail-length, tail-tells, written-bears, written-length}
-use Rattle.model.proofs.TrialLines.{tried-count, tried-line}
-use Rattle.model.proofs.Trials.{linesOf, Tried, trial-refused, trial-accepts}
-use Rattle.model.proofs.Unique as Unique
-use Rattle.model.proofs.Widths as Widths
-use Rattle.model.proofs.Written as Commands
+use Rattle.theorems.proofs.Calls.Among as Among
+use Rattle.model.proofs.Images.Bounds.{Bounded}
+use Rattle.theorems.proofs.Calls.CallsExact as CallsExact
+use Rattle.model.proofs.Texts.Commands as Texts
+use Rattle.theorems.proofs.Images.Counted.{cycle-count, count-fits}
+use Rattle.model.proofs.Images.Counts.{counts-length, counts-at, counts-past}
+use Rattle.theorems.proofs.Conversion.Conversions as Conversions
+use Rattle.theorems.proofs.Bench.Decimals as Decimals
+use Rattle.theorems.proofs.Streams.Demand as Demand
+use Rattle.theorems.proofs.Texts.Enums as Enums
+use Rattle.theorems.proofs.Pairs.Exact as Exact
+use Rattle.theorems.proofs.Examples as Examples
+use Rattle.theorems.proofs.Images.FormedExactly as FormedExactly
+use Rattle.theorems.proofs.Images.Heights.{stack-least, stack-31}
+use Rattle.theorems.proofs.Pairs.Latency as Latency
+use Rattle.model.proofs.Texts.Legal.{signal-label}
+use Rattle.theorems.proofs.Nearest as Nearest
+use Rattle.theorems.proofs.Calls.Numbers as Numbers
+use Rattle.model.proofs.Basics.Outcomes.{accepted≢refused}
+use Rattle.theorems.proofs.Images.Offsets.{OffsetsFit, offsets-fit}
+use Rattle.theorems.proofs.Calls.Places.{refusal-small, places-small, places-zero}
+use Rattle.theorems.proofs.Calls.Refused as Refused
+use Rattle.theorems.proofs.Bench.Scripts.{script-actions}
+use Rattle.theorems.proofs.Pairs.Settled as Settled
+use Rattle.model.proofs.Images.Stretches.{image-length, length-bytes}
+use Rattle.theorems.proofs.Images.Lent
+use Rattle.model.proofs.Images.Tails as Tails
+use Rattle.model.proofs.Images.Tails.{lent-formed, tail-length, tail-tells, written-bears, written-length}
+use Rattle.theorems.proofs.Images.Lent.{part-bytes}
+use Rattle.theorems.proofs.Bench.TrialLines.{tried-count, tried-line}
+use Rattle.theorems.proofs.Bench.Trials.{linesOf, Tried, trial-refused, trial-accepts}
+use Rattle.theorems.proofs.Streams.Unique as Unique
+use Rattle.theorems.proofs.Texts.Widths as Widths
+use Rattle.model.proofs.Texts.Written as Commands
 use Rattle.larderlate.specs.Code.{codeNumber, Codable, lengthIn, lengthOfTail}
-use Rattle.model.proofs.Verdict.{pair-passed, pair-accepted, pair-multiple, pair-bounded}
+use Rattle.model.proofs.Pairs.Verdict.{pair-passed, pair-accepted, pair-multiple, pair-bounded}
 
 -- Demand 1, total. That every call ends, whatever it is lent, is in the contracts: none has a `requires`. A refused call
 -- changes nothing.
@@ -275,7 +285,7 @@ count-small lent state samples bytes n e =
 -- they are. The tail's reader then returns the bytes after the image, and refuses all else by 20.
 pub lent-exactly : (lent : List ℕ) →
     (lentOk lent ≡ true) ↔ ((image : List ℕ) × (tail : List ℕ) × (wellFormed image ≡ true) × Bears image tail lent)
-lent-exactly = Tails.lent-exactly
+lent-exactly = Lent.lent-exactly
 
 pub record TailExactly (lent : List ℕ) : Type 0 where
   pub returns : (tail : List ℕ) →
@@ -287,9 +297,9 @@ pub tail-exactly : (lent : List ℕ) → TailExactly lent
 unfolding tailIn _▷_ provided
 tail-exactly lent =
     record {
-      returns = Tails.tail-exactly lent;
+      returns = Lent.tail-exactly lent;
       refuses = (
-        λ e image tail f b. accepted≢refused _ tail (fault 20 0) (Tails.tail-exactly lent tail .1 (image, f, b)) e,
+        λ e image tail f b. accepted≢refused _ tail (fault 20 0) (Lent.tail-exactly lent tail .1 (image, f, b)) e,
         refuses (lentOk lent) refl,
       );
       alone = λ f e. alone (lentOk lent) f e;
@@ -310,7 +320,7 @@ tail-exactly lent =
 pub tail-alike : (image tail tail′ lent lent′ : List ℕ) → wellFormed image ≡ true → Bears image tail lent →
     Bears image tail′ lent′ → (state : List ℤ) (c : Call) → callOf lent state c ≡ callOf lent′ state c
 tail-alike image tail tail′ lent lent′ formed b b′ state c =
-    Tails.call-alike formed b state c ∙ sym (Tails.call-alike formed b′ state c)
+    Lent.call-alike formed b state c ∙ sym (Lent.call-alike formed b′ state c)
 
 -- Request b. Each of the four lists of widths is that of its decoder: over all 256 bytes, a byte has a width exactly if it is
 -- known in its kind of text, and a command that is read whole reaches exactly as far as its width.

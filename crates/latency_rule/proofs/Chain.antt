@@ -16,9 +16,9 @@ use Rattle.model.specs.declared.Found.{Found}
 use Rattle.model.specs.declared.Found.the-variants.{At, Nowhere}
 use Rattle.model.specs.declared.Mode.{Mode}
 use Rattle.model.specs.declared.Mode.the-variants.{Exists, Backward}
-use Rattle.model.proofs.Rate.{stored-high, bit}
-use Rattle.model.proofs.Unique.{used-is}
-use Rattle.model.proofs.Window.{ChainMet}
+use Rattle.model.proofs.Pairs.Rate.{stored-high, bit}
+use Rattle.model.proofs.Pairs.Links.{used-is}
+use Rattle.model.proofs.Pairs.Links.{ChainMet}
 use Rattle.latency_rule.specs.declared.Hop.{Hop}
 use Rattle.latency_rule.specs.Hops.{HopsOf}
 use Rattle.latency_rule.specs.Back.{

@@ -11,7 +11,7 @@ use Rattle.model.specs.Rules.Latency.{onward}
 use Rattle.model.specs.Rules.Search.{allBelow}
 use Rattle.model.specs.declared.Found.{Found}
 use Rattle.model.specs.declared.Found.the-variants.{At, Nowhere}
-use Rattle.model.proofs.Decide.{all-true}
+use Rattle.model.proofs.Pairs.Decide.{all-true}
 use Rattle.latency_rule.specs.declared.Hop.{Hop}
 use Rattle.latency_rule.specs.Back.{noHop, entryBy, backBy, Small, onwardSmall}
 

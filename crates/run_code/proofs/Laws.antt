@@ -15,7 +15,7 @@ use Rattle.run_code.specs.Leaf.{leafWord, leafOk, leafLength}
 use Rattle.model.specs.declared.Binary.{Binary}
 use Rattle.model.specs.declared.Code.{Code}
 use Rattle.model.specs.declared.Code.the-variants as Code
-use Rattle.model.proofs.Tests.{never, by, both}
+use Rattle.model.proofs.Basics.Tests.{never, by, both}
 
 -- The command at an offset within a code, by its byte.
 module _ (code : List ℕ) (at : ℕ) (here : at < length code) where

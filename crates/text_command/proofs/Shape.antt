@@ -12,7 +12,7 @@ use Rattle.model.specs.declared.Index.the-variants.{Fixed}
 use Rattle.model.specs.declared.Kind.{Kind}
 use Rattle.model.specs.declared.Kind.the-variants.{Now, Last, When, LastWhen, Current}
 use Rattle.model.specs.declared.Sampled.{Sampled}
-use Rattle.model.proofs.Written.{command-written}
+use Rattle.model.proofs.Texts.Written.{command-written}
 use Rattle.text_command.specs.Operator.{kindOf}
 
 abbrev pub plainAt : List ℕ → ℕ → Sampled

@@ -10,7 +10,7 @@ use lib.Dec.{leb, eqb}
 use lib.ListN.{length, getD, take, drop, length-drop}
 use lib.Seq.{drop-cons, length-take-le, sets, sets-eq}
 use Rattle.model.specs.Rules.Command.{commandAt}
-use Rattle.model.specs.Says.Convert.{singleKind}
+use Rattle.model.specs.Rules.Rewrite.{singleKind}
 use Rattle.model.specs.Rules.Machine.{effect}
 use Rattle.model.specs.Rules.Outcome.{Outcome, accepted, refused, refuse, _▷_, provided}
 use Rattle.model.specs.Rules.Program.{Program, parseWith}
@@ -22,9 +22,9 @@ use Rattle.model.specs.declared.Command.the-variants as Command
 use Rattle.model.specs.declared.Fault.{Fault}
 use Rattle.model.specs.declared.Kind.{Kind}
 use Rattle.model.specs.declared.Kind.the-variants.{Now, Last, When, LastWhen, Current}
-use Rattle.model.proofs.Commands.{Sound, command-sound}
+use Rattle.model.proofs.Texts.Commands.{Sound, command-sound}
 use Rattle.model.specs.Rules.Writing.{Wrote}
-use Rattle.model.proofs.Left.{Parts}
+use Rattle.model.proofs.Basics.Left.{Parts}
 use Rattle.text_program.specs.Tables.{ProgramReads}
 use Rattle.text_program.specs.declared.Judged.{Judged}
 use Rattle.text_program.specs.declared.Judged.the-variants as Judged

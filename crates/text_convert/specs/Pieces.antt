@@ -4,7 +4,7 @@ use mathlib.Core.List.{List, [], _∷_}
 use mathlib.Core.Bool.{cond}
 use lib.Dec.{eqb}
 use lib.ListN.{take, drop}
-use Rattle.model.specs.Says.Convert.{singleKind}
+use Rattle.model.specs.Rules.Rewrite.{singleKind}
 use Rattle.model.specs.Rules.Width.{inProgram, inExpression, readWidth}
 use Rattle.model.specs.Says.Written.{readByte}
 use Rattle.model.specs.declared.Command.{Command}

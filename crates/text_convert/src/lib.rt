@@ -9,7 +9,7 @@ ghost use mathlib.Core.List.{_++_};
 ghost use Prim.Native.Nat.{_+_, _*_, _≤_};
 ghost use lib.ListN.{length, take, drop};
 ghost use Rattle.model.specs.Rules.Compile.{compiledOf};
-ghost use Rattle.model.specs.Says.Convert.{singleKind};
+ghost use Rattle.model.specs.Rules.Rewrite.{singleKind};
 ghost use Rattle.model.specs.Rules.Rewrite.{rewrite, convertOf};
 ghost use Rattle.model.specs.Says.Written.{readByte};
 ghost use Rattle.model.specs.Rules.Writing.{Wrote};

@@ -14,9 +14,9 @@ use Rattle.model.specs.declared.Command.the-variants as Command
 use Rattle.model.specs.declared.Fault.{Fault}
 use Rattle.model.specs.declared.Index.the-variants.{Fixed}
 use Rattle.model.specs.declared.Kind.the-variants.{Now}
-use Rattle.model.proofs.All.{all-at, all-append}
-use Rattle.model.proofs.Legal.{SpellsRead, legal, signal-reads}
-use Rattle.model.proofs.Outcomes.{accepted-same, lowest-sorted}
+use Rattle.model.proofs.Basics.All.{all-at, all-append}
+use Rattle.model.proofs.Texts.Legal.{SpellsRead, legal, signal-reads}
+use Rattle.model.proofs.Basics.Outcomes.{accepted-same, lowest-sorted}
 use Rattle.text_command.specs.Operator.{ReadStands, ReadTaken}
 use Rattle.text_command.specs.declared.Taken.{Taken}
 use Rattle.text_program.specs.Tables.{noChain, readsIn, ReadsOf, Indexed}

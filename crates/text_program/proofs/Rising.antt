@@ -8,9 +8,9 @@ use Rattle.model.specs.Says.Grammar.{Spells, SpellsLinks, DeclaresOne, Declares
 use Rattle.model.specs.Rules.Outcome.{accepted}
 use Rattle.model.specs.Rules.Program.{leastFactor, Read, Expr, Signal, Link, Chain, Program, withSignal, withChain, readsOf, bodyReads, parseProgram}
 use Rattle.model.specs.Rules.Search.{joinFrom}
-use Rattle.model.proofs.Legal.{links-end}
-use Rattle.model.proofs.Outcomes.{joinFrom-append}
-use Rattle.model.proofs.Spelled.{declared}
+use Rattle.model.proofs.Texts.Legal.{links-end}
+use Rattle.model.proofs.Basics.Outcomes.{joinFrom-append}
+use Rattle.model.proofs.Texts.Spelled.{declared}
 use Rattle.text_program.specs.Walks.{placesOf}
 use Rattle.text_program.proofs.Walks.{read-least, spans}
 

@@ -39,7 +39,7 @@ use Rattle.model.specs.declared.Keyword.the-variants as Keyword
 use Rattle.model.specs.declared.Kind.{Kind}
 use Rattle.model.specs.declared.Kind.the-variants.{Now, Last, When, LastWhen, Current}
 use Rattle.model.specs.declared.Mode.{Mode}
-use Rattle.model.proofs.Commands.{command-sound}
+use Rattle.model.proofs.Texts.Commands.{command-sound}
 use Rattle.text_program.specs.Results.{chainOf, tagOf, endOf}
 use Rattle.text_program.specs.Steps.{Adds, Stepped}
 use Rattle.text_program.specs.Walks.{placesOf, Moves, EquationBy, WalksEquation}

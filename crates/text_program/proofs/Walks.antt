@@ -29,10 +29,10 @@ use Rattle.model.specs.declared.Binary.{Binary}
 use Rattle.model.specs.declared.Fault.{Fault}
 use Rattle.model.specs.declared.Kind.{Kind}
 use Rattle.model.specs.declared.Kind.the-variants.{Now, Last, When, LastWhen, Current}
-use Rattle.model.proofs.Commands.{command-sound}
-use Rattle.model.proofs.Spelled.{spelled}
-use Rattle.model.proofs.Written.{decoded}
-use Rattle.model.proofs.Stretches.{sets-append}
+use Rattle.model.proofs.Texts.Commands.{command-sound}
+use Rattle.model.proofs.Texts.Spelled.{spelled}
+use Rattle.model.proofs.Texts.Written.{decoded}
+use Rattle.model.proofs.Images.Stretches.{sets-append}
 use Rattle.text_program.specs.Walks.{placesOf, Room, Moves, WalksBy, Walks, EquationBy, WalksEquation, deepOf}
 use Rattle.text_program.specs.declared.Entry.{Entry}
 use Rattle.text_program.specs.declared.Step.{Step}

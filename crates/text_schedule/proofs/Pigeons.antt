@@ -8,7 +8,7 @@ use lib.Dec.{eqb}
 use lib.ListN.{length, getD}
 use borrow.Author.Tests.{eqb-true, eqb-false}
 use Rattle.model.specs.Rules.Reads.{place}
-use Rattle.model.proofs.Decide.{place-at}
+use Rattle.model.proofs.Pairs.Decide.{place-at}
 
 -- The number m is given up for what the last one goes to.
 abbrev around : (ℕ → ℕ) → ℕ → ℕ → ℕ → ℕ

@@ -29,12 +29,12 @@ use Rattle.model.specs.Rules.Search.{allBelow}
 use Rattle.model.specs.declared.Fault.{Fault}
 use Rattle.model.specs.declared.ScheduleCommand.{ScheduleCommand}
 use Rattle.model.specs.declared.ScheduleCommand.the-variants as ScheduleCommand
-use Rattle.model.proofs.All.{all-at, all-append}
-use Rattle.model.proofs.Decide.{all-true, true-all}
-use Rattle.model.proofs.Outcomes.{lowest-sorted, getD-table}
+use Rattle.model.proofs.Basics.All.{all-at, all-append}
+use Rattle.model.proofs.Pairs.Decide.{all-true, true-all}
+use Rattle.model.proofs.Basics.Outcomes.{lowest-sorted, getD-table}
 use Rattle.model.specs.Says.Grammar.{SpellsPuts}
-use Rattle.model.proofs.Puts.{puts-end, puts-spelled, placed-ordered}
-use Rattle.model.proofs.Written.{put-decoded}
+use Rattle.model.proofs.Texts.Puts.{puts-end, puts-spelled, placed-ordered}
+use Rattle.model.proofs.Texts.Written.{put-decoded}
 use Rattle.text_program.specs.Tables.{PeriodsOf, SlotsOf}
 use Rattle.text_program.specs.declared.Judged.{Judged}
 use Rattle.text_program.specs.declared.Judged.the-variants as Judged

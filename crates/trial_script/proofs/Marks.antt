@@ -13,8 +13,8 @@ use Rattle.model.specs.Rules.Machine.{countOf, codeOffset, codeOf}
 use Rattle.model.specs.Rules.Program.{Program, Body, input, equation, Expr, constant, read, binary, negate, choose, count, signalAt}
 use Rattle.model.specs.Rules.Schedule.{Schedule}
 use Rattle.model.specs.Rules.Word.{byteAt}
-use Rattle.model.proofs.Bounds.{Bounded}
-use Rattle.model.proofs.Stretches.{image-count, code-stretch}
+use Rattle.model.proofs.Images.Bounds.{Bounded}
+use Rattle.model.proofs.Images.Stretches.{image-count, code-stretch}
 use Rattle.model.specs.Rules.Script.{isInputBody, isInputOf}
 use Rattle.trial_script.specs.Inputs.{fetches, markOf, marked}
 

@@ -9,7 +9,7 @@ use lib.ListN.{length, take, drop, length-append, length-take}
 use lib.Seq.{take-append-le, take-append-add}
 use Rattle.model.specs.Rules.Image.{joined}
 use Rattle.model.specs.Rules.Search.{joinFrom}
-use Rattle.model.proofs.Stretches.{joined-cons}
+use Rattle.model.proofs.Images.Stretches.{joined-cons}
 use Rattle.trial_step.specs.Steps.{linesLeft, Underway, Lined, Filled}
 use Rattle.trial_step.specs.declared.Block.{Block}
 use Rattle.trial_step.specs.declared.Progress.{Progress}

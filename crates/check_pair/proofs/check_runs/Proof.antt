@@ -10,9 +10,9 @@ use Rattle.model.specs.Rules.Outcome.{accepted}
 use Rattle.model.specs.Rules.Program.{Program, count}
 use Rattle.model.specs.Rules.Reads.{met}
 use Rattle.model.specs.Rules.Schedule.{Schedule}
-use Rattle.model.proofs.Hypercycle.{hypercycle-least}
-use Rattle.model.proofs.Puts.{placed-ordered}
-use Rattle.model.proofs.Verdict.{steps-accepted}
+use Rattle.model.proofs.Pairs.Hypercycle.{hypercycle-least}
+use Rattle.model.proofs.Texts.Puts.{placed-ordered}
+use Rattle.model.proofs.Pairs.Verdict.{steps-accepted}
 use Rattle.check_rates.proofs.Judging.{indexed}
 use Rattle.text_program.specs.Results.{judgementOf}
 use Rattle.check_latency.specs.Timely.{Timed}

@@ -5,8 +5,8 @@ use borrow.Author.Needs.{needs}
 use Rattle.model.specs.Rules.Compile.{shortEnough}
 use Rattle.model.specs.Rules.Outcome.{accepted}
 use Rattle.model.specs.Rules.Schedule.{Schedule}
-use Rattle.model.proofs.Hypercycle.{hypercycle-least}
-use Rattle.model.proofs.Puts.{placed-ordered}
+use Rattle.model.proofs.Pairs.Hypercycle.{hypercycle-least}
+use Rattle.model.proofs.Texts.Puts.{placed-ordered}
 use Rattle.check_rates.specs.Answers.{ReadAs}
 use Rattle.text_program.specs.declared.Tables.{Tables}
 use Rattle.text_schedule.specs.Slots.{ScheduledAs}

@@ -1,7 +1,7 @@
 -- `decimal::put_line` meets its contract. Assumes nothing.
 use Prim.Native.Nat.{_*_}
 use Rattle.decimal.proofs.Puts.{spaced-more, spaced-none, line-is, put-one, put-then, put-is, put-length}
-use Rattle.model.proofs.Decimals.{natural-length, decimal-length}
+use Rattle.model.proofs.Bench.Decimals.{natural-length, decimal-length}
 use Rattle.model.specs.Rules.Decimal.{natural, decimal, spaced, lineOf}
 use Rattle.decimal.specs.Put.{Put}
 use Rattle.word.proofs.Laws.{kept}

@@ -1,7 +1,7 @@
 -- `image_code::emit_signal` meets its contract. Assumes nothing.
 use mathlib.Core.Path.{sym, _∙_}
 use native.Mathlib.Omega.{arith}
-use Rattle.model.proofs.Commands.{command-sound}
+use Rattle.model.proofs.Texts.Commands.{command-sound}
 use Rattle.image_code.proofs.Laws.{puts-length}
 use Rattle.image_code.proofs.Signals.{equation-room, store-room, equation-emits, sample-room, sample-emits}
 use borrow.Author.Needs.{needs}

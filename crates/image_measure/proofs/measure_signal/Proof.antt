@@ -7,8 +7,8 @@ use denote.Ref.{now}
 use lib.ListN.{length}
 use Rattle.model.specs.Rules.Program.{Signal}
 use Rattle.model.specs.Rules.Report.{exprCommands, exprHeight, bodyCommands, bodyHeight}
-use Rattle.model.proofs.Commands.{command-sound}
-use Rattle.model.proofs.Legal.{SpellsSignal}
+use Rattle.model.proofs.Texts.Commands.{command-sound}
+use Rattle.model.proofs.Texts.Legal.{SpellsSignal}
 use Rattle.image_code.proofs.Signals.{Equated, equated, sampled}
 use Rattle.image_measure.specs.Measure.{Nests, Measures}
 use Rattle.image_measure.proofs.Operands.{small}

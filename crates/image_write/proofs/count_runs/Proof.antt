@@ -9,7 +9,7 @@ use lib.ListN.{length, getD, getD-replicate}
 use borrow.Author.Needs.{needs}
 use Rattle.model.specs.Rules.Reads.{due}
 use Rattle.image_write.specs.Lists.{rateAt, listBy}
-use Rattle.model.proofs.Left.{parts-length}
+use Rattle.model.proofs.Basics.Left.{parts-length}
 use Rattle.image_write.proofs.Listed.{run-size, listFrom, list-starts, list-step, list-ends}
 use Rattle.image_write.proofs.count_runs.Statement.{statement}
 use Rattle.image_write.proofs.count_runs.Tie as tie

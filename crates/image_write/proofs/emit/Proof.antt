@@ -8,7 +8,7 @@ use Rattle.model.specs.Rules.Image.{joined, offsets, records, listsAt}
 use Rattle.model.specs.Rules.Word.{twoBytes}
 use Rattle.image_write.specs.Codes.{signalsOf, codesFrom}
 use Rattle.image_write.specs.Lists.{listsBy, pairs}
-use Rattle.model.proofs.Left.{Left, starts, room, turn, done}
+use Rattle.model.proofs.Basics.Left.{Left, starts, room, turn, done}
 use Rattle.image_write.proofs.Imaged.{codesBy, lengthBy, imageBy, head-first, both, last, declared, timed, phased, lists-by, codes-at, code-by, length-by, image-size, image-written}
 use borrow.Author.Needs.{needs}
 use Rattle.image_write.proofs.emit.Statement.{statement}

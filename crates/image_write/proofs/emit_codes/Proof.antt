@@ -3,7 +3,7 @@ use Prim.Native.Nat.{_-_, _≤_}
 use native.Mathlib.Omega.{arith}
 use Rattle.model.specs.Rules.Image.{joined}
 use Rattle.image_write.specs.Codes.{signalsOf, codesFrom}
-use Rattle.model.proofs.Left.{Left, starts, room, turn, done}
+use Rattle.model.proofs.Basics.Left.{Left, starts, room, turn, done}
 use Rattle.image_write.proofs.Coded.{nth, codesLeft, codes-start, codes-next, codes-end}
 use Rattle.image_write.proofs.emit_codes.Statement.{statement}
 use Rattle.image_write.proofs.emit_codes.Tie as tie

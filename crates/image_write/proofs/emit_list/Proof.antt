@@ -11,7 +11,7 @@ use lib.ListN.{length, getD, set, length-set}
 use lib.Seq.{getD-set-same, getD-set-other}
 use Rattle.image_write.specs.Lists.{rateAt, isDue, runOf, listBy, NextRun, Runs}
 use Rattle.image_write.proofs.Listed.{listFrom, list-starts, list-step, list-ends, due-is, next-run}
-use Rattle.model.proofs.Left.{Parts, Left, starts, room, turn, done, wrote-size}
+use Rattle.model.proofs.Basics.Left.{Parts, Left, starts, room, turn, done, wrote-size}
 use Rattle.image_write.proofs.emit_list.Statement.{statement}
 use Rattle.image_write.proofs.emit_list.Tie as tie
 

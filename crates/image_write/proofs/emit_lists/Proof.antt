@@ -7,7 +7,7 @@ use lib.ListN.{length}
 use borrow.Author.Needs.{needs}
 use Rattle.model.specs.Rules.Image.{joined}
 use Rattle.image_write.specs.Lists.{listBy, listsBy, Runs}
-use Rattle.model.proofs.Left.{Left, starts, room, turn, done}
+use Rattle.model.proofs.Basics.Left.{Left, starts, room, turn, done}
 use Rattle.image_write.proofs.Listed.{first-run}
 use Rattle.image_write.proofs.Joined.{joinedFrom, joined-starts, joined-step, joined-ends}
 use Rattle.image_write.proofs.emit_lists.Statement.{statement}

@@ -8,7 +8,7 @@ use borrow.Author.Needs.{needs}
 use Rattle.model.specs.Rules.Image.{joined, offsets}
 use Rattle.model.specs.Rules.Word.{twoBytes}
 use Rattle.image_write.specs.Lists.{listBy, listsBy, pairs}
-use Rattle.model.proofs.Left.{Left, parts-length, starts, room, turn, done, wrote-size}
+use Rattle.model.proofs.Basics.Left.{Left, parts-length, starts, room, turn, done, wrote-size}
 use Rattle.image_write.proofs.Joined.{joinedFrom, pairsFrom, joined-starts, joined-step, pairs-start, pairs-step, pairs-last}
 use Rattle.image_write.proofs.emit_offsets.Statement.{statement}
 use Rattle.image_write.proofs.emit_offsets.Tie as tie

@@ -2,7 +2,7 @@
 use native.Mathlib.Omega.{arith}
 use mathlib.Core.Path.{_∙_}
 use lib.ListN.{length-set}
-use Rattle.model.proofs.Left.{wrote-size}
+use Rattle.model.proofs.Basics.Left.{wrote-size}
 use borrow.Author.Needs.{needs}
 use Rattle.image_write.proofs.put_head.Statement.{statement}
 use Rattle.image_write.proofs.put_head.Tie as tie

@@ -8,7 +8,7 @@ use mir.Facts.{toZ-ofZ}
 use Rattle.model.specs.Rules.Word.{wordAt, wordBytes}
 use Rattle.image_code.proofs.Laws.{word-length}
 use Rattle.model.specs.Rules.Writing.{Wrote}
-use Rattle.model.proofs.Left.{after}
+use Rattle.model.proofs.Basics.Left.{after}
 use borrow.Author.Needs.{needs}
 use Rattle.image_write.proofs.put_record.Statement.{statement}
 use Rattle.image_write.proofs.put_record.Tie as tie

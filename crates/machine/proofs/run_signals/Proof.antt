@@ -11,7 +11,7 @@ use mir.Syntax.{w32}
 use mir.Val.{toZ, ofZ}
 use Rattle.model.specs.Rules.Machine.{stretch, countOf, codeOffset, headOk, codeOf, codeOk, runCode, runSignals, countCode, countSignals}
 use Rattle.model.specs.Rules.Word.{byteAt}
-use Rattle.model.proofs.Counts.{signals-fit}
+use Rattle.model.proofs.Images.Counts.{signals-fit}
 use Rattle.word.proofs.Laws.{kept}
 use Rattle.image_valid.proofs.Parts.{CodePart, codes, formed}
 use Rattle.machine.proofs.Laws.{signals-next, signals-done, counts-next, counts-done}

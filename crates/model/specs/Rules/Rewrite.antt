@@ -2,12 +2,11 @@
 -- every other byte is kept. All command bytes of a program text differ, so that one walk from command to command meets
 -- declarations, operators, reads and LINKs in the order of their offsets.
 use Prim.Native.Nat.{ℕ, zero, suc, _+_}
-use mathlib.Core.Bool.{Bool, true, false, cond}
+use mathlib.Core.Bool.{cond}
 use mathlib.Core.List.{List, [], _∷_, _++_}
 use lib.Dec.{leb, eqb}
 use lib.ListN.{length, take, drop}
 use Rattle.model.specs.Rules.Command.{commandAt}
-use Rattle.model.specs.Says.Convert.{singleKind}
 use Rattle.model.specs.Rules.Machine.{Effect, effect}
 use Rattle.model.specs.Rules.Outcome.{accepted, _▷_, provided}
 use Rattle.model.specs.Rules.Program.{parseWith}
@@ -15,6 +14,16 @@ use Rattle.model.specs.Rules.Width.{inProgram, inExpression, readWidth}
 use Rattle.model.specs.Says.Written.{readByte}
 use Rattle.model.specs.declared.Command.{Command}
 use Rattle.model.specs.declared.Command.the-variants as Command
+use Rattle.model.specs.declared.Kind.{Kind}
+use Rattle.model.specs.declared.Kind.the-variants.{Now, Last, When, LastWhen, Current}
+
+-- The kind and the index of a read after the conversion; the factor, which is 1 if they change, and the signal stay.
+abbrev pub singleKind : Kind → Kind
+singleKind Now = Now
+singleKind Last = Last
+singleKind When = Now
+singleKind LastWhen = Last
+singleKind Current = Now
 
 -- The bytes of a command, without the expression and the LINKs that follow it; 0 where there is none.
 abbrev pub widthOf : Command → ℕ

@@ -1,10 +1,9 @@
 -- Words: the signed 32-bit integers, as numbers of ℤ, and the operators on them.
-use Prim.Native.Nat.{ℕ, suc, _+_, _-_, _*_, _/_, _%_, _^_, _≤_, min}
+use Prim.Native.Nat.{ℕ, suc, _+_, _-_, _*_, _/_, _%_, _^_, min}
 use mathlib.Core.Bool.{Bool, true, false, cond}
 use mathlib.Core.List.{List, [], _∷_}
-use mathlib.Core.Path.{_≡_}
-use lib.Dec.{eqb, ltb}
-use lib.IntN.{ℤ, pos, negsuc, negℤ, natAbs, _+ℤ_, _-ℤ_, _*ℤ_}
+use lib.Dec.{eqb}
+use lib.IntN.{ℤ, pos, negsuc, negℤ, _+ℤ_, _-ℤ_, _*ℤ_}
 use lib.ListN.{getD}
 use lib.Signed.{ltZ}
 use mir.Syntax.{w32}
@@ -20,20 +19,6 @@ bitsOf (negsuc n) = 2 ^ 32 - suc (n % 2 ^ 32)
 -- The word with these 32 bits: m itself, or m − 2^32 from 2^31 on.
 unfoldable pub wordOf : ℕ → ℤ
 wordOf m = toZ w32 m
-
--- A word: from −2147483648 to 2147483647. (negsuc n is −1 − n.)
-abbrev pub IsWord : ℤ → Type 0
-IsWord (pos n) = n ≤ 2147483647
-IsWord (negsuc n) = n ≤ 2147483647
-
-abbrev pub distance : ℤ → ℤ → ℕ
-distance a b = natAbs (a -ℤ b)
-
--- What the nearest word is to the true result z: a word; z itself, where z is one; and no word is nearer to z.
-pub record NearestWord (z w : ℤ) : Type 0 where
-  pub word : IsWord w
-  pub itself : IsWord z → w ≡ z
-  pub none-nearer : (v : ℤ) → IsWord v → distance w z ≤ distance v z
 
 -- The nearest word: `nearest-word` says that it is.
 unfoldable pub nearest : ℤ → ℤ
@@ -51,13 +36,6 @@ mulWord a b = nearest (a *ℤ b)
 
 unfoldable pub negWord : ℤ → ℤ
 negWord a = nearest (negℤ a)
-
--- ADD, SUB, MUL and NEG give the nearest word to the true result.
-pub record NearestResults (a b : ℤ) : Type 0 where
-  pub add : NearestWord (a +ℤ b) (addWord a b)
-  pub sub : NearestWord (a -ℤ b) (subWord a b)
-  pub mul : NearestWord (a *ℤ b) (mulWord a b)
-  pub neg : NearestWord (negℤ a) (negWord a)
 
 -- A test gives 1 or 0.
 abbrev pub bitWord : Bool → ℤ

@@ -82,3 +82,9 @@ module _ (p : Program) (s : Schedule) where
 pub record Multiple (p : Program) (h : ℕ) : Type 0 where
   pub positive : zero < h
   pub divides : (x : ℕ) → x < count p → signalAt p x .period ∣ h
+
+-- 9: h is the least common multiple of all periods (1 if none), and at most 240.
+pub record Least (p : Program) (h : ℕ) : Type 0 where
+  pub multiple : Multiple p h
+  pub bound : h ≤ 240
+  pub least : (m : ℕ) → Multiple p m → h ≤ m

@@ -9,7 +9,7 @@ use lib.ListN.{length, getD}
 use Rattle.model.specs.Rules.Machine.{codeAt}
 use Rattle.model.specs.Rules.Word.{byteAt, wordAt}
 use Rattle.model.specs.declared.Code.the-variants as Code
-use Rattle.model.proofs.Tests.{by}
+use Rattle.model.proofs.Basics.Tests.{by}
 use Rattle.word.proofs.Laws.{kept}
 use Rattle.run_code.proofs.Laws.{within, push-leaf, load-leaf, fetch-leaf}
 use borrow.Author.Needs.{needs}

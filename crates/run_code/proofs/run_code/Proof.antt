@@ -11,7 +11,7 @@ use Rattle.model.specs.Rules.Machine.{operatorCode, codeOk, runFrom, runCode, c
 use Rattle.model.specs.Rules.Word.{byteAt, binaryWord}
 use Rattle.model.specs.declared.Code.{Code}
 use Rattle.model.specs.declared.Code.the-variants as Code
-use Rattle.model.proofs.Counts.{code-most}
+use Rattle.model.proofs.Images.Counts.{code-most}
 use Rattle.run_stack.specs.View.{view}
 use Rattle.word.proofs.Laws.{kept}
 use Rattle.run_code.proofs.Laws.{Goes, Command, Leaf, leaf, leaf-some, moved, shifted, more, store, negate, choose, combine, ended, last, negated, chosen, combined}

@@ -5,7 +5,7 @@ use native.Mathlib.Omega.{arith}
 use mathlib.Core.Path.{_≡_, refl}
 use borrow.Author.Needs.{needs}
 use lib.ListN.{length, getD, take, drop}
-use Rattle.model.proofs.Left.{Left, Parts, starts, room, turn, done}
+use Rattle.model.proofs.Basics.Left.{Left, Parts, starts, room, turn, done}
 use Rattle.text_convert.proofs.Walk.{copy-step, copy-fits, take-none}
 use Rattle.text_convert.proofs.copy.Statement.{statement}
 use Rattle.text_convert.proofs.copy.Tie as tie

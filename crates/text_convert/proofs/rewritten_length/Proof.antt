@@ -5,7 +5,7 @@ use native.Mathlib.Omega.{arith}
 use borrow.Author.Needs.{needs}
 use lib.ListN.{length}
 use Rattle.model.specs.Rules.Rewrite.{rewriteFrom, rewrite}
-use Rattle.model.proofs.Left.{parts-length}
+use Rattle.model.proofs.Basics.Left.{parts-length}
 use Rattle.text_convert.proofs.Walk.{Turn, turn-of, rewrite-starts, rewrite-ends}
 use Rattle.text_convert.proofs.rewritten_length.Statement.{statement}
 use Rattle.text_convert.proofs.rewritten_length.Tie as tie

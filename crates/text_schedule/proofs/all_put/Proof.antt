@@ -8,7 +8,7 @@ use native.Mathlib.Decide.{decLt}
 use lib.Dec.{eqb}
 use lib.ListN.{getD}
 use borrow.Author.Tests.{eq-eqb, ne-eqb}
-use Rattle.model.proofs.Decide.{true-all}
+use Rattle.model.proofs.Pairs.Decide.{true-all}
 use Rattle.text_schedule.proofs.Puts.{not-all}
 use Rattle.text_schedule.proofs.all_put.Statement.{statement}
 use Rattle.text_schedule.proofs.all_put.Tie as tie

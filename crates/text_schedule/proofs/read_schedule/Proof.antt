@@ -8,7 +8,7 @@ use denote.Ref.{now}
 use lib.ListN.{length}
 use borrow.Author.Needs.{needs}
 use Rattle.model.specs.Rules.Schedule.{Put, parsePuts, parseSchedule}
-use Rattle.model.proofs.Puts.{put-sound}
+use Rattle.model.proofs.Texts.Puts.{put-sound}
 use Rattle.text_schedule.proofs.Endings.{puts-stop, puts-past, puts-more}
 use Rattle.text_schedule.proofs.read_schedule.Statement.{statement}
 use Rattle.text_schedule.proofs.read_schedule.Tie as tie

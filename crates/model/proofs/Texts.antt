@@ -1,0 +1,7 @@
+-- What reading a text says of its bytes.
+pub mod Keywords
+pub mod Commands
+pub mod Written
+pub mod Spelled
+pub mod Legal
+pub mod Puts

@@ -1,0 +1,141 @@
+-- The number of every refusal is above 0, and what a call yields is small: one number can tell a refusal from the rest.
+-- Assumes nothing.
+use Prim.Native.Nat.{ℕ, _*_, _≤_}
+use mathlib.Core.List.{List}
+use mathlib.Core.Logic.{_⊎_, ⊎-elim}
+use mathlib.Core.Path.{_≡_, refl}
+use native.Mathlib.Omega.{arith}
+use lib.IntN.{ℤ}
+use lib.ListN.{length}
+use Rattle.model.specs.Rules.Compile.{Pair, pairOf, compileOf}
+use Rattle.theorems.specs.Conversion.{ConvertsTo, ConvertRefusedAt}
+use Rattle.theorems.specs.Exactness.{sizeOf, CompileRefusedAt, ResetRefusedAt, CycleRefusedAt}
+use Rattle.model.specs.Rules.Machine.{countOf}
+use Rattle.model.specs.Rules.Outcome.{accepted, fault}
+use Rattle.model.specs.Rules.Program.{Program, Chain}
+use Rattle.theorems.specs.Refusals.{RateFault, ChainFault, PutFault, MetFault, LoadFault, RefusedAt}
+use Rattle.model.specs.Rules.Schedule.{Schedule, Put}
+use Rattle.theorems.specs.Stops.{StopsExpr, StopsLinks, Stops}
+use Rattle.model.specs.Rules.Tail.{Bears}
+use Rattle.theorems.specs.WellFormed.{WellFormed}
+use Rattle.theorems.proofs.Calls.CallsExact.{compile-exactly}
+use Rattle.model.proofs.Texts.Commands.{Bytes}
+use Rattle.theorems.proofs.Pairs.Exact.{accepted-exactly}
+use Rattle.theorems.proofs.Calls.Places.{commands-inside}
+use Rattle.theorems.proofs.Conversion.Rewritten.{rewrite-legal}
+use Rattle.model.proofs.Pairs.Verdict.{pair-bounded}
+
+-- 2 to 6.
+links-number : {text : List ℕ} {room at n x : ℕ} → StopsLinks text room at n x → 1 ≤ n
+links-number (StopsLinks.many e) = omega arith
+links-number (StopsLinks.cut e lt) = omega arith
+links-number (StopsLinks.link e le s) = links-number s
+
+module _ {least : ℕ} {text : List ℕ} where
+  expr-number : {d at n x : ℕ} → StopsExpr least text d at n x → 1 ≤ n
+  expr-number (StopsExpr.early le) = omega arith
+  expr-number (StopsExpr.unknown lt u) = omega arith
+  expr-number (StopsExpr.deep i) = omega arith
+  expr-number (StopsExpr.cut i e) = omega arith
+  expr-number (StopsExpr.outside i e) = omega arith
+  expr-number (StopsExpr.single e t) = omega arith
+  expr-number (StopsExpr.operand w h lt u s) = expr-number s
+
+  pub stops-number : {at label n x : ℕ} {p : Program} → Stops least text at label p n x → 1 ≤ n
+  stops-number (Stops.onward d s) = stops-number s
+  stops-number (Stops.early le) = omega arith
+  stops-number (Stops.unknown lt u) = omega arith
+  stops-number (Stops.signals i le) = omega arith
+  stops-number (Stops.chains e le) = omega arith
+  stops-number (Stops.second e u) = omega arith
+  stops-number (Stops.cut r e) = omega arith
+  stops-number (Stops.outside r e) = omega arith
+  stops-number (Stops.expression room e s) = expr-number s
+  stops-number (Stops.links room e s) = links-number s
+  stops-number (Stops.short room e u lt) = omega arith
+  stops-number (Stops.trailing e lt) = omega arith
+  stops-number (Stops.unfollowed e le) = omega arith
+  stops-number (Stops.stray e lt u) = omega arith
+
+-- 7 to 16.
+rate-number : {p : Program} {n x : ℕ} → RateFault p n x → 1 ≤ n
+rate-number (RateFault.undeclaredRead r ρ i u) = omega arith
+rate-number (RateFault.undeclaredLink l i u) = omega arith
+rate-number (RateFault.brokenRule r ρ i d u) = omega arith
+
+chain-number : {p : Program} {Q : Chain → Type 0} {number n x : ℕ} → 1 ≤ number → ChainFault p Q number n x → 1 ≤ n
+chain-number le (ChainFault.broken c i u) = le
+
+put-number : {p : Program} {puts : List Put} {n x : ℕ} → PutFault p puts n x → 1 ≤ n
+put-number (PutFault.undeclared j lt u) = omega arith
+put-number (PutFault.twice i j lt below e) = omega arith
+put-number (PutFault.late j lt d f u) = omega arith
+
+met-number : {p : Program} {s : Schedule} {n x : ℕ} → MetFault p s n x → 1 ≤ n
+met-number (MetFault.unmet r ρ i u) = omega arith
+
+load-number : {p : Program} {s : Schedule} {n x : ℕ} → LoadFault p s n x → 1 ≤ n
+load-number (LoadFault.over c o) = omega arith
+
+pub pair-number : {program schedule : List ℕ} {n x : ℕ} → RefusedAt program schedule n x → 1 ≤ n
+pair-number (RefusedAt.long u) = omega arith
+pair-number (RefusedAt.stopped short f) = stops-number f
+pair-number (RefusedAt.unrated short l f) = rate-number (f .fault)
+pair-number (RefusedAt.unbounded short l r f) = omega arith
+pair-number (RefusedAt.unlinked short l r h f) = chain-number (omega arith) (f .fault)
+pair-number (RefusedAt.unread r f) = omega arith
+pair-number (RefusedAt.misplaced r l f) = put-number (f .fault)
+pair-number (RefusedAt.missing r l c x lt u) = omega arith
+pair-number (RefusedAt.unmet c f) = met-number (f .fault)
+pair-number (RefusedAt.overloaded c m f) = load-number (f .fault)
+pair-number (RefusedAt.untimely c m o f) = chain-number (omega arith) (f .fault)
+
+-- The calls.
+pub compile-number : {program schedule buffer : List ℕ} {n x : ℕ} → CompileRefusedAt program schedule buffer n x → 1 ≤ n
+compile-number (CompileRefusedAt.pair r) = pair-number r
+compile-number (CompileRefusedAt.space legal lt) = omega arith
+
+pub reset-number : {lent : List ℕ} {state : List ℤ} {n x : ℕ} → ResetRefusedAt lent state n x → 1 ≤ n
+reset-number (ResetRefusedAt.unformed none) = omega arith
+reset-number (ResetRefusedAt.short lends lt) = omega arith
+
+pub cycle-number : {lent : List ℕ} {state samples : List ℤ} {n x : ℕ} → CycleRefusedAt lent state samples n x → 1 ≤ n
+cycle-number (CycleRefusedAt.unready r) = reset-number r
+cycle-number (CycleRefusedAt.outside usable none) = omega arith
+cycle-number (CycleRefusedAt.unsampled usable positioned lt) = omega arith
+
+-- 24,678 bytes hold the image of every accepted pair, with its tail.
+pub size-most : (program schedule : List ℕ) → Bytes program → (q : Pair) → pairOf program schedule ≡ accepted q → sizeOf q ≤ 24678
+size-most program schedule bytes q e =
+    let b = pair-bounded program schedule q e bytes in
+    omega (arith, b .size, b .signals)
+
+-- So what compile yields is small.
+pub length-most : (program schedule buffer : List ℕ) → Bytes program → (n : ℕ) →
+    compileOf program schedule buffer .answer ≡ accepted n → n ≤ 24678
+length-most program schedule buffer bytes n e =
+    let d = compile-exactly program schedule buffer .done n _ .0 (e, refl) in
+    omega (
+      arith,
+      d .is,
+      size-most program schedule bytes (d .pair) (accepted-exactly program schedule (d .pair) .1 (d .legal)),
+    )
+
+-- A tail of a well-formed image is at most 256 bytes long.
+pub tail-most : {image tail lent : List ℕ} → WellFormed image → Bears image tail lent → length tail ≤ 256
+tail-most {image} {tail} w b =
+    ⊎-elim (λ (e : length tail ≡ 0). omega arith) (λ (e : length tail ≡ 4 * countOf image). omega (arith, w .signals)) (b .size)
+
+-- A conversion: its numbers, its places and what it yields.
+pub convert-number : {program buffer : List ℕ} {n x : ℕ} → ConvertRefusedAt program buffer n x → 1 ≤ n
+convert-number (ConvertRefusedAt.long lt) = omega arith
+convert-number (ConvertRefusedAt.stopped short s) = stops-number s
+convert-number (ConvertRefusedAt.space short legal lt) = omega arith
+
+pub convert-place : {program buffer : List ℕ} {n x : ℕ} → ConvertRefusedAt program buffer n x → x ≤ 8192
+convert-place (ConvertRefusedAt.long lt) = omega arith
+convert-place {program} (ConvertRefusedAt.stopped short s) = omega (arith, commands-inside program s)
+convert-place {program} (ConvertRefusedAt.space {p = p} short legal lt) = omega (arith, rewrite-legal program p legal .short)
+
+pub convert-most : {program buffer : List ℕ} {n : ℕ} → ConvertsTo program buffer n → n ≤ 8192
+convert-most {program} c = omega (arith, c .is, c .short, rewrite-legal program (c .declares) (c .legal) .short)

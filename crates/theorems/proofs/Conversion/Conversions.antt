@@ -1,0 +1,166 @@
+-- The converter answers exactly as its statements say, and what it makes of an accepted program keeps its streams and its image.
+-- Assumes nothing.
+use Prim.Native.Nat.{ℕ, _≤_, _<_}
+use mathlib.Core.Bool.{Bool, true, false}
+use mathlib.Core.List.{List, _++_}
+use mathlib.Core.Logic.{_↔_}
+use mathlib.Core.Path.{_≡_, refl, sym, ap, _∙_}
+use native.Mathlib.Omega.{arith}
+use borrow.Author.Tests.{leb-true, leb-false, le-leb, lt-leb}
+use lib.Dec.{leb}
+use lib.ListN.{length, drop}
+use Rattle.model.specs.Rules.Compile.{Pair, pairOf}
+use Rattle.theorems.specs.Conditions.{LegalPairWith}
+use Rattle.theorems.specs.Conversion.{earlierFactor, ConvertsTo, ConvertRefusedAt, ConvertsExactly, ConversionKeeps}
+use Rattle.model.specs.Says.Grammar.{LegalWith, LegalProgram}
+use Rattle.model.specs.Rules.Machine.{Job, Effect, effect}
+use Rattle.model.specs.Rules.Outcome.{Outcome, accepted, refused, refuse, fault, _▷_, provided}
+use Rattle.model.specs.Rules.Program.{Program, empty, parseWith, parseProgram}
+use Rattle.model.specs.Rules.Rewrite.{rewrite, convertOf}
+use Rattle.theorems.specs.Stops.{Stops}
+use Rattle.theorems.proofs.Conversion.Converted.{Common, renamed-common, renamed-legal}
+use Rattle.theorems.proofs.Pairs.Exact.{text-judged, accepted-exactly}
+use Rattle.theorems.proofs.Pairs.Judged.{
+  Judged,
+  Only,
+  provided-judged,
+  Answers,
+  answers-then,
+  answers-accepted,
+  answers-refused,
+}
+use Rattle.model.proofs.Basics.Outcomes.{accepted-then, refused-then}
+use Rattle.theorems.proofs.Texts.Parses.{with-legal}
+use Rattle.theorems.proofs.Conversion.Rewritten.{Rewritten, rewrite-legal}
+use Rattle.theorems.proofs.Conversion.Unchanged.{rewrite-twice}
+
+module _ (program buffer : List ℕ) where
+  abbrev size : ℕ
+  size = length (rewrite program)
+
+  -- What the call does, as the definition has it.
+  abbrev job : Outcome (Job ℕ)
+  job =
+      provided (leb (length program) 8192) 1 0 ▷ λ _.
+      parseWith earlierFactor program ▷ λ p.
+      provided (leb size (length buffer)) 17 size ▷ λ _.
+      accepted (record { yields = size; leaves = rewrite program ++ drop size buffer })
+
+  long-judged : Judged (λ u. length program ≤ 8192) (Only 1 0 (8192 < length program)) (provided (leb (length program) 8192) 1 0)
+  long-judged =
+      provided-judged _ 1 0 (length program ≤ 8192) (8192 < length program) (leb-true _ _, le-leb _ _) (leb-false _ _)
+      (λ l h. omega arith)
+
+  space-judged : Judged (λ u. size ≤ length buffer) (Only 17 size (length buffer < size)) (provided (leb size (length buffer)) 17 size)
+  space-judged =
+      provided-judged _ 17 size (size ≤ length buffer) (length buffer < size) (leb-true _ _, le-leb _ _) (leb-false _ _)
+      (λ l h. omega arith)
+
+  -- The job that is done, or the refusal.
+  record Done (j : Job ℕ) : Type 0 where
+    converts : ConvertsTo program buffer (j .yields)
+    leaves : j .leaves ≡ rewrite program ++ drop (j .yields) buffer
+
+  answers : Answers Done (ConvertRefusedAt program buffer) job
+  answers =
+      answers-then Done (ConvertRefusedAt program buffer) _ _ long-judged (λ n x f. long f) (λ u short.
+      answers-then Done (ConvertRefusedAt program buffer) _ _ (text-judged earlierFactor program)
+      (λ n x f. ConvertRefusedAt.stopped short f) (λ p legal.
+      answers-then Done (ConvertRefusedAt program buffer) _ _ space-judged (λ n x f. space short legal f) (λ v fits.
+      record {
+        converts = record { short = short; declares = p; legal = legal; is = refl; fits = fits };
+        leaves = refl;
+      })))
+    where
+      long : {n x : ℕ} → Only 1 0 (8192 < length program) n x → ConvertRefusedAt program buffer n x
+      long (Only.only h) = ConvertRefusedAt.long h
+
+      space : {p : Program} {n x : ℕ} → length program ≤ 8192 → LegalWith earlierFactor program p →
+          Only 17 size (length buffer < size) n x → ConvertRefusedAt program buffer n x
+      space short legal (Only.only h) = ConvertRefusedAt.space short legal h
+
+  -- And the other way round.
+  job-done : {n : ℕ} → ConvertsTo program buffer n →
+      job ≡ accepted (record { yields = size; leaves = rewrite program ++ drop size buffer })
+  job-done c =
+      accepted-then _ _ _ (long-judged .accepts tt .1 (c .short)) ∙
+      accepted-then _ _ _ (text-judged earlierFactor program .accepts (c .declares) .1 (c .legal)) ∙
+      accepted-then _ _ _ (space-judged .accepts tt .1 (omega (arith, c .is, c .fits)))
+
+  job-refused : {n x : ℕ} → ConvertRefusedAt program buffer n x → job ≡ refused (fault n x)
+  job-refused (ConvertRefusedAt.long h) = refused-then _ _ _ (long-judged .refuses 1 0 .1 (Only.only h))
+  job-refused (ConvertRefusedAt.stopped short f) =
+      accepted-then _ _ _ (long-judged .accepts tt .1 short) ∙
+      refused-then _ _ _ (text-judged earlierFactor program .refuses _ _ .1 f)
+  job-refused (ConvertRefusedAt.space {p = p} short legal lt) =
+      accepted-then _ _ _ (long-judged .accepts tt .1 short) ∙
+      accepted-then _ _ _ (text-judged earlierFactor program .accepts p .1 legal) ∙
+      refused-then _ _ _ (space-judged .refuses 17 size .1 (Only.only lt))
+
+  abbrev call : Outcome (Job ℕ) → Effect ℕ
+  call o = effect buffer o
+
+  exactly : (o : Outcome (Job ℕ)) → Answers Done (ConvertRefusedAt program buffer) o →
+      ((n : ℕ) → ConvertsTo program buffer n →
+      o ≡ accepted (record { yields = size; leaves = rewrite program ++ drop size buffer })) →
+      ((n x : ℕ) → ConvertRefusedAt program buffer n x → o ≡ refused (fault n x)) → ConvertsExactly program buffer (call o)
+  exactly (accepted j) h f g =
+      record {
+        done = λ n. (
+          λ e. let z : j .yields ≡ n = cc in rw (← z) (h .converts),
+          λ c. ap (λ o. call o .answer) (f n c) ∙ ap accepted (sym (c .is)),
+        );
+        refused-at = λ n x. (
+          λ e. let z : _≡_ {A = ℕ} 0 1 = cc in absurd (omega arith),
+          λ r. ap (λ o. call o .answer) (g n x r),
+        );
+        written = λ n e. let z : j .yields ≡ n = cc in h .leaves ∙ ap (λ (m : ℕ). rewrite program ++ drop m buffer) z;
+        kept = λ n x e. let z : _≡_ {A = ℕ} 0 1 = cc in absurd (omega arith);
+      }
+  exactly (refused q) h f g =
+      record {
+        done = λ n. (
+          λ e. let z : _≡_ {A = ℕ} 0 1 = cc in absurd (omega arith),
+          λ c. ap (λ o. call o .answer) (f n c) ∙ ap accepted (sym (c .is)),
+        );
+        refused-at = λ n x. (
+          λ e. answers-refused Done (ConvertRefusedAt program buffer) (refused q) n x h (same e),
+          λ r. ap (λ o. call o .answer) (g n x r),
+        );
+        written = λ n e. let z : _≡_ {A = ℕ} 0 1 = cc in absurd (omega arith);
+        kept = λ n x e. refl;
+      }
+    where
+      same : {n x : ℕ} → _≡_ {A = Outcome ℕ} (refused q) (refused (fault n x)) → _≡_ {A = Outcome (Job ℕ)} (refused q) (refused (fault n x))
+      same {n} {x} e = let z : q ≡ fault n x = cc in ap refused z
+
+-- A conversion is done, or refused with each number at its place, exactly under its condition.
+pub convert-exactly : (program buffer : List ℕ) → ConvertsExactly program buffer (convertOf program buffer)
+unfolding convertOf
+convert-exactly program buffer =
+    exactly program buffer (job program buffer) (answers program buffer)
+    (λ n c. job-done program buffer c) (λ n x r. job-refused program buffer r)
+
+-- With every schedule that the old program is accepted with by the earlier rule.
+pub convert-keeps : (old schedule : List ℕ) (u : Pair) → LegalPairWith earlierFactor old schedule u → ConversionKeeps old schedule u
+convert-keeps old schedule u l =
+    let w = rewrite-legal old (u .program) (l .places .rates .legal) in
+    let c = renamed-common (w .renamed) (u .schedule) in
+    let q : Pair = record { program = w .program; schedule = u .schedule; hypercycle = u .hypercycle } in
+    record {
+      program = w .program;
+      accepts =
+          accepted-exactly (rewrite old) schedule q .1
+          (renamed-legal old (rewrite old) schedule u (w .program) l (omega (arith, w .short, l .places .rates .short .0)) (w .legal)
+          (w .renamed));
+      streams = c .streams;
+      image = sym (c .image (u .hypercycle));
+    }
+
+-- What is converted is read by the rule of today, and converting it again changes nothing.
+pub convert-new : (old : List ℕ) (p : Program) → parseWith earlierFactor old ≡ accepted p →
+    (q : Program) × (parseProgram (rewrite old) ≡ accepted q) × (rewrite (rewrite old) ≡ rewrite old)
+convert-new old p e =
+    let l = with-legal earlierFactor old p .0 e in
+    let w = rewrite-legal old p l in
+    (w .program, with-legal _ (rewrite old) (w .program) .1 (w .legal), rewrite-twice old p l)
