@@ -402,7 +402,7 @@ module _ (program schedule : List ℕ) (bytes : Texts.Bytes program) (p : Progra
         told = λ counts. rw (e, image-length p s h);
         stack = stack-least p s h bounded;
         size = counts-length p s h (bounded .hyper);
-        counted = λ c lt. counts-at p s h c lt ∙ sym (cycle-count p s h bounded (accepts .only) c lt);
+        counted = λ c lt. counts-at p s h c lt ∙ sym (cycle-count p s h bounded (accepts .ordered .only) c lt);
         past = counts-past p s h;
       }
 
