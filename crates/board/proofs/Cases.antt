@@ -124,14 +124,16 @@ turn-case s samples = words (leb 260 (length (s .state))) refl
     words true p = lent p (leb 256 (length samples)) refl
     words false p = turn-stays _ (turn-state (s .board) (s .images) (s .state) samples p)
 
+-- A turn that has come to an effect answers what that answers.
+pub answered : (s : Scene) (samples : List ℤ) {y : Yield} {c : BoardEffect Yield} → turnIn s samples ≡ accepted y →
+    turnBy s samples ≡ c → c .answer ≡ accepted y
+answered s samples h e = sym (ap turnAnswer e) ∙ h
+
 -- A place that is taken is one of the four.
 pub took-below : (s : Scene) (samples : List ℤ) (k : ℕ) (o : Outcome ℕ) → turnIn s samples ≡ accepted (took k o) → k < 4
 took-below s samples k o h = go (turn-case s samples)
   where
-    answered : {c : BoardEffect Yield} → turnBy s samples ≡ c → c .answer ≡ accepted (took k o)
-    answered e = sym (ap turnAnswer e) ∙ h
-
     go : TurnCase s samples → k < 4
-    go (turn-stays f e) = absurd (never (took k o) f (sym (answered e)))
-    go (turn-idles n e) = let q = answered e in let z : _≡_ {A = ℕ} 0 1 = cc in absurd (omega arith)
-    go (turn-takes j n w v e) = let q = answered e in let place : j ≡ k = cc in omega (arith, next-below (s .board) j n)
+    go (turn-stays f e) = absurd (never (took k o) f (sym (answered s samples h e)))
+    go (turn-idles n e) = let q = answered s samples h e in let z : _≡_ {A = ℕ} 0 1 = cc in absurd (omega arith)
+    go (turn-takes j n w v e) = let q = answered s samples h e in let place : j ≡ k = cc in omega (arith, next-below (s .board) j n)

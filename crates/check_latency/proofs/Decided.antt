@@ -113,14 +113,14 @@ decided text tables periods phases h p s chain route t lt (ws, whole, few, along
     ap (rateAt periods phases) (sym (along .ends)) ∙ rate-at (j .known) (source p s r ρs) a in
     let period : periodAt periods r ≡ signalAt p r .period = ap (λ x. x .period) last in
     record {
-      positive = rw period (le-trans (omega arith) (t .accepted .phases r (d .0)));
+      positive = rw period (le-trans (omega arith) (t .accepted .ordered .phases r (d .0)));
       few = few;
       sound = subst (Sound (route .hops)) n (sound-is p s (route .hops) r ρs ch (along .hops-are));
       small = λ i li.
           rw period
           (subst (λ m. Small (route .hops) m (route .count * (h / signalAt p r .period) + i)) n
           (small-is p s (t .accepted) (route .hops) r (route .count * (h / signalAt p r .period) + i) ρs (d .0) ch (along .hops-are)
-          (early (route .count) h (signalAt p r .period) (phaseOf s r) i few (t .hyper) (t .accepted .phases r (d .0)) (rw period at li))));
+          (early (route .count) h (signalAt p r .period) (phaseOf s r) i few (t .hyper) (t .accepted .ordered .phases r (d .0)) (rw period at li))));
       same = sym (ap (keepsFrom p s h (chainAt p chain)) whole ∙
           timely-is p s (chainAt p chain .mode) (chainAt p chain .bound) (length ρs * (h / signalAt p r .period)) (h / signalAt p r .period) (route .hops) r ρs (along .hops-are) ∙
           (λ i.

@@ -11,7 +11,7 @@ use Rattle.latency_rule.specs.Back.{noHop}
 use Rattle.latency_rule.specs.Hops.{hopOf, HopsOf}
 use Rattle.latency_rule.specs.declared.Hop.{Hop}
 use Rattle.model.specs.Says.Feasible.{All}
-use Rattle.model.specs.Rules.Latency.{readOf, readsBack, backwards, source}
+use Rattle.model.specs.Rules.Latency.{readAmong, readsBack, backwards, source}
 use Rattle.model.specs.Rules.Program.{Program, Link, Read, count, signalAt, bodyReads}
 use Rattle.model.specs.Rules.Rates.{countReads, isLinked}
 use Rattle.model.specs.Rules.Schedule.{Schedule}
@@ -61,17 +61,17 @@ pub record Next (text : List ℕ) (p : Program) (s : Schedule) (back : List ℕ)
   pub reader : byteAt text (at + 2 + 1) < count p
   pub room : n < 15
   pub once : countReads last (bodyReads (signalAt p (byteAt text (at + 2 + 1)) .body)) ≡ 1
-  pub on : (hop : Hop) → hop ≡ hopOf p s (byteAt text (at + 2 + 1)) (readOf last (bodyReads (signalAt p (byteAt text (at + 2 + 1)) .body))) →
+  pub on : (hop : Hop) → hop ≡ hopOf p s (byteAt text (at + 2 + 1)) (readAmong last (bodyReads (signalAt p (byteAt text (at + 2 + 1)) .body))) →
       Following text p s back source (at + 2) (left - 1) (byteAt text (at + 2 + 1)) (n + 1) (set hops n hop)
 
 module _ (text : List ℕ) (p : Program) (s : Schedule) (back : List ℕ) (source₀ at left last n : ℕ) (hops : List Hop) where
   along-on : (ws : List ℕ) (r : ℕ) → countReads last (bodyReads (signalAt p r .body)) ≡ 1 → n < 15 → length hops ≡ 15 →
       Along p s (record { hops = hops; count = n; source = source₀; last = last }) ws →
-      (hop : Hop) → hop ≡ hopOf p s r (readOf last (bodyReads (signalAt p r .body))) →
+      (hop : Hop) → hop ≡ hopOf p s r (readAmong last (bodyReads (signalAt p r .body))) →
       Along p s (record { hops = set hops n hop; count = n + 1; source = source₀; last = r }) (last ∷ ws)
   unfolding readsBack source
   along-on ws r once lt space a hop e =
-      let ρ = readOf last (bodyReads (signalAt p r .body)) in
+      let ρ = readAmong last (bodyReads (signalAt p r .body)) in
       let ρs = readsBack p last ws in
       let same : ρ .operands .signal ≡ last = read-signal last (bodyReads (signalAt p r .body)) (omega (arith, once)) in
       let here : length ρs ≡ n = reads-length p last ws ∙ a .many in

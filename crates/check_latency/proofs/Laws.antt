@@ -7,7 +7,7 @@ use borrow.Author.Tests.{lt-ltb}
 use lib.ListN.{getD}
 use mathlib.Core.List.{List, [], _∷_}
 use Rattle.model.specs.Says.Feasible.{All}
-use Rattle.model.specs.Rules.Latency.{readOf}
+use Rattle.model.specs.Rules.Latency.{readAmong}
 use Rattle.model.specs.Rules.Rates.{countReads}
 use Rattle.model.proofs.Pairs.Links.{read-of}
 use Rattle.model.specs.Rules.Program.{Program, Read, count, signalAt}
@@ -44,7 +44,7 @@ module _ {text : List ℕ} {tables : Tables} {periods phases : List ℕ} {p : Pr
       rw b (λ i. record { period = k .periods-are x lt i; phase = k .phases-are x lt i })
 
 -- The read of w among reads of which one is of w.
-pub read-signal : (w : ℕ) (ρs : List Read) → 1 ≤ countReads w ρs → readOf w ρs .operands .signal ≡ w
+pub read-signal : (w : ℕ) (ρs : List Read) → 1 ≤ countReads w ρs → readAmong w ρs .operands .signal ≡ w
 read-signal w ρs h = read-of (λ ρ. Unit {0}) w ρs (all ρs) h .1
   where
     all : (ρs : List Read) → All (λ ρ. Unit {0}) ρs

@@ -13,7 +13,7 @@ use lib.Seq.{drop-cons, drop-length}
 use Rattle.model.specs.Rules.Command.{operatorAt}
 use Rattle.model.specs.Rules.Outcome.{accepted}
 use Rattle.model.specs.Rules.Program.{Program, Read, noSignal, count, signalAt, bodyReads, parseProgram}
-use Rattle.model.specs.Rules.Latency.{readOf}
+use Rattle.model.specs.Rules.Latency.{readAmong}
 use Rattle.model.specs.Rules.Rates.{countReads}
 use Rattle.model.specs.declared.Operator.the-variants as Operator
 use Rattle.model.specs.declared.Found.the-variants.{At, Nowhere}
@@ -45,8 +45,8 @@ stands-inside {text} {at} s = signal-byte text at (s .kind) (s .operands) (s .is
 -- A search among the reads: those from the m-th on are left, `many` before them are reads of w, the last of these at `found`.
 pub record Searched (w : ℕ) (ρs : List Read) (m many found : ℕ) : Type 0 where
   pub counts : many + countReads w (drop m ρs) ≡ countReads w ρs
-  pub none : many ≡ 0 → readOf w ρs ≡ readOf w (drop m ρs)
-  pub one : many ≡ 1 → readOf w ρs .place ≡ found
+  pub none : many ≡ 0 → readAmong w ρs ≡ readAmong w (drop m ρs)
+  pub one : many ≡ 1 → readAmong w ρs .place ≡ found
 
 pub same-search : {w m k f : ℕ} {ρs : List Read} (many found : ℕ) → many ≡ k → found ≡ f → Searched w ρs m k f → Searched w ρs m many found
 same-search many found a b s = rw (a, b) s
@@ -68,10 +68,10 @@ module _ (w : ℕ) (ρs : List Read) where
     count-on b t =
         ap (countReads w) (drop-cons ρs m noRead l) ∙ ap (λ (c : Bool). cond c 1 0 + countReads w (drop (suc m) ρs)) t
 
-    read-on : (b : Bool) → eqb (here .operands .signal) w ≡ b → readOf w (drop m ρs) ≡ cond b here (readOf w (drop (suc m) ρs))
-    unfolding readOf
+    read-on : (b : Bool) → eqb (here .operands .signal) w ≡ b → readAmong w (drop m ρs) ≡ cond b here (readAmong w (drop (suc m) ρs))
+    unfolding readAmong
     read-on b t =
-        ap (readOf w) (drop-cons ρs m noRead l) ∙ ap (λ (c : Bool). cond c here (readOf w (drop (suc m) ρs))) t
+        ap (readAmong w) (drop-cons ρs m noRead l) ∙ ap (λ (c : Bool). cond c here (readAmong w (drop (suc m) ρs))) t
 
     module _ {many found : ℕ} (s : Searched w ρs m many found) where
       search-hits : (at : ℕ) → here .place ≡ at → here .operands .signal ≡ w → Searched w ρs (suc m) (many + 1) at
@@ -152,11 +152,11 @@ module _ {text reads firsts : List ℕ} {n : ℕ} (ix : Indexed text reads first
 
 -- What the answer says of the reads.
 module _ (w : ℕ) (ρs : List Read) where
-  pub found-one : (at : ℕ) → oneRead w ρs ≡ At at → (eqb (countReads w ρs) 1 ≡ true) × (readOf w ρs .place ≡ at)
+  pub found-one : (at : ℕ) → oneRead w ρs ≡ At at → (eqb (countReads w ρs) 1 ≡ true) × (readAmong w ρs .place ≡ at)
   unfolding oneRead
   found-one at e = go (eqb (countReads w ρs) 1) e
     where
-      go : (b : Bool) → cond b (At (readOf w ρs .place)) Nowhere ≡ At at → (b ≡ true) × (readOf w ρs .place ≡ at)
+      go : (b : Bool) → cond b (At (readAmong w ρs .place)) Nowhere ≡ At at → (b ≡ true) × (readAmong w ρs .place ≡ at)
       go true h = (refl, cc)
       go false h = let z : _≡_ {A = ℕ} 0 1 = cc in absurd (omega arith)
 
@@ -164,7 +164,7 @@ module _ (w : ℕ) (ρs : List Read) where
   unfolding oneRead
   found-none e = go (eqb (countReads w ρs) 1) e
     where
-      go : (b : Bool) → cond b (At (readOf w ρs .place)) Nowhere ≡ Nowhere → b ≡ false
+      go : (b : Bool) → cond b (At (readAmong w ρs .place)) Nowhere ≡ Nowhere → b ≡ false
       go true h = let z : _≡_ {A = ℕ} 0 1 = cc in absurd (omega arith)
       go false h = refl
 
@@ -172,7 +172,7 @@ module _ (w : ℕ) (ρs : List Read) where
 module _ (text : List ℕ) (p : Program) (e : parseProgram text ≡ accepted p) (w x at : ℕ)
     (one : oneRead w (bodyReads (signalAt p x .body)) ≡ At at) where
   abbrev only : Read
-  only = readOf w (bodyReads (signalAt p x .body))
+  only = readAmong w (bodyReads (signalAt p x .body))
 
   declared : x < count p
   declared = go (decLt x (count p))

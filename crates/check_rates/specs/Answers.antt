@@ -6,7 +6,7 @@ use mathlib.Core.Path.{_≡_}
 use lib.Dec.{ltb, eqb}
 use lib.ListN.{getD}
 use Rattle.model.specs.Rules.Outcome.{Outcome, accepted, refused, fault}
-use Rattle.model.specs.Rules.Latency.{readOf}
+use Rattle.model.specs.Rules.Latency.{readAmong}
 use Rattle.model.specs.Rules.Program.{Program, Read, bodyReads, parseProgram}
 use Rattle.model.specs.Rules.Rates.{periodRule, readFaults, linkFaults, countReads}
 use Rattle.model.specs.Rules.Search.{joinFrom}
@@ -58,7 +58,7 @@ lowerOf (Judged.Refused f) (Judged.Refused g) = Judged.Refused (cond (ltb (g .pl
 
 -- Where the one read of w among these reads stands.
 unfoldable pub oneRead : ℕ → List Read → Found
-oneRead w ρs = cond (eqb (countReads w ρs) 1) (At (readOf w ρs .place)) Nowhere
+oneRead w ρs = cond (eqb (countReads w ρs) 1) (At (readAmong w ρs .place)) Nowhere
 
 -- The tables are those of the program that the text is.
 abbrev pub ReadAs : List ℕ → Tables → Type 0

@@ -42,8 +42,11 @@ head image h =
     }
 
 -- a sequence that does not fall below h
+abbrev Rises : (ℕ → ℕ) → ℕ → Type 0
+Rises f h = (c : ℕ) → c < h → f c ≤ f (c + 1)
+
 module _ (f : ℕ → ℕ) where
-  rises : (h : ℕ) → ((c : ℕ) → c < h → f c ≤ f (c + 1)) → (c : ℕ) → c ≤ h → f c ≤ f h
+  rises : (h : ℕ) → Rises f h → (c : ℕ) → c ≤ h → f c ≤ f h
   rises zero r zero l = le-refl (f 0)
   rises zero r (suc c) l = let z : ⊥ = omega (arith, l) in absurd z
   rises (suc h) r c l =
@@ -53,7 +56,7 @@ module _ (f : ℕ → ℕ) where
 
 pub record Lists (image : List ℕ) : Type 0 where
   pub start : listOffset image 0 ≡ listsAt (countOf image) (hyperOf image)
-  pub rising : (c : ℕ) → c < hyperOf image → listOffset image c ≤ listOffset image (c + 1)
+  pub rising : Rises (listOffset image) (hyperOf image)
   pub last : listOffset image (hyperOf image) ≡ codeOffset image 0
   pub end : codeOffset image 0 ≤ length image
 

@@ -102,7 +102,7 @@ module _ {text : List ℕ} {t : Tables} {periods order phases : List ℕ} {p : P
   in-order j lt =
       let e = r .slots .all-put in
       let n = count-is in
-      rw (r .slots .order-is j (omega arith)) (r .only j (omega arith))
+      rw (r .slots .order-is j (omega arith)) (r .ordered .only j (omega arith))
 
   pub timed : Timed periods order (t .signals)
   timed =
@@ -119,7 +119,7 @@ module _ {text : List ℕ} {t : Tables} {periods order phases : List ℕ} {p : P
   pub phased : Phased periods order phases (t .signals)
   phased j lt =
       let x = getD order j 0 in
-      rw (r .periods-are x (in-order j lt), r .slots .phases-are x (in-order j lt)) (r .phased x (in-order j lt))
+      rw (r .periods-are x (in-order j lt), r .slots .phases-are x (in-order j lt)) (r .ordered .phases x (in-order j lt))
 
   order-is : s .order ≡ table (t .signals) (λ j. getD order j 0)
   order-is =
@@ -134,8 +134,8 @@ module _ {text : List ℕ} {t : Tables} {periods order phases : List ℕ} {p : P
   list-is c =
       chosen-same (λ x. due (rateOf p s x) c) (isDue periods phases c) (s .order)
       (λ j lt.
-      ap₂ (λ a b. eqb (c % a) b) (sym (r .periods-are (getD (s .order) j 0) (r .only j lt)))
-      (sym (r .slots .phases-are (getD (s .order) j 0) (r .only j lt)))) ∙
+      ap₂ (λ a b. eqb (c % a) b) (sym (r .periods-are (getD (s .order) j 0) (r .ordered .only j lt)))
+      (sym (r .slots .phases-are (getD (s .order) j 0) (r .ordered .only j lt)))) ∙
       ap (chosen (isDue periods phases c)) order-is
 
   module _ (h : ℕ) where

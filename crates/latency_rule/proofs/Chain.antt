@@ -88,11 +88,11 @@ module _ (p : Program) (s : Schedule) where
     used-before r k m ρ lt met u =
         let w = ρ .operands .signal in
         let t : ℕ = runCycle (rateOf p s r) k + bit (before s w r) in
-        let g = stored-high (rateOf p s w) t (acc .phases w (met .declared)) in
+        let g = stored-high (rateOf p s w) t (acc .ordered .phases w (met .declared)) in
         omega (arith, one (before s w r), rw (used-is p s acc r ρ k lt met ∙ u) at g)
 
     run-low : (x k : ℕ) → x < count p → k ≤ runCycle (rateOf p s x) k
-    run-low x k lt = go (signalAt p x .period) (acc .phases x lt)
+    run-low x k lt = go (signalAt p x .period) (acc .ordered .phases x lt)
       where
         go : (q : ℕ) → phaseOf s x < q → k ≤ k * q + phaseOf s x
         go zero h = absurd (omega arith)

@@ -11,7 +11,7 @@ use borrow.Author.Tests.{eqb-true, eqb-false, eq-eqb, ne-eqb, lt-ltb, le-ltb, lt
 use Rattle.model.specs.Says.Feasible.{All}
 use Rattle.model.specs.Rules.Outcome.{Outcome, accepted, refused, fault, _▷_, provided, lowest, Parsed}
 use Rattle.model.specs.Rules.Program.{Program, count, signalAt}
-use Rattle.model.specs.Rules.Reads.{place}
+use Rattle.model.specs.Rules.Reads.{rank}
 use Rattle.model.specs.Rules.Schedule.{
   Schedule,
   Put,
@@ -59,25 +59,25 @@ put-snoc [] q x = or-false (eqb (q .signal) x)
 put-snoc (r ∷ done) q x = ap (eqb (r .signal) x ||_) (put-snoc done q x) ∙ sym (or-assoc (eqb (r .signal) x) (isPut done x) _)
 
 module _ (q : Put) (x : ℕ) where
-  place-old : (done : List Put) → isPut done x ≡ true → place (signalsOf (done ++ (q ∷ []))) x ≡ place (signalsOf done) x
-  unfolding isPut place
-  place-old [] e = absurd (false≢true e)
-  place-old (r ∷ done) e = go (eqb (r .signal) x) e (λ h. place-old done h)
+  rank-old : (done : List Put) → isPut done x ≡ true → rank (signalsOf (done ++ (q ∷ []))) x ≡ rank (signalsOf done) x
+  unfolding isPut rank
+  rank-old [] e = absurd (false≢true e)
+  rank-old (r ∷ done) e = go (eqb (r .signal) x) e (λ h. rank-old done h)
     where
       go : (b : Bool) → b || isPut done x ≡ true →
-          (isPut done x ≡ true → place (signalsOf (done ++ (q ∷ []))) x ≡ place (signalsOf done) x) →
-          cond b 0 (suc (place (signalsOf (done ++ (q ∷ []))) x)) ≡ cond b 0 (suc (place (signalsOf done) x))
+          (isPut done x ≡ true → rank (signalsOf (done ++ (q ∷ []))) x ≡ rank (signalsOf done) x) →
+          cond b 0 (suc (rank (signalsOf (done ++ (q ∷ []))) x)) ≡ cond b 0 (suc (rank (signalsOf done) x))
       go true h ih = refl
       go false h ih = ap suc (ih h)
 
-  place-new : (done : List Put) → isPut done x ≡ false → q .signal ≡ x → place (signalsOf (done ++ (q ∷ []))) x ≡ length done
-  unfolding isPut place
-  place-new [] e g = rw (eq-eqb (q .signal) x g)
-  place-new (r ∷ done) e g = go (eqb (r .signal) x) e (λ h. place-new done h g)
+  rank-new : (done : List Put) → isPut done x ≡ false → q .signal ≡ x → rank (signalsOf (done ++ (q ∷ []))) x ≡ length done
+  unfolding isPut rank
+  rank-new [] e g = rw (eq-eqb (q .signal) x g)
+  rank-new (r ∷ done) e g = go (eqb (r .signal) x) e (λ h. rank-new done h g)
     where
       go : (b : Bool) → b || isPut done x ≡ false →
-          (isPut done x ≡ false → place (signalsOf (done ++ (q ∷ []))) x ≡ length done) →
-          cond b 0 (suc (place (signalsOf (done ++ (q ∷ []))) x)) ≡ suc (length done)
+          (isPut done x ≡ false → rank (signalsOf (done ++ (q ∷ []))) x ≡ length done) →
+          cond b 0 (suc (rank (signalsOf (done ++ (q ∷ []))) x)) ≡ suc (length done)
       go true h ih = absurd (false≢true (sym h))
       go false h ih = ap suc (ih h)
 
@@ -102,13 +102,13 @@ module _ (q : Put) (x : ℕ) where
       go false h ih = ih h
 
 -- A signal that is put has a place below the number of PUTs.
-place-below : (done : List Put) (x : ℕ) → isPut done x ≡ true → place (signalsOf done) x < length done
-unfolding isPut place
-place-below [] x e = absurd (false≢true e)
-place-below (r ∷ done) x e = go (eqb (r .signal) x) e (λ h. place-below done x h)
+rank-below : (done : List Put) (x : ℕ) → isPut done x ≡ true → rank (signalsOf done) x < length done
+unfolding isPut rank
+rank-below [] x e = absurd (false≢true e)
+rank-below (r ∷ done) x e = go (eqb (r .signal) x) e (λ h. rank-below done x h)
   where
-    go : (b : Bool) → b || isPut done x ≡ true → (isPut done x ≡ true → place (signalsOf done) x < length done) →
-        cond b 0 (suc (place (signalsOf done) x)) < suc (length done)
+    go : (b : Bool) → b || isPut done x ≡ true → (isPut done x ≡ true → rank (signalsOf done) x < length done) →
+        cond b 0 (suc (rank (signalsOf done) x)) < suc (length done)
     go true h ih = omega arith
     go false h ih = omega (arith, ih h)
 
@@ -159,9 +159,9 @@ module _ (done : List Put) (t : Slots) (h : SlotsAfter done t) (q : Put) (low : 
             (omega (arith, length-append done (q ∷ []), h .puts-are));
         unput = unput-after;
         ranks-are = λ x lt p.
-            by-signal (t .ranks) (t .puts) x (place (signalsOf (done ++ (q ∷ [])))) (h .space .2) lt p
-            (λ o. h .ranks-are x lt o ∙ sym (place-old q x done o))
-            (λ z. sym (place-new q x done (ap (isPut done) (sym z) ∙ fresh) z ∙ h .puts-are));
+            by-signal (t .ranks) (t .puts) x (rank (signalsOf (done ++ (q ∷ [])))) (h .space .2) lt p
+            (λ o. h .ranks-are x lt o ∙ sym (rank-old q x done o))
+            (λ z. sym (rank-new q x done (ap (isPut done) (sym z) ∙ fresh) z ∙ h .puts-are));
         phases-are = λ x lt p.
             by-signal (t .phases) (q .phase) x (putPhase (done ++ (q ∷ []))) (h .space .1) lt p
             (λ o. h .phases-are x lt o ∙ sym (phase-old q x done o))
@@ -179,7 +179,7 @@ pub ranked : (done : List Put) (t : Slots) → SlotsAfter done t → length done
 ranked done t h few x lt = go (isPut done x) refl
   where
     go : (b : Bool) → isPut done x ≡ b → not (eqb (getD (t .ranks) x 0) 64) ≡ b
-    go true e = rw (ne-eqb (getD (t .ranks) x 0) 64 (λ z. omega (arith, h .ranks-are x lt e, place-below done x e)))
+    go true e = rw (ne-eqb (getD (t .ranks) x 0) 64 (λ z. omega (arith, h .ranks-are x lt e, rank-below done x e)))
     go false e = rw (eq-eqb (getD (t .ranks) x 0) 64 (h .unput x lt e))
 
 -- Tests that are the same below n.
@@ -372,7 +372,7 @@ module _ (text : List ℕ) (p : Program) (o : Parsed (List Put)) (at : ℕ) (t :
               g .after .phases-are x (omega arith) (put x lt) ∙ ap (λ qs. putPhase qs x) (sym all-done) ∙
               sym (getD-table (putPhase (o .value)) (count p) x 0 lt);
           ranks-are = λ x lt.
-              g .after .ranks-are x (omega arith) (put x lt) ∙ ap (λ qs. place (signalsOf qs) x) (sym all-done);
+              g .after .ranks-are x (omega arith) (put x lt) ∙ ap (λ qs. rank (signalsOf qs) x) (sym all-done);
           all-put = order-length (s .order) (count p) (ok .put) (ok .once) (ok .only);
         },
       )

@@ -30,7 +30,7 @@ use Rattle.theorems.specs.Latency.{Timely}
 infix 20 _among_
 -- x is one of the elements of a list.
 pub data _among_ {A : Type 0} (x : A) : List A → Type 0 where
-  first : {y : A} {ys : List A} → x ≡ y → x among (y ∷ ys)
+  here : {y : A} {ys : List A} → x ≡ y → x among (y ∷ ys)
   later : {y : A} {ys : List A} → x among ys → x among (y ∷ ys)
 
 -- 1: program 8,192 bytes, schedule 193.

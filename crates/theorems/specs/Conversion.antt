@@ -12,7 +12,7 @@ use Rattle.model.specs.Rules.Machine.{Effect}
 use Rattle.model.specs.Rules.Outcome.{accepted, refused, fault}
 use Rattle.model.specs.Rules.Program.{Program, empty}
 use Rattle.model.specs.Rules.Reads.{settled}
-use Rattle.model.specs.Rules.Rewrite.{rewrite}
+use Rattle.model.specs.Rules.Rewrite.{rewrite, convertOf}
 use Rattle.theorems.specs.Stops.{Stops}
 use Rattle.theorems.specs.Streams.{Satisfies}
 
@@ -42,6 +42,9 @@ module _ (program buffer : List ℕ) where
     pub refused-at : (n x : ℕ) → (call .answer ≡ refused (fault n x)) ↔ ConvertRefusedAt n x
     pub written : (n : ℕ) → call .answer ≡ accepted n → call .left ≡ rewrite program ++ drop n buffer
     pub kept : (n x : ℕ) → call .answer ≡ refused (fault n x) → call .left ≡ buffer
+
+abbrev pub Converts : List ℕ → List ℕ → Type 0
+Converts program buffer = ConvertsExactly program buffer (convertOf program buffer)
 
 -- What the conversion of a program keeps of a pair u that it is accepted in by the earlier rule: with the same schedule text the new
 -- text is accepted, with the same schedule and hypercycle; it has the same streams, and the same image with its tail.

@@ -8,6 +8,7 @@ pub mod Conditions
 pub mod Refusals
 pub mod Height
 pub mod WellFormed
+pub mod Images
 pub mod Streams
 pub mod Held
 pub mod Lists
@@ -17,3 +18,4 @@ pub mod Conversion
 pub mod Decimals
 pub mod TrialRefusals
 pub mod Trials
+pub mod Examples

@@ -5,10 +5,10 @@ use native.Mathlib.Omega.{arith}
 use borrow.Author.Needs.{needs}
 use borrow.Author.Tests.{eqb-false}
 use Rattle.text_command.specs.declared.Taken.{Taken}
-use Rattle.model.specs.Rules.Latency.{readOf}
+use Rattle.model.specs.Rules.Latency.{readAmong}
 use Rattle.model.specs.Rules.Program.{Read, signalAt, bodyReads}
 use Rattle.model.specs.Rules.Rates.{countReads}
-use Rattle.model.specs.Rules.Reads.{rateOf, indexOf, settled}
+use Rattle.model.specs.Rules.Reads.{rateOf, settledIndex, settled}
 use Rattle.check_rates.proofs.Counting.{found-none, one-spelled, one-stands}
 use Rattle.check_rates.proofs.Judging.{indexed, few-signals}
 use Rattle.read_rule.specs.Reads.{rateIn}
@@ -62,14 +62,14 @@ returns-2 c =
     let reader = c .before .before .timing-at2 in
     λ p s k lw lr n.
     let f = c .before .before .before .before .before .before .before .before .one-read .ensures p (k .parsed) in
-    let ρ : Read = readOf (a .w) (bodyReads (signalAt p (a .r) .body)) in
+    let ρ : Read = readAmong (a .w) (bodyReads (signalAt p (a .r) .body)) in
     let taken : _≡_ {A = Taken} (t .result) (record { kind = ρ .kind; operands = ρ .operands }) =
     t .ensures .is (ρ .kind) (ρ .operands) (one-spelled _ p (k .parsed) _ _ _ (sym f ∙ c .before .before .before .before .before .before .found .given .1)) in
     let w : rateIn (read .result) ≡ rateOf p s (ρ .operands .signal) =
     ap rateIn (read .ensures) ∙ rate-at k (a .w) lw ∙ ap (rateOf p s) (sym (read-signal (a .w) (bodyReads (signalAt p (a .r) .body)) (omega (arith, n)))) in
     let r : rateIn (reader .result) ≡ rateOf p s (a .r) = ap rateIn (reader .ensures) ∙ rate-at k (a .r) lr in
     let index : c .settled-index .result ≡ settled p s (a .r) ρ =
-    c .settled-index .ensures ∙ (λ i. indexOf (taken i .kind) (w i) (r i) (taken i .operands .factor) (taken i .operands .index)) in
+    c .settled-index .ensures ∙ (λ i. settledIndex (taken i .kind) (w i) (r i) (taken i .operands .factor) (taken i .operands .index)) in
     λ i. record { kind = taken i .kind; factor = taken i .operands .factor; index = index i }
 
 pub hop-at-spec : {M : Type 1} → statement M

@@ -221,8 +221,7 @@ returns-5 c =
             periods-are = g .tables-are .periods;
             ranks = d .check-schedule .result .slots .ranks;
             slots = g .slots-are;
-            only = placed-ordered p (g .puts) (a .0) (g .places) .0 .only;
-            phased = placed-ordered p (g .puts) (a .0) (g .places) .0 .phases;
+            ordered = placed-ordered p (g .puts) (a .0) (g .places) .0;
           };
       hyper = refl;
       bound = hypercycle-least p _ .0 (g .hyper) .bound;

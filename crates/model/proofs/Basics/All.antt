@@ -2,10 +2,11 @@
 use Prim.Native.Nat.{ℕ, zero, suc, _*_, _≤_, _<_}
 use mathlib.Core.List.{List, [], _∷_, _++_, map, reverseAux}
 use mathlib.Core.Path.{_≡_}
+use mathlib.Core.Bool.{Bool, true, false, cond}
 use native.Mathlib.Omega.{arith}
 use lib.ListN.{length, getD, length-append}
 use Rattle.model.specs.Says.Feasible.{All}
-use Rattle.model.specs.Rules.Search.{joinFrom}
+use Rattle.model.specs.Rules.Search.{joinFrom, chosen}
 use Rattle.model.proofs.Basics.Outcomes.{append-none}
 
 module _ {A : Type 0} (Q : A → Type 0) where
@@ -56,3 +57,14 @@ all-of-map Q f (x ∷ xs) h = (h .0, all-of-map Q f xs (h .1))
 pub all-split : {A : Type 0} (Q : A → Type 0) (xs ys : List A) → All Q (xs ++ ys) → All Q xs × All Q ys
 all-split Q [] ys q = (tt, q)
 all-split Q (x ∷ xs) ys q = let h = all-split Q xs ys (q .1) in ((q .0, h .0), h .1)
+
+-- A run list is no longer than the PUT order.
+pub chosen-length : {A : Type 0} (test : A → Bool) (xs : List A) → length (chosen test xs) ≤ length xs
+unfolding chosen
+chosen-length test [] = omega arith
+chosen-length test (x ∷ xs) = go (test x) (chosen-length test xs)
+  where
+    go : (b : Bool) → length (chosen test xs) ≤ length xs →
+        length (cond b (x ∷ chosen test xs) (chosen test xs)) ≤ suc (length xs)
+    go true h = omega arith
+    go false h = omega arith

@@ -239,7 +239,7 @@ module _ (p : Program) (s : Schedule) (h : ℕ) (acc : Feasible p s) (whole : Mu
   unfolding runList
   list-below c lt =
       subst (Every (_< count p)) (sym (list-is p s h c (omega (arith, lists-length p s h))))
-      (chosen-every (_< count p) (λ x. due (rateOf p s x) c) (s .order) (acc .only))
+      (chosen-every (_< count p) (λ x. due (rateOf p s x) c) (s .order) (acc .ordered .only))
 
   entry-below : (i : ℕ) → i < codeOffset (imageOf p s h) 0 - listsAt (count p) h →
       byteAt (imageOf p s h) (listsAt (count p) h + i) < count p

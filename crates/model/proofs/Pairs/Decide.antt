@@ -30,11 +30,11 @@ use Rattle.model.specs.Rules.Reads.{
   writerFirst,
   share,
   ordered,
-  place,
+  rank,
   before,
   settle,
   lineHolds,
-  indexOf,
+  settledIndex,
   settled,
   isMet,
 }
@@ -157,33 +157,33 @@ true-ordered kind w r before vw vr h = go (share w r) refl
 
 -- The order by places. w and r are put.
 -- The signal at a place of the order.
-pub place-at : (xs : List ℕ) (x : ℕ) → place xs x < length xs → getD xs (place xs x) 0 ≡ x
-unfolding place
-place-at [] x h = absurd (omega arith)
-place-at (y ∷ ys) x h = go (eqb y x) refl h (place-at ys x)
+pub rank-at : (xs : List ℕ) (x : ℕ) → rank xs x < length xs → getD xs (rank xs x) 0 ≡ x
+unfolding rank
+rank-at [] x h = absurd (omega arith)
+rank-at (y ∷ ys) x h = go (eqb y x) refl h (rank-at ys x)
   where
-    go : (b : Bool) → eqb y x ≡ b → cond b 0 (suc (place ys x)) < suc (length ys) →
-        (place ys x < length ys → getD ys (place ys x) 0 ≡ x) → getD (y ∷ ys) (cond b 0 (suc (place ys x))) 0 ≡ x
+    go : (b : Bool) → eqb y x ≡ b → cond b 0 (suc (rank ys x)) < suc (length ys) →
+        (rank ys x < length ys → getD ys (rank ys x) 0 ≡ x) → getD (y ∷ ys) (cond b 0 (suc (rank ys x))) 0 ≡ x
     go true e h ih = eqb-true y x e
     go false e h ih = ih (omega arith)
 
 -- r before w, or w itself.
-reader-first : (s : Schedule) (w r : ℕ) → place (s .order) w < length (s .order) → place (s .order) r < length (s .order) →
-    before s w r ≡ false → (place (s .order) r < place (s .order) w) ⊎ (r ≡ w)
-reader-first s w r pw pr e = go (decLt (place (s .order) r) (place (s .order) w))
+reader-first : (s : Schedule) (w r : ℕ) → rank (s .order) w < length (s .order) → rank (s .order) r < length (s .order) →
+    before s w r ≡ false → (rank (s .order) r < rank (s .order) w) ⊎ (r ≡ w)
+reader-first s w r pw pr e = go (decLt (rank (s .order) r) (rank (s .order) w))
   where
-    go : Dec (place (s .order) r < place (s .order) w) → (place (s .order) r < place (s .order) w) ⊎ (r ≡ w)
+    go : Dec (rank (s .order) r < rank (s .order) w) → (rank (s .order) r < rank (s .order) w) ⊎ (r ≡ w)
     go (yes h) = inl h
     go (no h) =
-        let q : place (s .order) r ≡ place (s .order) w = omega (arith, ltb-false (place (s .order) w) (place (s .order) r) e) in
-        inr (sym (place-at (s .order) r pr) ∙ ap (λ j. getD (s .order) j 0) q ∙ place-at (s .order) w pw)
+        let q : rank (s .order) r ≡ rank (s .order) w = omega (arith, ltb-false (rank (s .order) w) (rank (s .order) r) e) in
+        inr (sym (rank-at (s .order) r pr) ∙ ap (λ j. getD (s .order) j 0) q ∙ rank-at (s .order) w pw)
 
-not-before : (s : Schedule) (w r : ℕ) → (place (s .order) r < place (s .order) w) ⊎ (r ≡ w) → before s w r ≡ false
-not-before s w r (inl h) = le-ltb (place (s .order) w) (place (s .order) r) (omega arith)
-not-before s w r (inr e) = rw e (le-ltb (place (s .order) w) (place (s .order) w) (omega arith))
+not-before : (s : Schedule) (w r : ℕ) → (rank (s .order) r < rank (s .order) w) ⊎ (r ≡ w) → before s w r ≡ false
+not-before s w r (inl h) = le-ltb (rank (s .order) w) (rank (s .order) r) (omega arith)
+not-before s w r (inr e) = rw e (le-ltb (rank (s .order) w) (rank (s .order) w) (omega arith))
 
-put-for : (kind : Kind) (s : Schedule) (w r : ℕ) → place (s .order) w < length (s .order) →
-    place (s .order) r < length (s .order) → before s w r ≡ writerFirst kind → PutFor kind s w r
+put-for : (kind : Kind) (s : Schedule) (w r : ℕ) → rank (s .order) w < length (s .order) →
+    rank (s .order) r < length (s .order) → before s w r ≡ writerFirst kind → PutFor kind s w r
 put-for Now s w r pw pr e = ltb-true _ _ e
 put-for Last s w r pw pr e = reader-first s w r pw pr e
 put-for When s w r pw pr e = ltb-true _ _ e
@@ -275,7 +275,7 @@ InRange n (Fixed i) = i < n
 InRange n Open = Unit {0}
 
 pub holds-line : (kind : Kind) (w r : Rate) (n : ℕ) (index : Index) → InRange n index → lineHolds kind w r n index ≡ true →
-    (indexOf kind w r n index < n) × Line kind w r (indexOf kind w r n index)
+    (settledIndex kind w r n index < n) × Line kind w r (settledIndex kind w r n index)
 holds-line kind w r n (Fixed i) lt e = (lt, line-true kind w r i e)
 holds-line kind w r n Open u e = go (settle kind w r n) refl e
   where
@@ -285,30 +285,30 @@ holds-line kind w r n Open u e = go (settle kind w r n) refl e
 
 -- What the line of a read says, it says of the index that the search settles.
 pub line-settled : (kind : Kind) (w r : Rate) (n : ℕ) (index : Index) → LineHolds kind w r n index →
-    (indexOf kind w r n index < n) × Line kind w r (indexOf kind w r n index)
+    (settledIndex kind w r n index < n) × Line kind w r (settledIndex kind w r n index)
 unfolding settle
 line-settled kind w r n (Fixed i) h = h
 line-settled kind w r n Open h =
     holds-line kind w r n Open tt (true-isFound n (line kind w r) (h .0) (h .1) (true-line kind w r (h .0) (h .2)))
 
-pub settled-line : (kind : Kind) (w r : Rate) (n : ℕ) (index : Index) → indexOf kind w r n index < n →
-    Line kind w r (indexOf kind w r n index) → LineHolds kind w r n index
+pub settled-line : (kind : Kind) (w r : Rate) (n : ℕ) (index : Index) → settledIndex kind w r n index < n →
+    Line kind w r (settledIndex kind w r n index) → LineHolds kind w r n index
 settled-line kind w r n (Fixed i) lt l = (lt, l)
-settled-line kind w r n Open lt l = (indexOf kind w r n Open, lt, l)
+settled-line kind w r n Open lt l = (settledIndex kind w r n Open, lt, l)
 
 -- No other index is settled.
 pub settles-once : (kind : Kind) (w r : Rate) (n : ℕ) (index : Index) → (index ≡ Open → Indexed kind) →
     PeriodRule kind (w .period) (r .period) n → LineHolds kind w r n index → (i : ℕ) →
-    SettlesAt kind w r n index i ↔ (i ≡ indexOf kind w r n index)
+    SettlesAt kind w r n index i ↔ (i ≡ settledIndex kind w r n index)
 settles-once kind w r n (Fixed j) named rule h i = (λ e. e, λ e. e)
 settles-once kind w r n Open named rule h i =
     let q = line-settled kind w r n Open h in (
-      λ g. index-once kind w r n i (indexOf kind w r n Open) (named refl) (g .0) (q .0) rule (g .1) (q .1),
+      λ g. index-once kind w r n i (settledIndex kind w r n Open) (named refl) (g .0) (q .0) rule (g .1) (q .1),
       λ e. (rw e (q .0), rw e (q .1)),
     )
 
-pub line-holds : (kind : Kind) (w r : Rate) (n : ℕ) (index : Index) → indexOf kind w r n index < n →
-    Line kind w r (indexOf kind w r n index) → lineHolds kind w r n index ≡ true
+pub line-holds : (kind : Kind) (w r : Rate) (n : ℕ) (index : Index) → settledIndex kind w r n index < n →
+    Line kind w r (settledIndex kind w r n index) → lineHolds kind w r n index ≡ true
 unfolding settle
 line-holds kind w r n (Fixed i) lt l = true-line kind w r i l
 line-holds kind w r n Open lt l = true-isFound n (line kind w r) _ lt (true-line kind w r _ l)
@@ -322,8 +322,8 @@ module _ (p : Program) (s : Schedule) (r : ℕ) (ρ : Read) where
   met-settled m =
       line-settled (ρ .kind) (rateOf p s (ρ .operands .signal)) (rateOf p s r) (ρ .operands .factor) (ρ .operands .index) (m .line)
 
-  pub met-true : ρ .operands .signal < count p → place (s .order) (ρ .operands .signal) < length (s .order) →
-      place (s .order) r < length (s .order) → InRange (ρ .operands .factor) (ρ .operands .index) →
+  pub met-true : ρ .operands .signal < count p → rank (s .order) (ρ .operands .signal) < length (s .order) →
+      rank (s .order) r < length (s .order) → InRange (ρ .operands .factor) (ρ .operands .index) →
       PeriodRule (ρ .kind) (signalAt p (ρ .operands .signal) .period) (signalAt p r .period) (ρ .operands .factor) →
       isMet p s r ρ ≡ true → Met p s r ρ
   unfolding settled isMet

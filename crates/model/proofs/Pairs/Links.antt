@@ -7,7 +7,7 @@ use native.Mathlib.Omega.{arith}
 use borrow.Author.Tests.{eqb-true}
 use lib.Dec.{eqb}
 use Rattle.model.specs.Says.Feasible.{All, Met, Feasible, Multiple}
-use Rattle.model.specs.Rules.Latency.{readOf, readsBack, backwards, used, onward, back, source, latencyOf}
+use Rattle.model.specs.Rules.Latency.{readAmong, readsBack, backwards, used, onward, back, source, latencyOf}
 use Rattle.model.specs.Rules.Program.{Program, Link, Chain, Read, count, signalAt, bodyReads}
 use Rattle.model.specs.Rules.Rates.{countReads, isLinked}
 use Rattle.model.specs.Rules.Schedule.{Schedule}
@@ -29,19 +29,19 @@ module _ (p : Program) (s : Schedule) where
         let w = ρ .operands .signal in
         let q = met-settled p s r ρ m in
         met-index (ρ .kind) (rateOf p s w) (rateOf p s r) (ρ .operands .factor) (settled p s r ρ) k (before s w r)
-        (acc .phases w (m .declared)) (acc .phases r lt) (q .0) (m .periods) (q .1)
+        (acc .ordered .phases w (m .declared)) (acc .ordered .phases r lt) (q .0) (m .periods) (q .1)
         (λ j i same. for-put (ρ .kind) s w r (m .order j i same))
 
 -- The read of w is one of the reads.
 pub read-of : (Q : Read → Type 0) (w : ℕ) (ρs : List Read) → All Q ρs → 1 ≤ countReads w ρs →
-    Q (readOf w ρs) × (readOf w ρs .operands .signal ≡ w)
-unfolding countReads readOf
+    Q (readAmong w ρs) × (readAmong w ρs .operands .signal ≡ w)
+unfolding countReads readAmong
 read-of Q w [] h le = absurd (omega arith)
 read-of Q w (ρ ∷ ρs) h le = go (eqb (ρ .operands .signal) w) refl le (λ l. read-of Q w ρs (h .1) l)
   where
     go : (b : Bool) → eqb (ρ .operands .signal) w ≡ b → 1 ≤ cond b 1 0 + countReads w ρs →
-        (1 ≤ countReads w ρs → Q (readOf w ρs) × (readOf w ρs .operands .signal ≡ w)) →
-        Q (cond b ρ (readOf w ρs)) × (cond b ρ (readOf w ρs) .operands .signal ≡ w)
+        (1 ≤ countReads w ρs → Q (readAmong w ρs) × (readAmong w ρs .operands .signal ≡ w)) →
+        Q (cond b ρ (readAmong w ρs)) × (cond b ρ (readAmong w ρs) .operands .signal ≡ w)
     go true e l ih = (h .0, eqb-true _ _ e)
     go false e l ih = ih (omega arith)
 
@@ -117,7 +117,7 @@ module _ (p : Program) (s : Schedule) where
         go zero u f ih = let z : _≡_ {A = ℕ} 0 1 = cc in absurd (omega arith)
         go (suc j) u f ih =
             let t : ℕ = runCycle (rateOf p s r) k + bit (before s w r) in
-            let g = stored-high (rateOf p s w) t (acc .phases w (ch .0 .declared)) in
+            let g = stored-high (rateOf p s w) t (acc .ordered .phases w (ch .0 .declared)) in
             omega (arith, ih j f, one (before s w r), rw (used-is p s acc r ρ k lt (ch .0) ∙ u) at g)
 
     module _ (r : ℕ) (ρs : List Read) (lt : r < count p) (ch : ChainMet p s r ρs) where

@@ -1,5 +1,5 @@
 -- What the verdict says of a pair that it accepts: the statements over all runs, and the bounds of the image. Assumes nothing.
-use Prim.Native.Nat.{ℕ, suc, _+_, _*_, _≤_, _<_}
+use Prim.Native.Nat.{ℕ, _+_, _*_, _≤_, _<_}
 use mathlib.Core.Bool.{Bool, true, false, cond, and-eq-true-iff}
 use mathlib.Core.List.{List, [], _∷_}
 use mathlib.Core.Path.{_≡_, refl, ap}
@@ -8,7 +8,7 @@ use native.Mathlib.Omega.{arith}
 use borrow.Author.Tests.{leb-true, ltb-true}
 use lib.Dec.{leb, ltb}
 use lib.ListN.{length}
-use Rattle.model.specs.Says.Feasible.{All, PeriodRule, Met, Feasible, Multiple}
+use Rattle.model.specs.Says.Feasible.{All, PeriodRule, Met, Feasible, Multiple, Ordered}
 use Rattle.model.specs.Rules.Compile.{shortEnough, Pair, pairOf}
 use Rattle.model.specs.Rules.Image.{runList, runLists, joined, codesAt, lengthOf}
 use Rattle.model.specs.Rules.Latency.{timely}
@@ -18,8 +18,8 @@ use Rattle.model.specs.Rules.Program.{Program, Read, parseProgram, noSig
 use Rattle.model.specs.Rules.Rates.{periodRule, readFaults, linkFaults, declaredAndRated, hypercycle, isLinked, linked}
 use Rattle.model.specs.Rules.Reads.{isMet, met}
 use Rattle.model.specs.Rules.Schedule.{Put, parseSchedule, Schedule, placed}
-use Rattle.model.specs.Rules.Search.{chosen, table, joinFrom}
-use Rattle.model.proofs.Basics.All.{at-all, all-both, all-map, all-joined, joined-length}
+use Rattle.model.specs.Rules.Search.{table, joinFrom}
+use Rattle.model.proofs.Basics.All.{at-all, all-both, all-map, all-joined, joined-length, chosen-length}
 use Rattle.model.proofs.Images.Bounds.{Bounded}
 use Rattle.model.proofs.Texts.Commands.{Bytes}
 use Rattle.model.proofs.Pairs.Decide.{periods-true, met-true}
@@ -47,7 +47,7 @@ use Rattle.model.proofs.Basics.Outcomes.{
   length-table,
   getD-table,
 }
-use Rattle.model.proofs.Texts.Puts.{Ordered, puts-spelled, puts-end, placed-ordered}
+use Rattle.model.proofs.Texts.Puts.{puts-spelled, puts-end, placed-ordered}
 
 -- Every step of the verdict.
 pub record Passed (program schedule : List ℕ) (q : Pair) : Type 0 where
@@ -161,17 +161,6 @@ module _ (p : Program) where
       (joinFrom-none (λ r y. joinFrom 0 (λ i ρ. cond (isMet p s r ρ) [] (fault 14 (ρ .place) ∷ [])) (bodyReads (y .body)))
       0 (p .signals) noSignal (lowest-none _ e) x lt))
 
--- A run list is no longer than the PUT order.
-chosen-length : {A : Type 0} (test : A → Bool) (xs : List A) → length (chosen test xs) ≤ length xs
-unfolding chosen
-chosen-length test [] = omega arith
-chosen-length test (x ∷ xs) = go (test x) (chosen-length test xs)
-  where
-    go : (b : Bool) → length (chosen test xs) ≤ length xs →
-        length (cond b (x ∷ chosen test xs) (chosen test xs)) ≤ suc (length xs)
-    go true h = omega arith
-    go false h = omega arith
-
 lists-length : (p : Program) (s : Schedule) (h : ℕ) → length (joined (runLists p s h)) ≤ h * length (s .order)
 unfolding runLists runList
 lists-length p s h =
@@ -186,13 +175,7 @@ lists-length p s h =
 pub steps-accepted : (text : List ℕ) (p : Program) (s : Schedule) → parseProgram text ≡ accepted p →
     declaredAndRated p ≡ accepted tt → Ordered p s → met p s ≡ accepted tt → Feasible p s
 steps-accepted text p s parses rated ordered meets =
-    record {
-      phases = ordered .phases;
-      met = all-met;
-      put = ordered .put;
-      once = ordered .once;
-      only = ordered .only;
-    }
+    record { ordered = ordered; met = all-met }
   where
     all-met : (x : ℕ) → x < count p → All (Met p s x) (bodyReads (signalAt p x .body))
     all-met x lt =

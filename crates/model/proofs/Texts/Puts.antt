@@ -10,7 +10,7 @@ use lib.ListN.{length, getD, length-map}
 pub use Rattle.model.specs.Says.Grammar.{SpellsPuts}
 use Rattle.model.specs.Rules.Outcome.{Outcome, accepted, fault, lowest, Parsed, parsed}
 use Rattle.model.specs.Rules.Program.{Program, count, signalAt}
-use Rattle.model.specs.Rules.Reads.{place}
+use Rattle.model.specs.Rules.Reads.{rank}
 use Rattle.model.specs.Rules.Schedule.{
   scheduleCommandAt,
   Put,
@@ -18,7 +18,6 @@ use Rattle.model.specs.Rules.Schedule.{
   parsePuts,
   parseSchedule,
   Schedule,
-  phaseOf,
   isPut,
   putFaults,
   putsFaults,
@@ -28,6 +27,7 @@ use Rattle.model.specs.Rules.Schedule.{
 }
 use Rattle.model.specs.Rules.Search.{allBelow}
 use Rattle.model.specs.Rules.Word.{byteAt}
+use Rattle.model.specs.Says.Feasible.{Ordered}
 use Rattle.model.specs.declared.ScheduleCommand.{ScheduleCommand}
 use Rattle.model.specs.declared.ScheduleCommand.the-variants as ScheduleCommand
 use Rattle.model.proofs.Pairs.Decide.{all-true}
@@ -171,8 +171,8 @@ module _ (p : Program) where
       put-earlier before q (getD (signalsOf qs) i 0) (fresh (before ++ (q ∷ [])) qs (h .3) i (omega arith)) .0
 
   pub placed-once : (before qs : List Put) → Placed p before qs → (i : ℕ) → i < length (signalsOf qs) →
-      place (signalsOf qs) (getD (signalsOf qs) i 0) ≡ i
-  unfolding place
+      rank (signalsOf qs) (getD (signalsOf qs) i 0) ≡ i
+  unfolding rank
   placed-once before [] h i lt = absurd (omega arith)
   placed-once before (q ∷ qs) h zero lt = rw (eq-eqb (q .signal) (q .signal) refl)
   placed-once before (q ∷ qs) h (suc i) lt =
@@ -198,22 +198,15 @@ module _ (p : Program) where
       go true f t ih = rw (eqb-true (q .signal) x f) at (h .2)
       go false f t ih = ih t
 
-pub placed-put : (qs : List Put) (x : ℕ) → isPut qs x ≡ true → place (signalsOf qs) x < length (signalsOf qs)
-unfolding isPut place
+pub placed-put : (qs : List Put) (x : ℕ) → isPut qs x ≡ true → rank (signalsOf qs) x < length (signalsOf qs)
+unfolding isPut rank
 placed-put [] x e = absurd (false≢true e)
 placed-put (q ∷ qs) x e = go (eqb (q .signal) x) e (λ f. placed-put qs x f)
   where
-    go : (b : Bool) → b || isPut qs x ≡ true → (isPut qs x ≡ true → place (signalsOf qs) x < length (signalsOf qs)) →
-        cond b 0 (suc (place (signalsOf qs) x)) < suc (length (signalsOf qs))
+    go : (b : Bool) → b || isPut qs x ≡ true → (isPut qs x ≡ true → rank (signalsOf qs) x < length (signalsOf qs)) →
+        cond b 0 (suc (rank (signalsOf qs) x)) < suc (length (signalsOf qs))
     go true f ih = omega arith
     go false f ih = omega (arith, ih f)
-
--- What the schedule of a program keeps.
-pub record Ordered (p : Program) (s : Schedule) : Type 0 where
-  pub phases : (x : ℕ) → x < count p → phaseOf s x < signalAt p x .period
-  pub put : (x : ℕ) → x < count p → place (s .order) x < length (s .order)
-  pub once : (j : ℕ) → j < length (s .order) → place (s .order) (getD (s .order) j 0) ≡ j
-  pub only : (j : ℕ) → j < length (s .order) → getD (s .order) j 0 < count p
 
 pub placed-ordered : (p : Program) (puts : Parsed (List Put)) (s : Schedule) → placed p puts ≡ accepted s →
     Ordered p s × (length (s .order) ≡ length (puts .value))

@@ -20,14 +20,14 @@ abbrev pub noRead : Read
 noRead = record { place = 0; kind = Now; operands = record { signal = 0; factor = 1; index = Fixed 0 } }
 
 -- The read of w among the reads of an equation.
-unfoldable pub readOf : ℕ → List Read → Read
-readOf w [] = noRead
-readOf w (ρ ∷ ρs) = cond (eqb (ρ .operands .signal) w) ρ (readOf w ρs)
+unfoldable pub readAmong : ℕ → List Read → Read
+readAmong w [] = noRead
+readAmong w (ρ ∷ ρs) = cond (eqb (ρ .operands .signal) w) ρ (readAmong w ρs)
 
 -- The reads by which one goes back from r through the links before it, the nearest first.
 unfoldable pub readsBack : Program → ℕ → List ℕ → List Read
 readsBack p r [] = []
-readsBack p r (w ∷ ws) = readOf w (bodyReads (signalAt p r .body)) ∷ readsBack p w ws
+readsBack p r (w ∷ ws) = readAmong w (bodyReads (signalAt p r .body)) ∷ readsBack p w ws
 
 -- A chain's signals from the last link to the first.
 abbrev pub backwards : Chain → List ℕ

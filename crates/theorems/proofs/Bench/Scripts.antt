@@ -203,7 +203,7 @@ module _ (p : Program) where
 
   inputs-on : (a : Action) (actions : List Action) → ((at x : ℕ) (w : ℤ) → alter at x w ≡ a → InputOf p x) → Inputs actions →
       Inputs (a ∷ actions)
-  inputs-on a actions here rest at x w (_among_.first e) = here at x w e
+  inputs-on a actions here rest at x w (_among_.here e) = here at x w e
   inputs-on a actions here rest at x w (_among_.later m) = rest at x w m
 
   sets : (actions : List Action) → Sets actions (inputsOnly (isInputOf p) actions)
@@ -233,7 +233,7 @@ module _ (p : Program) where
   unfolding inputsOnly _▷_ provided
   inputs-back [] h = refl
   inputs-back (alter at x w ∷ actions) h =
-      rw (input-of x .1 (h at x w (_among_.first refl))) (inputs-back actions (λ a y v m. h a y v (_among_.later m)))
+      rw (input-of x .1 (h at x w (_among_.here refl))) (inputs-back actions (λ a y v m. h a y v (_among_.later m)))
   inputs-back (run n ∷ actions) h = inputs-back actions (λ a y v m. h a y v (_among_.later m))
 
   not-input : (x : ℕ) → ¬ InputOf p x → isInputOf p x ≡ false

@@ -1,22 +1,21 @@
 -- A bench trial is accepted and refused exactly under the conditions of `TrialRefusals`. Assumes nothing.
-use Prim.Native.Nat.{ℕ, _-_, _≤_, _<_}
+use Prim.Native.Nat.{ℕ, _≤_, _<_}
 use mathlib.Core.List.{List}
 use mathlib.Core.Logic.{_↔_}
 use mathlib.Core.Path.{_≡_, refl, _∙_}
 use lib.IntN.{ℤ}
 use lib.ListN.{length}
 use Rattle.model.specs.Rules.Compile.{Pair, pairOf}
-use Rattle.theorems.specs.Conditions.{_among_, LegalPair}
 use Rattle.model.specs.Rules.Image.{imageOf}
 use Rattle.model.specs.Rules.Outcome.{Outcome, accepted, refused, fault, _▷_}
 use Rattle.model.specs.Rules.Program.{Program}
 use Rattle.model.specs.Rules.Script.{Action, alter, scriptOf, isInputOf, inputsOnly, checkOf, callsOf}
 use Rattle.model.specs.Rules.Trial.{linesFrom, startOf, trialOf}
+use Rattle.theorems.specs.Conditions.{_among_, LegalPair}
 use Rattle.theorems.specs.TrialRefusals.{SpellsScript, StopsScript, InputOf, WrongSet, LegalScript, TrialRefusedAt}
-use Rattle.theorems.specs.Refusals.{RefusedAt}
-use Rattle.theorems.proofs.Pairs.Exact.{accepted-exactly, refused-exactly}
-use Rattle.theorems.proofs.Pairs.Judged.{Judged, Answers, answers-then, answers-accepted, answers-refused, Only}
 use Rattle.model.proofs.Basics.Outcomes.{accepted-then, refused-then}
+use Rattle.theorems.proofs.Pairs.Exact.{pair-judged}
+use Rattle.theorems.proofs.Pairs.Judged.{Judged, Answers, answers-then, answers-accepted, answers-refused, Only}
 use Rattle.theorems.proofs.Bench.Scripts.{script-judged, script-actions, sets-judged, long-judged}
 
 -- The refusals of a script for an accepted pair.
@@ -94,13 +93,10 @@ module _ (program schedule text : List ℕ) where
     pub script : LegalScript (pair .program) text (scriptOf text .actions)
     pub lines-are : lines ≡ linesOf pair text
 
-  pair-judged : Judged (LegalPair program schedule) (RefusedAt program schedule) (pairOf program schedule)
-  pair-judged = record { accepts = accepted-exactly program schedule; refuses = refused-exactly program schedule }
-
   trial-answers : Answers Tried (TrialRefusedAt program schedule text) (trialOf program schedule text)
   unfolding trialOf
   trial-answers =
-      answers-then Tried R (pairOf program schedule) _ pair-judged (λ n x f. TrialRefusedAt.pair f) (λ q legal.
+      answers-then Tried R (pairOf program schedule) _ (pair-judged program schedule) (λ n x f. TrialRefusedAt.pair f) (λ q legal.
       answers-then Tried R (checkOf (isInputOf (q .program)) text) _ (check-judged (q .program) text)
       (λ n x f. script legal f) (λ u s.
       record { pair = q; legal = legal; script = s; lines-are = refl }))
@@ -117,11 +113,11 @@ module _ (program schedule text : List ℕ) where
   passed : {q : Pair} {o : Outcome (List (List ℕ))} → LegalPair program schedule q →
       (checkOf (isInputOf (q .program)) text ▷ λ _. accepted (linesOf q text)) ≡ o → trialOf program schedule text ≡ o
   unfolding trialOf
-  passed {q} l e = accepted-then _ _ _ (pair-judged .accepts q .1 l) ∙ e
+  passed {q} l e = accepted-then _ _ _ (pair-judged program schedule .accepts q .1 l) ∙ e
 
   trial-back : {n x : ℕ} → TrialRefusedAt program schedule text n x → trialOf program schedule text ≡ refused (fault n x)
   unfolding trialOf
-  trial-back (TrialRefusedAt.pair f) = refused-then _ _ _ (pair-judged .refuses _ _ .1 f)
+  trial-back (TrialRefusedAt.pair f) = refused-then _ _ _ (pair-judged program schedule .refuses _ _ .1 f)
   trial-back (TrialRefusedAt.long {q = q} l h) =
       passed l (refused-then _ _ _ (refused-checked (q .program) text (ScriptRefusedAt.long h)))
   trial-back (TrialRefusedAt.stops {q = q} l short s) =

@@ -5,12 +5,25 @@ use mathlib.Core.Path.{_≡_, refl, ap, _∙_}
 use lib.IntN.{ℤ}
 use lib.ListN.{take, drop, take-append-drop}
 use Rattle.model.specs.Says.Calls.{Call, callOf, logged, after, logAfter}
-use Rattle.theorems.specs.Held.{answersOf}
-use Rattle.theorems.specs.Lists.{Memory, Lent, Writer, partOf, withPart, writerOf, owns, answerIn, leftIn, leftAll}
-use Rattle.theorems.specs.Lists.{ownAnswers, ownLog, OthersRefused, AsWithout}
 use Rattle.model.specs.Rules.Outcome.{Outcome, refused}
+use Rattle.theorems.specs.Held.{answersOf}
+use Rattle.theorems.specs.Lists.{
+  Memory,
+  Lent,
+  Writer,
+  partOf,
+  withPart,
+  owns,
+  answerIn,
+  leftIn,
+  leftAll,
+  ownAnswers,
+  ownLog,
+  OthersRefused,
+  AsWithout,
+}
 use Rattle.model.specs.declared.Fault.{Fault}
-use Rattle.theorems.proofs.Calls.Refused.{call-keeps, writer-keeps}
+use Rattle.theorems.proofs.Calls.Refused.{reset-keeps, cycle-keeps, writer-keeps}
 
 put-back : {A : Type 0} (from n : ℕ) (xs : List A) → withPart from n (partOf from n xs) xs ≡ xs
 put-back {A} from n xs =
@@ -19,10 +32,17 @@ put-back {A} from n xs =
 module _ (size : ℕ) where
   words-left : (m : Memory) (image : List ℕ) (from n : ℕ) (c : Call) (f : Fault) →
       answerIn size m (Lent.words image from n c) ≡ refused f → leftIn size m (Lent.words image from n c) ≡ m
+  unfolding callOf
   words-left m image from n c f e =
       ap (λ (st : List ℤ). record { buffer = m .buffer; state = st })
-      (ap (λ (part : List ℤ). withPart from n part (m .state)) (call-keeps image (partOf from n (m .state)) c f e) ∙
-      put-back from n (m .state))
+      (ap (λ (part : List ℤ). withPart from n part (m .state)) (keeps c e) ∙ put-back from n (m .state))
+    where
+      part : List ℤ
+      part = partOf from n (m .state)
+
+      keeps : (c : Call) → callOf image part c .answer ≡ refused f → callOf image part c .left ≡ part
+      keeps Call.reset e = reset-keeps image part f e
+      keeps (Call.cycle samples) e = cycle-keeps image part samples f e
 
   bytes-left : (m : Memory) (from n : ℕ) (w : Writer) (f : Fault) → answerIn size m (Lent.bytes from n w) ≡ refused f →
       leftIn size m (Lent.bytes from n w) ≡ m

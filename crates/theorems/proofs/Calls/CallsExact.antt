@@ -1,7 +1,7 @@
 -- Compile, reset and cycle do their job, and are refused with each number at its place, exactly under the stated conditions.
 -- Assumes nothing.
 use Prim.Native.Nat.{ℕ, _+_, _≤_, _<_}
-use mathlib.Core.Bool.{true, false, false≢true}
+use mathlib.Core.Bool.{true, false≢true}
 use mathlib.Core.List.{List, _++_}
 use mathlib.Core.Logic.{_↔_}
 use mathlib.Core.Path.{_≡_, refl, sym, ap, ap₂, subst, _∙_}
@@ -11,19 +11,6 @@ use lib.Dec.{leb, ltb}
 use lib.IntN.{ℤ, pos, negsuc}
 use lib.ListN.{length, getD, drop}
 use Rattle.model.specs.Rules.Compile.{Pair, pairOf, verdictOf, compileOf}
-use Rattle.theorems.specs.Conditions.{LegalPair}
-use Rattle.theorems.specs.Exactness.{
-  Exactly,
-  sizeOf,
-  Compiles,
-  CompileRefusedAt,
-  Usable,
-  Resets,
-  ResetRefusedAt,
-  Positioned,
-  Cycles,
-  CycleRefusedAt,
-}
 use Rattle.model.specs.Rules.Image.{writtenOf}
 use Rattle.model.specs.Rules.Machine.{
   Job,
@@ -41,9 +28,23 @@ use Rattle.model.specs.Rules.Machine.{
   cycleOf,
 }
 use Rattle.model.specs.Rules.Outcome.{Outcome, accepted, refused, fault, _▷_, provided}
-use Rattle.theorems.specs.Refusals.{RefusedAt}
+use Rattle.theorems.specs.Conditions.{LegalPair}
+use Rattle.theorems.specs.Exactness.{
+  Exactly,
+  sizeOf,
+  Compiles,
+  CompileRefusedAt,
+  Usable,
+  Resets,
+  ResetRefusedAt,
+  Positioned,
+  Cycles,
+  CycleRefusedAt,
+}
 use Rattle.theorems.specs.WellFormed.{WellLent}
-use Rattle.theorems.proofs.Pairs.Exact.{accepted-exactly, refused-exactly}
+use Rattle.model.proofs.Basics.Outcomes.{accepted≢refused, accepted-same, accepted-then, refused-then, then-then}
+use Rattle.model.proofs.Images.Tails.{lent-ok, lent-formed, lent-bears, part-is, written-length}
+use Rattle.theorems.proofs.Pairs.Exact.{pair-judged}
 use Rattle.theorems.proofs.Images.FormedExactly.{well-formed-exactly}
 use Rattle.theorems.proofs.Pairs.Judged.{
   Judged,
@@ -54,8 +55,6 @@ use Rattle.theorems.proofs.Pairs.Judged.{
   answers-accepted,
   answers-refused,
 }
-use Rattle.model.proofs.Basics.Outcomes.{accepted≢refused, accepted-same, accepted-then, refused-then, then-then}
-use Rattle.model.proofs.Images.Tails.{lent-ok, lent-formed, lent-bears, part-is, written-length}
 
 -- Steps whose answer has its condition, where each condition gives its answer.
 both-ways : {A : Type 0} {Q : A → Type 0} {R : ℕ → ℕ → Type 0} (o : Outcome A) → Answers Q R o →
@@ -127,12 +126,9 @@ module _ (program schedule buffer : List ℕ) where
       (provided-judged _ 17 (sizeOf q) (sizeOf q ≤ length buffer) (length buffer < sizeOf q) (leb-true _ _, le-leb _ _)
       (leb-false _ _) (λ l h. omega arith))
 
-  pair-judged : Judged (LegalPair program schedule) (RefusedAt program schedule) (pairOf program schedule)
-  pair-judged = record { accepts = accepted-exactly program schedule; refuses = refused-exactly program schedule }
-
   compile-answers : Answers (Does compileDone) compileRefused (pairOf program schedule ▷ writes)
   compile-answers =
-      answers-then _ compileRefused _ _ pair-judged (λ n x f. CompileRefusedAt.pair f) (λ q legal.
+      answers-then _ compileRefused _ _ (pair-judged program schedule) (λ n x f. CompileRefusedAt.pair f) (λ q legal.
       answers-then _ compileRefused _ _ (space-judged q) (λ n x f. space legal f) (λ u fits.
       record { pair = q; legal = legal; is = size q; fits = omega (arith, size q); leaves = refl }))
     where
@@ -144,15 +140,15 @@ module _ (program schedule buffer : List ℕ) where
   compile-done j d =
       let q = d .pair in
       let same : length (written q) ≡ j .yields = size q ∙ sym (d .is) in
-      accepted-then _ _ _ (pair-judged .accepts q .1 (d .legal)) ∙
+      accepted-then _ _ _ (pair-judged program schedule .accepts q .1 (d .legal)) ∙
       accepted-then _ _ _ (space-judged q .accepts tt .1 (omega (arith, d .is, d .fits))) ∙
       ap₂ (λ (n : ℕ) (l : List ℕ). accepted (record { yields = n; leaves = l })) same
       (ap (λ (n : ℕ). written q ++ drop n buffer) same ∙ sym (d .leaves))
 
   compile-refused : {n x : ℕ} → compileRefused n x → pairOf program schedule ▷ writes ≡ refused (fault n x)
-  compile-refused (CompileRefusedAt.pair r) = refused-then _ _ _ (pair-judged .refuses _ _ .1 r)
+  compile-refused (CompileRefusedAt.pair r) = refused-then _ _ _ (pair-judged program schedule .refuses _ _ .1 r)
   compile-refused (CompileRefusedAt.space {q = q} legal lt) =
-      accepted-then _ _ _ (pair-judged .accepts q .1 legal) ∙
+      accepted-then _ _ _ (pair-judged program schedule .accepts q .1 legal) ∙
       refused-then _ _ _ (space-judged q .refuses 17 (sizeOf q) .1 (Only.only lt))
 
   -- Compile does its job, or is refused by 1 to 17, exactly under its condition.

@@ -1,38 +1,21 @@
 -- The converter answers exactly as its statements say, and what it makes of an accepted program keeps its streams and its image.
 -- Assumes nothing.
 use Prim.Native.Nat.{ℕ, _≤_, _<_}
-use mathlib.Core.Bool.{Bool, true, false}
 use mathlib.Core.List.{List, _++_}
-use mathlib.Core.Logic.{_↔_}
 use mathlib.Core.Path.{_≡_, refl, sym, ap, _∙_}
 use native.Mathlib.Omega.{arith}
-use borrow.Author.Tests.{leb-true, leb-false, le-leb, lt-leb}
+use borrow.Author.Tests.{leb-true, leb-false, le-leb}
 use lib.Dec.{leb}
 use lib.ListN.{length, drop}
-use Rattle.model.specs.Rules.Compile.{Pair, pairOf}
-use Rattle.theorems.specs.Conditions.{LegalPairWith}
-use Rattle.theorems.specs.Conversion.{earlierFactor, ConvertsTo, ConvertRefusedAt, ConvertsExactly, ConversionKeeps}
-use Rattle.model.specs.Says.Grammar.{LegalWith, LegalProgram}
+use Rattle.model.specs.Says.Grammar.{LegalWith}
 use Rattle.model.specs.Rules.Machine.{Job, Effect, effect}
-use Rattle.model.specs.Rules.Outcome.{Outcome, accepted, refused, refuse, fault, _▷_, provided}
-use Rattle.model.specs.Rules.Program.{Program, empty, parseWith, parseProgram}
+use Rattle.model.specs.Rules.Outcome.{Outcome, accepted, refused, fault, _▷_, provided}
+use Rattle.model.specs.Rules.Program.{Program, parseWith}
 use Rattle.model.specs.Rules.Rewrite.{rewrite, convertOf}
-use Rattle.theorems.specs.Stops.{Stops}
-use Rattle.theorems.proofs.Conversion.Converted.{Common, renamed-common, renamed-legal}
-use Rattle.theorems.proofs.Pairs.Exact.{text-judged, accepted-exactly}
-use Rattle.theorems.proofs.Pairs.Judged.{
-  Judged,
-  Only,
-  provided-judged,
-  Answers,
-  answers-then,
-  answers-accepted,
-  answers-refused,
-}
+use Rattle.theorems.specs.Conversion.{earlierFactor, ConvertsTo, ConvertRefusedAt, ConvertsExactly, Converts}
 use Rattle.model.proofs.Basics.Outcomes.{accepted-then, refused-then}
-use Rattle.theorems.proofs.Texts.Parses.{with-legal}
-use Rattle.theorems.proofs.Conversion.Rewritten.{Rewritten, rewrite-legal}
-use Rattle.theorems.proofs.Conversion.Unchanged.{rewrite-twice}
+use Rattle.theorems.proofs.Pairs.Exact.{text-judged}
+use Rattle.theorems.proofs.Pairs.Judged.{Judged, Only, provided-judged, Answers, answers-then, answers-refused}
 
 module _ (program buffer : List ℕ) where
   abbrev size : ℕ
@@ -135,32 +118,8 @@ module _ (program buffer : List ℕ) where
       same {n} {x} e = let z : q ≡ fault n x = cc in ap refused z
 
 -- A conversion is done, or refused with each number at its place, exactly under its condition.
-pub convert-exactly : (program buffer : List ℕ) → ConvertsExactly program buffer (convertOf program buffer)
+pub convert-exactly : (program buffer : List ℕ) → Converts program buffer
 unfolding convertOf
 convert-exactly program buffer =
     exactly program buffer (job program buffer) (answers program buffer)
     (λ n c. job-done program buffer c) (λ n x r. job-refused program buffer r)
-
--- With every schedule that the old program is accepted with by the earlier rule.
-pub convert-keeps : (old schedule : List ℕ) (u : Pair) → LegalPairWith earlierFactor old schedule u → ConversionKeeps old schedule u
-convert-keeps old schedule u l =
-    let w = rewrite-legal old (u .program) (l .places .rates .legal) in
-    let c = renamed-common (w .renamed) (u .schedule) in
-    let q : Pair = record { program = w .program; schedule = u .schedule; hypercycle = u .hypercycle } in
-    record {
-      program = w .program;
-      accepts =
-          accepted-exactly (rewrite old) schedule q .1
-          (renamed-legal old (rewrite old) schedule u (w .program) l (omega (arith, w .short, l .places .rates .short .0)) (w .legal)
-          (w .renamed));
-      streams = c .streams;
-      image = sym (c .image (u .hypercycle));
-    }
-
--- What is converted is read by the rule of today, and converting it again changes nothing.
-pub convert-new : (old : List ℕ) (p : Program) → parseWith earlierFactor old ≡ accepted p →
-    (q : Program) × (parseProgram (rewrite old) ≡ accepted q) × (rewrite (rewrite old) ≡ rewrite old)
-convert-new old p e =
-    let l = with-legal earlierFactor old p .0 e in
-    let w = rewrite-legal old p l in
-    (w .program, with-legal _ (rewrite old) (w .program) .1 (w .legal), rewrite-twice old p l)

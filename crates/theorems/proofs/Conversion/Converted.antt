@@ -31,7 +31,7 @@ use Rattle.model.specs.Rules.Image.{
   writtenOf,
 }
 use Rattle.model.specs.Rules.Latency.{
-  readOf,
+  readAmong,
   readsBack,
   backwards,
   onward,
@@ -66,7 +66,7 @@ use Rattle.model.specs.Rules.Program.{
   weightOf,
 }
 use Rattle.model.specs.Rules.Rates.{countReads}
-use Rattle.model.specs.Rules.Reads.{Rate, rateOf, due, uses, settle, indexOf, settled}
+use Rattle.model.specs.Rules.Reads.{Rate, rateOf, due, uses, settle, settledIndex, settled}
 use Rattle.model.specs.Rules.Search.{first, firstFrom, foundOr, sum, table, chosen, joinFrom}
 use Rattle.model.specs.Rules.Schedule.{Schedule, Put, phaseOf, putPhase, scheduleOf}
 use Rattle.theorems.specs.Conditions.{
@@ -124,7 +124,7 @@ settle-single test = go (test 0)
     go true = refl
     go false = refl
 
-single-index : (kind : Kind) (w r : Rate) (n : ℕ) (i : Index) → isSingle n i ≡ true → indexOf kind w r n i ≡ 0
+single-index : (kind : Kind) (w r : Rate) (n : ℕ) (i : Index) → isSingle n i ≡ true → settledIndex kind w r n i ≡ 0
 unfolding settle
 single-index kind w r n (Fixed i) e = eqb-true i 0 (and-eq-true-iff (eqb n 1) _ .0 e .1)
 single-index kind w r n Open e = rw (eqb-true n 1 (and-eq-true-iff (eqb n 1) true .0 e .0)) (settle-single _)
@@ -149,9 +149,9 @@ module _ (kind : Kind) (n : ℕ) (i : Index) where
       go true h = h refl
       go false h = same
 
-  after-uses : (w r : Rate) (k : ℕ) → uses kind′ n (indexOf kind′ w r n index′) k ≡ uses kind n (indexOf kind w r n i) k
+  after-uses : (w r : Rate) (k : ℕ) → uses kind′ n (settledIndex kind′ w r n index′) k ≡ uses kind n (settledIndex kind w r n i) k
   after-uses w r k =
-      after (λ a j. uses a n (indexOf a w r n j) k ≡ uses kind n (indexOf kind w r n i) k) refl
+      after (λ a j. uses a n (settledIndex a w r n j) k ≡ uses kind n (settledIndex kind w r n i) k) refl
       (λ e. rw (single-index kind w r n i e, single-factor n i e) (single-uses kind k))
 
   after-rule : (w r : ℕ) → PeriodRule kind w r n ↔ PeriodRule kind′ w r n
@@ -232,13 +232,13 @@ unfolding countReads
 count-bare-reads w [] = refl
 count-bare-reads w (ρ ∷ ρs) = rw (count-bare-reads w ρs)
 
-read-of-bare : (w : ℕ) (ρs : List Read) → readOf w (map bareRead ρs) ≡ bareRead (readOf w ρs)
-unfolding readOf
+read-of-bare : (w : ℕ) (ρs : List Read) → readAmong w (map bareRead ρs) ≡ bareRead (readAmong w ρs)
+unfolding readAmong
 read-of-bare w [] = refl
 read-of-bare w (ρ ∷ ρs) = go (eqb (ρ .operands .signal) w) (read-of-bare w ρs)
   where
-    go : (b : Bool) → readOf w (map bareRead ρs) ≡ bareRead (readOf w ρs) →
-        cond b (bareRead ρ) (readOf w (map bareRead ρs)) ≡ bareRead (cond b ρ (readOf w ρs))
+    go : (b : Bool) → readAmong w (map bareRead ρs) ≡ bareRead (readAmong w ρs) →
+        cond b (bareRead ρ) (readAmong w (map bareRead ρs)) ≡ bareRead (cond b ρ (readAmong w ρs))
     go true ih = refl
     go false ih = ih
 
@@ -257,11 +257,11 @@ records-bare (x ∷ xs) (o ∷ os) = rw (records-bare xs os)
 -- What holds of the elements of a list holds of what they are mapped to.
 module _ {A B : Type 0} (f : A → B) (Q : A → Type 0) (R : B → Type 0) where
   among-map : (a : A) (xs : List A) → a among xs → f a among map f xs
-  among-map a (x ∷ xs) (_among_.first e) = _among_.first (ap f e)
+  among-map a (x ∷ xs) (_among_.here e) = _among_.here (ap f e)
   among-map a (x ∷ xs) (_among_.later m) = _among_.later (among-map a xs m)
 
   map-among : (b : B) (xs : List A) → b among map f xs → (a : A) × (a among xs) × (b ≡ f a)
-  map-among b (x ∷ xs) (_among_.first e) = (x, _among_.first refl, e)
+  map-among b (x ∷ xs) (_among_.here e) = (x, _among_.here refl, e)
   map-among b (x ∷ xs) (_among_.later m) = let h = map-among b xs m in (h .0, _among_.later (h .1), h .2)
 
   -- It is enough to show it of each element.

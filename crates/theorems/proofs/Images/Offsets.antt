@@ -1,13 +1,11 @@
 -- Every offset in the image of an accepted pair fits its two bytes: nothing of it is cut. Assumes nothing.
-use Prim.Native.Nat.{ℕ, _≤_, _<_}
-use mathlib.Core.List.{List}
+use Prim.Native.Nat.{ℕ, _≤_}
 use mathlib.Core.Path.{_≡_, sym, _∙_}
 use native.Mathlib.Omega.{arith}
-use lib.ListN.{length, getD}
-use Rattle.model.specs.Rules.Image.{codes, runLists, offsets, listsAt, codesAt, lengthOf, imageOf}
-use Rattle.model.specs.Rules.Machine.{listOffset, codeOffset}
+use Rattle.model.specs.Rules.Image.{codes, runLists, listsAt, codesAt, lengthOf, imageOf}
 use Rattle.model.specs.Rules.Program.{Program, count}
 use Rattle.model.specs.Rules.Schedule.{Schedule}
+use Rattle.theorems.specs.Images.{Fits, OffsetsFit}
 use Rattle.model.proofs.Images.Bounds.{Bounded}
 use Rattle.model.proofs.Images.Stretches.{
   parts-most,
@@ -18,19 +16,6 @@ use Rattle.model.proofs.Images.Stretches.{
   list-offset,
   code-offset,
 }
-
--- An offset that an image gives is the one of the layout, at most 65,535, and within the image.
-pub record Fits (image : List ℕ) (given layout : ℕ) : Type 0 where
-  pub exact : given ≡ layout
-  pub bound : given ≤ 65535
-  pub inside : given ≤ length image
-
--- The code offsets of all signals, and the offsets of all run lists with the end of the last.
-pub record OffsetsFit (p : Program) (s : Schedule) (h : ℕ) : Type 0 where
-  pub codeOffsets : (x : ℕ) → x < count p →
-      Fits (imageOf p s h) (codeOffset (imageOf p s h) x) (getD (offsets (codesAt p s h) (codes p)) x 0)
-  pub listOffsets : (c : ℕ) → c ≤ h →
-      Fits (imageOf p s h) (listOffset (imageOf p s h) c) (getD (offsets (listsAt (count p) h) (runLists p s h)) c 0)
 
 module _ (p : Program) (s : Schedule) (h : ℕ) (bounded : Bounded p s h) where
   fits : {given start layout : ℕ} → given ≡ start → layout ≡ start → start ≤ lengthOf p s h →

@@ -6,7 +6,6 @@ use mathlib.Core.Logic.{_↔_}
 use mathlib.Core.Path.{_≡_, refl, _∙_}
 use Rattle.model.specs.Says.Feasible.{Multiple}
 use Rattle.model.specs.Rules.Compile.{shortEnough, Pair, pairOf}
-use Rattle.theorems.specs.Conditions.{ShortEnough, DeclaredAndRated, LegalRates, LegalPlaces, LegalPair}
 use Rattle.model.specs.Says.Grammar.{LegalWith, LegalProgram, LegalSchedule}
 use Rattle.model.specs.Rules.Latency.{timely}
 use Rattle.model.specs.Rules.Load.{loaded}
@@ -14,9 +13,11 @@ use Rattle.model.specs.Rules.Outcome.{Outcome, accepted, refused, fault, _▷_,
 use Rattle.model.specs.Rules.Program.{leastFactor, Program, empty, parseWith, parseProgram}
 use Rattle.model.specs.Rules.Rates.{declaredAndRated, hypercycle, linked}
 use Rattle.model.specs.Rules.Reads.{met}
-use Rattle.theorems.specs.Refusals.{RefusedAt}
 use Rattle.model.specs.Rules.Schedule.{Schedule, Put, parseSchedule, placed}
+use Rattle.theorems.specs.Conditions.{ShortEnough, DeclaredAndRated, LegalRates, LegalPlaces, LegalPair}
+use Rattle.theorems.specs.Refusals.{RefusedAt}
 use Rattle.theorems.specs.Stops.{Stops, StopsPuts}
+use Rattle.model.proofs.Basics.Outcomes.{accepted-then, refused-then}
 use Rattle.theorems.proofs.Pairs.Judged.{
   Judged,
   Answers,
@@ -31,7 +32,6 @@ use Rattle.theorems.proofs.Pairs.Judged.{
 }
 use Rattle.theorems.proofs.Pairs.JudgedPuts.{PlacedFault, placed-judged}
 use Rattle.theorems.proofs.Pairs.JudgedRuns.{met-judged, loaded-judged, timely-judged}
-use Rattle.model.proofs.Basics.Outcomes.{accepted-then, refused-then}
 use Rattle.theorems.proofs.Texts.Parses.{with-legal, schedule-legal}
 use Rattle.theorems.proofs.Texts.Stopped.{with-stops, schedule-stops}
 
@@ -185,3 +185,6 @@ module _ (program schedule : List ℕ) where
   pub refused-exactly : (n x : ℕ) → (pairOf program schedule ≡ refused (fault n x)) ↔ RefusedAt program schedule n x
   unfolding Q R
   refused-exactly n x = (answers-refused Q R (pairOf program schedule) n x answers, refused-back)
+
+  pub pair-judged : Judged (LegalPair program schedule) (RefusedAt program schedule) (pairOf program schedule)
+  pair-judged = record { accepts = accepted-exactly; refuses = refused-exactly }

@@ -19,34 +19,34 @@ use Rattle.model.proofs.Basics.Outcomes.{Lowest, lowest-none, none-lowest, lowe
 -- Elements of lists.
 module _ {A : Type 0} where
   pub among-at : (x : A) (xs : List A) (d : A) → x among xs → (j : ℕ) × (j < length xs) × (getD xs j d ≡ x)
-  among-at x (y ∷ ys) d (_among_.first e) = (0, omega arith, sym e)
+  among-at x (y ∷ ys) d (_among_.here e) = (0, omega arith, sym e)
   among-at x (y ∷ ys) d (_among_.later m) =
       let h = among-at x ys d m in (suc (h .0), omega (arith, h .1), h .2)
 
   pub at-among : (xs : List A) (d : A) (j : ℕ) → j < length xs → getD xs j d among xs
   at-among [] d j lt = absurd (omega arith)
-  at-among (y ∷ ys) d zero lt = _among_.first refl
+  at-among (y ∷ ys) d zero lt = _among_.here refl
   at-among (y ∷ ys) d (suc j) lt = _among_.later (at-among ys d j (omega arith))
 
   pub all-among : (Q : A → Type 0) (xs : List A) → All Q xs → (x : A) → x among xs → Q x
-  all-among Q (y ∷ ys) h x (_among_.first e) = subst Q (sym e) (h .0)
+  all-among Q (y ∷ ys) h x (_among_.here e) = subst Q (sym e) (h .0)
   all-among Q (y ∷ ys) h x (_among_.later m) = all-among Q ys (h .1) x m
 
   pub among-all : (Q : A → Type 0) (xs : List A) → ((x : A) → x among xs → Q x) → All Q xs
   among-all Q [] h = tt
-  among-all Q (y ∷ ys) h = (h y (_among_.first refl), among-all Q ys (λ x m. h x (_among_.later m)))
+  among-all Q (y ∷ ys) h = (h y (_among_.here refl), among-all Q ys (λ x m. h x (_among_.later m)))
 
   pub among-none : (xs : List A) → ((x : A) → ¬ (x among xs)) → xs ≡ []
   among-none [] h = refl
-  among-none (y ∷ ys) h = absurd (h y (_among_.first refl))
+  among-none (y ∷ ys) h = absurd (h y (_among_.here refl))
 
   pub none-among : (xs : List A) (x : A) → xs ≡ [] → ¬ (x among xs)
-  none-among (y ∷ ys) x e (_among_.first q) = absurd (omega (arith, ap length e))
+  none-among (y ∷ ys) x e (_among_.here q) = absurd (omega (arith, ap length e))
   none-among (y ∷ ys) x e (_among_.later m) = absurd (omega (arith, ap length e))
 
   pub among-append : (x : A) (xs ys : List A) → x among (xs ++ ys) → (x among xs) ⊎ (x among ys)
   among-append x [] ys m = inr m
-  among-append x (z ∷ xs) ys (_among_.first e) = inl (_among_.first e)
+  among-append x (z ∷ xs) ys (_among_.here e) = inl (_among_.here e)
   among-append x (z ∷ xs) ys (_among_.later m) = go (among-append x xs ys m)
     where
       go : (x among xs) ⊎ (x among ys) → (x among (z ∷ xs)) ⊎ (x among ys)
@@ -54,7 +54,7 @@ module _ {A : Type 0} where
       go (inr n) = inr n
 
   pub append-left : (x : A) (xs ys : List A) → x among xs → x among (xs ++ ys)
-  append-left x (z ∷ xs) ys (_among_.first e) = _among_.first e
+  append-left x (z ∷ xs) ys (_among_.here e) = _among_.here e
   append-left x (z ∷ xs) ys (_among_.later m) = _among_.later (append-left x xs ys m)
 
   pub append-right : (x : A) (xs ys : List A) → x among ys → x among (xs ++ ys)
@@ -64,10 +64,10 @@ module _ {A : Type 0} where
 -- A test that fails puts one element into the list.
 module _ {A : Type 0} where
   pub among-cond : (t : Bool) (x y : A) → x among (cond t [] (y ∷ [])) → (t ≡ false) × (x ≡ y)
-  among-cond false x y (_among_.first e) = (refl, e)
+  among-cond false x y (_among_.here e) = (refl, e)
 
   pub cond-among : (t : Bool) (x : A) → t ≡ false → x among (cond t [] (x ∷ []))
-  cond-among t x e = rw e (_among_.first refl)
+  cond-among t x e = rw e (_among_.here refl)
 
 -- The elements of joined lists.
 module _ {A B : Type 0} (f : ℕ → A → List B) where

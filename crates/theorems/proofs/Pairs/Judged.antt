@@ -169,9 +169,9 @@ module _ (p : Program) where
       go : (a b : Bool) → ltb (ρ .operands .signal) (count p) ≡ a → periodRule (ρ .kind) w v n ≡ b →
           f among (cond a (cond b [] (fault 8 (ρ .place) ∷ [])) (fault 7 (ρ .place) ∷ [])) →
           RateFault p (f .number) (f .place)
-      go true false d e (_among_.first q) =
+      go true false d e (_among_.here q) =
           rw q (RateFault.brokenRule r ρ i (ltb-true _ _ d) (λ k. false≢true (sym e ∙ true-periods (ρ .kind) w v n k)))
-      go false b d e (_among_.first q) =
+      go false b d e (_among_.here q) =
           rw q (RateFault.undeclaredRead r ρ i (λ k. false≢true (sym d ∙ lt-ltb _ _ k)))
 
   link-fault : (l : Link) (f : Fault) → LinkIn p l → f among linkFaults p l → RateFault p (f .number) (f .place)
@@ -236,12 +236,12 @@ module _ (p : Program) where
       fault n x among (joinFrom 0 readsOf (p .signals) ++ joinFrom 0 linksOf (p .chains))
   unfolding readFaults linkFaults
   rate-complete n x (RateFault.undeclaredRead r ρ i u) =
-      read-among r ρ (fault 7 (ρ .place)) i (rw (not-below u) (_among_.first refl))
+      read-among r ρ (fault 7 (ρ .place)) i (rw (not-below u) (_among_.here refl))
   rate-complete n x (RateFault.undeclaredLink l i u) =
-      link-among l (fault 7 (l .place)) i (rw (not-below u) (_among_.first refl))
+      link-among l (fault 7 (l .place)) i (rw (not-below u) (_among_.here refl))
   rate-complete n x (RateFault.brokenRule r ρ i d u) =
       read-among r ρ (fault 8 (ρ .place)) i
-      (rw (lt-ltb (ρ .operands .signal) (count p) d, not-rule) (_among_.first refl))
+      (rw (lt-ltb (ρ .operands .signal) (count p) d, not-rule) (_among_.here refl))
     where
       not-rule : periodRule (ρ .kind) (signalAt p (ρ .operands .signal) .period) (signalAt p r .period) (ρ .operands .factor) ≡ false
       not-rule = not-true-false _ (λ e. u (periods-true (ρ .kind) _ _ (ρ .operands .factor) e))

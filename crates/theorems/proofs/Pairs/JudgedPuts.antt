@@ -99,10 +99,10 @@ module _ (p : Program) where
             ltb (q .phase) (signalAt p (q .signal) .period) ≡ c →
             f among (cond a (cond b (fault 12 (q .place) ∷ []) (cond c [] (fault 13 (q .place) ∷ []))) (fault 12 (q .place) ∷ [])) →
             FaultAt all (length before) (f .number) × (f .place ≡ q .place)
-        go false b c d e g (_among_.first s) =
+        go false b c d e g (_among_.here s) =
             rw s (FaultAt.undeclared (rw here (λ k. false≢true (sym d ∙ lt-ltb _ _ k))), refl)
-        go true true c d e g (_among_.first s) = rw s (not-fresh e, refl)
-        go true false false d e g (_among_.first s) =
+        go true true c d e g (_among_.here s) = rw s (not-fresh e, refl)
+        go true false false d e g (_among_.here s) =
             rw s (
               FaultAt.late (rw here (ltb-true _ _ d)) (fresh e) (rw here (λ k. false≢true (sym g ∙ lt-ltb _ _ k))),
               refl,
@@ -110,7 +110,7 @@ module _ (p : Program) where
 
     put-complete : {n : ℕ} → FaultAt all (length before) n → fault n (q .place) among putFaults p before q
     unfolding putFaults all
-    put-complete (FaultAt.undeclared u) = rw (not-below (rw here at u)) (_among_.first refl)
+    put-complete (FaultAt.undeclared u) = rw (not-below (rw here at u)) (_among_.here refl)
     put-complete (FaultAt.twice i lt e) = go (ltb (q .signal) (count p))
       where
         again : isPut before (q .signal) ≡ true
@@ -122,10 +122,10 @@ module _ (p : Program) where
         go : (a : Bool) → fault 12 (q .place) among
             (cond a (cond (isPut before (q .signal)) (fault 12 (q .place) ∷ [])
             (cond (ltb (q .phase) (signalAt p (q .signal) .period)) [] (fault 13 (q .place) ∷ []))) (fault 12 (q .place) ∷ []))
-        go true = rw again (_among_.first refl)
-        go false = _among_.first refl
+        go true = rw again (_among_.here refl)
+        go false = _among_.here refl
     put-complete (FaultAt.late d f u) =
-        rw (lt-ltb (q .signal) (count p) (rw here at d), once, not-below (rw here at u)) (_among_.first refl)
+        rw (lt-ltb (q .signal) (count p) (rw here at d), once, not-below (rw here at u)) (_among_.here refl)
       where
         once : isPut before (q .signal) ≡ false
         once = not-true-false _ (λ e.

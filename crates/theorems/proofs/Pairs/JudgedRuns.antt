@@ -53,7 +53,8 @@ use Rattle.theorems.proofs.Pairs.JudgedPuts.{placed-judged}
 use Rattle.model.proofs.Texts.Legal.{read-sound}
 use Rattle.theorems.proofs.Pairs.Window.{keeps-decides}
 use Rattle.model.proofs.Basics.Outcomes.{not-true-false, accepted≢refused}
-use Rattle.model.proofs.Texts.Puts.{Ordered, placed-ordered}
+use Rattle.model.proofs.Texts.Puts.{placed-ordered}
+use Rattle.model.specs.Says.Feasible.{Ordered}
 
 -- 14.
 module _ (program schedule : List ℕ) (p : Program) (h : ℕ) (s : Schedule) (c : LegalPlaces program schedule p h s) where
@@ -124,11 +125,8 @@ module _ (program schedule : List ℕ) (p : Program) (h : ℕ) (s : Schedule) (c
   pub places-accepted : ((r : ℕ) (ρ : Read) → ReadIn p r ρ → Met p s r ρ) → Feasible p s
   places-accepted g =
       record {
-        phases = ordered .phases;
+        ordered = ordered;
         met = λ x lt. among-all (Met p s x) (bodyReads (signalAt p x .body)) (λ ρ i. g x ρ (lt, i));
-        put = ordered .put;
-        once = ordered .once;
-        only = ordered .only;
       }
 
   -- 16.

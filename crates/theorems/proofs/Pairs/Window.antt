@@ -84,7 +84,7 @@ module _ (p : Program) (s : Schedule) where
         let w = ρ .operands .signal in
         sym (used-is p s acc r ρ (k + c * runs p h r) lt m) ∙
         ap (stored (rateOf p s w)) (omega (arith, ap (c *_) (whole r lt), ap (c *_) (whole w (m .declared)))) ∙
-        stored-shift (rateOf p s w) _ (c * runs p h w) (acc .phases w (m .declared)) ∙
+        stored-shift (rateOf p s w) _ (c * runs p h w) (acc .ordered .phases w (m .declared)) ∙
         ap (_+ c * runs p h w) (used-is p s acc r ρ k lt m)
 
     -- And the same way back is gone c hypercycles later.

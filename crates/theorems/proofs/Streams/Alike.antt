@@ -13,7 +13,7 @@ use Rattle.theorems.specs.Held.{Supplied}
 use Rattle.model.specs.Rules.Latency.{used}
 use Rattle.theorems.specs.Lists.{SettleAlike, sample, Agree}
 use Rattle.model.specs.Rules.Program.{Program, count, signalAt, bodyReads}
-use Rattle.model.specs.Rules.Reads.{Rate, rateOf, runCycle, stored, indexOf, settled}
+use Rattle.model.specs.Rules.Reads.{Rate, rateOf, runCycle, stored, settledIndex, settled}
 use Rattle.model.specs.Rules.Schedule.{Schedule}
 use Rattle.theorems.specs.Streams.{Satisfies}
 use Rattle.model.specs.declared.Index.{Index}
@@ -32,8 +32,8 @@ all-map : {A : Type 0} (Q R : A → Type 0) → ((a : A) → Q a → R a) → (x
 all-map Q R f [] q = tt
 all-map Q R f (x ∷ xs) q = (f x (q .0), all-map Q R f xs (q .1))
 
-fixed-alike : (kind : Kind) (w r w′ r′ : Rate) (n : ℕ) (i : Index) → (i ≡ Open → indexOf kind w r n i ≡ indexOf kind w′ r′ n i) →
-    indexOf kind w r n i ≡ indexOf kind w′ r′ n i
+fixed-alike : (kind : Kind) (w r w′ r′ : Rate) (n : ℕ) (i : Index) → (i ≡ Open → settledIndex kind w r n i ≡ settledIndex kind w′ r′ n i) →
+    settledIndex kind w r n i ≡ settledIndex kind w′ r′ n i
 fixed-alike kind w r w′ r′ n (Fixed i) h = refl
 fixed-alike kind w r w′ r′ n Open h = h refl
 

@@ -19,8 +19,8 @@ use Rattle.model.proofs.Pairs.Rate.{stored-none, stored-some}
 
 ends-stored : (p : Program) (s : Schedule) → Feasible p s → (c x j : ℕ) → x < count p → EndsWith p s c x j →
     stored (rateOf p s x) c ≡ j
-ends-stored p s acc c x zero lt e = stored-none (rateOf p s x) c (acc .phases x lt) e
-ends-stored p s acc c x (suc k) lt e = stored-some (rateOf p s x) c (acc .phases x lt) (e .0) ∙ ap suc (e .1)
+ends-stored p s acc c x zero lt e = stored-none (rateOf p s x) c (acc .ordered .phases x lt) e
+ends-stored p s acc c x (suc k) lt e = stored-some (rateOf p s x) c (acc .ordered .phases x lt) (e .0) ∙ ap suc (e .1)
 
 module _ (p : Program) (s s′ : Schedule) (h : ℕ) (acc : Feasible p s) (acc′ : Feasible p s′) (whole : Multiple p h)
     (bounded : Bounded p s h) (bounded′ : Bounded p s′ h) (alike : Alike p s s′) (old old′ : List ℤ)

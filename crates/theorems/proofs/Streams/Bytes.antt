@@ -194,7 +194,7 @@ module _ (p : Program) (s : Schedule) (h : ℕ) (acc : Feasible p s) (whole : Mu
     cycle-turns : wordsOf (cycleWords (imageOf p s h) state samples) ≡ turns p s (sampleOf samples) at (s .order) (wordsOf state)
     unfolding ran runList
     cycle-turns =
-        ap wordsOf cycle-is ∙ set-position ran (pos moved) ∙ run-turns samples at (s .order) state (acc .only) (ready .long)
+        ap wordsOf cycle-is ∙ set-position ran (pos moved) ∙ run-turns samples at (s .order) state (acc .ordered .only) (ready .long)
 
     cycle-view : view (cycleWords (imageOf p s h) state samples) ≡ Turns.cycle p s h (sampleOf samples) (view state)
     unfolding at moved
@@ -217,7 +217,7 @@ module _ (p : Program) (s : Schedule) (h : ℕ) (acc : Feasible p s) (whole : Mu
     -- The number of its commands is the report's for its position.
     cycle-counts : cycleCount (imageOf p s h) state ≡ getD (countsOf p s h) (positionOf (getD state 0 (pos 0))) 0
     unfolding cycleCount at
-    cycle-counts = cycle-count p s h bounded (acc .only) at at-below ∙ sym (counts-at p s h at at-below)
+    cycle-counts = cycle-count p s h bounded (acc .ordered .only) at at-below ∙ sym (counts-at p s h at at-below)
 
     -- It is accepted exactly if it is lent enough samples, and refused by 23 otherwise.
     pub cycle-call : cycleOf (imageOf p s h) state samples ≡

@@ -68,7 +68,7 @@ module _ (p : Program) (s : Schedule) (h : ℕ) where
                 position = sym (zero-mod h);
                 words = λ x lx.
                     rw (lt-ltb x (count p) lx) (sym (sat x 0 lx) ∙
-                    ap (X x) (sym (stored-none (rateOf p s x) 0 (acc .phases x lx) (omega arith))));
+                    ap (X x) (sym (stored-none (rateOf p s x) 0 (acc .ordered .phases x lx) (omega arith))));
               };
           beyond = λ v lv. rw (le-ltb v (count p) lv) (g v lv);
         }
@@ -106,7 +106,7 @@ module _ (p : Program) (s : Schedule) (h : ℕ) where
         record {
           follows = cycle-follows log samples st r;
           beyond = λ v lv.
-              turns-other p s (sampleOf samples) (st .position) (s .order) (st .words) v (λ j l. omega (arith, acc .only j l)) ∙
+              turns-other p s (sampleOf samples) (st .position) (s .order) (st .words) v (λ j l. omega (arith, acc .ordered .only j l)) ∙
               r .beyond v lv;
         }
 
@@ -142,7 +142,7 @@ module _ (p : Program) (s : Schedule) (h : ℕ) where
       let f = r .follows inputs X sup sat in
       record {
         position = f .position;
-        initial = λ x lx le. f .words x lx ∙ ap (X x) (stored-none (rateOf p s x) _ (acc .phases x lx) le) ∙ sat x 0 lx;
-        element = λ x lx lt. f .words x lx ∙ ap (X x) (stored-some (rateOf p s x) _ (acc .phases x lx) lt);
+        initial = λ x lx le. f .words x lx ∙ ap (X x) (stored-none (rateOf p s x) _ (acc .ordered .phases x lx) le) ∙ sat x 0 lx;
+        element = λ x lx lt. f .words x lx ∙ ap (X x) (stored-some (rateOf p s x) _ (acc .ordered .phases x lx) lt);
         beyond = r .beyond;
       }

@@ -12,11 +12,11 @@ use lib.ListN.{length, getD}
 use Rattle.model.specs.Says.Feasible.{Met, Feasible}
 use Rattle.model.specs.Rules.Latency.{used}
 use Rattle.model.specs.Rules.Program.{Program, count, signalAt}
-use Rattle.model.specs.Rules.Reads.{rateOf, runCycle, due, stored, place, settled}
+use Rattle.model.specs.Rules.Reads.{rateOf, runCycle, due, stored, rank, settled}
 use Rattle.model.specs.Rules.Schedule.{Schedule}
 use Rattle.theorems.specs.Held.{IsInput}
 use Rattle.theorems.specs.Streams.{next, Satisfies}
-use Rattle.model.proofs.Pairs.Decide.{place-at}
+use Rattle.model.proofs.Pairs.Decide.{rank-at}
 use Rattle.model.proofs.Pairs.Rate.{stored-is, stored-bit, bit, due-run, run-due}
 use Rattle.model.proofs.Pairs.Links.{used-is}
 use Rattle.theorems.proofs.Streams.Values.{next-same, next-given}
@@ -83,17 +83,17 @@ other-place x y h = go (ltb x y) refl
 module _ (p : Program) (s : Schedule) (acc : Feasible p s) (inputs X : ℕ → ℕ → ℤ) (sat : Satisfies p (settled p s) inputs X) where
   -- Before the signal at place i has its turn in cycle t, each signal holds what is stored of its stream.
   abbrev Midway : ℕ → ℕ → (ℕ → ℤ) → Type 0
-  Midway t i σ = (x : ℕ) → x < count p → σ x ≡ X x (stored (rateOf p s x) (t + bit (ltb (place (s .order) x) i)))
+  Midway t i σ = (x : ℕ) → x < count p → σ x ≡ X x (stored (rateOf p s x) (t + bit (ltb (rank (s .order) x) i)))
 
   -- Signals have different places.
-  apart : (v x : ℕ) → v < count p → x < count p → place (s .order) v ≡ place (s .order) x → v ≡ x
+  apart : (v x : ℕ) → v < count p → x < count p → rank (s .order) v ≡ rank (s .order) x → v ≡ x
   apart v x lv lx e =
-      sym (place-at (s .order) v (acc .put v lv)) ∙ ap (λ j. getD (s .order) j 0) e ∙ place-at (s .order) x (acc .put x lx)
+      sym (rank-at (s .order) v (acc .ordered .put v lv)) ∙ ap (λ j. getD (s .order) j 0) e ∙ rank-at (s .order) x (acc .ordered .put x lx)
 
   module _ (t q : ℕ) (here : (x : ℕ) → x < count p → due (rateOf p s x) q ≡ due (rateOf p s x) t) (samples : ℕ → ℤ)
       (lent : (x k : ℕ) → x < count p → IsInput (signalAt p x .body) → runCycle (rateOf p s x) k ≡ t → samples x ≡ inputs x k) where
     -- What a run stores is the next element.
-    run-word : (x k : ℕ) (σ : ℕ → ℤ) → x < count p → runCycle (rateOf p s x) k ≡ t → Midway t (place (s .order) x) σ →
+    run-word : (x k : ℕ) (σ : ℕ → ℤ) → x < count p → runCycle (rateOf p s x) k ≡ t → Midway t (rank (s .order) x) σ →
         next (λ ρ. σ (ρ .operands .signal)) (samples x) (signalAt p x .body) ≡ X x (suc k)
     unfolding used
     run-word x k σ lt e mid =
@@ -104,30 +104,30 @@ module _ (p : Program) (s : Schedule) (acc : Feasible p s) (inputs X : ℕ → �
         sym (sat x (suc k) lt)
 
     -- A signal that does not run keeps its word.
-    still : (x v : ℕ) (σ : ℕ → ℤ) → x < count p → v < count p → Midway t (place (s .order) x) σ →
+    still : (x v : ℕ) (σ : ℕ → ℤ) → x < count p → v < count p → Midway t (rank (s .order) x) σ →
         ((j : ℕ) → runCycle (rateOf p s v) j ≡ t → v ≡ x → ⊥) →
-        σ v ≡ X v (stored (rateOf p s v) (t + bit (ltb (place (s .order) v) (suc (place (s .order) x)))))
+        σ v ≡ X v (stored (rateOf p s v) (t + bit (ltb (rank (s .order) v) (suc (rank (s .order) x)))))
     still x v σ lt lv mid h =
         mid v lv ∙
-        ap (X v) (stored-bit (rateOf p s v) t _ _ (acc .phases v lv) (λ j e. other-place _ _ (λ q. h j e (apart v x lv lt q))))
+        ap (X v) (stored-bit (rateOf p s v) t _ _ (acc .ordered .phases v lv) (λ j e. other-place _ _ (λ q. h j e (apart v x lv lt q))))
 
     -- One turn.
-    turn-mid : (x : ℕ) (σ : ℕ → ℤ) → x < count p → Midway t (place (s .order) x) σ →
-        Midway t (suc (place (s .order) x)) (turn p s samples q σ x)
+    turn-mid : (x : ℕ) (σ : ℕ → ℤ) → x < count p → Midway t (rank (s .order) x) σ →
+        Midway t (suc (rank (s .order) x)) (turn p s samples q σ x)
     turn-mid x σ lt mid v lv = go (due (rateOf p s x) q) (sym (here x lt))
       where
         new : ℤ
         new = next (λ ρ. σ (ρ .operands .signal)) (samples x) (signalAt p x .body)
 
         Goal : ℤ → Type 0
-        Goal w = w ≡ X v (stored (rateOf p s v) (t + bit (ltb (place (s .order) v) (suc (place (s .order) x)))))
+        Goal w = w ≡ X v (stored (rateOf p s v) (t + bit (ltb (rank (s .order) v) (suc (rank (s .order) x)))))
 
         ran : due (rateOf p s x) t ≡ true → v ≡ x → Goal new
         ran d q =
             let e = due-run (rateOf p s x) t d in
-            let f = acc .phases x lt in
+            let f = acc .ordered .phases x lt in
             rw q (run-word x (t / signalAt p x .period) σ lt e mid ∙
-            ap (X x) (sym (ap (stored (rateOf p s x)) (put t (place (s .order) x) (suc (place (s .order) x)) (omega arith)) ∙
+            ap (X x) (sym (ap (stored (rateOf p s x)) (put t (rank (s .order) x) (suc (rank (s .order) x)) (omega arith)) ∙
             stored-is (rateOf p s x) (suc t) (suc (t / signalAt p x .period)) (omega arith) (omega arith))))
 
         sub : (b : Bool) → eqb v x ≡ b → due (rateOf p s x) t ≡ true → Goal (cond b new (σ v))
@@ -136,24 +136,24 @@ module _ (p : Program) (s : Schedule) (acc : Feasible p s) (inputs X : ℕ → �
 
         go : (d : Bool) → due (rateOf p s x) t ≡ d → Goal (cond d (store σ x new) σ v)
         go true d = sub (eqb v x) refl d
-        go false d = still x v σ lt lv mid (λ j h q. run-due (rateOf p s x) t (acc .phases x lt) d j (rw q at h))
+        go false d = still x v σ lt lv mid (λ j h q. run-due (rateOf p s x) t (acc .ordered .phases x lt) d j (rw q at h))
 
     -- All turns of a cycle.
-    turns-mid : (waiting : List ℕ) (i : ℕ) (σ : ℕ → ℤ) → ((j : ℕ) → j < length waiting → place (s .order) (getD waiting j 0) ≡ i + j) →
+    turns-mid : (waiting : List ℕ) (i : ℕ) (σ : ℕ → ℤ) → ((j : ℕ) → j < length waiting → rank (s .order) (getD waiting j 0) ≡ i + j) →
         ((j : ℕ) → j < length waiting → getD waiting j 0 < count p) → Midway t i σ →
         Midway t (i + length waiting) (turns p s samples q waiting σ)
     turns-mid [] i σ at known mid = subst (λ k. Midway t k σ) (omega arith) mid
     turns-mid (x ∷ xs) i σ at known mid =
         let e = at 0 (omega arith) in
         let lx = known 0 (omega arith) in
-        let mid′ : Midway t (place (s .order) x) σ = subst (λ k. Midway t k σ) (omega arith) mid in
-        let rest = turns-mid xs (suc (place (s .order) x)) (turn p s samples q σ x)
+        let mid′ : Midway t (rank (s .order) x) σ = subst (λ k. Midway t k σ) (omega arith) mid in
+        let rest = turns-mid xs (suc (rank (s .order) x)) (turn p s samples q σ x)
         (λ j h. at (suc j) (omega arith) ∙ omega arith) (λ j h. known (suc j) (omega arith)) (turn-mid x σ lx mid′) in
         subst (λ k. Midway t k (turns p s samples q xs (turn p s samples q σ x))) (omega arith) rest
 
     pub cycle-words : (σ : ℕ → ℤ) → ((x : ℕ) → x < count p → σ x ≡ X x (stored (rateOf p s x) t)) →
         (x : ℕ) → x < count p → turns p s samples q (s .order) σ x ≡ X x (stored (rateOf p s x) (suc t))
     cycle-words σ h x lx =
-        turns-mid (s .order) 0 σ (λ j l. acc .once j l ∙ omega arith) (acc .only)
-        (λ v lv. h v lv ∙ ap (X v) (ap (stored (rateOf p s v)) (sym (unput t (place (s .order) v) 0 (omega arith))))) x lx ∙
-        ap (X x) (ap (stored (rateOf p s x)) (put t (place (s .order) x) (0 + length (s .order)) (omega (arith, acc .put x lx))))
+        turns-mid (s .order) 0 σ (λ j l. acc .ordered .once j l ∙ omega arith) (acc .ordered .only)
+        (λ v lv. h v lv ∙ ap (X v) (ap (stored (rateOf p s v)) (sym (unput t (rank (s .order) v) 0 (omega arith))))) x lx ∙
+        ap (X x) (ap (stored (rateOf p s x)) (put t (rank (s .order) x) (0 + length (s .order)) (omega (arith, acc .ordered .put x lx))))

@@ -12,7 +12,7 @@ use lib.ListN.{length}
 use Rattle.model.specs.Says.Feasible.{Met, Feasible}
 use Rattle.model.specs.Rules.Latency.{used}
 use Rattle.model.specs.Rules.Program.{Program, Read, count, signalAt}
-use Rattle.model.specs.Rules.Reads.{Rate, rateOf, runCycle, stored, place, before, settled}
+use Rattle.model.specs.Rules.Reads.{Rate, rateOf, runCycle, stored, rank, before, settled}
 use Rattle.model.specs.Rules.Schedule.{Schedule}
 use Rattle.theorems.specs.Streams.{entry, Satisfies}
 use Rattle.model.proofs.Pairs.Rate.{stored-high, bit}
@@ -21,12 +21,12 @@ use Rattle.theorems.proofs.Streams.Fix
 use Rattle.theorems.proofs.Streams.Values.{next-same}
 
 -- A place is at most the number of signals put.
-place-le : (xs : List ℕ) (x : ℕ) → place xs x ≤ length xs
-unfolding place
-place-le [] x = omega arith
-place-le (y ∷ ys) x = go (eqb y x) (place-le ys x)
+rank-le : (xs : List ℕ) (x : ℕ) → rank xs x ≤ length xs
+unfolding rank
+rank-le [] x = omega arith
+rank-le (y ∷ ys) x = go (eqb y x) (rank-le ys x)
   where
-    go : (b : Bool) → place ys x ≤ length ys → cond b 0 (suc (place ys x)) ≤ suc (length ys)
+    go : (b : Bool) → rank ys x ≤ length ys → cond b 0 (suc (rank ys x)) ≤ suc (length ys)
     go true h = omega arith
     go false h = omega arith
 
@@ -44,15 +44,15 @@ earlier t u x y l h lt = go (ltb x y) refl lt
 
 module _ (p : Program) (s : Schedule) where
   -- The number of a history entry in the order in which the entries are computed; 0 for initial words.
-  rank : ℕ → ℕ → ℕ
-  rank x zero = zero
-  rank x (suc k) = suc (runCycle (rateOf p s x) k * suc (length (s .order)) + place (s .order) x)
+  number : ℕ → ℕ → ℕ
+  number x zero = zero
+  number x (suc k) = suc (runCycle (rateOf p s x) k * suc (length (s .order)) + rank (s .order) x)
 
   module _ (acc : Feasible p s) where
     -- What it uses was computed before.
     used-lower : (r : ℕ) (ρ : Read) (k : ℕ) → r < count p → Met p s r ρ →
-        rank (ρ .operands .signal) (used p s r k ρ) < rank r (suc k)
-    unfolding rank
+        number (ρ .operands .signal) (used p s r k ρ) < number r (suc k)
+    unfolding number
     used-lower r ρ k lt m = go (used p s r k ρ) (used-is p s acc r ρ k lt m)
       where
         w : ℕ
@@ -61,19 +61,19 @@ module _ (p : Program) (s : Schedule) where
         t : ℕ
         t = runCycle (rateOf p s r) k + bit (before s w r)
 
-        go : (j : ℕ) → stored (rateOf p s w) t ≡ j → rank w j < rank r (suc k)
+        go : (j : ℕ) → stored (rateOf p s w) t ≡ j → number w j < number r (suc k)
         go zero e = omega arith
         go (suc j) e =
             let a : Rate = rateOf p s w in
-            let h : runCycle a (suc j) < t + a .period = rw e at (stored-high a t (acc .phases w (m .declared))) in
-            let f = place-le (s .order) w in
-            let g = earlier (runCycle a j) (runCycle (rateOf p s r) k) (place (s .order) w) (place (s .order) r)
+            let h : runCycle a (suc j) < t + a .period = rw e at (stored-high a t (acc .ordered .phases w (m .declared))) in
+            let f = rank-le (s .order) w in
+            let g = earlier (runCycle a j) (runCycle (rateOf p s r) k) (rank (s .order) w) (rank (s .order) r)
             (suc (length (s .order))) (omega arith) (omega arith) in
             omega arith
 
-    -- A history entry depends on entries of lower rank only.
+    -- A history entry depends on entries of lower number only.
     entry-same : (inputs X Y : ℕ → ℕ → ℤ) (x j : ℕ) → x < count p →
-        ((w i : ℕ) → w < count p → rank w i < rank x j → X w i ≡ Y w i) →
+        ((w i : ℕ) → w < count p → number w i < number x j → X w i ≡ Y w i) →
         entry p (settled p s) inputs X x j ≡ entry p (settled p s) inputs Y x j
     unfolding used
     entry-same inputs X Y x zero lt h = refl
@@ -86,14 +86,14 @@ module _ (p : Program) (s : Schedule) where
       -- Streams that satisfy the equations exist ..
       pub streams : ℕ → ℕ → ℤ
       streams =
-          Fix.solution (count p) rank (entry p (settled p s) inputs) (entry-same inputs) (λ x j. signalAt p x .initial)
+          Fix.solution (count p) number (entry p (settled p s) inputs) (entry-same inputs) (λ x j. signalAt p x .initial)
 
       pub streams-satisfy : Satisfies p (settled p s) inputs streams
       unfolding streams
       streams-satisfy =
-          Fix.solves (count p) rank (entry p (settled p s) inputs) (entry-same inputs) (λ x j. signalAt p x .initial)
+          Fix.solves (count p) number (entry p (settled p s) inputs) (entry-same inputs) (λ x j. signalAt p x .initial)
 
       -- .. and all that satisfy them are the same.
       pub streams-unique : (X Y : ℕ → ℕ → ℤ) → Satisfies p (settled p s) inputs X → Satisfies p (settled p s) inputs Y →
           (x j : ℕ) → x < count p → X x j ≡ Y x j
-      streams-unique = Fix.agree (count p) rank (entry p (settled p s) inputs) (entry-same inputs)
+      streams-unique = Fix.agree (count p) number (entry p (settled p s) inputs) (entry-same inputs)

@@ -32,12 +32,6 @@ part-bytes lent bytes i = go (statedLength lent) lent bytes i
         cut false e =
             rw (List·getD-eq-default (take n l) 0 {n = i} (omega (arith, length-take n l, ltb-false i n e))) (omega arith)
 
--- What is accepted: exactly a well-formed image, with a tail of 4N bytes, whatever they are, or without.
-pub lent-exactly : (lent : List ℕ) →
-    (lentOk lent ≡ true) ↔ ((image : List ℕ) × (tail : List ℕ) × (wellFormed image ≡ true) × Bears image tail lent)
-lent-exactly lent =
-    (λ h. (imagePart lent, drop (statedLength lent) lent, lent-formed lent h, lent-bears lent h), λ (i, t, f, b). lent-ok f b)
-
 -- The tail: of what is accepted the bytes after the image, and 20 for all else.
 pub tail-exactly : (lent tail : List ℕ) →
     (tailIn lent ≡ accepted tail) ↔ ((image : List ℕ) × (wellFormed image ≡ true) × Bears image tail lent)
