@@ -8,11 +8,10 @@ use Rattle.model.specs.Rules.Command.{declarationAt}
 use Rattle.model.specs.Rules.Image.{exprCode, signalCode}
 use Rattle.model.specs.Rules.Program.{leastFactor, Expr, Signal, Body, input, equation}
 use Rattle.model.specs.Rules.Word.{byteAt}
-use Rattle.model.specs.Says.Written.{declarationBytes}
 use Rattle.model.specs.Says.Grammar.{depth}
 use Rattle.model.specs.Says.Written.{DeclarationWhole}
 use Rattle.model.specs.declared.Declaration.{Declaration}
-use Rattle.model.proofs.Texts.Commands.{declaration-sound, written-byte}
+use Rattle.model.proofs.Texts.Commands.{byteOf, declaration-sound, written-byte}
 use Rattle.model.proofs.Texts.Written.{as-written}
 use Rattle.model.proofs.Texts.Legal.{SpellsBody, SpellsSignal}
 use Rattle.model.specs.Says.Grammar.{Spells}
@@ -30,7 +29,7 @@ pub record Equated (text : List ℕ) (place : ℕ) (σ : Signal) : Type 0 where
 
 module _ (text : List ℕ) (place : ℕ) (σ : Signal) (at : σ .place ≡ place) (h : SpellsSignal text σ) where
   byte : {c : Declaration} → DeclarationWhole c → declarationAt text (σ .place) ≡ c →
-      byteAt text place ≡ byteAt (declarationBytes c) 0
+      byteAt text place ≡ byteOf c
   byte w e = ap (byteAt text) (sym at) ∙ written-byte text (σ .place) (as-written _ w e)
 
   pub equated : byteAt text place ≡ 0x11 → Equated text place σ

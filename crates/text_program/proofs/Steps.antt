@@ -29,14 +29,13 @@ use Rattle.model.specs.Rules.Program.{
   readsOf,
 }
 use Rattle.model.specs.Rules.Word.{byteAt}
-use Rattle.model.specs.Says.Written.{declarationBytes}
 use Rattle.model.specs.Says.Grammar.{HasRoom}
 use Rattle.model.specs.Says.Written.{DeclarationWhole}
 use Rattle.model.specs.declared.Declaration.{Declaration}
 use Rattle.model.specs.declared.Declaration.the-variants as Declaration
 use Rattle.model.specs.declared.Fault.{Fault}
 use Rattle.model.specs.declared.Mode.{Mode}
-use Rattle.model.proofs.Texts.Commands.{declaration-sound, written-byte}
+use Rattle.model.proofs.Texts.Commands.{byteOf, declaration-sound, written-byte}
 use Rattle.model.proofs.Texts.Room.{fit-declaration, signal-room, chain-room}
 use Rattle.model.proofs.Texts.Written.{as-written}
 use Rattle.text_program.specs.Results.{chainOf, tagOf, endOf}
@@ -82,7 +81,7 @@ module _ (least : ℕ) (text : List ℕ) (at label : ℕ) (p : Program) (l : Lis
     room : HasRoom p (byteAt text at)
     room = fit-declaration p text at here .1
 
-    byte : {c : Declaration} → DeclarationWhole c → declarationAt text at ≡ c → byteAt text at ≡ byteAt (declarationBytes c) 0
+    byte : {c : Declaration} → DeclarationWhole c → declarationAt text at ≡ c → byteAt text at ≡ byteOf c
     byte w e = written-byte text at (as-written _ w e)
 
     -- A command that is refused whatever follows.

@@ -1,11 +1,11 @@
 -- The enums of the texts and of image code, case by case: the paper's byte and values for each. (Those of the answers stand with their
 -- calls: `compiledOf`, `reportedOf`, `ranOf`, `cycledOf`.)
 use Prim.Native.Nat.{ℕ, _≤_, _<_, _^_}
-use mathlib.Core.List.{List, [], _∷_}
+use mathlib.Core.List.{List, [], _∷_, _++_}
 use mathlib.Core.Path.{_≡_}
 use lib.ListN.{length, take, drop}
 use Rattle.model.specs.Rules.Image.{binaryByte, unaryByte}
-use Rattle.model.specs.Rules.Word.{wordBytes}
+use Rattle.model.specs.Rules.Word.{twoBytes, fourBytes, wordBytes}
 use Rattle.model.specs.Says.Written.{InPeriods, readByte}
 use Rattle.theorems.specs.Nearest.{IsWord}
 use Rattle.model.specs.declared.Code.{Code}
@@ -16,11 +16,18 @@ use Rattle.model.specs.declared.Index.{Index}
 use Rattle.model.specs.declared.Index.the-variants.{Fixed, Open}
 use Rattle.model.specs.declared.Kind.{Kind}
 use Rattle.model.specs.declared.Kind.the-variants.{Now, Last, When, LastWhen, Current}
+use Rattle.model.specs.declared.Mode.{Mode}
+use Rattle.model.specs.declared.Mode.the-variants.{Exists, Backward}
 use Rattle.model.specs.declared.Operator.{Operator}
 use Rattle.model.specs.declared.Operator.the-variants as Operator
 use Rattle.model.specs.declared.Sampled.{Sampled}
 use Rattle.model.specs.declared.ScheduleCommand.{ScheduleCommand}
 use Rattle.model.specs.declared.ScheduleCommand.the-variants as ScheduleCommand
+
+-- 0 exists, 1 backward.
+abbrev pub modeByte : Mode → ℕ
+modeByte Exists = 0
+modeByte Backward = 1
 
 -- 255 leaves the index open.
 abbrev pub indexByte : Index → ℕ
@@ -34,6 +41,19 @@ operandBytes Last x = x .signal ∷ []
 operandBytes When x = x .signal ∷ indexByte (x .index) ∷ x .factor ∷ []
 operandBytes LastWhen x = x .signal ∷ indexByte (x .index) ∷ x .factor ∷ []
 operandBytes Current x = x .signal ∷ indexByte (x .index) ∷ x .factor ∷ []
+
+-- A declaration. What was not read whole has no bytes.
+abbrev pub declarationBytes : Declaration → List ℕ
+declarationBytes Declaration.EndsEarly = []
+declarationBytes Declaration.Unknown = []
+declarationBytes Declaration.OutOfRange = []
+declarationBytes Declaration.End = 0x00 ∷ []
+declarationBytes (Declaration.Input period initial) = 0x10 ∷ period ∷ wordBytes initial
+declarationBytes (Declaration.Equation period initial weight) = 0x11 ∷ period ∷ (wordBytes initial ++ twoBytes weight)
+declarationBytes (Declaration.Latency mode bound) = 0x12 ∷ modeByte mode ∷ twoBytes bound
+declarationBytes (Declaration.Link signal) = 0x13 ∷ signal ∷ []
+declarationBytes (Declaration.Cap n) = 0x14 ∷ fourBytes n
+declarationBytes (Declaration.Tag label) = 0x15 ∷ twoBytes label
 
 -- An operator of an expression.
 abbrev pub operatorBytes : Operator → List ℕ

@@ -14,7 +14,6 @@ use mir.Val.{SFits}
 use Rattle.model.specs.Rules.Command.{indexOf, declarationAt, operatorAt}
 use Rattle.model.specs.Rules.Width.{inProgram, inExpression, readWidth}
 use Rattle.model.specs.Rules.Word.{byteAt, twoAt, fourAt, wordOf, wordAt}
-use Rattle.model.specs.Says.Written.{declarationBytes}
 use Rattle.model.specs.Says.Written.{InPeriods, InIndices, DeclarationWritten, OperatorWritten, OperatorByte}
 use Rattle.model.specs.declared.Declaration.{Declaration}
 use Rattle.model.specs.declared.Declaration.the-variants as Declaration
@@ -56,6 +55,19 @@ index-range i n most h = go (eqb i 255) refl h
     go false e (inl lt) = lt
     go false e (inr q) = absurd (eqb-false i 255 e q)
 
+-- The byte of a declaration; 0 where there is none.
+abbrev pub byteOf : Declaration → ℕ
+byteOf Declaration.EndsEarly = 0
+byteOf Declaration.Unknown = 0
+byteOf Declaration.OutOfRange = 0
+byteOf Declaration.End = 0x00
+byteOf (Declaration.Input period initial) = 0x10
+byteOf (Declaration.Equation period initial weight) = 0x11
+byteOf (Declaration.Latency mode bound) = 0x12
+byteOf (Declaration.Link signal) = 0x13
+byteOf (Declaration.Cap n) = 0x14
+byteOf (Declaration.Tag label) = 0x15
+
 -- A declaration that is read lies within the text, and its operands are in range.
 module _ (text : List ℕ) (at : ℕ) where
   abbrev pub DeclarationSound : Declaration → Type 0
@@ -96,8 +108,8 @@ module _ (text : List ℕ) (at : ℕ) where
       declarationAt text at ≡ Declaration.Link (byteAt text (at + 1))
   link-decoded e le = decoded (DeclarationWritten.link le e)
 
-  -- Its byte is the first of its own.
-  pub written-byte : {c : Declaration} → DeclarationWritten text at c → byteAt text at ≡ byteAt (declarationBytes c) 0
+  -- Its byte is its own.
+  pub written-byte : {c : Declaration} → DeclarationWritten text at c → byteAt text at ≡ byteOf c
   written-byte (DeclarationWritten.end h b) = b
   written-byte (DeclarationWritten.input h b r) = b
   written-byte (DeclarationWritten.equation h b r) = b

@@ -1,14 +1,14 @@
 -- One command of a text or a code, byte for byte: written (it lies within the text, its first byte is its own, and its operands
 -- are in their ranges), cut, or with an operand outside its range. Grammar and stops rest on these; no decoder is named.
 use Prim.Native.Nat.{ℕ, _+_, _≤_, _<_}
-use mathlib.Core.List.{List, [], _∷_, _++_}
+use mathlib.Core.List.{List}
 use mathlib.Core.Logic.{_⊎_}
 use mathlib.Core.Path.{_≡_}
 use lib.ListN.{length}
 use Rattle.model.specs.Rules.Command.{indexOf, modeOf}
 use Rattle.model.specs.Rules.Image.{binaryByte, unaryByte}
 use Rattle.model.specs.Rules.Width.{inProgram, inExpression, inSchedule, inCode, readWidth}
-use Rattle.model.specs.Rules.Word.{byteAt, twoAt, fourAt, wordAt, twoBytes, fourBytes, wordBytes}
+use Rattle.model.specs.Rules.Word.{byteAt, twoAt, fourAt, wordAt}
 use Rattle.model.specs.declared.Binary.{Binary}
 use Rattle.model.specs.declared.Code.{Code}
 use Rattle.model.specs.declared.Code.the-variants as Code
@@ -22,8 +22,6 @@ use Rattle.model.specs.declared.Operator.the-variants as Operator
 use Rattle.model.specs.declared.ScheduleCommand.{ScheduleCommand}
 use Rattle.model.specs.declared.ScheduleCommand.the-variants as ScheduleCommand
 use Rattle.model.specs.declared.Unary.{Unary}
-use Rattle.model.specs.declared.Mode.{Mode}
-use Rattle.model.specs.declared.Mode.the-variants.{Exists, Backward}
 
 -- Periods and n go from 1 to 240.
 abbrev pub InPeriods : ℕ → Type 0
@@ -193,21 +191,3 @@ CodeWhole (Code.Store x) = Unit {0}
 CodeWhole (Code.Binary operator) = Unit {0}
 CodeWhole (Code.Unary operator) = Unit {0}
 CodeWhole Code.If = Unit {0}
-
--- 0 exists, 1 backward.
-abbrev pub modeByte : Mode → ℕ
-modeByte Exists = 0
-modeByte Backward = 1
-
--- A declaration. What was not read whole has no bytes.
-abbrev pub declarationBytes : Declaration → List ℕ
-declarationBytes Declaration.EndsEarly = []
-declarationBytes Declaration.Unknown = []
-declarationBytes Declaration.OutOfRange = []
-declarationBytes Declaration.End = 0x00 ∷ []
-declarationBytes (Declaration.Input period initial) = 0x10 ∷ period ∷ wordBytes initial
-declarationBytes (Declaration.Equation period initial weight) = 0x11 ∷ period ∷ (wordBytes initial ++ twoBytes weight)
-declarationBytes (Declaration.Latency mode bound) = 0x12 ∷ modeByte mode ∷ twoBytes bound
-declarationBytes (Declaration.Link signal) = 0x13 ∷ signal ∷ []
-declarationBytes (Declaration.Cap n) = 0x14 ∷ fourBytes n
-declarationBytes (Declaration.Tag label) = 0x15 ∷ twoBytes label

@@ -10,8 +10,9 @@ use mir.Val.{SFits}
 use lib.IntN.{ℤ, pos, negsuc}
 use lib.ListN.{length, take, drop, take-append-drop}
 use Rattle.model.specs.Rules.Command.{indexOf, modeOf}
-use Rattle.model.specs.Says.Written.{modeByte, declarationBytes}
 use Rattle.theorems.specs.Enums.{
+  modeByte,
+  declarationBytes,
   indexByte,
   operandBytes,
   operatorBytes,
