@@ -167,8 +167,8 @@ pub accepted-exactly : (program schedule : List ℕ) (q : Pair) →
     (pairOf program schedule ≡ accepted q) ↔ LegalPair program schedule q
 accepted-exactly = Exact.accepted-exactly
 
-pub refused-exactly : (program schedule : List ℕ) (n x : ℕ) →
-    (pairOf program schedule ≡ refused (fault n x)) ↔ RefusedAt program schedule n x
+pub refused-exactly : (program schedule : List ℕ) (f : Fault) →
+    (pairOf program schedule ≡ refused f) ↔ RefusedAt program schedule f
 refused-exactly = Exact.refused-exactly
 
 -- Request c. In an accepted pair let r be the last link of a chain and ws the links before it, the nearest first. If one goes
@@ -512,8 +512,8 @@ nearest-word = Nearest.nearest-word
 
 -- Request e. A bench trial is refused with each number at its place exactly under its condition, in the stated order: the pair's
 -- 1 to 16, then 24 and 25 of the script.
-pub trial-refused-exactly : (program schedule text : List ℕ) (n x : ℕ) →
-    (trialOf program schedule text ≡ refused (fault n x)) ↔ TrialRefusedAt program schedule text n x
+pub trial-refused-exactly : (program schedule text : List ℕ) (f : Fault) →
+    (trialOf program schedule text ≡ refused f) ↔ TrialRefusedAt program schedule text f
 trial-refused-exactly = trial-refused
 
 pub trial-lines : (program schedule text : List ℕ) → Texts.Bytes program → (q : Pair) (actions : List Action) →
@@ -627,7 +627,7 @@ compile-codable program schedule buffer bytes = go (compileOf program schedule b
     go : (o : Outcome ℕ) → compileOf program schedule buffer .answer ≡ o → Codable o
     go (accepted n) e = omega (arith, Numbers.length-most program schedule buffer bytes n e)
     go (refused f) e = (
-      Numbers.compile-number (compile-exactly program schedule buffer .refuses (f .number) (f .place) _ .0 (e, refl) .0),
+      Numbers.compile-number (compile-exactly program schedule buffer .refuses f _ .0 (e, refl) .0),
       omega (arith, places-small program schedule buffer bytes f e),
     )
 
@@ -643,7 +643,7 @@ report-codable program schedule counts bytes = go (reportOf program schedule cou
         omega (arith, t .2, image-length (q .program) (q .schedule) (q .hypercycle), b .size)
     go (refused f) e =
         let r = report-exactly program schedule counts .refuses f .0 e in
-        let at = refused-exactly program schedule (f .number) (f .place) .0 r in
+        let at = refused-exactly program schedule f .0 r in
         (Numbers.pair-number at, omega (arith, refusal-small at))
 
 pub reset-codable : (lent : List ℕ) (state : List ℤ) → Codable (resetOf lent state .answer)
@@ -653,7 +653,7 @@ reset-codable lent state = go (resetOf lent state .answer) refl
     go : (o : Outcome ℕ) → resetOf lent state .answer ≡ o → Codable o
     go (accepted n) e = omega (arith, reset-exactly lent state .done n _ .0 (e, refl) .is)
     go (refused f) e = (
-      Numbers.reset-number (reset-exactly lent state .refuses (f .number) (f .place) _ .0 (e, refl) .0),
+      Numbers.reset-number (reset-exactly lent state .refuses f _ .0 (e, refl) .0),
       omega (arith, places-zero lent state Call.reset f e),
     )
 
@@ -665,7 +665,7 @@ call-codable lent state (Call.cycle samples) bytes = go (cycleOf lent state samp
     go : (o : Outcome ℕ) → cycleOf lent state samples .answer ≡ o → Codable o
     go (accepted n) e = count-small lent state samples bytes n e
     go (refused f) e = (
-      Numbers.cycle-number (cycle-exactly lent state samples .refuses (f .number) (f .place) _ .0 (e, refl) .0),
+      Numbers.cycle-number (cycle-exactly lent state samples .refuses f _ .0 (e, refl) .0),
       omega (arith, places-zero lent state (Call.cycle samples) f e),
     )
 
@@ -684,5 +684,5 @@ convert-codable program buffer = go (convertOf program buffer .answer) refl
     go : (o : Outcome ℕ) → convertOf program buffer .answer ≡ o → Codable o
     go (accepted n) e = omega (arith, Numbers.convert-most (convert-exactly program buffer .done n .0 e))
     go (refused f) e =
-        let r = convert-exactly program buffer .refused-at (f .number) (f .place) .0 e in
+        let r = convert-exactly program buffer .refused-at f .0 e in
         (Numbers.convert-number r, omega (arith, Numbers.convert-place r))

@@ -13,6 +13,7 @@ use Rattle.model.specs.Rules.Outcome.{accepted, refused, fault}
 use Rattle.model.specs.Rules.Program.{Program, empty}
 use Rattle.model.specs.Rules.Reads.{settled}
 use Rattle.model.specs.Rules.Rewrite.{rewrite, convertOf}
+use Rattle.model.specs.declared.Fault.{Fault}
 use Rattle.theorems.specs.Stops.{Stops}
 use Rattle.theorems.specs.Streams.{Satisfies}
 
@@ -30,18 +31,18 @@ module _ (program buffer : List ℕ) where
     pub fits : n ≤ length buffer
 
   -- Refused: 1, then 2 to 6 by the earlier rule, then 17 with the result's length.
-  pub data ConvertRefusedAt : ℕ → ℕ → Type 0 where
-    long : 8192 < length program → ConvertRefusedAt 1 0
-    stopped : {n x : ℕ} → length program ≤ 8192 → Stops earlierFactor program 0 0 empty (fault n x) → ConvertRefusedAt n x
+  pub data ConvertRefusedAt : Fault → Type 0 where
+    long : 8192 < length program → ConvertRefusedAt (fault 1 0)
+    stopped : {f : Fault} → length program ≤ 8192 → Stops earlierFactor program 0 0 empty f → ConvertRefusedAt f
     space : {p : Program} → length program ≤ 8192 → LegalWith earlierFactor program p →
-        length buffer < length (rewrite program) → ConvertRefusedAt 17 (length (rewrite program))
+        length buffer < length (rewrite program) → ConvertRefusedAt (fault 17 (length (rewrite program)))
 
   -- What a conversion answers and leaves, whole.
   pub record ConvertsExactly (call : Effect ℕ) : Type 0 where
     pub done : (n : ℕ) → (call .answer ≡ accepted n) ↔ ConvertsTo n
-    pub refused-at : (n x : ℕ) → (call .answer ≡ refused (fault n x)) ↔ ConvertRefusedAt n x
+    pub refused-at : (f : Fault) → (call .answer ≡ refused f) ↔ ConvertRefusedAt f
     pub written : (n : ℕ) → call .answer ≡ accepted n → call .left ≡ rewrite program ++ drop n buffer
-    pub kept : (n x : ℕ) → call .answer ≡ refused (fault n x) → call .left ≡ buffer
+    pub kept : (f : Fault) → call .answer ≡ refused f → call .left ≡ buffer
 
 abbrev pub Converts : List ℕ → List ℕ → Type 0
 Converts program buffer = ConvertsExactly program buffer (convertOf program buffer)

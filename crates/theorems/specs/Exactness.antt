@@ -10,16 +10,17 @@ use Rattle.theorems.specs.Conditions.{LegalPair}
 use Rattle.model.specs.Rules.Image.{writtenOf, writtenLength}
 use Rattle.model.specs.Rules.Machine.{Effect, hyperOf, countOf, resetWords, cycleWords, cycleCount}
 use Rattle.model.specs.Rules.Outcome.{accepted, refused, fault}
+use Rattle.model.specs.declared.Fault.{Fault}
 use Rattle.theorems.specs.Refusals.{RefusedAt}
 use Rattle.theorems.specs.WellFormed.{WellLent}
 
--- A call yields n and leaves `left` exactly if `Done` says so. It is refused with n at x exactly if `Refused` says so, and then
+-- A call yields n and leaves `left` exactly if `Done` says so. It is refused with f exactly if `Refused` says so, and then
 -- leaves what was lent.
-pub record Exactly {A : Type 0} (lent : List A) (Done : ℕ → List A → Type 0) (Refused : ℕ → ℕ → Type 0) (call : Effect A) :
+pub record Exactly {A : Type 0} (lent : List A) (Done : ℕ → List A → Type 0) (Refused : Fault → Type 0) (call : Effect A) :
     Type 0 where
   pub done : (n : ℕ) (left : List A) → ((call .answer ≡ accepted n) × (call .left ≡ left)) ↔ Done n left
-  pub refuses : (n x : ℕ) (left : List A) →
-      ((call .answer ≡ refused (fault n x)) × (call .left ≡ left)) ↔ (Refused n x × (left ≡ lent))
+  pub refuses : (f : Fault) (left : List A) →
+      ((call .answer ≡ refused f) × (call .left ≡ left)) ↔ (Refused f × (left ≡ lent))
 
 -- L + 4N of a pair.
 abbrev pub sizeOf : Pair → ℕ
@@ -35,9 +36,9 @@ module _ (program schedule buffer : List ℕ) where
     pub leaves : left ≡ writtenOf (pair .program) (pair .schedule) (pair .hypercycle) ++ drop n buffer
 
   -- It is refused: 1 to 16, or the pair is legal and the buffer shorter than L + 4N (17).
-  pub data CompileRefusedAt : ℕ → ℕ → Type 0 where
-    pair : {n x : ℕ} → RefusedAt program schedule n x → CompileRefusedAt n x
-    space : {q : Pair} → LegalPair program schedule q → length buffer < sizeOf q → CompileRefusedAt 17 (sizeOf q)
+  pub data CompileRefusedAt : Fault → Type 0 where
+    pair : {f : Fault} → RefusedAt program schedule f → CompileRefusedAt f
+    space : {q : Pair} → LegalPair program schedule q → length buffer < sizeOf q → CompileRefusedAt (fault 17 (sizeOf q))
 
 module _ (lent : List ℕ) (state : List ℤ) where
   -- Neither 20 nor 21: the image lent is well formed, and the state has N + 1 words.
@@ -53,9 +54,9 @@ module _ (lent : List ℕ) (state : List ℤ) where
     pub leaves : left ≡ resetWords image state
 
   -- It is refused: image not well formed, state shorter than N + 1.
-  pub data ResetRefusedAt : ℕ → ℕ → Type 0 where
-    unformed : ((image : List ℕ) → ¬ WellLent lent image) → ResetRefusedAt 20 0
-    short : {image : List ℕ} → WellLent lent image → length state < countOf image + 1 → ResetRefusedAt 21 0
+  pub data ResetRefusedAt : Fault → Type 0 where
+    unformed : ((image : List ℕ) → ¬ WellLent lent image) → ResetRefusedAt (fault 20 0)
+    short : {image : List ℕ} → WellLent lent image → length state < countOf image + 1 → ResetRefusedAt (fault 21 0)
 
   -- Word 0 is a position, 0 to H − 1.
   pub record Positioned (image : List ℕ) : Type 0 where
@@ -74,7 +75,7 @@ module _ (lent : List ℕ) (state : List ℤ) where
       pub leaves : left ≡ cycleWords image state samples
 
     -- It is refused: as a reset; position outside 0 to H − 1; fewer than N samples.
-    pub data CycleRefusedAt : ℕ → ℕ → Type 0 where
-      unready : {n x : ℕ} → ResetRefusedAt n x → CycleRefusedAt n x
-      outside : {image : List ℕ} → Usable image → ¬ Positioned image → CycleRefusedAt 22 0
-      unsampled : {image : List ℕ} → Usable image → Positioned image → length samples < countOf image → CycleRefusedAt 23 0
+    pub data CycleRefusedAt : Fault → Type 0 where
+      unready : {f : Fault} → ResetRefusedAt f → CycleRefusedAt f
+      outside : {image : List ℕ} → Usable image → ¬ Positioned image → CycleRefusedAt (fault 22 0)
+      unsampled : {image : List ℕ} → Usable image → Positioned image → length samples < countOf image → CycleRefusedAt (fault 23 0)

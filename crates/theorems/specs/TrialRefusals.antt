@@ -8,10 +8,12 @@ use lib.ListN.{length}
 use Rattle.theorems.specs.Held.{IsInput}
 use Rattle.model.specs.Rules.Compile.{Pair}
 use Rattle.theorems.specs.Conditions.{_among_, LegalPair}
+use Rattle.model.specs.Rules.Outcome.{fault}
 use Rattle.model.specs.Rules.Program.{Program, count, signalAt}
 use Rattle.theorems.specs.Refusals.{RefusedAt}
 use Rattle.model.specs.Rules.Script.{Action, alter, run}
 use Rattle.model.specs.Rules.Word.{byteAt, wordAt}
+use Rattle.model.specs.declared.Fault.{Fault}
 
 -- 70 SET signal, word stands whole at an offset; 71 RUN count; 00 END.
 abbrev pub SetAt : List ℕ → ℕ → Type 0
@@ -62,15 +64,15 @@ pub record LegalScript (p : Program) (text : List ℕ) (actions : List Action) :
   pub spells : SpellsScript text 0 actions
   pub inputs : (at x : ℕ) (w : ℤ) → alter at x w among actions → InputOf p x
 
--- A trial is refused with number n at place x.
-pub data TrialRefusedAt (program schedule text : List ℕ) : ℕ → ℕ → Type 0 where
+-- A trial is refused.
+pub data TrialRefusedAt (program schedule text : List ℕ) : Fault → Type 0 where
   -- 1 to 16: the pair is refused.
-  pair : {n x : ℕ} → RefusedAt program schedule n x → TrialRefusedAt program schedule text n x
+  pair : {f : Fault} → RefusedAt program schedule f → TrialRefusedAt program schedule text f
   -- 24 script over length (0).
-  long : {q : Pair} → LegalPair program schedule q → 2048 < length text → TrialRefusedAt program schedule text 24 0
+  long : {q : Pair} → LegalPair program schedule q → 2048 < length text → TrialRefusedAt program schedule text (fault 24 0)
   -- 24: the script stops.
   stops : {q : Pair} {x : ℕ} → LegalPair program schedule q → length text ≤ 2048 → StopsScript text 0 x →
-      TrialRefusedAt program schedule text 24 x
+      TrialRefusedAt program schedule text (fault 24 x)
   -- 25 SET of a signal that is no input (the SET).
   wrong : {q : Pair} {actions : List Action} {x : ℕ} → LegalPair program schedule q → length text ≤ 2048 →
-      SpellsScript text 0 actions → WrongSet (q .program) actions x → TrialRefusedAt program schedule text 25 x
+      SpellsScript text 0 actions → WrongSet (q .program) actions x → TrialRefusedAt program schedule text (fault 25 x)

@@ -162,12 +162,15 @@ module _ (text : List ℕ) where
 
   -- 24: a text is read to its end exactly if it spells its commands, and refused exactly where it stops.
   pub script-judged : Judged (λ u. SpellsScript text 0 (scriptOf text .actions))
-      (λ n x. _≡_ {A = ℕ} n 24 × StopsScript text 0 x) (scriptOf text .ending)
+      (λ f. (f .number ≡ 24) × StopsScript text 0 (f .place)) (scriptOf text .ending)
   unfolding scriptAt
   script-judged =
       record {
         accepts = λ u. (λ e. subst (Ends 0 (scriptOf text)) e all, λ s. ap (λ (r : Script). r .ending) (spelled s));
-        refuses = λ n x. (λ e. subst (Ends 0 (scriptOf text)) e all, λ s. stops-back (s .1) ∙ rw (s .0));
+        refuses = λ f. (
+          λ e. subst (Ends 0 (scriptOf text)) e all,
+          λ s. stops-back (s .1) ∙ ap (λ (n : ℕ). refuse n (f .place)) (sym (s .0)),
+        );
       }
     where
       all : Ends 0 (scriptOf text) (scriptOf text .ending)
@@ -250,11 +253,14 @@ module _ (p : Program) where
   wrong-back (WrongSet.afterRun s) = wrong-back s
 
   pub sets-judged : (actions : List Action) →
-      Judged (λ u. Inputs actions) (λ n x. _≡_ {A = ℕ} n 25 × WrongSet p actions x) (inputsOnly (isInputOf p) actions)
+      Judged (λ u. Inputs actions) (λ f. (f .number ≡ 25) × WrongSet p actions (f .place)) (inputsOnly (isInputOf p) actions)
   sets-judged actions =
       record {
         accepts = λ u. (λ e. subst (Sets actions) e (sets actions), inputs-back actions);
-        refuses = λ n x. (λ e. subst (Sets actions) e (sets actions), λ s. wrong-back (s .1) ∙ rw (s .0));
+        refuses = λ f. (
+          λ e. subst (Sets actions) e (sets actions),
+          λ s. wrong-back (s .1) ∙ ap (λ (n : ℕ). refuse n (f .place)) (sym (s .0)),
+        );
       }
 
 -- 24, over length.

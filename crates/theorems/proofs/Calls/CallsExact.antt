@@ -42,6 +42,7 @@ use Rattle.theorems.specs.Exactness.{
   CycleRefusedAt,
 }
 use Rattle.theorems.specs.WellFormed.{WellLent}
+use Rattle.model.specs.declared.Fault.{Fault}
 use Rattle.model.proofs.Basics.Outcomes.{accepted≢refused, accepted-same, accepted-then, refused-then, then-then}
 use Rattle.model.proofs.Images.Tails.{lent-ok, lent-formed, lent-bears, part-is, written-length}
 use Rattle.theorems.proofs.Pairs.Exact.{pair-judged}
@@ -57,12 +58,12 @@ use Rattle.theorems.proofs.Pairs.Judged.{
 }
 
 -- Steps whose answer has its condition, where each condition gives its answer.
-both-ways : {A : Type 0} {Q : A → Type 0} {R : ℕ → ℕ → Type 0} (o : Outcome A) → Answers Q R o →
-    ((a : A) → Q a → o ≡ accepted a) → ((n x : ℕ) → R n x → o ≡ refused (fault n x)) → Judged Q R o
+both-ways : {A : Type 0} {Q : A → Type 0} {R : Fault → Type 0} (o : Outcome A) → Answers Q R o →
+    ((a : A) → Q a → o ≡ accepted a) → ((f : Fault) → R f → o ≡ refused f) → Judged Q R o
 both-ways {Q = Q} {R = R} o h f g =
     record {
       accepts = λ a. (answers-accepted Q R o a h, f a);
-      refuses = λ n x. (answers-refused Q R o n x h, g n x);
+      refuses = λ f. (answers-refused Q R o f h, g f);
     }
 
 -- What a job that is done yields and leaves.
@@ -70,7 +71,7 @@ abbrev Does : {A : Type 0} → (ℕ → List A → Type 0) → Job A → Type 0
 Does Done j = Done (j .yields) (j .leaves)
 
 -- The steps of a call, judged, are the call.
-module _ {A : Type 0} (lent : List A) (Done : ℕ → List A → Type 0) (Refused : ℕ → ℕ → Type 0) where
+module _ {A : Type 0} (lent : List A) (Done : ℕ → List A → Type 0) (Refused : Fault → Type 0) where
   exactly : (o : Outcome (Job A)) → Judged (Does Done) Refused o → Exactly lent Done Refused (effect lent o)
   exactly o h = record { done = done o h; refuses = refuses o h }
     where
@@ -87,15 +88,15 @@ module _ {A : Type 0} (lent : List A) (Done : ℕ → List A → Type 0) (Refuse
         λ d. absurd (accepted≢refused _ _ f (h .accepts (record { yields = n; leaves = left }) .1 d) refl),
       )
 
-      refuses : (o : Outcome (Job A)) → Judged (Does Done) Refused o → (n x : ℕ) (left : List A) →
-          ((effect lent o .answer ≡ refused (fault n x)) × (effect lent o .left ≡ left)) ↔ (Refused n x × (left ≡ lent))
-      refuses (accepted j) h n x left = (
-        λ e. absurd (accepted≢refused _ (j .yields) (fault n x) refl (e .0)),
-        λ d. absurd (accepted≢refused _ j (fault n x) refl (h .refuses n x .1 (d .0))),
+      refuses : (o : Outcome (Job A)) → Judged (Does Done) Refused o → (g : Fault) (left : List A) →
+          ((effect lent o .answer ≡ refused g) × (effect lent o .left ≡ left)) ↔ (Refused g × (left ≡ lent))
+      refuses (accepted j) h g left = (
+        λ e. absurd (accepted≢refused _ (j .yields) g refl (e .0)),
+        λ d. absurd (accepted≢refused _ j g refl (h .refuses g .1 (d .0))),
       )
-      refuses (refused f) h n x left = (
-        λ e. let q : f ≡ fault n x = cc (e .0) in (h .refuses n x .0 (ap refused q), sym (e .1)),
-        λ d. let e = h .refuses n x .1 (d .0) in let q : f ≡ fault n x = cc e in (ap refused q, sym (d .1)),
+      refuses (refused f) h g left = (
+        λ e. let q : f ≡ g = cc (e .0) in (h .refuses g .0 (ap refused q), sym (e .1)),
+        λ d. let e = h .refuses g .1 (d .0) in let q : f ≡ g = cc e in (ap refused q, sym (d .1)),
       )
 
 -- Compile.
@@ -106,7 +107,7 @@ module _ (program schedule buffer : List ℕ) where
   abbrev compileDone : ℕ → List ℕ → Type 0
   compileDone = Compiles program schedule buffer
 
-  abbrev compileRefused : ℕ → ℕ → Type 0
+  abbrev compileRefused : Fault → Type 0
   compileRefused = CompileRefusedAt program schedule buffer
 
   -- What follows an accepted pair.
@@ -128,12 +129,12 @@ module _ (program schedule buffer : List ℕ) where
 
   compile-answers : Answers (Does compileDone) compileRefused (pairOf program schedule ▷ writes)
   compile-answers =
-      answers-then _ compileRefused _ _ (pair-judged program schedule) (λ n x f. CompileRefusedAt.pair f) (λ q legal.
-      answers-then _ compileRefused _ _ (space-judged q) (λ n x f. space legal f) (λ u fits.
+      answers-then _ compileRefused _ _ (pair-judged program schedule) (λ g f. CompileRefusedAt.pair f) (λ q legal.
+      answers-then _ compileRefused _ _ (space-judged q) (λ g f. space legal f) (λ u fits.
       record { pair = q; legal = legal; is = size q; fits = omega (arith, size q); leaves = refl }))
     where
-      space : {q : Pair} {n x : ℕ} → LegalPair program schedule q → Only 17 (sizeOf q) (length buffer < sizeOf q) n x →
-          compileRefused n x
+      space : {q : Pair} {f : Fault} → LegalPair program schedule q → Only 17 (sizeOf q) (length buffer < sizeOf q) f →
+          compileRefused f
       space legal (Only.only h) = CompileRefusedAt.space legal h
 
   compile-done : (j : Job ℕ) → compileDone (j .yields) (j .leaves) → pairOf program schedule ▷ writes ≡ accepted j
@@ -145,11 +146,11 @@ module _ (program schedule buffer : List ℕ) where
       ap₂ (λ (n : ℕ) (l : List ℕ). accepted (record { yields = n; leaves = l })) same
       (ap (λ (n : ℕ). written q ++ drop n buffer) same ∙ sym (d .leaves))
 
-  compile-refused : {n x : ℕ} → compileRefused n x → pairOf program schedule ▷ writes ≡ refused (fault n x)
-  compile-refused (CompileRefusedAt.pair r) = refused-then _ _ _ (pair-judged program schedule .refuses _ _ .1 r)
+  compile-refused : {f : Fault} → compileRefused f → pairOf program schedule ▷ writes ≡ refused f
+  compile-refused (CompileRefusedAt.pair r) = refused-then _ _ _ (pair-judged program schedule .refuses _ .1 r)
   compile-refused (CompileRefusedAt.space {q = q} legal lt) =
       accepted-then _ _ _ (pair-judged program schedule .accepts q .1 legal) ∙
-      refused-then _ _ _ (space-judged q .refuses 17 (sizeOf q) .1 (Only.only lt))
+      refused-then _ _ _ (space-judged q .refuses (fault 17 (sizeOf q)) .1 (Only.only lt))
 
   -- Compile does its job, or is refused by 1 to 17, exactly under its condition.
   pub compile-exactly : Exactly buffer compileDone compileRefused (compileOf program schedule buffer)
@@ -157,7 +158,7 @@ module _ (program schedule buffer : List ℕ) where
   compile-exactly =
       subst (λ o. Exactly buffer compileDone compileRefused (effect buffer o))
       (sym (then-then (pairOf program schedule) (λ q. accepted (written q)) _))
-      (exactly buffer compileDone compileRefused _ (both-ways _ compile-answers compile-done (λ n x r. compile-refused r)))
+      (exactly buffer compileDone compileRefused _ (both-ways _ compile-answers compile-done (λ g r. compile-refused r)))
 
 -- Reset and cycle.
 module _ (lent : List ℕ) (state : List ℤ) where
@@ -197,29 +198,29 @@ module _ (lent : List ℕ) (state : List ℤ) where
   abbrev checked : Outcome (Job ℤ) → Outcome (Job ℤ)
   checked o = provided (lentOk lent) 20 0 ▷ λ _. provided (ltb (countOf own) (length state)) 21 0 ▷ λ _. o
 
-  checked-answers : (Q : Job ℤ → Type 0) (R : ℕ → ℕ → Type 0) (o : Outcome (Job ℤ)) →
-      ((n x : ℕ) → ResetRefusedAt lent state n x → R n x) → (Usable lent state own → Answers Q R o) → Answers Q R (checked o)
+  checked-answers : (Q : Job ℤ → Type 0) (R : Fault → Type 0) (o : Outcome (Job ℤ)) →
+      ((f : Fault) → ResetRefusedAt lent state f → R f) → (Usable lent state own → Answers Q R o) → Answers Q R (checked o)
   checked-answers Q R o r g =
-      answers-then Q R _ _ lent-judged (λ n x f. r n x (unformed f)) (λ u lends.
-      answers-then Q R _ _ state-judged (λ n x f. r n x (short lends f)) (λ v long. g (record { lends = lends; long = long })))
+      answers-then Q R _ _ lent-judged (λ g f. r g (unformed f)) (λ u lends.
+      answers-then Q R _ _ state-judged (λ g f. r g (short lends f)) (λ v long. g (record { lends = lends; long = long })))
     where
-      unformed : {n x : ℕ} → Only 20 0 ((image : List ℕ) → ¬ WellLent lent image) n x → ResetRefusedAt lent state n x
+      unformed : {f : Fault} → Only 20 0 ((image : List ℕ) → ¬ WellLent lent image) f → ResetRefusedAt lent state f
       unformed (Only.only h) = ResetRefusedAt.unformed h
 
-      short : {n x : ℕ} → WellLent lent own → Only 21 0 (length state < countOf own + 1) n x → ResetRefusedAt lent state n x
+      short : {f : Fault} → WellLent lent own → Only 21 0 (length state < countOf own + 1) f → ResetRefusedAt lent state f
       short lends (Only.only h) = ResetRefusedAt.short lends h
 
   usable-passes : (o : Outcome (Job ℤ)) → Usable lent state own → checked o ≡ o
   usable-passes o h =
       accepted-then _ _ _ (lent-judged .accepts tt .1 (h .lends)) ∙ accepted-then _ _ _ (state-judged .accepts tt .1 (h .long))
 
-  checked-refuses : {n x : ℕ} (o : Outcome (Job ℤ)) → ResetRefusedAt lent state n x → checked o ≡ refused (fault n x)
-  checked-refuses o (ResetRefusedAt.unformed none) = refused-then _ _ _ (lent-judged .refuses 20 0 .1 (Only.only none))
+  checked-refuses : {f : Fault} (o : Outcome (Job ℤ)) → ResetRefusedAt lent state f → checked o ≡ refused f
+  checked-refuses o (ResetRefusedAt.unformed none) = refused-then _ _ _ (lent-judged .refuses (fault 20 0) .1 (Only.only none))
   checked-refuses o (ResetRefusedAt.short lends lt) =
       let same = lent-image lends in
       accepted-then _ _ _ (lent-judged .accepts tt .1 (subst (λ (i : List ℕ). WellLent lent i) (sym same) lends)) ∙
       refused-then _ _ _
-      (state-judged .refuses 21 0 .1 (Only.only (subst (λ (i : List ℕ). length state < countOf i + 1) (sym same) lt)))
+      (state-judged .refuses (fault 21 0) .1 (Only.only (subst (λ (i : List ℕ). length state < countOf i + 1) (sym same) lt)))
 
   usable-own : {image : List ℕ} → Usable lent state image → Usable lent state own
   usable-own h = subst (λ (i : List ℕ). Usable lent state i) (sym (lent-image (h .lends))) h
@@ -237,8 +238,8 @@ module _ (lent : List ℕ) (state : List ℤ) where
   reset-exactly =
       exactly state (Resets lent state) (ResetRefusedAt lent state) _
       (both-ways _
-      (checked-answers _ _ _ (λ n x r. r) (λ usable. record { image = own; usable = usable; is = refl; leaves = refl }))
-      reset-done (λ n x r. checked-refuses _ r))
+      (checked-answers _ _ _ (λ g r. r) (λ usable. record { image = own; usable = usable; is = refl; leaves = refl }))
+      reset-done (λ g r. checked-refuses _ r))
 
   position-judged : Judged (λ u. Positioned lent state own) (Only 22 0 (¬ Positioned lent state own))
       (provided (isPosition (hyperOf own) (getD state 0 (pos 0))) 22 0)
@@ -257,7 +258,7 @@ module _ (lent : List ℕ) (state : List ℤ) where
     abbrev cycleDone : ℕ → List ℤ → Type 0
     cycleDone = Cycles lent state samples
 
-    abbrev cycleRefused : ℕ → ℕ → Type 0
+    abbrev cycleRefused : Fault → Type 0
     cycleRefused = CycleRefusedAt lent state samples
 
     samples-judged : Judged (λ u. countOf own ≤ length samples) (Only 23 0 (length samples < countOf own))
@@ -278,14 +279,14 @@ module _ (lent : List ℕ) (state : List ℤ) where
 
     runs-answers : Usable lent state own → Answers (Does cycleDone) cycleRefused runs
     runs-answers usable =
-        answers-then _ cycleRefused _ _ position-judged (λ n x f. outside f) (λ u positioned.
-        answers-then _ cycleRefused _ _ samples-judged (λ n x f. unsampled positioned f) (λ v sampled.
+        answers-then _ cycleRefused _ _ position-judged (λ g f. outside f) (λ u positioned.
+        answers-then _ cycleRefused _ _ samples-judged (λ g f. unsampled positioned f) (λ v sampled.
         record { image = own; usable = usable; positioned = positioned; sampled = sampled; is = refl; leaves = refl }))
       where
-        outside : {n x : ℕ} → Only 22 0 (¬ Positioned lent state own) n x → cycleRefused n x
+        outside : {f : Fault} → Only 22 0 (¬ Positioned lent state own) f → cycleRefused f
         outside (Only.only h) = CycleRefusedAt.outside usable h
 
-        unsampled : {n x : ℕ} → Positioned lent state own → Only 23 0 (length samples < countOf own) n x → cycleRefused n x
+        unsampled : {f : Fault} → Positioned lent state own → Only 23 0 (length samples < countOf own) f → cycleRefused f
         unsampled positioned (Only.only h) = CycleRefusedAt.unsampled usable positioned h
 
     cycle-done : (j : Job ℤ) → cycleDone (j .yields) (j .leaves) → checked runs ≡ accepted j
@@ -300,25 +301,25 @@ module _ (lent : List ℕ) (state : List ℤ) where
         (ap (λ (i : List ℕ). cycleCount i state) same ∙ sym (d .is))
         (ap (λ (i : List ℕ). cycleWords i state samples) same ∙ sym (d .leaves))
 
-    cycle-refused : {n x : ℕ} → cycleRefused n x → checked runs ≡ refused (fault n x)
+    cycle-refused : {f : Fault} → cycleRefused f → checked runs ≡ refused f
     cycle-refused (CycleRefusedAt.unready r) = checked-refuses runs r
     cycle-refused (CycleRefusedAt.outside usable none) =
         let same = lent-image (usable .lends) in
         usable-passes runs (usable-own usable) ∙
         refused-then _ _ _
-        (position-judged .refuses 22 0 .1 (Only.only (subst (λ (i : List ℕ). ¬ Positioned lent state i) (sym same) none)))
+        (position-judged .refuses (fault 22 0) .1 (Only.only (subst (λ (i : List ℕ). ¬ Positioned lent state i) (sym same) none)))
     cycle-refused (CycleRefusedAt.unsampled usable positioned lt) =
         let same = lent-image (usable .lends) in
         usable-passes runs (usable-own usable) ∙
         accepted-then _ _ _
         (position-judged .accepts tt .1 (subst (λ (i : List ℕ). Positioned lent state i) (sym same) positioned)) ∙
         refused-then _ _ _
-        (samples-judged .refuses 23 0 .1 (Only.only (subst (λ (i : List ℕ). length samples < countOf i) (sym same) lt)))
+        (samples-judged .refuses (fault 23 0) .1 (Only.only (subst (λ (i : List ℕ). length samples < countOf i) (sym same) lt)))
 
     -- A cycle does its job, or is refused by 20 to 23, exactly under its condition.
     pub cycle-exactly : Exactly state cycleDone cycleRefused (cycleOf lent state samples)
     unfolding cycleOf
     cycle-exactly =
         exactly state cycleDone cycleRefused _
-        (both-ways _ (checked-answers _ cycleRefused runs (λ n x r. CycleRefusedAt.unready r) runs-answers) cycle-done
-        (λ n x r. cycle-refused r))
+        (both-ways _ (checked-answers _ cycleRefused runs (λ g r. CycleRefusedAt.unready r) runs-answers) cycle-done
+        (λ g r. cycle-refused r))

@@ -2,29 +2,29 @@
 -- Assumes nothing.
 use Prim.Native.Nat.{ℕ, _*_, _≤_}
 use mathlib.Core.List.{List}
-use mathlib.Core.Logic.{_⊎_, ⊎-elim}
+use mathlib.Core.Logic.{⊎-elim}
 use mathlib.Core.Path.{_≡_, refl}
 use native.Mathlib.Omega.{arith}
 use lib.IntN.{ℤ}
 use lib.ListN.{length}
 use Rattle.model.specs.Rules.Compile.{Pair, pairOf, compileOf}
+use Rattle.model.specs.Rules.Machine.{countOf}
+use Rattle.model.specs.Rules.Outcome.{accepted}
+use Rattle.model.specs.Rules.Program.{Program, Chain}
+use Rattle.model.specs.Rules.Schedule.{Schedule, Put}
+use Rattle.model.specs.Rules.Tail.{Bears}
 use Rattle.theorems.specs.Conversion.{ConvertsTo, ConvertRefusedAt}
 use Rattle.theorems.specs.Exactness.{sizeOf, CompileRefusedAt, ResetRefusedAt, CycleRefusedAt}
-use Rattle.model.specs.Rules.Machine.{countOf}
-use Rattle.model.specs.Rules.Outcome.{accepted, fault}
-use Rattle.model.specs.Rules.Program.{Program, Chain}
 use Rattle.theorems.specs.Refusals.{RateFault, ChainFault, PutFault, MetFault, LoadFault, RefusedAt}
-use Rattle.model.specs.Rules.Schedule.{Schedule, Put}
 use Rattle.theorems.specs.Stops.{StopsExpr, StopsLinks, Stops, StopsPuts}
-use Rattle.model.specs.Rules.Tail.{Bears}
 use Rattle.theorems.specs.WellFormed.{WellFormed}
 use Rattle.model.specs.declared.Fault.{Fault}
-use Rattle.theorems.proofs.Calls.CallsExact.{compile-exactly}
 use Rattle.model.proofs.Texts.Commands.{Bytes}
+use Rattle.model.proofs.Pairs.Verdict.{pair-bounded}
+use Rattle.theorems.proofs.Calls.CallsExact.{compile-exactly}
 use Rattle.theorems.proofs.Pairs.Exact.{accepted-exactly}
 use Rattle.theorems.proofs.Calls.Places.{commands-inside}
 use Rattle.theorems.proofs.Conversion.Rewritten.{rewrite-legal}
-use Rattle.model.proofs.Pairs.Verdict.{pair-bounded}
 
 -- 2 to 6.
 links-number : {text : List ℕ} {room at : ℕ} {f : Fault} → StopsLinks text room at f → 1 ≤ f .number
@@ -67,26 +67,26 @@ puts-number (StopsPuts.unknown lt u) = omega arith
 puts-number (StopsPuts.trailing e lt) = omega arith
 
 -- 7 to 10, 12 to 16.
-rate-number : {p : Program} {n x : ℕ} → RateFault p n x → 1 ≤ n
+rate-number : {p : Program} {f : Fault} → RateFault p f → 1 ≤ f .number
 rate-number (RateFault.undeclaredRead r ρ i u) = omega arith
 rate-number (RateFault.undeclaredLink l i u) = omega arith
 rate-number (RateFault.brokenRule r ρ i d u) = omega arith
 
-chain-number : {p : Program} {Q : Chain → Type 0} {number n x : ℕ} → 1 ≤ number → ChainFault p Q number n x → 1 ≤ n
+chain-number : {p : Program} {Q : Chain → Type 0} {number : ℕ} {f : Fault} → 1 ≤ number → ChainFault p Q number f → 1 ≤ f .number
 chain-number le (ChainFault.broken c i u) = le
 
-put-number : {p : Program} {puts : List Put} {n x : ℕ} → PutFault p puts n x → 1 ≤ n
+put-number : {p : Program} {puts : List Put} {f : Fault} → PutFault p puts f → 1 ≤ f .number
 put-number (PutFault.undeclared j lt u) = omega arith
 put-number (PutFault.twice i j lt below e) = omega arith
 put-number (PutFault.late j lt d f u) = omega arith
 
-met-number : {p : Program} {s : Schedule} {n x : ℕ} → MetFault p s n x → 1 ≤ n
+met-number : {p : Program} {s : Schedule} {f : Fault} → MetFault p s f → 1 ≤ f .number
 met-number (MetFault.unmet r ρ i u) = omega arith
 
-load-number : {p : Program} {s : Schedule} {n x : ℕ} → LoadFault p s n x → 1 ≤ n
+load-number : {p : Program} {s : Schedule} {f : Fault} → LoadFault p s f → 1 ≤ f .number
 load-number (LoadFault.over c o) = omega arith
 
-pub pair-number : {program schedule : List ℕ} {n x : ℕ} → RefusedAt program schedule n x → 1 ≤ n
+pub pair-number : {program schedule : List ℕ} {f : Fault} → RefusedAt program schedule f → 1 ≤ f .number
 pair-number (RefusedAt.long u) = omega arith
 pair-number (RefusedAt.stopped short f) = stops-number f
 pair-number (RefusedAt.unrated short l f) = rate-number (f .fault)
@@ -100,15 +100,15 @@ pair-number (RefusedAt.overloaded c m f) = load-number (f .fault)
 pair-number (RefusedAt.untimely c m o f) = chain-number (omega arith) (f .fault)
 
 -- The calls.
-pub compile-number : {program schedule buffer : List ℕ} {n x : ℕ} → CompileRefusedAt program schedule buffer n x → 1 ≤ n
+pub compile-number : {program schedule buffer : List ℕ} {f : Fault} → CompileRefusedAt program schedule buffer f → 1 ≤ f .number
 compile-number (CompileRefusedAt.pair r) = pair-number r
 compile-number (CompileRefusedAt.space legal lt) = omega arith
 
-pub reset-number : {lent : List ℕ} {state : List ℤ} {n x : ℕ} → ResetRefusedAt lent state n x → 1 ≤ n
+pub reset-number : {lent : List ℕ} {state : List ℤ} {f : Fault} → ResetRefusedAt lent state f → 1 ≤ f .number
 reset-number (ResetRefusedAt.unformed none) = omega arith
 reset-number (ResetRefusedAt.short lends lt) = omega arith
 
-pub cycle-number : {lent : List ℕ} {state samples : List ℤ} {n x : ℕ} → CycleRefusedAt lent state samples n x → 1 ≤ n
+pub cycle-number : {lent : List ℕ} {state samples : List ℤ} {f : Fault} → CycleRefusedAt lent state samples f → 1 ≤ f .number
 cycle-number (CycleRefusedAt.unready r) = reset-number r
 cycle-number (CycleRefusedAt.outside usable none) = omega arith
 cycle-number (CycleRefusedAt.unsampled usable positioned lt) = omega arith
@@ -136,12 +136,12 @@ tail-most {image} {tail} w b =
     ⊎-elim (λ (e : length tail ≡ 0). omega arith) (λ (e : length tail ≡ 4 * countOf image). omega (arith, w .signals)) (b .size)
 
 -- A conversion: its numbers, its places and what it yields.
-pub convert-number : {program buffer : List ℕ} {n x : ℕ} → ConvertRefusedAt program buffer n x → 1 ≤ n
+pub convert-number : {program buffer : List ℕ} {f : Fault} → ConvertRefusedAt program buffer f → 1 ≤ f .number
 convert-number (ConvertRefusedAt.long lt) = omega arith
 convert-number (ConvertRefusedAt.stopped short s) = stops-number s
 convert-number (ConvertRefusedAt.space short legal lt) = omega arith
 
-pub convert-place : {program buffer : List ℕ} {n x : ℕ} → ConvertRefusedAt program buffer n x → x ≤ 8192
+pub convert-place : {program buffer : List ℕ} {f : Fault} → ConvertRefusedAt program buffer f → f .place ≤ 8192
 convert-place (ConvertRefusedAt.long lt) = omega arith
 convert-place {program} (ConvertRefusedAt.stopped short s) = omega (arith, commands-inside program s)
 convert-place {program} (ConvertRefusedAt.space {p = p} short legal lt) = omega (arith, rewrite-legal program p legal .short)

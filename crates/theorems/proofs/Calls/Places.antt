@@ -11,7 +11,6 @@ use lib.ListN.{length, getD, drop}
 use Rattle.model.specs.Says.Feasible.{Multiple}
 use Rattle.model.specs.Says.Calls.{Call, callOf}
 use Rattle.model.specs.Rules.Compile.{Pair, pairOf, verdictOf, compileOf}
-use Rattle.theorems.specs.Conditions.{ReadIn, putAt}
 use Rattle.model.specs.Says.Grammar.{LegalProgram, SpellsPuts}
 use Rattle.model.specs.Rules.Machine.{
   hyperOf,
@@ -27,23 +26,24 @@ use Rattle.model.specs.Rules.Machine.{
   resetOf,
   cycleOf,
 }
-use Rattle.model.specs.Rules.Outcome.{Outcome, accepted, refused, _▷_, provided}
-use Rattle.model.specs.Rules.Program.{leastFactor, Program, Read, Chain}
-use Rattle.theorems.specs.Refusals.{RateFault, ChainFault, PutFault, MetFault, LoadFault, RefusedAt}
+use Rattle.model.specs.Rules.Outcome.{Outcome, accepted, refused, _▷_, provided, fault}
+use Rattle.model.specs.Rules.Program.{Program, Read, Chain}
 use Rattle.model.specs.Rules.Schedule.{Schedule, Put}
+use Rattle.theorems.specs.Conditions.{ReadIn, putAt}
+use Rattle.theorems.specs.Refusals.{RateFault, ChainFault, PutFault, MetFault, LoadFault, RefusedAt}
 use Rattle.theorems.specs.Stops.{StopsExpr, StopsLinks, Stops, StopsPuts}
 use Rattle.model.specs.declared.Fault.{Fault}
 use Rattle.model.proofs.Texts.Commands.{Bytes, declaration-sound, operator-sound}
-use Rattle.theorems.proofs.Pairs.Exact.{refused-exactly}
-use Rattle.theorems.proofs.Pairs.Judged.{read-spelled, chain-spelled, link-spelled}
-use Rattle.theorems.proofs.Pairs.JudgedRuns.{load-repeats}
 use Rattle.model.proofs.Texts.Picks.{byte-inside, signal-inside, operator-inside}
 use Rattle.model.proofs.Basics.Outcomes.{accepted≢refused, accepted-same, then-accepted}
 use Rattle.model.proofs.Texts.Puts.{put-sound, puts-end}
-use Rattle.theorems.proofs.Texts.Stopped.{Refuses, refuses-fault, refuses-then, refuses-provided}
 use Rattle.model.proofs.Images.Tails.{written-length}
 use Rattle.model.proofs.Pairs.Verdict.{pair-bounded}
 use Rattle.model.proofs.Texts.Written.{declaration-outside-inside, operator-outside-byte, decoded, operator-decoded, put-decoded}
+use Rattle.theorems.proofs.Pairs.Exact.{refused-exactly}
+use Rattle.theorems.proofs.Pairs.Judged.{read-spelled, chain-spelled, link-spelled}
+use Rattle.theorems.proofs.Pairs.JudgedRuns.{load-repeats}
+use Rattle.theorems.proofs.Texts.Stopped.{Refuses, refuses-fault, refuses-then, refuses-provided}
 
 -- 2 to 6 and 11: a text stops within it or at its end.
 module _ (text : List ℕ) where
@@ -91,8 +91,8 @@ module _ (text : List ℕ) where
   put-inside (SpellsPuts.put {at = at} e r) zero lt = omega (arith, put-sound text at _ (put-decoded e) .2)
   put-inside (SpellsPuts.put e r) (suc j) lt = put-inside r j (omega arith)
 
-  put-fault-inside : {end n x : ℕ} {p : Program} {qs : List Put} → SpellsPuts text 0 qs end → PutFault p qs n x →
-      x ≤ length text
+  put-fault-inside : {end : ℕ} {f : Fault} {p : Program} {qs : List Put} → SpellsPuts text 0 qs end → PutFault p qs f →
+      f .place ≤ length text
   put-fault-inside l (PutFault.undeclared j lt u) = put-inside l j lt
   put-fault-inside l (PutFault.twice i j lt below e) = put-inside l j below
   put-fault-inside l (PutFault.late j lt d f u) = put-inside l j lt
@@ -102,30 +102,30 @@ module _ (text : List ℕ) where
     read-inside : (r : ℕ) (ρ : Read) → ReadIn p r ρ → ρ .place ≤ length text
     read-inside r ρ i = omega (arith, operator-sound text (ρ .place) _ (read-spelled text p l r ρ i) .1)
 
-    rate-inside : {n x : ℕ} → RateFault p n x → x ≤ length text
+    rate-inside : {f : Fault} → RateFault p f → f .place ≤ length text
     rate-inside (RateFault.undeclaredRead r ρ i u) = read-inside r ρ i
     rate-inside (RateFault.undeclaredLink a i u) = omega (arith, declaration-sound text (a .place) _ (link-spelled text p l a i))
     rate-inside (RateFault.brokenRule r ρ i d u) = read-inside r ρ i
 
-    chain-inside : {Q : Chain → Type 0} {number n x : ℕ} → ChainFault p Q number n x → x ≤ length text
+    chain-inside : {Q : Chain → Type 0} {number : ℕ} {f : Fault} → ChainFault p Q number f → f .place ≤ length text
     chain-inside (ChainFault.broken c i u) =
         omega (arith, declaration-sound text (c .place) _ (chain-spelled text p l c i .command))
 
-    met-inside : {s : Schedule} {n x : ℕ} → MetFault p s n x → x ≤ length text
+    met-inside : {s : Schedule} {f : Fault} → MetFault p s f → f .place ≤ length text
     met-inside (MetFault.unmet r ρ i u) = read-inside r ρ i
 
 -- 15: the lowest cycle over CAP is one of the hypercycle, since the load repeats.
-load-below : {p : Program} {s : Schedule} {n x : ℕ} (h : ℕ) → Multiple p h → LoadFault p s n x →
-    ((m y : ℕ) → LoadFault p s m y → x ≤ y) → x < h
+load-below : {p : Program} {s : Schedule} {f : Fault} (h : ℕ) → Multiple p h → LoadFault p s f →
+    ((g : Fault) → LoadFault p s g → f .place ≤ g .place) → f .place < h
 load-below {p} {s} h whole (LoadFault.over c o) least =
     omega (
       arith,
-      least 15 (c % h) (LoadFault.over (c % h) (rw (load-repeats p s h whole c) o)),
+      least (fault 15 (c % h)) (LoadFault.over (c % h) (rw (load-repeats p s h whole c) o)),
       mod-lt c (whole .positive),
     )
 
 -- What the two texts are refused with.
-pub refusal-small : {program schedule : List ℕ} {n x : ℕ} → RefusedAt program schedule n x → x ≤ 65535
+pub refusal-small : {program schedule : List ℕ} {f : Fault} → RefusedAt program schedule f → f .place ≤ 65535
 refusal-small (RefusedAt.long u) = omega arith
 refusal-small {program} (RefusedAt.stopped short f) = omega (arith, short .0, commands-inside program f)
 refusal-small {program} (RefusedAt.unrated {p = p} short l f) = omega (arith, short .0, rate-inside program p l (f .fault))
@@ -162,7 +162,7 @@ module _ (program schedule : List ℕ) where
     where
       go : (o : Outcome Pair) → pairOf program schedule ≡ o → Refuses Small o
       go (accepted q) e = tt
-      go (refused f) e = omega (arith, refusal-small (refused-exactly program schedule (f .number) (f .place) .0 e))
+      go (refused f) e = omega (arith, refusal-small (refused-exactly program schedule f .0 e))
 
   image-small : Bytes program → (image : List ℕ) → verdictOf program schedule ≡ accepted image → length image ≤ 65791
   unfolding verdictOf

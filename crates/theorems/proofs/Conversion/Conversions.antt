@@ -13,6 +13,7 @@ use Rattle.model.specs.Rules.Outcome.{Outcome, accepted, refused, fault, _▷_,
 use Rattle.model.specs.Rules.Program.{Program, parseWith}
 use Rattle.model.specs.Rules.Rewrite.{rewrite, convertOf}
 use Rattle.theorems.specs.Conversion.{earlierFactor, ConvertsTo, ConvertRefusedAt, ConvertsExactly, Converts}
+use Rattle.model.specs.declared.Fault.{Fault}
 use Rattle.model.proofs.Basics.Outcomes.{accepted-then, refused-then}
 use Rattle.theorems.proofs.Pairs.Exact.{text-judged}
 use Rattle.theorems.proofs.Pairs.Judged.{Judged, Only, provided-judged, Answers, answers-then, answers-refused}
@@ -46,20 +47,20 @@ module _ (program buffer : List ℕ) where
 
   answers : Answers Done (ConvertRefusedAt program buffer) job
   answers =
-      answers-then Done (ConvertRefusedAt program buffer) _ _ long-judged (λ n x f. long f) (λ u short.
+      answers-then Done (ConvertRefusedAt program buffer) _ _ long-judged (λ g f. long f) (λ u short.
       answers-then Done (ConvertRefusedAt program buffer) _ _ (text-judged earlierFactor program)
-      (λ n x f. ConvertRefusedAt.stopped short f) (λ p legal.
-      answers-then Done (ConvertRefusedAt program buffer) _ _ space-judged (λ n x f. space short legal f) (λ v fits.
+      (λ g f. ConvertRefusedAt.stopped short f) (λ p legal.
+      answers-then Done (ConvertRefusedAt program buffer) _ _ space-judged (λ g f. space short legal f) (λ v fits.
       record {
         converts = record { short = short; declares = p; legal = legal; is = refl; fits = fits };
         leaves = refl;
       })))
     where
-      long : {n x : ℕ} → Only 1 0 (8192 < length program) n x → ConvertRefusedAt program buffer n x
+      long : {f : Fault} → Only 1 0 (8192 < length program) f → ConvertRefusedAt program buffer f
       long (Only.only h) = ConvertRefusedAt.long h
 
-      space : {p : Program} {n x : ℕ} → length program ≤ 8192 → LegalWith earlierFactor program p →
-          Only 17 size (length buffer < size) n x → ConvertRefusedAt program buffer n x
+      space : {p : Program} {f : Fault} → length program ≤ 8192 → LegalWith earlierFactor program p →
+          Only 17 size (length buffer < size) f → ConvertRefusedAt program buffer f
       space short legal (Only.only h) = ConvertRefusedAt.space short legal h
 
   -- And the other way round.
@@ -70,15 +71,15 @@ module _ (program buffer : List ℕ) where
       accepted-then _ _ _ (text-judged earlierFactor program .accepts (c .declares) .1 (c .legal)) ∙
       accepted-then _ _ _ (space-judged .accepts tt .1 (omega (arith, c .is, c .fits)))
 
-  job-refused : {n x : ℕ} → ConvertRefusedAt program buffer n x → job ≡ refused (fault n x)
-  job-refused (ConvertRefusedAt.long h) = refused-then _ _ _ (long-judged .refuses 1 0 .1 (Only.only h))
+  job-refused : {f : Fault} → ConvertRefusedAt program buffer f → job ≡ refused f
+  job-refused (ConvertRefusedAt.long h) = refused-then _ _ _ (long-judged .refuses (fault 1 0) .1 (Only.only h))
   job-refused (ConvertRefusedAt.stopped short f) =
       accepted-then _ _ _ (long-judged .accepts tt .1 short) ∙
-      refused-then _ _ _ (text-judged earlierFactor program .refuses _ _ .1 f)
+      refused-then _ _ _ (text-judged earlierFactor program .refuses _ .1 f)
   job-refused (ConvertRefusedAt.space {p = p} short legal lt) =
       accepted-then _ _ _ (long-judged .accepts tt .1 short) ∙
       accepted-then _ _ _ (text-judged earlierFactor program .accepts p .1 legal) ∙
-      refused-then _ _ _ (space-judged .refuses 17 size .1 (Only.only lt))
+      refused-then _ _ _ (space-judged .refuses (fault 17 size) .1 (Only.only lt))
 
   abbrev call : Outcome (Job ℕ) → Effect ℕ
   call o = effect buffer o
@@ -86,19 +87,19 @@ module _ (program buffer : List ℕ) where
   exactly : (o : Outcome (Job ℕ)) → Answers Done (ConvertRefusedAt program buffer) o →
       ((n : ℕ) → ConvertsTo program buffer n →
       o ≡ accepted (record { yields = size; leaves = rewrite program ++ drop size buffer })) →
-      ((n x : ℕ) → ConvertRefusedAt program buffer n x → o ≡ refused (fault n x)) → ConvertsExactly program buffer (call o)
+      ((f : Fault) → ConvertRefusedAt program buffer f → o ≡ refused f) → ConvertsExactly program buffer (call o)
   exactly (accepted j) h f g =
       record {
         done = λ n. (
           λ e. let z : j .yields ≡ n = cc in rw (← z) (h .converts),
           λ c. ap (λ o. call o .answer) (f n c) ∙ ap accepted (sym (c .is)),
         );
-        refused-at = λ n x. (
+        refused-at = λ k. (
           λ e. let z : _≡_ {A = ℕ} 0 1 = cc in absurd (omega arith),
-          λ r. ap (λ o. call o .answer) (g n x r),
+          λ r. ap (λ o. call o .answer) (g k r),
         );
         written = λ n e. let z : j .yields ≡ n = cc in h .leaves ∙ ap (λ (m : ℕ). rewrite program ++ drop m buffer) z;
-        kept = λ n x e. let z : _≡_ {A = ℕ} 0 1 = cc in absurd (omega arith);
+        kept = λ k e. let z : _≡_ {A = ℕ} 0 1 = cc in absurd (omega arith);
       }
   exactly (refused q) h f g =
       record {
@@ -106,20 +107,20 @@ module _ (program buffer : List ℕ) where
           λ e. let z : _≡_ {A = ℕ} 0 1 = cc in absurd (omega arith),
           λ c. ap (λ o. call o .answer) (f n c) ∙ ap accepted (sym (c .is)),
         );
-        refused-at = λ n x. (
-          λ e. answers-refused Done (ConvertRefusedAt program buffer) (refused q) n x h (same e),
-          λ r. ap (λ o. call o .answer) (g n x r),
+        refused-at = λ k. (
+          λ e. answers-refused Done (ConvertRefusedAt program buffer) (refused q) k h (same e),
+          λ r. ap (λ o. call o .answer) (g k r),
         );
         written = λ n e. let z : _≡_ {A = ℕ} 0 1 = cc in absurd (omega arith);
-        kept = λ n x e. refl;
+        kept = λ k e. refl;
       }
     where
-      same : {n x : ℕ} → _≡_ {A = Outcome ℕ} (refused q) (refused (fault n x)) → _≡_ {A = Outcome (Job ℕ)} (refused q) (refused (fault n x))
-      same {n} {x} e = let z : q ≡ fault n x = cc in ap refused z
+      same : {k : Fault} → _≡_ {A = Outcome ℕ} (refused q) (refused k) → _≡_ {A = Outcome (Job ℕ)} (refused q) (refused k)
+      same {k} e = let z : q ≡ k = cc in ap refused z
 
 -- A conversion is done, or refused with each number at its place, exactly under its condition.
 pub convert-exactly : (program buffer : List ℕ) → Converts program buffer
 unfolding convertOf
 convert-exactly program buffer =
     exactly program buffer (job program buffer) (answers program buffer)
-    (λ n c. job-done program buffer c) (λ n x r. job-refused program buffer r)
+    (λ n c. job-done program buffer c) (λ k r. job-refused program buffer r)

@@ -3,7 +3,7 @@
 use Prim.Native.Nat.{ℕ, _≤_}
 use mathlib.Core.List.{List}
 use mathlib.Core.Logic.{_↔_}
-use mathlib.Core.Path.{_≡_, refl, _∙_}
+use mathlib.Core.Path.{_≡_, refl, _∙_, sym, subst}
 use Rattle.model.specs.Says.Feasible.{Multiple}
 use Rattle.model.specs.Rules.Compile.{shortEnough, Pair, pairOf}
 use Rattle.model.specs.Says.Grammar.{LegalWith, LegalProgram, LegalSchedule}
@@ -17,6 +17,7 @@ use Rattle.model.specs.Rules.Schedule.{Schedule, Put, parseSchedule, placed}
 use Rattle.theorems.specs.Conditions.{ShortEnough, DeclaredAndRated, LegalRates, LegalPlaces, LegalPair}
 use Rattle.theorems.specs.Refusals.{RefusedAt}
 use Rattle.theorems.specs.Stops.{Stops, StopsPuts}
+use Rattle.model.specs.declared.Fault.{Fault}
 use Rattle.model.proofs.Basics.Outcomes.{accepted-then, refused-then}
 use Rattle.theorems.proofs.Pairs.Judged.{
   Judged,
@@ -36,16 +37,17 @@ use Rattle.theorems.proofs.Texts.Parses.{with-legal, schedule-legal}
 use Rattle.theorems.proofs.Texts.Stopped.{with-stops, schedule-stops}
 
 -- 2 to 6.
-pub text-judged : (least : ℕ) (text : List ℕ) → Judged (LegalWith least text) (λ n x. Stops least text 0 0 empty (fault n x)) (parseWith least text)
-text-judged least text = record { accepts = with-legal least text; refuses = λ n x. with-stops least text (fault n x) }
+pub text-judged : (least : ℕ) (text : List ℕ) →
+    Judged (LegalWith least text) (Stops least text 0 0 empty) (parseWith least text)
+text-judged least text = record { accepts = with-legal least text; refuses = with-stops least text }
 
-program-judged : (text : List ℕ) → Judged (LegalProgram text) (λ n x. Stops leastFactor text 0 0 empty (fault n x)) (parseProgram text)
+program-judged : (text : List ℕ) → Judged (LegalProgram text) (Stops leastFactor text 0 0 empty) (parseProgram text)
 program-judged text = text-judged leastFactor text
 
 -- 11.
 schedule-judged : (text : List ℕ) →
-    Judged (LegalSchedule text) (λ n x. StopsPuts text 0 (fault n x)) (parseSchedule text)
-schedule-judged text = record { accepts = schedule-legal text; refuses = λ n x. schedule-stops text (fault n x) }
+    Judged (LegalSchedule text) (StopsPuts text 0) (parseSchedule text)
+schedule-judged text = record { accepts = schedule-legal text; refuses = schedule-stops text }
 
 -- The checks after 13, and those after 10.
 abbrev afterPlaces : Program → ℕ → Schedule → Outcome Pair
@@ -60,28 +62,28 @@ module _ (program schedule : List ℕ) where
   Q : Pair → Type 0
   Q = LegalPair program schedule
 
-  R : ℕ → ℕ → Type 0
+  R : Fault → Type 0
   R = RefusedAt program schedule
 
   answers-runs : (p : Program) (h : ℕ) (s : Schedule) → LegalPlaces program schedule p h s → Answers Q R (afterPlaces p h s)
   unfolding Q R
   answers-runs p h s c =
-      answers-then Q R (met p s) _ (met-judged program schedule p h s c) (λ n x f. RefusedAt.unmet c f) (λ u meets.
+      answers-then Q R (met p s) _ (met-judged program schedule p h s c) (λ g f. RefusedAt.unmet c f) (λ u meets.
       answers-then Q R (loaded p s h) _ (loaded-judged p s h (c .rates .hypercycle .multiple))
-      (λ n x f. RefusedAt.overloaded c meets f) (λ v loads.
+      (λ g f. RefusedAt.overloaded c meets f) (λ v loads.
       answers-then Q R (timely p s h) _ (timely-judged program schedule p h s c meets)
-      (λ n x f. RefusedAt.untimely c meets loads f) (λ w latencies.
+      (λ g f. RefusedAt.untimely c meets loads f) (λ w latencies.
       record { places = c; met = meets; loads = loads; latencies = latencies })))
 
   answers-schedule : (p : Program) (h : ℕ) → LegalRates program schedule p h → Answers Q R (afterRates schedule p h)
   unfolding Q R
   answers-schedule p h r =
-      answers-then Q R (parseSchedule schedule) _ (schedule-judged schedule) (λ n x s. RefusedAt.unread r s) (λ puts legal.
-      answers-then Q R (placed p puts) _ (placed-judged p schedule puts legal) (λ n x f. misplaced puts legal f) (λ s places.
+      answers-then Q R (parseSchedule schedule) _ (schedule-judged schedule) (λ f s. RefusedAt.unread r s) (λ puts legal.
+      answers-then Q R (placed p puts) _ (placed-judged p schedule puts legal) (λ g f. misplaced puts legal f) (λ s places.
       answers-runs p h s (record { rates = r; puts = puts; legal = legal; placed = places })))
     where
-      misplaced : {n x : ℕ} (puts : Parsed (List Put)) → LegalSchedule schedule puts → PlacedFault p puts n x →
-          RefusedAt program schedule n x
+      misplaced : {f : Fault} (puts : Parsed (List Put)) → LegalSchedule schedule puts → PlacedFault p puts f →
+          RefusedAt program schedule f
       misplaced puts legal (PlacedFault.put f) = RefusedAt.misplaced r legal f
       misplaced puts legal (PlacedFault.missing c x lt u) = RefusedAt.missing r legal c x lt u
 
@@ -89,20 +91,20 @@ module _ (program schedule : List ℕ) where
   answers : Answers Q R (pairOf program schedule)
   unfolding pairOf Q R
   answers =
-      answers-then Q R (shortEnough program schedule) _ (short-judged program schedule) (λ n x f. long f) (λ u short.
-      answers-then Q R (parseProgram program) _ (program-judged program) (λ n x f. RefusedAt.stopped short f) (λ p legal.
-      answers-then Q R (declaredAndRated p) _ (rated-judged program p legal) (λ n x f. RefusedAt.unrated short legal f)
+      answers-then Q R (shortEnough program schedule) _ (short-judged program schedule) (λ g f. long f) (λ u short.
+      answers-then Q R (parseProgram program) _ (program-judged program) (λ g f. RefusedAt.stopped short f) (λ p legal.
+      answers-then Q R (declaredAndRated p) _ (rated-judged program p legal) (λ g f. RefusedAt.unrated short legal f)
       (λ v rated.
-      answers-then Q R (hypercycle p) _ (hypercycle-judged p) (λ n x f. unbounded short legal rated f) (λ h least.
-      answers-then Q R (linked p) _ (linked-judged p) (λ n x f. RefusedAt.unlinked short legal rated least f) (λ w links.
+      answers-then Q R (hypercycle p) _ (hypercycle-judged p) (λ g f. unbounded short legal rated f) (λ h least.
+      answers-then Q R (linked p) _ (linked-judged p) (λ g f. RefusedAt.unlinked short legal rated least f) (λ w links.
       answers-schedule p h
       (record { short = short; legal = legal; rated = rated; hypercycle = least; linked = links }))))))
     where
-      long : {n x : ℕ} → Only 1 0 (¬ ShortEnough program schedule) n x → RefusedAt program schedule n x
+      long : {f : Fault} → Only 1 0 (¬ ShortEnough program schedule) f → RefusedAt program schedule f
       long (Only.only h) = RefusedAt.long h
 
-      unbounded : {p : Program} {n x : ℕ} → ShortEnough program schedule → LegalProgram program p → DeclaredAndRated p →
-          Only 9 0 ((h : ℕ) → h ≤ 240 → ¬ Multiple p h) n x → RefusedAt program schedule n x
+      unbounded : {p : Program} {f : Fault} → ShortEnough program schedule → LegalProgram program p → DeclaredAndRated p →
+          Only 9 0 ((h : ℕ) → h ≤ 240 → ¬ Multiple p h) f → RefusedAt program schedule f
       unbounded short legal rated (Only.only h) = RefusedAt.unbounded short legal rated h
 
   -- Where the conditions hold, the checks are passed.
@@ -134,57 +136,57 @@ module _ (program schedule : List ℕ) where
       accepted-then _ _ _ (loaded-judged _ _ h (c .rates .hypercycle .multiple) .accepts tt .1 (l .loads)) ∙
       accepted-then _ _ _ (timely-judged program schedule _ h _ c (l .met) .accepts tt .1 (l .latencies))
 
-  refused-back : {n x : ℕ} → RefusedAt program schedule n x → pairOf program schedule ≡ refused (fault n x)
+  refused-back : {f : Fault} → RefusedAt program schedule f → pairOf program schedule ≡ refused f
   unfolding pairOf
-  refused-back (RefusedAt.long u) = refused-then _ _ _ (short-judged program schedule .refuses 1 0 .1 (Only.only u))
+  refused-back (RefusedAt.long u) = refused-then _ _ _ (short-judged program schedule .refuses (fault 1 0) .1 (Only.only u))
   refused-back (RefusedAt.stopped short f) =
-      accepted-then _ _ _ (short-passed short) ∙ refused-then _ _ _ (program-judged program .refuses _ _ .1 f)
+      accepted-then _ _ _ (short-passed short) ∙ refused-then _ _ _ (program-judged program .refuses _ .1 f)
   refused-back (RefusedAt.unrated {p = p} short legal f) =
       accepted-then _ _ _ (short-passed short) ∙
       accepted-then _ _ _ (program-judged program .accepts p .1 legal) ∙
-      refused-then _ _ _ (rated-judged program p legal .refuses _ _ .1 f)
+      refused-then _ _ _ (rated-judged program p legal .refuses _ .1 f)
   refused-back (RefusedAt.unbounded {p = p} short legal rated f) =
       accepted-then _ _ _ (short-passed short) ∙
       accepted-then _ _ _ (program-judged program .accepts p .1 legal) ∙
       accepted-then _ _ _ (rated-judged program p legal .accepts tt .1 rated) ∙
-      refused-then _ _ _ (hypercycle-judged p .refuses 9 0 .1 (Only.only f))
+      refused-then _ _ _ (hypercycle-judged p .refuses (fault 9 0) .1 (Only.only f))
   refused-back (RefusedAt.unlinked {h = h} {p = p} short legal rated least f) =
       accepted-then _ _ _ (short-passed short) ∙
       accepted-then _ _ _ (program-judged program .accepts p .1 legal) ∙
       accepted-then _ _ _ (rated-judged program p legal .accepts tt .1 rated) ∙
       accepted-then _ _ _ (hypercycle-judged p .accepts h .1 least) ∙
-      refused-then _ _ _ (linked-judged p .refuses _ _ .1 f)
+      refused-then _ _ _ (linked-judged p .refuses _ .1 f)
   refused-back (RefusedAt.unread r f) =
-      rates-passed r ∙ refused-then _ _ _ (schedule-judged schedule .refuses _ _ .1 f)
+      rates-passed r ∙ refused-then _ _ _ (schedule-judged schedule .refuses _ .1 f)
   refused-back (RefusedAt.misplaced {p = p} {puts = puts} r legal f) =
       rates-passed r ∙
       accepted-then _ _ _ (schedule-judged schedule .accepts puts .1 legal) ∙
-      refused-then _ _ _ (placed-judged p schedule puts legal .refuses _ _ .1 (PlacedFault.put f))
+      refused-then _ _ _ (placed-judged p schedule puts legal .refuses _ .1 (PlacedFault.put f))
   refused-back (RefusedAt.missing {p = p} {puts = puts} r legal c x lt u) =
       rates-passed r ∙
       accepted-then _ _ _ (schedule-judged schedule .accepts puts .1 legal) ∙
-      refused-then _ _ _ (placed-judged p schedule puts legal .refuses 12 _ .1 (PlacedFault.missing c x lt u))
+      refused-then _ _ _ (placed-judged p schedule puts legal .refuses (fault 12 _) .1 (PlacedFault.missing c x lt u))
   refused-back (RefusedAt.unmet {h = h} {p = p} {s = s} c f) =
-      places-passed c ∙ refused-then _ _ _ (met-judged program schedule p h s c .refuses _ _ .1 f)
+      places-passed c ∙ refused-then _ _ _ (met-judged program schedule p h s c .refuses _ .1 f)
   refused-back (RefusedAt.overloaded {h = h} {p = p} {s = s} c meets f) =
       places-passed c ∙
       accepted-then _ _ _ (met-judged program schedule p h s c .accepts tt .1 meets) ∙
-      refused-then _ _ _ (loaded-judged p s h (c .rates .hypercycle .multiple) .refuses _ _ .1 f)
+      refused-then _ _ _ (loaded-judged p s h (c .rates .hypercycle .multiple) .refuses _ .1 f)
   refused-back (RefusedAt.untimely {h = h} {p = p} {s = s} c meets loads f) =
       places-passed c ∙
       accepted-then _ _ _ (met-judged program schedule p h s c .accepts tt .1 meets) ∙
       accepted-then _ _ _ (loaded-judged p s h (c .rates .hypercycle .multiple) .accepts tt .1 loads) ∙
-      refused-then _ _ _ (timely-judged program schedule p h s c meets .refuses _ _ .1 f)
+      refused-then _ _ _ (timely-judged program schedule p h s c meets .refuses _ .1 f)
 
   -- Two texts are accepted as the pair q exactly if they are legal and say q.
   pub accepted-exactly : (q : Pair) → (pairOf program schedule ≡ accepted q) ↔ LegalPair program schedule q
   unfolding Q R
   accepted-exactly q = (answers-accepted Q R (pairOf program schedule) q answers, legal-accepted q)
 
-  -- They are refused with number n at place x exactly under that number's condition.
-  pub refused-exactly : (n x : ℕ) → (pairOf program schedule ≡ refused (fault n x)) ↔ RefusedAt program schedule n x
+  -- They are refused with f, a number and a place, exactly under that number's condition.
+  pub refused-exactly : (f : Fault) → (pairOf program schedule ≡ refused f) ↔ RefusedAt program schedule f
   unfolding Q R
-  refused-exactly n x = (answers-refused Q R (pairOf program schedule) n x answers, refused-back)
+  refused-exactly f = (answers-refused Q R (pairOf program schedule) f answers, refused-back)
 
   pub pair-judged : Judged (LegalPair program schedule) (RefusedAt program schedule) (pairOf program schedule)
   pair-judged = record { accepts = accepted-exactly; refuses = refused-exactly }

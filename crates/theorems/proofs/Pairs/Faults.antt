@@ -9,10 +9,10 @@ use native.Mathlib.Nat.{add-zero, add-suc, suc-add}
 use native.Mathlib.Omega.{arith}
 use lib.ListN.{length, getD}
 use Rattle.model.specs.Says.Feasible.{All}
-use Rattle.theorems.specs.Conditions.{_among_}
 use Rattle.model.specs.Rules.Outcome.{accepted, refused, fault, lowest}
-use Rattle.theorems.specs.Refusals.{LowestFault}
 use Rattle.model.specs.Rules.Search.{joinFrom}
+use Rattle.theorems.specs.Conditions.{_among_}
+use Rattle.theorems.specs.Refusals.{LowestFault}
 use Rattle.model.specs.declared.Fault.{Fault}
 use Rattle.model.proofs.Basics.Outcomes.{Lowest, lowest-none, none-lowest, lowest-least, lowest-is}
 
@@ -97,37 +97,37 @@ module _ {A B : Type 0} (f : ℕ → A → List B) where
 -- A list of faults that holds those of F and no others.
 module _
     (fs : List Fault)
-    (F : ℕ → ℕ → Type 0)
-    (sound : (f : Fault) → f among fs → F (f .number) (f .place))
-    (complete : (n x : ℕ) → F n x → fault n x among fs)
+    (F : Fault → Type 0)
+    (sound : (f : Fault) → f among fs → F f)
+    (complete : (f : Fault) → F f → f among fs)
   where
-    pub no-fault : ((n x : ℕ) → ¬ F n x) → lowest fs ≡ accepted tt
-    no-fault h = none-lowest fs (among-none fs (λ f m. h (f .number) (f .place) (sound f m)))
+    pub no-fault : ((f : Fault) → ¬ F f) → lowest fs ≡ accepted tt
+    no-fault h = none-lowest fs (among-none fs (λ f m. h f (sound f m)))
 
-    pub fault-none : lowest fs ≡ accepted tt → (n x : ℕ) → ¬ F n x
-    fault-none e n x h = none-among fs (fault n x) (lowest-none fs e) (complete n x h)
+    pub fault-none : lowest fs ≡ accepted tt → (f : Fault) → ¬ F f
+    fault-none e f h = none-among fs f (lowest-none fs e) (complete f h)
 
     -- The check refuses with the fault at the lowest place, if a place has faults of one number only.
-    pub fault-lowest : (n x : ℕ) → lowest fs ≡ refused (fault n x) → LowestFault F n x
-    fault-lowest n x e =
-        let h = lowest-least (fault 0 0) fs (fault n x) e in
+    pub fault-lowest : (f : Fault) → lowest fs ≡ refused f → LowestFault F f
+    fault-lowest f e =
+        let h = lowest-least (fault 0 0) fs f e in
         record {
-          fault = sound (fault n x) (rw (h .here) at (at-among fs (fault 0 0) (h .index) (h .inside)));
-          least = λ m y g. least h m y (among-at (fault m y) fs (fault 0 0) (complete m y g));
+          fault = sound f (rw (h .here) at (at-among fs (fault 0 0) (h .index) (h .inside)));
+          least = λ g k. least h g (among-at g fs (fault 0 0) (complete g k));
         }
       where
-        least : Lowest (fault 0 0) fs (fault n x) → (m y : ℕ) →
-            (j : ℕ) × (j < length fs) × (getD fs j (fault 0 0) ≡ fault m y) → x ≤ y
-        least h m y a = let e = ap (λ (f : Fault). f .place) (a .2) in omega (arith, h .least (a .0) (a .1))
+        least : Lowest (fault 0 0) fs f → (g : Fault) → (j : ℕ) × (j < length fs) × (getD fs j (fault 0 0) ≡ g) →
+            f .place ≤ g .place
+        least h g a = let e = ap (λ (k : Fault). k .place) (a .2) in omega (arith, h .least (a .0) (a .1))
 
-    pub lowest-fault : ((n m x y : ℕ) → F n x → F m y → x ≡ y → n ≡ m) → (n x : ℕ) → LowestFault F n x →
-        lowest fs ≡ refused (fault n x)
-    lowest-fault single n x h =
-        let a = among-at (fault n x) fs (fault 0 0) (complete n x (h .fault)) in
-        lowest-is (fault 0 0) fs (fault n x) (a .0) (a .1) (a .2)
-        (λ i lt. h .least _ _ (sound (getD fs i (fault 0 0)) (at-among fs (fault 0 0) i lt)))
+    pub lowest-fault : ((f g : Fault) → F f → F g → f .place ≡ g .place → f .number ≡ g .number) → (f : Fault) →
+        LowestFault F f → lowest fs ≡ refused f
+    lowest-fault single f h =
+        let a = among-at f fs (fault 0 0) (complete f (h .fault)) in
+        lowest-is (fault 0 0) fs f (a .0) (a .1) (a .2)
+        (λ i lt. h .least _ (sound (getD fs i (fault 0 0)) (at-among fs (fault 0 0) i lt)))
         (λ i lt e.
         same (getD fs i (fault 0 0)) e (sound (getD fs i (fault 0 0)) (at-among fs (fault 0 0) i lt)))
       where
-        same : (g : Fault) → g .place ≡ x → F (g .number) (g .place) → g ≡ fault n x
-        same g e k = λ i. record { number = single (g .number) n (g .place) x k (h .fault) e i; place = e i }
+        same : (g : Fault) → g .place ≡ f .place → F g → g ≡ f
+        same g e k = λ i. record { number = single g f k (h .fault) e i; place = e i }

@@ -9,11 +9,9 @@ use native.Mathlib.Omega.{arith}
 use borrow.Author.Tests.{leb-true, ltb-true, le-leb, lt-ltb, eqb-true, eq-eqb}
 use lib.Dec.{leb, ltb, eqb}
 use lib.ListN.{length, getD}
-use Rattle.model.specs.Says.Feasible.{All, Multiple}
+use Rattle.model.specs.Says.Feasible.{All, Multiple, Least}
 use Rattle.model.specs.Rules.Command.{isOperator, declarationAt, operatorAt}
 use Rattle.model.specs.Rules.Compile.{shortEnough}
-use Rattle.theorems.specs.Conditions.{_among_, ShortEnough, ReadIn, LinkIn, DeclaredAndRated, Linked}
-use Rattle.model.specs.Says.Feasible.{Least}
 use Rattle.model.specs.Says.Grammar.{LegalProgram}
 use Rattle.model.specs.Rules.Latency.{noRead}
 use Rattle.model.specs.Rules.Outcome.{Outcome, accepted, refused, fault, _▷_, provided, lowest}
@@ -30,10 +28,11 @@ use Rattle.model.specs.Rules.Rates.{
   isMultiple,
   linked,
 }
-use Rattle.theorems.specs.Refusals.{LowestFault, RateFault, ChainFault}
 use Rattle.model.specs.Rules.Search.{first, joinFrom}
 use Rattle.model.specs.Rules.Word.{byteAt}
 use Rattle.model.specs.Says.Written.{OperatorByte}
+use Rattle.theorems.specs.Conditions.{_among_, ShortEnough, ReadIn, LinkIn, DeclaredAndRated, Linked}
+use Rattle.theorems.specs.Refusals.{LowestFault, RateFault, ChainFault}
 use Rattle.model.specs.declared.Declaration.the-variants as Declaration
 use Rattle.model.specs.declared.Fault.{Fault}
 use Rattle.model.specs.declared.Found.{Found}
@@ -41,6 +40,13 @@ use Rattle.model.specs.declared.Found.the-variants.{At, Nowhere}
 use Rattle.model.specs.declared.Mode.the-variants.{Exists}
 use Rattle.model.specs.declared.Sampled.{Sampled}
 use Rattle.model.proofs.Pairs.Decide.{true-periods, periods-true}
+use Rattle.model.proofs.Pairs.Hypercycle.{hypercycle-least, hypercycle-none}
+use Rattle.model.proofs.Texts.Commands.{written-byte, operator-of}
+use Rattle.model.proofs.Texts.Legal.{Legal, legal, SpellsRead, SpellsChain, signal-reads, links-command}
+use Rattle.model.proofs.Texts.Picks.{operator-byte}
+use Rattle.model.proofs.Texts.Written.{as-written, operator-as-written}
+use Rattle.model.proofs.Basics.Outcomes.{not-below, not-true-false, accepted≢refused}
+use Rattle.model.proofs.Pairs.Verdict.{Rated, reads-rated, links-declared}
 use Rattle.theorems.proofs.Pairs.Faults.{
   among-at,
   at-among,
@@ -57,48 +63,39 @@ use Rattle.theorems.proofs.Pairs.Faults.{
   fault-lowest,
   lowest-fault,
 }
-use Rattle.model.proofs.Pairs.Hypercycle.{hypercycle-least, hypercycle-none}
-use Rattle.model.proofs.Texts.Legal.{Legal, legal, SpellsRead, SpellsChain, signal-reads, links-command}
-use Rattle.model.proofs.Texts.Commands.{written-byte, operator-of}
-use Rattle.model.proofs.Texts.Picks.{operator-byte}
-use Rattle.model.proofs.Texts.Written.{as-written, operator-as-written}
-use Rattle.model.proofs.Basics.Outcomes.{not-below, not-true-false, accepted≢refused}
 use Rattle.theorems.proofs.Texts.Parses.{program-legal}
-use Rattle.model.proofs.Pairs.Verdict.{Rated, reads-rated, links-declared}
 
 -- An outcome is accepted exactly under C, and refused exactly with the faults of F.
-pub record Judged {A : Type 0} (C : A → Type 0) (F : ℕ → ℕ → Type 0) (o : Outcome A) : Type 0 where
+pub record Judged {A : Type 0} (C : A → Type 0) (F : Fault → Type 0) (o : Outcome A) : Type 0 where
   pub accepts : (a : A) → (o ≡ accepted a) ↔ C a
-  pub refuses : (n x : ℕ) → (o ≡ refused (fault n x)) ↔ F n x
+  pub refuses : (f : Fault) → (o ≡ refused f) ↔ F f
 
 -- What the verdict says so far: Q of the value, or R of the refusal.
-abbrev pub Answers : {A : Type 0} → (A → Type 0) → (ℕ → ℕ → Type 0) → Outcome A → Type 0
+abbrev pub Answers : {A : Type 0} → (A → Type 0) → (Fault → Type 0) → Outcome A → Type 0
 Answers Q R (accepted a) = Q a
-Answers Q R (refused f) = R (f .number) (f .place)
+Answers Q R (refused f) = R f
 
-pub answers-then : {A B : Type 0} {C : A → Type 0} {F : ℕ → ℕ → Type 0} (Q : B → Type 0) (R : ℕ → ℕ → Type 0)
-    (o : Outcome A) (next : A → Outcome B) → Judged C F o → ((n x : ℕ) → F n x → R n x) →
+pub answers-then : {A B : Type 0} {C : A → Type 0} {F : Fault → Type 0} (Q : B → Type 0) (R : Fault → Type 0)
+    (o : Outcome A) (next : A → Outcome B) → Judged C F o → ((f : Fault) → F f → R f) →
     ((a : A) → C a → Answers Q R (next a)) → Answers Q R (o ▷ next)
 unfolding _▷_
 answers-then Q R (accepted a) next j r g = g a (j .accepts a .0 refl)
-answers-then Q R (refused f) next j r g = r (f .number) (f .place) (j .refuses (f .number) (f .place) .0 refl)
+answers-then Q R (refused f) next j r g = r f (j .refuses f .0 refl)
 
-pub answers-accepted : {A : Type 0} (Q : A → Type 0) (R : ℕ → ℕ → Type 0) (o : Outcome A) (a : A) → Answers Q R o →
+pub answers-accepted : {A : Type 0} (Q : A → Type 0) (R : Fault → Type 0) (o : Outcome A) (a : A) → Answers Q R o →
     o ≡ accepted a → Q a
 answers-accepted Q R o a h e = rw e at h
 
-pub answers-refused : {A : Type 0} (Q : A → Type 0) (R : ℕ → ℕ → Type 0) (o : Outcome A) (n x : ℕ) → Answers Q R o →
-    o ≡ refused (fault n x) → R n x
-answers-refused Q R o n x h e = rw e at h
+pub answers-refused : {A : Type 0} (Q : A → Type 0) (R : Fault → Type 0) (o : Outcome A) (f : Fault) → Answers Q R o →
+    o ≡ refused f → R f
+answers-refused Q R o f h e = rw e at h
 
 -- A fault that is the only one of its step.
-pub data Only (number place : ℕ) (C : Type 0) : ℕ → ℕ → Type 0 where
-  only : C → Only number place C number place
+pub data Only (number place : ℕ) (C : Type 0) : Fault → Type 0 where
+  only : C → Only number place C (fault number place)
 
-pub refused-same : {A : Type 0} {n x m y : ℕ} → _≡_ {A = Outcome A} (refused (fault n x)) (refused (fault m y)) →
-    (n ≡ m) × (x ≡ y)
-refused-same {n} {x} {m} {y} e =
-    let q : fault n x ≡ fault m y = cc in (ap (λ (f : Fault). f .number) q, ap (λ (f : Fault). f .place) q)
+pub refused-same : {A : Type 0} {f g : Fault} → _≡_ {A = Outcome A} (refused f) (refused g) → f ≡ g
+refused-same e = cc
 
 -- A test with one refusal, where N says that C does not hold.
 pub provided-judged : (t : Bool) (n x : ℕ) (C N : Type 0) → (t ≡ true) ↔ C → (t ≡ false → N) → (N → ¬ C) →
@@ -107,21 +104,21 @@ unfolding provided
 provided-judged true n x C N d fails apart =
     record {
       accepts = λ u. (λ e. d .0 refl, λ c. refl);
-      refuses = λ m y. (λ e. absurd (accepted≢refused _ tt _ refl e), λ f. absurd (never f));
+      refuses = λ g. (λ e. absurd (accepted≢refused _ tt _ refl e), λ f. absurd (never f));
     }
   where
-    never : {m y : ℕ} → Only n x N m y → ⊥
+    never : {g : Fault} → Only n x N g → ⊥
     never (Only.only h) = apart h (d .0 refl)
 provided-judged false n x C N d fails apart =
     record {
       accepts = λ u. (λ e. absurd (accepted≢refused _ tt _ e refl), λ c. absurd (false≢true (d .1 c)));
-      refuses = λ m y. (λ e. forth (refused-same e), back);
+      refuses = λ g. (λ e. forth (refused-same e), back);
     }
   where
-    forth : {m y : ℕ} → (n ≡ m) × (x ≡ y) → Only n x N m y
-    forth h = rw (← h .0, ← h .1) (Only.only (fails refl))
+    forth : {g : Fault} → fault n x ≡ g → Only n x N g
+    forth h = rw (← h) (Only.only (fails refl))
 
-    back : {m y : ℕ} → Only n x N m y → _≡_ {A = Outcome (Unit {0})} (refused (fault n x)) (refused (fault m y))
+    back : {g : Fault} → Only n x N g → _≡_ {A = Outcome (Unit {0})} (refused (fault n x)) (refused g)
     back (Only.only h) = refl
 
 -- 1.
@@ -139,20 +136,21 @@ short-judged program schedule =
     back c = and-eq-true-iff _ _ .1 (le-leb _ _ (c .0), le-leb _ _ (c .1))
 
 -- A check that gives the lowest of its faults.
-pub lowest-judged : (fs : List Fault) (F : ℕ → ℕ → Type 0) (C : Type 0) →
-    ((f : Fault) → f among fs → F (f .number) (f .place)) → ((n x : ℕ) → F n x → fault n x among fs) →
-    ((n m x y : ℕ) → F n x → F m y → x ≡ y → n ≡ m) → (C → (n x : ℕ) → ¬ F n x) → (lowest fs ≡ accepted tt → C) →
+pub lowest-judged : (fs : List Fault) (F : Fault → Type 0) (C : Type 0) →
+    ((f : Fault) → f among fs → F f) → ((f : Fault) → F f → f among fs) →
+    ((f g : Fault) → F f → F g → f .place ≡ g .place → f .number ≡ g .number) → (C → (f : Fault) → ¬ F f) →
+    (lowest fs ≡ accepted tt → C) →
     Judged (λ (u : Unit {0}). C) (LowestFault F) (lowest fs)
 lowest-judged fs F C sound complete single none holds =
     record {
       accepts = λ u. (holds, λ c. no-fault fs F sound complete (none c));
-      refuses = λ n x. (fault-lowest fs F sound complete n x, lowest-fault fs F sound complete single n x);
+      refuses = λ f. (fault-lowest fs F sound complete f, lowest-fault fs F sound complete single f);
     }
 
 -- 7, 8.
 module _ (p : Program) where
   read-fault : (r : ℕ) (ρ : Read) (f : Fault) → ReadIn p r ρ → f among readFaults p (signalAt p r) ρ →
-      RateFault p (f .number) (f .place)
+      RateFault p f
   unfolding readFaults
   read-fault r ρ f i m =
       go (ltb (ρ .operands .signal) (count p)) (periodRule (ρ .kind) w v n) refl refl m
@@ -168,13 +166,13 @@ module _ (p : Program) where
 
       go : (a b : Bool) → ltb (ρ .operands .signal) (count p) ≡ a → periodRule (ρ .kind) w v n ≡ b →
           f among (cond a (cond b [] (fault 8 (ρ .place) ∷ [])) (fault 7 (ρ .place) ∷ [])) →
-          RateFault p (f .number) (f .place)
+          RateFault p f
       go true false d e (_among_.here q) =
           rw q (RateFault.brokenRule r ρ i (ltb-true _ _ d) (λ k. false≢true (sym e ∙ true-periods (ρ .kind) w v n k)))
       go false b d e (_among_.here q) =
           rw q (RateFault.undeclaredRead r ρ i (λ k. false≢true (sym d ∙ lt-ltb _ _ k)))
 
-  link-fault : (l : Link) (f : Fault) → LinkIn p l → f among linkFaults p l → RateFault p (f .number) (f .place)
+  link-fault : (l : Link) (f : Fault) → LinkIn p l → f among linkFaults p l → RateFault p f
   unfolding linkFaults
   link-fault l f i m =
       let h = among-cond (ltb (l .signal) (count p)) f (fault 7 (l .place)) m in
@@ -194,12 +192,12 @@ module _ (p : Program) where
   noLink = record { place = 0; signal = 0 }
 
   rate-sound : (f : Fault) → f among (joinFrom 0 readsOf (p .signals) ++ joinFrom 0 linksOf (p .chains)) →
-      RateFault p (f .number) (f .place)
+      RateFault p f
   unfolding readsOf linksOf
   rate-sound f m = go (among-append f (joinFrom 0 readsOf (p .signals)) (joinFrom 0 linksOf (p .chains)) m)
     where
       go : (f among joinFrom 0 readsOf (p .signals)) ⊎ (f among joinFrom 0 linksOf (p .chains)) →
-          RateFault p (f .number) (f .place)
+          RateFault p f
       go (inl n) =
           let a = among-join readsOf 0 (p .signals) noSignal f n in
           let ρs = bodyReads (signalAt p (a .0) .body) in
@@ -232,14 +230,14 @@ module _ (p : Program) where
       (join-among linksOf 0 (p .chains) noChain f (a .0) (a .1)
       (rw (a .2) (join-among (λ i l. linkFaults p l) 0 (i .0 .links) noLink f (b .0) (b .1) (rw (b .2) m))))
 
-  rate-complete : (n x : ℕ) → RateFault p n x →
-      fault n x among (joinFrom 0 readsOf (p .signals) ++ joinFrom 0 linksOf (p .chains))
+  rate-complete : (f : Fault) → RateFault p f →
+      f among (joinFrom 0 readsOf (p .signals) ++ joinFrom 0 linksOf (p .chains))
   unfolding readFaults linkFaults
-  rate-complete n x (RateFault.undeclaredRead r ρ i u) =
+  rate-complete f (RateFault.undeclaredRead r ρ i u) =
       read-among r ρ (fault 7 (ρ .place)) i (rw (not-below u) (_among_.here refl))
-  rate-complete n x (RateFault.undeclaredLink l i u) =
+  rate-complete f (RateFault.undeclaredLink l i u) =
       link-among l (fault 7 (l .place)) i (rw (not-below u) (_among_.here refl))
-  rate-complete n x (RateFault.brokenRule r ρ i d u) =
+  rate-complete f (RateFault.brokenRule r ρ i d u) =
       read-among r ρ (fault 8 (ρ .place)) i
       (rw (lt-ltb (ρ .operands .signal) (count p) d, not-rule) (_among_.here refl))
     where
@@ -279,23 +277,23 @@ module _ (text : List ℕ) (p : Program) (l : LegalProgram text p) where
       let l = written-byte text (a .place) (as-written _ tt (link-spelled a j)) in
       no-link o (ap (byteAt text) e ∙ l)
 
-  rate-single : (n m x y : ℕ) → RateFault p n x → RateFault p m y → x ≡ y → n ≡ m
-  rate-single n m x y (RateFault.undeclaredRead r ρ i u) (RateFault.undeclaredRead s σ j v) e = refl
-  rate-single n m x y (RateFault.undeclaredRead r ρ i u) (RateFault.undeclaredLink a j v) e = refl
-  rate-single n m x y (RateFault.undeclaredRead r ρ i u) (RateFault.brokenRule s σ j d v) e =
+  rate-single : (f g : Fault) → RateFault p f → RateFault p g → f .place ≡ g .place → f .number ≡ g .number
+  rate-single f g (RateFault.undeclaredRead r ρ i u) (RateFault.undeclaredRead s σ j v) e = refl
+  rate-single f g (RateFault.undeclaredRead r ρ i u) (RateFault.undeclaredLink a j v) e = refl
+  rate-single f g (RateFault.undeclaredRead r ρ i u) (RateFault.brokenRule s σ j d v) e =
       absurd (u (omega (arith, same-read r s ρ σ i j e)))
-  rate-single n m x y (RateFault.undeclaredLink a i u) (RateFault.undeclaredRead s σ j v) e = refl
-  rate-single n m x y (RateFault.undeclaredLink a i u) (RateFault.undeclaredLink b j v) e = refl
-  rate-single n m x y (RateFault.undeclaredLink a i u) (RateFault.brokenRule s σ j d v) e = absurd (not-both s σ a j i (sym e))
-  rate-single n m x y (RateFault.brokenRule r ρ i d u) (RateFault.undeclaredRead s σ j v) e =
+  rate-single f g (RateFault.undeclaredLink a i u) (RateFault.undeclaredRead s σ j v) e = refl
+  rate-single f g (RateFault.undeclaredLink a i u) (RateFault.undeclaredLink b j v) e = refl
+  rate-single f g (RateFault.undeclaredLink a i u) (RateFault.brokenRule s σ j d v) e = absurd (not-both s σ a j i (sym e))
+  rate-single f g (RateFault.brokenRule r ρ i d u) (RateFault.undeclaredRead s σ j v) e =
       absurd (v (omega (arith, same-read r s ρ σ i j e)))
-  rate-single n m x y (RateFault.brokenRule r ρ i d u) (RateFault.undeclaredLink b j v) e = absurd (not-both r ρ b i j e)
-  rate-single n m x y (RateFault.brokenRule r ρ i d u) (RateFault.brokenRule s σ j c v) e = refl
+  rate-single f g (RateFault.brokenRule r ρ i d u) (RateFault.undeclaredLink b j v) e = absurd (not-both r ρ b i j e)
+  rate-single f g (RateFault.brokenRule r ρ i d u) (RateFault.brokenRule s σ j c v) e = refl
 
-  rate-none : DeclaredAndRated p → (n x : ℕ) → ¬ RateFault p n x
-  rate-none c n x (RateFault.undeclaredRead r ρ i u) = u (c .reads r ρ i)
-  rate-none c n x (RateFault.undeclaredLink a i u) = u (c .links a i)
-  rate-none c n x (RateFault.brokenRule r ρ i d u) = u (c .periods r ρ i)
+  rate-none : DeclaredAndRated p → (f : Fault) → ¬ RateFault p f
+  rate-none c f (RateFault.undeclaredRead r ρ i u) = u (c .reads r ρ i)
+  rate-none c f (RateFault.undeclaredLink a i u) = u (c .links a i)
+  rate-none c f (RateFault.brokenRule r ρ i d u) = u (c .periods r ρ i)
 
   rated : declaredAndRated p ≡ accepted tt → DeclaredAndRated p
   rated e =
@@ -320,23 +318,23 @@ unfolding hypercycle
 hypercycle-judged p =
     record {
       accepts = hypercycle-least p;
-      refuses = λ n x. (forth n x, back n x);
+      refuses = λ f. (forth f, back f);
     }
   where
     None : Type 0
     None = (h : ℕ) → h ≤ 240 → ¬ Multiple p h
 
-    only : (f : Found) → (n x : ℕ) → hypercycleOf f ≡ refused (fault n x) → (9 ≡ n) × (0 ≡ x)
-    only (At h) n x e = absurd (accepted≢refused _ (suc h) _ refl e)
-    only Nowhere n x e = refused-same e
+    only : (found : Found) (f : Fault) → hypercycleOf found ≡ refused f → fault 9 0 ≡ f
+    only (At h) f e = absurd (accepted≢refused _ (suc h) _ refl e)
+    only Nowhere f e = refused-same e
 
-    forth : (n x : ℕ) → hypercycle p ≡ refused (fault n x) → Only 9 0 None n x
-    forth n x e =
-        let q = only (first 240 (λ h. isMultiple (p .signals) (suc h))) n x e in
-        rw (← q .0, ← q .1) (Only.only (hypercycle-none p .0 (rw (← q .0, ← q .1) at e)))
+    forth : (f : Fault) → hypercycle p ≡ refused f → Only 9 0 None f
+    forth f e =
+        let q = only (first 240 (λ h. isMultiple (p .signals) (suc h))) f e in
+        rw (← q) (Only.only (hypercycle-none p .0 (rw (← q) at e)))
 
-    back : (n x : ℕ) → Only 9 0 None n x → hypercycle p ≡ refused (fault n x)
-    back n x (Only.only h) = hypercycle-none p .1 h
+    back : (f : Fault) → Only 9 0 None f → hypercycle p ≡ refused f
+    back f (Only.only h) = hypercycle-none p .1 h
 
 -- A check of every chain that gives the lowest LAT: `test` decides Q.
 module _
@@ -349,7 +347,7 @@ module _
     chainsOf : ℕ → Chain → List Fault
     chainsOf j c = cond (test c) [] (fault number (c .place) ∷ [])
 
-    chain-sound : (f : Fault) → f among joinFrom 0 chainsOf (p .chains) → ChainFault p Q number (f .number) (f .place)
+    chain-sound : (f : Fault) → f among joinFrom 0 chainsOf (p .chains) → ChainFault p Q number f
     unfolding chainsOf
     chain-sound f m =
         let a = among-join chainsOf 0 (p .chains) (noChain p) f m in
@@ -358,18 +356,19 @@ module _
         let h = among-cond (test c) f (fault number (c .place)) (a .2) in
         rw (h .1) (ChainFault.broken c i (λ k. false≢true (sym (h .0) ∙ decides c i .1 k)))
 
-    chain-complete : (n x : ℕ) → ChainFault p Q number n x → fault n x among joinFrom 0 chainsOf (p .chains)
+    chain-complete : (f : Fault) → ChainFault p Q number f → f among joinFrom 0 chainsOf (p .chains)
     unfolding chainsOf
-    chain-complete n x (ChainFault.broken c i u) =
+    chain-complete f (ChainFault.broken c i u) =
         let a = among-at c (p .chains) (noChain p) i in
         join-among chainsOf 0 (p .chains) (noChain p) (fault number (c .place)) (a .0) (a .1)
         (rw (a .2) (cond-among (test c) (fault number (c .place)) (not-true-false (test c) (λ e. u (decides c i .0 e)))))
 
-    chain-single : (n m x y : ℕ) → ChainFault p Q number n x → ChainFault p Q number m y → x ≡ y → n ≡ m
-    chain-single n m x y (ChainFault.broken c i u) (ChainFault.broken d j v) e = refl
+    chain-single : (f g : Fault) → ChainFault p Q number f → ChainFault p Q number g → f .place ≡ g .place →
+        f .number ≡ g .number
+    chain-single f g (ChainFault.broken c i u) (ChainFault.broken d j v) e = refl
 
-    chain-none : ((c : Chain) → c among p .chains → Q c) → (n x : ℕ) → ¬ ChainFault p Q number n x
-    chain-none h n x (ChainFault.broken c i u) = u (h c i)
+    chain-none : ((c : Chain) → c among p .chains → Q c) → (f : Fault) → ¬ ChainFault p Q number f
+    chain-none h f (ChainFault.broken c i u) = u (h c i)
 
     chain-holds : lowest (joinFrom 0 chainsOf (p .chains)) ≡ accepted tt → (c : Chain) → c among p .chains → Q c
     chain-holds e c i = go (test c) refl
@@ -377,8 +376,8 @@ module _
         go : (b : Bool) → test c ≡ b → Q c
         go true t = decides c i .0 t
         go false t =
-            absurd (fault-none (joinFrom 0 chainsOf (p .chains)) (ChainFault p Q number) chain-sound chain-complete e number
-            (c .place) (ChainFault.broken c i (λ k. false≢true (sym t ∙ decides c i .1 k))))
+            absurd (fault-none (joinFrom 0 chainsOf (p .chains)) (ChainFault p Q number) chain-sound chain-complete e
+            (fault number (c .place)) (ChainFault.broken c i (λ k. false≢true (sym t ∙ decides c i .1 k))))
 
     pub chains-judged : Judged (λ (u : Unit {0}). (c : Chain) → c among p .chains → Q c) (LowestFault (ChainFault p Q number))
         (lowest (joinFrom 0 (λ j c. cond (test c) [] (fault number (c .place) ∷ [])) (p .chains)))

@@ -3,24 +3,24 @@ use Prim.Native.Nat.{ℕ, zero, suc, _+_, _*_, _≤_, _<_}
 use mathlib.Core.Bool.{Bool, true, false, cond, _&&_, _||_, false≢true}
 use mathlib.Core.List.{List, [], _∷_, _++_, append-assoc, append-nil}
 use mathlib.Core.Logic.{_↔_, _⊎_, inl, inr}
-use mathlib.Core.Path.{_≡_, refl, sym, ap, _∙_}
+use mathlib.Core.Path.{_≡_, refl, sym, ap, _∙_, subst}
 use native.Mathlib.Decide.{decLt}
 use native.Mathlib.Omega.{arith}
 use borrow.Author.Tests.{ltb-true, lt-ltb, eqb-true, eq-eqb}
 use lib.Dec.{ltb, eqb}
 use lib.ListN.{length, length-append, List·getD-append}
-use Rattle.theorems.specs.Conditions.{_among_, noPut, putAt, Fresh, PhaseBelow, PutsLegal, IsPut, Placed}
 use Rattle.model.specs.Says.Grammar.{SpellsPuts, LegalSchedule}
 use Rattle.model.specs.Rules.Outcome.{accepted, refused, fault, provided, lowest, Parsed}
 use Rattle.model.specs.Rules.Program.{Program, count, signalAt}
-use Rattle.theorems.specs.Refusals.{LowestFault, PutFault}
 use Rattle.model.specs.Rules.Schedule.{Put, Schedule, isPut, putFaults, putsFaults, scheduleOf, placed}
 use Rattle.model.specs.Rules.Search.{allBelow}
+use Rattle.theorems.specs.Conditions.{_among_, noPut, putAt, Fresh, PhaseBelow, PutsLegal, IsPut, Placed}
+use Rattle.theorems.specs.Refusals.{LowestFault, PutFault}
 use Rattle.model.specs.declared.Fault.{Fault}
 use Rattle.model.proofs.Pairs.Decide.{all-true, true-all}
+use Rattle.model.proofs.Basics.Outcomes.{not-below, not-true-false, accepted-then, refused-then, then-accepted, accepted-same}
 use Rattle.theorems.proofs.Pairs.Faults.{among-append, append-left, append-right, fault-none}
 use Rattle.theorems.proofs.Pairs.Judged.{Judged, answers-then, answers-refused, Only, provided-judged, lowest-judged}
-use Rattle.model.proofs.Basics.Outcomes.{not-below, not-true-false, accepted-then, refused-then, then-accepted, accepted-same}
 
 -- Whether a signal is put.
 put-true : (qs : List Put) (x : ℕ) → isPut qs x ≡ true → IsPut qs x
@@ -54,13 +54,14 @@ module _ (p : Program) where
     twice : (i : ℕ) → i < j → putAt puts i .signal ≡ putAt puts j .signal → FaultAt puts j 12
     late : putAt puts j .signal < count p → Fresh puts j → ¬ PhaseBelow p (putAt puts j) → FaultAt puts j 13
 
-  at-fault : {n : ℕ} (puts : List Put) (j : ℕ) → j < length puts → FaultAt puts j n → PutFault p puts n (putAt puts j .place)
+  at-fault : {n : ℕ} (puts : List Put) (j : ℕ) → j < length puts → FaultAt puts j n →
+      PutFault p puts (fault n (putAt puts j .place))
   at-fault puts j lt (FaultAt.undeclared u) = PutFault.undeclared j lt u
   at-fault puts j lt (FaultAt.twice i l e) = PutFault.twice i j l lt e
   at-fault puts j lt (FaultAt.late d f u) = PutFault.late j lt d f u
 
-  fault-at : {n x : ℕ} (puts : List Put) → PutFault p puts n x →
-      (j : ℕ) × (j < length puts) × (putAt puts j .place ≡ x) × FaultAt puts j n
+  fault-at : {f : Fault} (puts : List Put) → PutFault p puts f →
+      (j : ℕ) × (j < length puts) × (putAt puts j .place ≡ f .place) × FaultAt puts j (f .number)
   fault-at puts (PutFault.undeclared j lt u) = (j, lt, refl, FaultAt.undeclared u)
   fault-at puts (PutFault.twice i j l lt e) = (j, lt, refl, FaultAt.twice i l e)
   fault-at puts (PutFault.late j lt d f u) = (j, lt, refl, FaultAt.late d f u)
@@ -191,26 +192,29 @@ module _ (p : Program) where
     qs : List Put
     qs = puts .value
 
-    single : (n m x y : ℕ) → PutFault p qs n x → PutFault p qs m y → x ≡ y → n ≡ m
+    single : (f g : Fault) → PutFault p qs f → PutFault p qs g → f .place ≡ g .place → f .number ≡ g .number
     unfolding qs
-    single n m x y f g e =
-        let a = fault-at qs f in
-        let b = fault-at qs g in
+    single f g h k e =
+        let a = fault-at qs h in
+        let b = fault-at qs k in
         let same : a .0 ≡ b .0 = omega (arith, a .2, b .2, put-place l (a .0) (a .1), put-place l (b .0) (b .1)) in
         one-number qs (b .0) (rw same at (a .3)) (b .3)
 
-    sound : (f : Fault) → f among putsFaults p [] qs → PutFault p qs (f .number) (f .place)
-    sound f m = let h = puts-sound [] qs f m in rw (h .2) (at-fault qs (h .0) (h .1) (h .3))
+    sound : (f : Fault) → f among putsFaults p [] qs → PutFault p qs f
+    sound f m =
+        let h = puts-sound [] qs f m in
+        subst (λ (x : ℕ). PutFault p qs (fault (f .number) x)) (sym (h .2)) (at-fault qs (h .0) (h .1) (h .3))
 
-    complete : (n x : ℕ) → PutFault p qs n x → fault n x among putsFaults p [] qs
-    complete n x f =
-        let a = fault-at qs f in
-        rw (← a .2) (puts-complete [] qs (a .0) n (omega arith) (a .1) (a .3))
+    complete : (f : Fault) → PutFault p qs f → f among putsFaults p [] qs
+    complete f h =
+        let a = fault-at qs h in
+        subst (λ (x : ℕ). fault (f .number) x among putsFaults p [] qs) (a .2)
+        (puts-complete [] qs (a .0) (f .number) (omega arith) (a .1) (a .3))
 
-    none : PutsLegal p qs → (n x : ℕ) → ¬ PutFault p qs n x
-    none c n x (PutFault.undeclared j lt u) = u (c .declared j lt)
-    none c n x (PutFault.twice i j l lt e) = c .once j lt i l e
-    none c n x (PutFault.late j lt d f u) = u (c .phases j lt)
+    none : PutsLegal p qs → (f : Fault) → ¬ PutFault p qs f
+    none c g (PutFault.undeclared j lt u) = u (c .declared j lt)
+    none c g (PutFault.twice i j l lt e) = c .once j lt i l e
+    none c g (PutFault.late j lt d f u) = u (c .phases j lt)
 
     holds : lowest (putsFaults p [] qs) ≡ accepted tt → PutsLegal p qs
     holds e =
@@ -220,7 +224,7 @@ module _ (p : Program) where
           phases = λ j lt. phase j lt (decLt _ _);
         }
       where
-        never : (n x : ℕ) → ¬ PutFault p qs n x
+        never : (f : Fault) → ¬ PutFault p qs f
         never = fault-none (putsFaults p [] qs) (PutFault p qs) sound complete e
 
         declared : (j : ℕ) → j < length qs → putAt qs j .signal < count p
@@ -228,14 +232,14 @@ module _ (p : Program) where
           where
             go : Dec (putAt qs j .signal < count p) → putAt qs j .signal < count p
             go (yes h) = h
-            go (no h) = absurd (never _ _ (PutFault.undeclared j lt h))
+            go (no h) = absurd (never _ (PutFault.undeclared j lt h))
 
         once : (j : ℕ) → j < length qs → Fresh qs j
-        once j lt i l s = never _ _ (PutFault.twice i j l lt s)
+        once j lt i l s = never _ (PutFault.twice i j l lt s)
 
         phase : (j : ℕ) → j < length qs → Dec (PhaseBelow p (putAt qs j)) → PhaseBelow p (putAt qs j)
         phase j lt (yes h) = h
-        phase j lt (no h) = absurd (never _ _ (PutFault.late j lt (declared j lt) (once j lt) h))
+        phase j lt (no h) = absurd (never _ (PutFault.late j lt (declared j lt) (once j lt) h))
 
     pub puts-judged : Judged (λ u. PutsLegal p (puts .value)) (LowestFault (PutFault p (puts .value)))
         (lowest (putsFaults p [] (puts .value)))
@@ -255,9 +259,9 @@ all-false (suc n) test e = go (allBelow n test) (test n) refl refl e (λ f. all-
     go false b f g t ih = let h = ih f in (h .0, omega (arith, h .1), h .2)
 
 -- 12 and 13: a fault of a PUT, or a signal missing where there is none.
-pub data PlacedFault (p : Program) (puts : Parsed (List Put)) : ℕ → ℕ → Type 0 where
-  put : {n x : ℕ} → LowestFault (PutFault p (puts .value)) n x → PlacedFault p puts n x
-  missing : PutsLegal p (puts .value) → (x : ℕ) → x < count p → ¬ IsPut (puts .value) x → PlacedFault p puts 12 (puts .next)
+pub data PlacedFault (p : Program) (puts : Parsed (List Put)) : Fault → Type 0 where
+  put : {f : Fault} → LowestFault (PutFault p (puts .value)) f → PlacedFault p puts f
+  missing : PutsLegal p (puts .value) → (x : ℕ) → x < count p → ¬ IsPut (puts .value) x → PlacedFault p puts (fault 12 (puts .next))
 
 module _ (p : Program) (text : List ℕ) (puts : Parsed (List Put)) (l : LegalSchedule text puts) where
   abbrev AllPut : Type 0
@@ -299,26 +303,26 @@ module _ (p : Program) (text : List ℕ) (puts : Parsed (List Put)) (l : LegalSc
           accepted-then _ _ tt (missing-judged .accepts tt .1 (c .all)) ∙
           ap accepted (sym (c .schedule))
 
-  placed-refuses : (n x : ℕ) → (placed p puts ≡ refused (fault n x)) ↔ PlacedFault p puts n x
+  placed-refuses : (f : Fault) → (placed p puts ≡ refused f) ↔ PlacedFault p puts f
   unfolding placed
-  placed-refuses n x = (forth, back)
+  placed-refuses g = (forth, back)
     where
-      missed : {m y : ℕ} → PutsLegal p (puts .value) → Only 12 (puts .next) Missing m y → PlacedFault p puts m y
+      missed : {f : Fault} → PutsLegal p (puts .value) → Only 12 (puts .next) Missing f → PlacedFault p puts f
       missed c (Only.only h) = PlacedFault.missing c (h .0) (h .1) (h .2)
 
-      forth : placed p puts ≡ refused (fault n x) → PlacedFault p puts n x
+      forth : placed p puts ≡ refused g → PlacedFault p puts g
       forth e =
-          answers-refused (λ s. Unit {0}) (PlacedFault p puts) (placed p puts) n x
+          answers-refused (λ s. Unit {0}) (PlacedFault p puts) (placed p puts) g
           (answers-then (λ s. Unit {0}) (PlacedFault p puts) (lowest (putsFaults p [] (puts .value))) _
-          (puts-judged p text puts l) (λ m y f. PlacedFault.put f) (λ u c.
+          (puts-judged p text puts l) (λ k f. PlacedFault.put f) (λ u c.
           answers-then (λ s. Unit {0}) (PlacedFault p puts) (provided (allBelow (count p) (isPut (puts .value))) 12 (puts .next))
-          (λ _. accepted (scheduleOf p (puts .value))) missing-judged (λ m y f. missed c f) (λ v d. tt))) e
+          (λ _. accepted (scheduleOf p (puts .value))) missing-judged (λ k f. missed c f) (λ v d. tt))) e
 
-      back : {m y : ℕ} → PlacedFault p puts m y → placed p puts ≡ refused (fault m y)
-      back (PlacedFault.put f) = refused-then _ _ _ (puts-judged p text puts l .refuses _ _ .1 f)
+      back : {f : Fault} → PlacedFault p puts f → placed p puts ≡ refused f
+      back (PlacedFault.put f) = refused-then _ _ _ (puts-judged p text puts l .refuses _ .1 f)
       back (PlacedFault.missing c z lt u) =
           accepted-then _ _ tt (puts-judged p text puts l .accepts tt .1 c) ∙
-          refused-then _ _ _ (missing-judged .refuses 12 (puts .next) .1 (Only.only (z, lt, u)))
+          refused-then _ _ _ (missing-judged .refuses (fault 12 (puts .next)) .1 (Only.only (z, lt, u)))
 
   -- 12, 13.
   pub placed-judged : Judged (Placed p (puts .value)) (PlacedFault p puts) (placed p puts)

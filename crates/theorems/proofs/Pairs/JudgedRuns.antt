@@ -11,8 +11,7 @@ use native.Mathlib.Omega.{arith}
 use borrow.Author.Tests.{ltb-true, lt-ltb}
 use lib.Dec.{eqb}
 use lib.ListN.{getD}
-use Rattle.model.specs.Says.Feasible.{Met, Feasible, Multiple}
-use Rattle.theorems.specs.Conditions.{_among_, ReadIn, LegalPlaces, Over, KeepsTime}
+use Rattle.model.specs.Says.Feasible.{Met, Feasible, Multiple, Ordered}
 use Rattle.model.specs.Rules.Latency.{noRead, keeps, timely}
 use Rattle.model.specs.Rules.Load.{load, isOver, loadedOf, loaded}
 use Rattle.model.specs.Rules.Outcome.{Outcome, accepted, refused, fault, lowest}
@@ -31,13 +30,17 @@ use Rattle.model.specs.Rules.Program.{
   weightOf,
 }
 use Rattle.model.specs.Rules.Reads.{rateOf, due, isMet, met}
-use Rattle.theorems.specs.Refusals.{LowestFault, MetFault, LoadFault, ChainFault}
-use Rattle.model.specs.Rules.Schedule.{Schedule, placed}
+use Rattle.model.specs.Rules.Schedule.{Schedule}
 use Rattle.model.specs.Rules.Search.{first, sum, tableFrom, table, joinFrom}
+use Rattle.theorems.specs.Conditions.{_among_, ReadIn, LegalPlaces, Over, KeepsTime}
+use Rattle.theorems.specs.Refusals.{LowestFault, MetFault, LoadFault, ChainFault}
 use Rattle.model.specs.declared.Fault.{Fault}
 use Rattle.model.specs.declared.Found.{Found}
 use Rattle.model.specs.declared.Found.the-variants.{At, Nowhere}
 use Rattle.model.proofs.Pairs.Decide.{is-first, met-true, true-met}
+use Rattle.model.proofs.Texts.Legal.{read-sound}
+use Rattle.model.proofs.Basics.Outcomes.{not-true-false, accepted≢refused}
+use Rattle.model.proofs.Texts.Puts.{placed-ordered}
 use Rattle.theorems.proofs.Pairs.Faults.{
   among-at,
   at-among,
@@ -50,11 +53,7 @@ use Rattle.theorems.proofs.Pairs.Faults.{
 }
 use Rattle.theorems.proofs.Pairs.Judged.{Judged, refused-same, lowest-judged, read-spelled, chains-judged, linked-decides}
 use Rattle.theorems.proofs.Pairs.JudgedPuts.{placed-judged}
-use Rattle.model.proofs.Texts.Legal.{read-sound}
 use Rattle.theorems.proofs.Pairs.Window.{keeps-decides}
-use Rattle.model.proofs.Basics.Outcomes.{not-true-false, accepted≢refused}
-use Rattle.model.proofs.Texts.Puts.{placed-ordered}
-use Rattle.model.specs.Says.Feasible.{Ordered}
 
 -- 14.
 module _ (program schedule : List ℕ) (p : Program) (h : ℕ) (s : Schedule) (c : LegalPlaces program schedule p h s) where
@@ -77,7 +76,7 @@ module _ (program schedule : List ℕ) (p : Program) (h : ℕ) (s : Schedule) (c
   readsOf : ℕ → Signal → List Fault
   readsOf r x = joinFrom 0 (unmetOf r) (bodyReads (x .body))
 
-  met-sound : (f : Fault) → f among joinFrom 0 readsOf (p .signals) → MetFault p s (f .number) (f .place)
+  met-sound : (f : Fault) → f among joinFrom 0 readsOf (p .signals) → MetFault p s f
   unfolding readsOf unmetOf
   met-sound f m =
       let a = among-join readsOf 0 (p .signals) noSignal f m in
@@ -89,9 +88,9 @@ module _ (program schedule : List ℕ) (p : Program) (h : ℕ) (s : Schedule) (c
       let g = among-cond (isMet p s r ρ) f (fault 14 (ρ .place)) (b .2) in
       rw (g .1) (MetFault.unmet r ρ i (λ k. false≢true (sym (g .0) ∙ decides r ρ i .1 k)))
 
-  met-complete : (n x : ℕ) → MetFault p s n x → fault n x among joinFrom 0 readsOf (p .signals)
+  met-complete : (f : Fault) → MetFault p s f → f among joinFrom 0 readsOf (p .signals)
   unfolding readsOf unmetOf
-  met-complete n x (MetFault.unmet r ρ i u) =
+  met-complete f (MetFault.unmet r ρ i u) =
       let ρs = bodyReads (signalAt p r .body) in
       let a = among-at ρ ρs noRead (i .1) in
       let t = not-true-false (isMet p s r ρ) (λ e. u (decides r ρ i .0 e)) in
@@ -100,11 +99,11 @@ module _ (program schedule : List ℕ) (p : Program) (h : ℕ) (s : Schedule) (c
       (join-among (unmetOf r) 0 ρs noRead (fault 14 (ρ .place)) (a .0) (a .1)
       (rw (a .2) (cond-among (isMet p s r ρ) (fault 14 (ρ .place)) t))))
 
-  met-single : (n m x y : ℕ) → MetFault p s n x → MetFault p s m y → x ≡ y → n ≡ m
-  met-single n m x y (MetFault.unmet r ρ i u) (MetFault.unmet q σ j v) e = refl
+  met-single : (f g : Fault) → MetFault p s f → MetFault p s g → f .place ≡ g .place → f .number ≡ g .number
+  met-single f g (MetFault.unmet r ρ i u) (MetFault.unmet q σ j v) e = refl
 
-  met-none : ((r : ℕ) (ρ : Read) → ReadIn p r ρ → Met p s r ρ) → (n x : ℕ) → ¬ MetFault p s n x
-  met-none g n x (MetFault.unmet r ρ i u) = u (g r ρ i)
+  met-none : ((r : ℕ) (ρ : Read) → ReadIn p r ρ → Met p s r ρ) → (f : Fault) → ¬ MetFault p s f
+  met-none g f (MetFault.unmet r ρ i u) = u (g r ρ i)
 
   met-holds : lowest (joinFrom 0 readsOf (p .signals)) ≡ accepted tt → (r : ℕ) (ρ : Read) → ReadIn p r ρ → Met p s r ρ
   met-holds e r ρ i = go (isMet p s r ρ) refl
@@ -112,7 +111,7 @@ module _ (program schedule : List ℕ) (p : Program) (h : ℕ) (s : Schedule) (c
       go : (b : Bool) → isMet p s r ρ ≡ b → Met p s r ρ
       go true t = decides r ρ i .0 t
       go false t =
-          absurd (fault-none (joinFrom 0 readsOf (p .signals)) (MetFault p s) met-sound met-complete e 14 (ρ .place)
+          absurd (fault-none (joinFrom 0 readsOf (p .signals)) (MetFault p s) met-sound met-complete e (fault 14 (ρ .place))
           (MetFault.unmet r ρ i (λ k. false≢true (sym t ∙ decides r ρ i .1 k))))
 
   pub met-judged : Judged (λ u. (r : ℕ) (ρ : Read) → ReadIn p r ρ → Met p s r ρ) (LowestFault (MetFault p s)) (met p s)
@@ -171,16 +170,16 @@ module _ (p : Program) (s : Schedule) (h : ℕ) (whole : Multiple p h) where
   earlier c o =
       (mod-lt c (whole .positive), mod-le c h, rw (load-repeats p s h whole c) (true-over (p .cap) (load p s c) o))
 
-  found : (c : ℕ) → first h test ≡ At c → LowestFault (LoadFault p s) 15 c
+  found : (c : ℕ) → first h test ≡ At c → LowestFault (LoadFault p s) (fault 15 c)
   unfolding test
   found c e =
       let g = is-first h test (At c) e in
       record {
         fault = LoadFault.over c (over-true (p .cap) (load p s c) (g .2));
-        least = λ m y f. least (g .3) f;
+        least = λ k f. least (g .3) f;
       }
     where
-      least : {m y : ℕ} → ((k : ℕ) → 0 ≤ k → k < c → test k ≡ false) → LoadFault p s m y → c ≤ y
+      least : {f : Fault} → ((k : ℕ) → 0 ≤ k → k < c → test k ≡ false) → LoadFault p s f → c ≤ f .place
       least g (LoadFault.over y o) = go (decLt (y % h) c)
         where
           go : Dec (y % h < c) → c ≤ y
@@ -198,7 +197,7 @@ module _ (p : Program) (s : Schedule) (h : ℕ) (whole : Multiple p h) where
   loaded-judged =
       record {
         accepts = λ u. (λ e. passes (first h test) refl e, λ g. quiet g (first h test) refl);
-        refuses = λ n x. (λ e. fails (first h test) refl e, λ f. loud f (first h test) refl);
+        refuses = λ g. (λ e. fails (first h test) refl e, λ f. loud f (first h test) refl);
       }
     where
       passes : (f : Found) → first h test ≡ f → loadedOf f ≡ accepted tt → (c : ℕ) → ¬ Over (p .cap) (load p s c)
@@ -209,16 +208,17 @@ module _ (p : Program) (s : Schedule) (h : ℕ) (whole : Multiple p h) where
       quiet g (At c) q = absurd (g c (over-true (p .cap) (load p s c) (is-first h test (At c) q .2)))
       quiet g Nowhere q = refl
 
-      fails : {n x : ℕ} (f : Found) → first h test ≡ f → loadedOf f ≡ refused (fault n x) → LowestFault (LoadFault p s) n x
-      fails (At c) q e = let w = refused-same e in rw (← w .0, ← w .1) (found c q)
+      fails : {g : Fault} (f : Found) → first h test ≡ f → loadedOf f ≡ refused g → LowestFault (LoadFault p s) g
+      fails (At c) q e = rw (← refused-same e) (found c q)
       fails Nowhere q e = absurd (accepted≢refused _ tt _ refl e)
 
-      loud : {n x : ℕ} → LowestFault (LoadFault p s) n x → (f : Found) → first h test ≡ f → loadedOf f ≡ refused (fault n x)
-      loud {n} {x} g (At c) q = same (g .fault) (found c q .least _ _ (g .fault)) (g .least _ _ (found c q .fault))
+      loud : {k : Fault} → LowestFault (LoadFault p s) k → (f : Found) → first h test ≡ f → loadedOf f ≡ refused k
+      loud g (At c) q = same (g .fault) (found c q .least _ (g .fault)) (g .least _ (found c q .fault))
         where
-          same : {m y : ℕ} → LoadFault p s m y → c ≤ y → y ≤ c → _≡_ {A = Outcome (Unit {0})} (refused (fault 15 c)) (refused (fault m y))
+          same : {k : Fault} → LoadFault p s k → c ≤ k .place → k .place ≤ c →
+              _≡_ {A = Outcome (Unit {0})} (refused (fault 15 c)) (refused k)
           same (LoadFault.over y o) a b = let w : c ≡ y = omega arith in rw w
       loud g Nowhere q = absurd (never (g .fault))
         where
-          never : {m y : ℕ} → ¬ LoadFault p s m y
+          never : {k : Fault} → ¬ LoadFault p s k
           never (LoadFault.over y o) = nowhere q y o
