@@ -2,7 +2,6 @@
 // 65 of 260 lent words and 64 of 256 lent samples, in place order. A refused call changes nothing, the record included.
 use model::Cycled;
 use model::Fault;
-use model::Found;
 use model::Ran;
 ghost use mathlib.Core.Path.{_≡_};
 ghost use Prim.Native.Nat.{_+_, _≤_, _<_};
@@ -10,8 +9,8 @@ ghost use lib.Dec.{leb};
 ghost use lib.ListN.{length};
 ghost use Rattle.model.specs.Machine.{ranOf, cycledOf};
 ghost use Rattle.model.specs.Outcome.{refuse};
-ghost use Rattle.board.specs.Board.{countUp, takenPlace, withDue, withWords, nextDue, newBoard};
-ghost use Rattle.board.specs.Board.{loadedAt, markedAt, takenAt, resetIn, cycleIn, runOf, loadOf, markPlaceOf, turnOf, turnedOf};
+ghost use Rattle.board.specs.Board.{countUp, withDue, withWords, newBoard};
+ghost use Rattle.board.specs.Board.{loadedAt, markedAt, resetIn, cycleIn, runIn, loadOf, markPlaceOf};
 
 const PLACES: usize = 4;
 
@@ -19,16 +18,16 @@ const PLACE_WORDS: usize = 65;
 
 const PLACE_SAMPLES: usize = 64;
 
-const WORDS: usize = 260;
+pub const WORDS: usize = 260;
 
-const SAMPLES: usize = 256;
+pub const SAMPLES: usize = 256;
 
 const COUNT_MAX: u32 = 4294967295;
 
 // The numbers of the refusals.
-const SHORT_STATE: u8 = 21;
+pub const SHORT_STATE: u8 = 21;
 
-const FEW_SAMPLES: u8 = 23;
+pub const FEW_SAMPLES: u8 = 23;
 
 const NO_PLACE: u8 = 26;
 
@@ -51,26 +50,14 @@ pub struct Board {
     pub last: usize,
 }
 
-// What a turn answers: nothing was due; the place taken and what its run answers; or the refusal of the turn.
-pub enum Turned {
-    Idle,
-    Took(usize, Cycled),
-    Refused(Fault),
-}
-
 // What a load or a mark answers, and the record after it.
 pub struct AfterCall {
     pub answer: Ran,
     pub board: Board,
 }
 
-// What a turn answers, and the record after it.
-pub struct AfterTurn {
-    pub answer: Turned,
-    pub board: Board,
-}
-
-fn refused(number: u8) -> Ran
+// The refusal of a call.
+pub fn refused(number: u8) -> Ran
     ensures { λ r. ⌜ ranOf r ≡ refuse number 0 ⌝ }
 {
     Ran::Refused(Fault { number, place: 0 })
@@ -80,12 +67,6 @@ fn stopped(number: u8) -> Cycled
     ensures { λ r. ⌜ cycledOf r ≡ refuse number 0 ⌝ }
 {
     Cycled::Refused(Fault { number, place: 0 })
-}
-
-fn denied(number: u8) -> Turned
-    ensures { λ r. ⌜ turnedOf r ≡ refuse number 0 ⌝ }
-{
-    Turned::Refused(Fault { number, place: 0 })
 }
 
 // The record with nothing loaded or due.
@@ -106,7 +87,7 @@ pub fn new_board() -> Board
 }
 
 // One turn more, held at the maximum.
-fn count_up(n: u32) -> u32
+pub fn count_up(n: u32) -> u32
     ensures { λ r. ⌜ r ≡ countUp n ⌝ }
 {
     if n < COUNT_MAX { n + 1 } else { n }
@@ -122,19 +103,6 @@ fn with_due(p: Place, due: bool) -> Place
         start: p.start,
         size: p.size,
         count: p.count,
-    }
-}
-
-// A place once a turn has taken it.
-fn taken_place(p: Place) -> Place
-    ensures { λ r. ⌜ r ≡ takenPlace p ⌝ }
-{
-    Place {
-        loaded: p.loaded,
-        due: false,
-        start: p.start,
-        size: p.size,
-        count: count_up(p.count),
     }
 }
 
@@ -169,38 +137,6 @@ fn with_mark(board: Board, place: usize) -> Board
         places: places,
         last: board.last,
     }
-}
-
-// The record once a turn has taken a place.
-fn with_turn(board: Board, place: usize) -> Board
-    requires { ⌜ place < 4 ⌝ }
-    ensures { λ r. ⌜ r ≡ takenAt board place ⌝ }
-{
-    let mut places = board.places;
-    let p = places[place];
-    places[place] = taken_place(p);
-    Board {
-        places: places,
-        last: place,
-    }
-}
-
-// The next due place in cyclic order after the one last taken.
-fn next_due(board: Board) -> Found
-    ensures { λ r. ⌜ r ≡ nextDue board ⌝ }
-{
-    let places = board.places;
-    let last = board.last % PLACES;
-    let mut i: usize = 0;
-    while i < PLACES {
-        let place = (last + 1 + i) % PLACES;
-        let p = places[place];
-        if p.due {
-            return Found::At(place);
-        }
-        i = i + 1;
-    }
-    Found::Nowhere
 }
 
 // Whether a stretch lies in a buffer of this length.
@@ -250,27 +186,26 @@ fn cycle_place(
 }
 
 // Runs one cycle of a place on its own words and samples.
-fn run_place(
-    board: Board,
+pub fn run_place(
     images: &[u8],
+    start: usize,
+    size: usize,
     state: &mut [i32],
     samples: &[i32],
     place: usize,
 ) -> Cycled
     requires { ⌜ (place < 4) × (260 ≤ length (now state)) × (256 ≤ length (now samples)) ⌝ }
-    ensures answer { λ r. ⌜ cycledOf r ≡ runOf board (now (images .entry)) (now (state .entry)) (now (samples .entry)) place .answer ⌝ }
-    ensures left { λ _. ⌜ now (state .exit) ≡ withWords place (now (state .entry)) (runOf board (now (images .entry)) (now (state .entry)) (now (samples .entry)) place .left) ⌝ }
+    ensures answer { λ r. ⌜ cycledOf r ≡ runIn (now (images .entry)) start size (now (state .entry)) (now (samples .entry)) place .answer ⌝ }
+    ensures left { λ _. ⌜ now (state .exit) ≡ withWords place (now (state .entry)) (runIn (now (images .entry)) start size (now (state .entry)) (now (samples .entry)) place .left) ⌝ }
 {
-    let places = board.places;
-    let p = places[place];
     let from = PLACE_WORDS * place;
     let to = from + PLACE_WORDS;
     let first = PLACE_SAMPLES * place;
     let end = first + PLACE_SAMPLES;
     cycle_place(
         images,
-        p.start,
-        p.size,
+        start,
+        size,
         &mut state[from..to],
         &samples[first..end],
     )
@@ -335,38 +270,5 @@ pub fn mark(board: Board, place: usize) -> AfterCall
     AfterCall {
         answer: Ran::Done,
         board: with_mark(board, place),
-    }
-}
-
-// Runs the next due place, if there is one, and clears its mark.
-pub fn turn(board: Board, images: &[u8], state: &mut [i32], samples: &[i32]) -> AfterTurn
-    ensures answer { λ r. ⌜ turnedOf (r .answer) ≡ turnOf board (now (images .entry)) (now (state .entry)) (now (samples .entry)) .answer ⌝ }
-    ensures record { λ r. ⌜ r .board ≡ turnOf board (now (images .entry)) (now (state .entry)) (now (samples .entry)) .board ⌝ }
-    ensures left { λ _. ⌜ now (state .exit) ≡ turnOf board (now (images .entry)) (now (state .entry)) (now (samples .entry)) .left ⌝ }
-{
-    if state.len() < WORDS {
-        return AfterTurn {
-            answer: denied(SHORT_STATE),
-            board,
-        };
-    }
-    if samples.len() < SAMPLES {
-        return AfterTurn {
-            answer: denied(FEW_SAMPLES),
-            board,
-        };
-    }
-    let found = next_due(board);
-    let Found::At(place) = found else {
-        return AfterTurn {
-            answer: Turned::Idle,
-            board,
-        };
-    };
-    let taken = with_turn(board, place);
-    let run = run_place(board, images, &mut state[..], samples, place);
-    AfterTurn {
-        answer: Turned::Took(place, run),
-        board: taken,
     }
 }

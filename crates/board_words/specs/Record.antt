@@ -1,11 +1,13 @@
 -- The board's record as an array of 17 numbers, and a turn's outcome as three, for a C caller.
-use Prim.Native.Nat.{ℕ, _/_, _%_}
-use mathlib.Core.Bool.{cond}
+use Prim.Native.Nat.{ℕ, _+_, _-_, _*_, _/_, _%_}
+use mathlib.Core.Bool.{Bool, cond}
 use mathlib.Core.List.{List, [], _∷_}
 use lib.Dec.{eqb}
-use lib.ListN.{getD}
+use lib.ListN.{getD, set}
 use Rattle.model.specs.Outcome.{Outcome, accepted, refused}
-use Rattle.board.specs.Board.{placeAt, BoardEffect, Yield, idle, took}
+use Rattle.model.specs.Search.{firstFrom}
+use Rattle.model.specs.declared.Found.{Found}
+use Rattle.board.specs.Board.{countUp, placeAt, BoardEffect, Yield, idle, took}
 use Rattle.board.specs.declared.Board.{Board}
 use Rattle.board.specs.declared.Place.{Place}
 
@@ -13,9 +15,12 @@ use Rattle.board.specs.declared.Place.{Place}
 abbrev pub flagsOf : Place → ℕ
 flagsOf p = cond (p .due) (cond (p .loaded) 3 2) (cond (p .loaded) 1 0)
 
+abbrev pub dueIn : ℕ → Bool
+dueIn flags = eqb (flags / 2 % 2) 1
+
 abbrev pub placeFrom : ℕ → ℕ → ℕ → ℕ → Place
 placeFrom flags start size count =
-    record { loaded = eqb (flags % 2) 1; due = eqb (flags / 2 % 2) 1; start = start; size = size; count = count % 4294967296 }
+    record { loaded = eqb (flags % 2) 1; due = dueIn flags; start = start; size = size; count = count % 4294967296 }
 
 -- Flags, start, size and count of each place in place order; then the place last taken. Any numbers are a record.
 unfoldable pub boardOf : List ℕ → Board
@@ -37,7 +42,7 @@ packed b =
     packedPlace (placeAt b 0)
     (packedPlace (placeAt b 1) (packedPlace (placeAt b 2) (packedPlace (placeAt b 3) (b .last ∷ []))))
 
--- The array after a call: a refused call and an idle turn leave it as it was.
+-- The array after a call: a refused call and an idle turn leave it as it was, and a turn leaves the numbers of other places.
 abbrev pub callKeeps : List ℕ → Board → Outcome ℕ → List ℕ
 callKeeps w b (accepted n) = packed b
 callKeeps w b (refused f) = w
@@ -45,13 +50,21 @@ callKeeps w b (refused f) = w
 abbrev pub callRecord : List ℕ → BoardEffect ℕ → List ℕ
 callRecord w c = callKeeps w (c .board) (c .answer)
 
-abbrev pub turnKeeps : List ℕ → Board → Outcome Yield → List ℕ
-turnKeeps w b (accepted idle) = w
-turnKeeps w b (accepted (took k o)) = packed b
-turnKeeps w b (refused f) = w
+-- The first due place from one on.
+abbrev pub firstDue : Board → ℕ → Found
+firstDue b from = firstFrom from (4 - from) (λ k. placeAt b k .due)
 
-abbrev pub turnRecord : List ℕ → BoardEffect Yield → List ℕ
-turnRecord w c = turnKeeps w (c .board) (c .answer)
+-- The array once a turn has taken a place: its due mark cleared, its count one more, and it is the place last taken.
+abbrev pub countIn : ℕ → ℕ
+countIn count = countUp (count % 4294967296)
+
+unfoldable pub takenWords : List ℕ → ℕ → List ℕ
+takenWords w k = set (set (set w (4 * k) (getD w (4 * k) 0 % 2)) (4 * k + 3) (countIn (getD w (4 * k + 3) 0))) 16 k
+
+abbrev pub turnRecord : List ℕ → Outcome Yield → List ℕ
+turnRecord w (accepted idle) = w
+turnRecord w (accepted (took k o)) = takenWords w k
+turnRecord w (refused f) = w
 
 -- Of what a turn answers: done, or the refusal.
 abbrev pub turnDone : Outcome Yield → Outcome ℕ

@@ -1,6 +1,5 @@
 // Larderlate: compile, report, reset, cycle, tail and convert; for C the calls of a board too. Each call takes any bytes and words, and
 // its answer and what it leaves are the definition's. What they promise together is in proofs/Promises.antt and in crate `board`.
-use board::Turned;
 use model::Compiled;
 use model::Cycled;
 use model::Fault;
@@ -265,24 +264,10 @@ pub extern "C" fn larderlate_board_turn(
     outcome: &mut [u32; 3],
 ) -> u64
     ensures answer { λ r. ⌜ r ≡ codeNumber (turnDone (turnOf (boardOf (now (words .entry))) (now (images .entry)) (now (state .entry)) (now (samples .entry)) .answer)) ⌝ }
-    ensures kept { λ _. ⌜ now (words .exit) ≡ turnRecord (now (words .entry)) (turnOf (boardOf (now (words .entry))) (now (images .entry)) (now (state .entry)) (now (samples .entry))) ⌝ }
+    ensures kept { λ _. ⌜ now (words .exit) ≡ turnRecord (now (words .entry)) (turnOf (boardOf (now (words .entry))) (now (images .entry)) (now (state .entry)) (now (samples .entry)) .answer) ⌝ }
     ensures left { λ _. ⌜ now (state .exit) ≡ turnOf (boardOf (now (words .entry))) (now (images .entry)) (now (state .entry)) (now (samples .entry)) .left ⌝ }
     ensures told { λ _. ⌜ now (outcome .exit) ≡ outcomeIn (now (outcome .entry)) (turnOf (boardOf (now (words .entry))) (now (images .entry)) (now (state .entry)) (now (samples .entry)) .answer) ⌝ }
 {
-    let old = *words;
-    let after = board::turn(board_words::unpack(old), images, &mut state[..], samples);
-    let turned = after.answer;
-    match turned {
-        Turned::Idle => {
-            *outcome = [0, 0, 0];
-            0
-        }
-        Turned::Took(place, run) => {
-            let board = after.board;
-            *words = board_words::pack(board);
-            *outcome = board_words::outcome(place, run);
-            0
-        }
-        Turned::Refused(fault) => code_of_fault(fault),
-    }
+    let ran = board_words::turn(words, images, &mut state[..], samples, outcome);
+    code_of_ran(ran)
 }
