@@ -1,4 +1,4 @@
--- The record that the array holds after a turn is the one that the turn leaves. Assumes nothing.
+-- The record that the array holds after a call is the one that the call leaves. Assumes nothing.
 use Prim.Native.Nat.{ℕ, zero, suc, _+_, _*_, _/_, _%_, _≤_, _<_}
 use mathlib.Core.Bool.{Bool, true, false, cond}
 use mathlib.Core.List.{List, [], _∷_}
@@ -9,11 +9,49 @@ use lib.Dec.{ltb}
 use lib.IntN.{ℤ}
 use lib.ListN.{length, getD, set, length-set}
 use lib.Seq.{getD-set-same, getD-set-other}
-use Rattle.board.specs.Board.{placeAt, countUp, takenPlace, takenAt, turnOf}
+use Rattle.board.specs.Board.{
+  newBoard,
+  placeAt,
+  countUp,
+  placeWith,
+  withDue,
+  takenPlace,
+  loadedAt,
+  markedAt,
+  takenAt,
+  loadOf,
+  markPlaceOf,
+  turnOf,
+}
 use Rattle.board.specs.declared.Place.{Place}
-use Rattle.board.proofs.Cases.{TurnCase, turn-stays, turn-idles, turn-takes, turn-case}
+use Rattle.board.proofs.Cases.{
+  LoadCase,
+  load-stays,
+  load-does,
+  load-case,
+  MarkCase,
+  mark-stays,
+  mark-does,
+  mark-case,
+  TurnCase,
+  turn-stays,
+  turn-idles,
+  turn-takes,
+  turn-case,
+}
 use Rattle.board.proofs.Due.{next-below}
-use Rattle.board_words.specs.Record.{countIn, placeFrom, boardOf, takenWords, turnRecord}
+use Rattle.board_words.specs.Record.{
+  countIn,
+  placeFrom,
+  boardOf,
+  newWords,
+  loadedWords,
+  markedWords,
+  takenWords,
+  loadRecord,
+  markRecord,
+  turnRecord,
+}
 use Rattle.board_words.proofs.Places.{place-held}
 
 -- A place by its four numbers, and the record by its places.
@@ -133,6 +171,96 @@ module _ (w : List ℕ) (long : length w ≡ 17) (k : ℕ) (lt : k < 4) where
       place-set w (takenWords w k) k lt
       (λ i l ne. other i (λ e. ne (omega arith)) (λ e. ne (omega arith)) (λ e. omega arith))
       (takenPlace (placeAt (boardOf w) k)) k (own-place ∙ sym (ap takenPlace (place-held w k lt))) last-set
+
+module _ (w : List ℕ) (long : length w ≡ 17) (k : ℕ) (lt : k < 4) (start size : ℕ) where
+  -- the numbers of a place once it is loaded
+  abbrev one : List ℕ
+  one = set w (4 * k) 1
+
+  abbrev two : List ℕ
+  two = set one (4 * k + 1) start
+
+  abbrev three : List ℕ
+  three = set two (4 * k + 2) size
+
+  load-other : (i : ℕ) → i < 17 → (i / 4 ≡ k → ⊥) → getD (loadedWords w k start size) i 0 ≡ getD w i 0
+  unfolding loadedWords
+  load-other i l ne =
+      getD-set-other three (4 * k + 3) i 0 0 (λ e. ne (omega arith)) ∙
+      getD-set-other two (4 * k + 2) i size 0 (λ e. ne (omega arith)) ∙
+      getD-set-other one (4 * k + 1) i start 0 (λ e. ne (omega arith)) ∙
+      getD-set-other w (4 * k) i 1 0 (λ e. ne (omega arith))
+
+  loaded-numbers : placeIn (loadedWords w k start size) k ≡ placeWith start size
+  unfolding loadedWords
+  loaded-numbers =
+      by-numbers
+      (getD-set-other three (4 * k + 3) (4 * k) 0 0 (λ e. omega arith) ∙
+      getD-set-other two (4 * k + 2) (4 * k) size 0 (λ e. omega arith) ∙
+      getD-set-other one (4 * k + 1) (4 * k) start 0 (λ e. omega arith) ∙
+      getD-set-same w (4 * k) 1 0 (omega arith))
+      (getD-set-other three (4 * k + 3) (4 * k + 1) 0 0 (λ e. omega arith) ∙
+      getD-set-other two (4 * k + 2) (4 * k + 1) size 0 (λ e. omega arith) ∙
+      getD-set-same one (4 * k + 1) start 0 (omega (arith, length-set w (4 * k) 1)))
+      (getD-set-other three (4 * k + 3) (4 * k + 2) 0 0 (λ e. omega arith) ∙
+      getD-set-same two (4 * k + 2) size 0 (omega (arith, length-set w (4 * k) 1, length-set one (4 * k + 1) start)))
+      (getD-set-same three (4 * k + 3) 0 0
+      (omega (arith, length-set w (4 * k) 1, length-set one (4 * k + 1) start, length-set two (4 * k + 2) size)))
+
+  loaded-held : boardOf (loadedWords w k start size) ≡ loadedAt (boardOf w) k start size
+  unfolding loadedAt boardOf
+  loaded-held =
+      place-set w (loadedWords w k start size) k lt (λ i l ne. load-other i (omega arith) ne) (placeWith start size) (getD w 16 0)
+      loaded-numbers (load-other 16 (omega arith) (λ e. omega arith))
+
+marked-held : (w : List ℕ) → length w ≡ 17 → (k : ℕ) → k < 4 → placeAt (boardOf w) k .loaded ≡ true →
+    boardOf (markedWords w k) ≡ markedAt (boardOf w) k
+unfolding markedAt boardOf
+marked-held w long k lt loaded =
+    place-set w (markedWords w k) k lt (λ i l ne. getD-set-other w (4 * k) i 3 0 (λ e. ne (omega arith)))
+    (withDue true (placeAt (boardOf w) k)) (getD w 16 0)
+    (by-numbers (getD-set-same w (4 * k) 3 0 (omega arith)) (at 1 (omega arith)) (at 2 (omega arith)) (at 3 (omega arith)) ∙
+    due (placeAt (boardOf w) k) (getD w (4 * k) 0) _ _ _ loaded (place-held w k lt))
+    (getD-set-other w (4 * k) 16 3 0 (λ e. omega arith))
+  where
+    at : (n : ℕ) → 0 < n → getD (markedWords w k) (4 * k + n) 0 ≡ getD w (4 * k + n) 0
+    at n pos = getD-set-other w (4 * k) (4 * k + n) 3 0 (λ e. omega arith)
+
+    due : (p : Place) (f start size count : ℕ) → p .loaded ≡ true → p ≡ placeFrom f start size count →
+        placeFrom 3 start size count ≡ withDue true p
+    due p f start size count l e =
+        let a : p .start ≡ start = ap (λ (x : Place). x .start) e in
+        let s : p .size ≡ size = ap (λ (x : Place). x .size) e in
+        let n : p .count ≡ count % 4294967296 = ap (λ (x : Place). x .count) e in
+        cc
+
+-- The record that the array holds after each call is the one that the call leaves.
+pub new-held : boardOf newWords ≡ newBoard
+unfolding boardOf
+new-held = refl
+
+pub load-held : (w : List ℕ) → length w ≡ 17 → (images : List ℕ) (state : List ℤ) (k start size : ℕ) →
+    let load = loadOf (boardOf w) images state k start size in
+    boardOf (loadRecord w k start size (load .answer)) ≡ load .board
+load-held w long images state k start size =
+    go (load-case (record { board = boardOf w; images = images; state = state }) k start size)
+  where
+    go : LoadCase (record { board = boardOf w; images = images; state = state }) k start size →
+        let load = loadOf (boardOf w) images state k start size in
+        boardOf (loadRecord w k start size (load .answer)) ≡ load .board
+    go (load-stays f e) = rw e
+    go (load-does lt q n h e) = rw e (loaded-held w long k lt start size)
+
+pub mark-held : (w : List ℕ) → length w ≡ 17 → (k : ℕ) →
+    let mark = markPlaceOf (boardOf w) k in
+    boardOf (markRecord w k (mark .answer)) ≡ mark .board
+mark-held w long k = go (mark-case (record { board = boardOf w; images = []; state = [] }) k)
+  where
+    go : MarkCase (record { board = boardOf w; images = []; state = [] }) k →
+        let mark = markPlaceOf (boardOf w) k in
+        boardOf (markRecord w k (mark .answer)) ≡ mark .board
+    go (mark-stays f e) = rw e
+    go (mark-does lt l e) = rw e (marked-held w long k lt l)
 
 pub turn-held : (w : List ℕ) → length w ≡ 17 → (images : List ℕ) (state samples : List ℤ) →
     let turn = turnOf (boardOf w) images state samples in

@@ -7,7 +7,7 @@ use lib.IntN.{ℤ}
 use lib.ListN.{getD}
 use Rattle.board.specs.Board.{placeAt, runIn, runOf}
 use Rattle.board.specs.declared.Place.{Place}
-use Rattle.board_words.specs.Record.{dueIn, placeFrom, boardOf}
+use Rattle.board_words.specs.Record.{loadedIn, dueIn, placeFrom, boardOf}
 
 module _ (w : List ℕ) where
   pub place-held : (k : ℕ) → k < 4 →
@@ -29,3 +29,6 @@ module _ (w : List ℕ) where
 
   pub due-held : (k : ℕ) → k < 4 → placeAt (boardOf w) k .due ≡ dueIn (getD w (4 * k) 0)
   due-held k lt = ap (λ (p : Place). p .due) (place-held k lt)
+
+  pub loaded-held : (k : ℕ) → k < 4 → placeAt (boardOf w) k .loaded ≡ loadedIn (getD w (4 * k) 0)
+  loaded-held k lt = ap (λ (p : Place). p .loaded) (place-held k lt)
