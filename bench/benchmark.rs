@@ -16,6 +16,9 @@ use generate::Pair;
 use rows::{image_of, images_of, long_chains, measure, open_reads, print, program_a, program_of, row, Row, ROUNDS};
 use std::hint::black_box;
 
+/// The flags of a place that a turn takes.
+const LOADED_AND_DUE: usize = 3;
+
 fn compile_row(name: &str, pair: &Pair) -> Row {
     let image = image_of(pair);
     let length = image.len();
@@ -80,7 +83,8 @@ fn cycle_row(name: &str, image: &[u8]) -> Row {
     row(format!("cycle {name}"), image.len(), [Box::new(library), Box::new(reference)])
 }
 
-/// A turn of a board whose other places are idle, against a cycle of the same image, both by the library.
+/// A turn of a board whose other places are idle, against a cycle of the same image, both by the library. That both leave the same
+/// words is seen before: what is measured looks at no more than the answer.
 fn turn_row(name: &str, image: &[u8]) -> Row {
     let samples: Vec<i32> = (0..256).map(|sample| sample % 64 * 77 - 5).collect();
     let other_samples = samples.clone();
@@ -89,10 +93,16 @@ fn turn_row(name: &str, image: &[u8]) -> Row {
     let (mut state, mut other) = (vec![0; 260], vec![0; 65]);
     assert_eq!(library::board_load(&mut record, &lent, &mut state, 0, 0, lent.len()), 0);
     assert_eq!(library::reset(&lent, &mut other), 0);
+    for turn in 1..=500 {
+        assert_eq!(library::board_mark(&mut record, 0), 0);
+        assert_eq!(library::board_turn(&mut record, &lent, &mut state, &samples, &mut outcome), 0);
+        let commands = library::cycle(&lent, &mut other, &samples[..64]);
+        assert_eq!(outcome.map(u64::from), [1, 0, commands]);
+        assert_eq!((&state[..65], record[3]), (&other[..], turn));
+    }
     let turn = move || {
-        record[0] |= 2;
-        assert_eq!(library::board_turn(&mut record, black_box(&lent), &mut state, &samples, &mut outcome), 0);
-        assert_eq!(outcome[..2], [1, 0]);
+        record[0] = LOADED_AND_DUE;
+        assert!(library::board_turn(&mut record, black_box(&lent), &mut state, &samples, &mut outcome) == 0);
     };
     let cycle = move || assert!(library::cycle(black_box(&other_lent), &mut other, &other_samples[..64]) < 1 << 32);
     row(format!("turn {name}"), image.len(), [Box::new(turn), Box::new(cycle)])

@@ -2,14 +2,23 @@
 use crate::library::Record;
 use crate::reference::{Board, Place};
 
-/// Flags, start, size and count of each place, then the place last taken.
+/// 1 loaded, 2 due.
+pub fn flags(place: &Place) -> usize {
+    usize::from(place.loaded) + 2 * usize::from(place.due)
+}
+
+/// Sets the words of a place, flags, start, size and count, and the place last taken.
+pub fn store(words: &mut Record, board: &Board, place: usize) {
+    let stored = &board.places[place];
+    words[4 * place..][..4].copy_from_slice(&[flags(stored), stored.start, stored.size, stored.count as usize]);
+    words[16] = board.last;
+}
+
 pub fn words_of(board: &Board) -> Record {
     let mut words = [0; 17];
-    for (words, place) in words.chunks_exact_mut(4).zip(&board.places) {
-        let flags = usize::from(place.loaded) + 2 * usize::from(place.due);
-        words.copy_from_slice(&[flags, place.start, place.size, place.count as usize]);
+    for place in 0..4 {
+        store(&mut words, board, place);
     }
-    words[16] = board.last;
     words
 }
 

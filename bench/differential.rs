@@ -327,7 +327,7 @@ impl Round<'_> {
         let mut board = board::of_words(&other.record);
         let result = board.load(&other.images, &mut other.state, place, start, size);
         if result.is_ok() {
-            other.record = board::words_of(&board);
+            board::store(&mut other.record, &board, place);
         }
         self.compare(&format!("load {place} {start} {size}"), library, reference::answer(result.map(|()| 0)), ours, other);
         count(&mut self.seen.load, library);
@@ -338,7 +338,7 @@ impl Round<'_> {
         let mut board = board::of_words(&other.record);
         let result = board.mark(place);
         if result.is_ok() {
-            other.record = board::words_of(&board);
+            other.record[4 * place] = board::flags(&board.places[place]);
         }
         self.compare(&format!("mark {place}"), library, reference::answer(result.map(|()| 0)), ours, other);
         count(&mut self.seen.mark, library);
@@ -353,7 +353,7 @@ impl Round<'_> {
         if let Ok(outcome) = result {
             other.outcome = outcome.words();
             if outcome != Outcome::Idle {
-                other.record = board::words_of(&board);
+                board::store(&mut other.record, &board, other.outcome[1] as usize);
                 self.seen.run[if other.outcome[0] == 2 { other.outcome[2] as usize } else { 0 }] += 1;
             }
         }

@@ -48,10 +48,6 @@ module _ (b : Board) where
       go (At i) h = let q : placeAfter b i ≡ k = cc in omega arith
       go Nowhere h = let z : _≡_ {A = ℕ} 0 1 = cc in absurd (omega arith)
 
--- The code takes the remainder first.
-pub place-after : (b : Board) (i : ℕ) → (b .last % 4 + 1 + i) % 4 ≡ placeAfter b i
-place-after b i = omega arith
-
 -- The place found is the i-th after the last, and none before it is due.
 pub record NextAt (b : Board) (k : ℕ) : Type 0 where
   pub ahead : ℕ

@@ -1,10 +1,10 @@
--- `board_words::outcome` meets its contract. Assumes nothing.
+-- `board_words::outcome_of` meets its contract. Assumes nothing.
 use mathlib.Core.Path.{sym, ap}
 use borrow.Author.Needs.{needs}
 use Rattle.model.specs.Rules.Machine.{cycledOf}
 use Rattle.board_words.specs.Record.{runOutcome}
-use Rattle.board_words.proofs.outcome.Statement.{statement}
-use Rattle.board_words.proofs.outcome.Tie as tie
+use Rattle.board_words.proofs.outcome_of.Statement.{statement}
+use Rattle.board_words.proofs.outcome_of.Tie as tie
 
 cast-at : tie.Need-cast-at
 cast-at c = search needs
@@ -28,6 +28,6 @@ returns-2 c =
     let r = c .before .before in
     ap (λ x. runOutcome (r .before .before .args .place) (cycledOf x)) (sym (r .run2 .given .1))
 
-pub outcome-spec : {M : Type 1} → statement M
-outcome-spec =
+pub outcome-of-spec : {M : Type 1} → statement M
+outcome-of-spec =
     tie.close (tie.spec cast-at enum-known-run enum-known-run-2 cast-t7 returns returns-2)
