@@ -6,23 +6,23 @@ use mathlib.Core.Path.{_≡_, refl, sym, ap, _∙_}
 use native.Mathlib.Omega.{arith}
 use borrow.Author.Tests.{leb-true}
 use lib.Dec.{leb}
-use lib.ListN.{length, getD}
+use lib.ListN.{length}
 use Rattle.model.specs.Rules.Compile.{shortEnough, pairOf}
 use Rattle.model.specs.Rules.Latency.{timely}
 use Rattle.model.specs.Rules.Load.{loaded}
 use Rattle.model.specs.Rules.Outcome.{Outcome, accepted, refused, _▷_, Parsed}
-use Rattle.model.specs.Rules.Program.{Program, parseProgram, count}
+use Rattle.model.specs.Rules.Program.{Program, parseProgram}
 use Rattle.model.specs.Rules.Rates.{declaredAndRated, hypercycle, linked}
 use Rattle.model.specs.Rules.Reads.{met}
 use Rattle.model.specs.Rules.Schedule.{Schedule, Put, parseSchedule, placed}
 use Rattle.model.specs.declared.Fault.{Fault}
-use Rattle.model.proofs.Texts.Legal.{legal, signal-period}
+use Rattle.model.proofs.Texts.Legal.{legal}
 use Rattle.model.proofs.Basics.Outcomes.{then-accepted, accepted-then, refused-then, then-then, then-same, provided-true}
 use Rattle.check_rates.specs.Answers.{cyclesOf, TabledAs}
 use Rattle.text_program.specs.Results.{judgementOf}
 use Rattle.check_rates.specs.declared.Cycles.{Cycles}
 use Rattle.check_rates.specs.declared.Cycles.the-variants as Cycles
-use Rattle.text_program.specs.Tables.{ProgramReads, TablesOf, PeriodsOf, ReadsOf, SlotsOf}
+use Rattle.text_program.specs.Tables.{ProgramReads, TablesOf, ReadsOf, SlotsOf}
 use Rattle.text_program.specs.declared.Judged.{Judged}
 use Rattle.text_program.specs.declared.Judged.the-variants as Judged
 use Rattle.text_program.specs.declared.ProgramRead.{ProgramRead}
@@ -174,11 +174,6 @@ schedule-passed p text s e = then-accepted (parseSchedule text) _ s e
 module _ (text : List ℕ) (p : Program) (t : Tables) (e : parseProgram text ≡ accepted p) (tables : TablesOf p t) where
   pub few-signals : t .signals ≤ 64
   few-signals = omega (arith, legal text p e .1 .fewSignals, tables .counts .signals-are)
-
-  pub positive : (periods : List ℕ) → PeriodsOf p periods → (x : ℕ) → x < t .signals → 0 < getD periods x 0
-  positive periods per x lt =
-      let l : x < count p = omega (arith, tables .counts .signals-are) in
-      omega (arith, per x l, signal-period (legal text p e .1) x l .0)
 
 -- Texts that pass 1.
 module _ (program schedule : List ℕ) (e : shortEnough program schedule ≡ accepted tt) where

@@ -90,15 +90,6 @@ fn check_rates(text: &[u8], reads: &[u16], tables: Tables) -> Rated
     }
 }
 
-fn unplaced(judged: Judged) -> Placing
-    ensures { λ r. ⌜ r .judged ≡ judged ⌝ }
-{
-    Placing {
-        judged: judged,
-        slots: Slots::new(),
-    }
-}
-
 fn judged_end(ended: Ended) -> Judged
     ensures { λ r. ⌜ ((f : Fault) → ended ≡ Ended.Refused f → r ≡ Judged.Refused f) ⌝ }
 {
@@ -118,7 +109,7 @@ fn check_schedule(schedule: &[u8], signals: usize, periods: &[u8; 64]) -> Placin
 {
     let ended = text_schedule::read_schedule(schedule);
     let Ended::At(end) = ended else {
-        return unplaced(judged_end(ended));
+        return text_schedule::unplaced(judged_end(ended));
     };
     text_schedule::place_signals(schedule, end, signals, periods)
 }

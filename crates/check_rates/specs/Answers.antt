@@ -14,6 +14,7 @@ use Rattle.model.specs.declared.Fault.{Fault}
 use Rattle.model.specs.declared.Found.{Found}
 use Rattle.model.specs.declared.Found.the-variants.{At, Nowhere}
 use Rattle.model.specs.declared.Kind.{Kind}
+use Rattle.model.specs.declared.Kind.the-variants.{Now, Last, When, LastWhen, Current}
 use Rattle.model.specs.declared.Sampled.{Sampled}
 use Rattle.check_rates.specs.declared.Cycles.{Cycles}
 use Rattle.check_rates.specs.declared.Cycles.the-variants as Cycles
@@ -36,6 +37,22 @@ rateJudged false kept at = Judged.Refused (fault 7 at)
 -- The period of signal s in a table of 64.
 unfoldable pub periodAt : List ℕ → ℕ → ℕ
 periodAt periods s = cond (ltb s 64) (getD periods s 0) 0
+
+-- The factor of a read: NOW and LAST are by 1.
+abbrev pub factorOf : Kind → ℕ → ℕ
+factorOf Now n = 1
+factorOf Last n = 1
+factorOf When n = n
+factorOf LastWhen n = n
+factorOf Current n = n
+
+-- Whether the signal read has the longer period.
+abbrev pub isCurrent : Kind → Bool
+isCurrent Now = false
+isCurrent Last = false
+isCurrent When = false
+isCurrent LastWhen = false
+isCurrent Current = true
 
 -- A read, by the number of signals and their periods.
 unfoldable pub readJudged : ℕ → List ℕ → ℕ → ℕ → Kind → Sampled → Judged

@@ -5,6 +5,7 @@ use model::Kind;
 use model::Sampled;
 use text_program::Judged;
 use text_program::Tables;
+ghost use mathlib.Core.Bool.{cond};
 ghost use mathlib.Core.Path.{_≡_};
 ghost use Prim.Native.Nat.{_%_, _≤_, _<_};
 ghost use lib.Dec.{eqb};
@@ -13,7 +14,7 @@ ghost use Rattle.model.specs.Rules.Outcome.{accepted, lowest};
 ghost use Rattle.model.specs.Rules.Program.{Program, signalAt, parseProgram, bodyReads};
 ghost use Rattle.model.specs.Rules.Rates.{periodRule, declaredAndRated, isMultiple, hypercycle, isLinked, linked};
 ghost use Rattle.text_program.specs.Tables.{TablesOf, PeriodsOf, Indexed, chainAt};
-ghost use Rattle.check_rates.specs.Answers.{cyclesOf, periodAt, rateJudged, readJudged, readRates, linkRates, lowerOf, oneRead, ReadAs, TabledAs};
+ghost use Rattle.check_rates.specs.Answers.{cyclesOf, periodAt, factorOf, isCurrent, rateJudged, readJudged, readRates, linkRates, lowerOf, oneRead, ReadAs, TabledAs};
 ghost use Rattle.text_program.specs.Results.{judgementOf};
 
 // The period of a signal by the table; 0 past its end.
@@ -30,20 +31,48 @@ fn wide(byte: u8) -> usize
     byte as usize
 }
 
-// The period rule of a read with factor n: w is the period of the signal read, r the reader's.
+// The factor of a read: NOW and LAST are by 1.
+fn factor_of(kind: Kind, n: u8) -> u8
+    ensures { λ r. ⌜ r ≡ factorOf kind n ⌝ }
+{
+    match kind {
+        Kind::Now => 1,
+        Kind::Last => 1,
+        Kind::When => n,
+        Kind::LastWhen => n,
+        Kind::Current => n,
+    }
+}
+
+// Whether the signal read has the longer period.
+fn is_current(kind: Kind) -> bool
+    ensures { λ r. ⌜ r ≡ isCurrent kind ⌝ }
+{
+    match kind {
+        Kind::Now => false,
+        Kind::Last => false,
+        Kind::When => false,
+        Kind::LastWhen => false,
+        Kind::Current => true,
+    }
+}
+
+fn either(first: bool, a: u8, b: u8) -> u8
+    ensures { λ r. ⌜ r ≡ cond first a b ⌝ }
+{
+    if first { a } else { b }
+}
+
+// The period rule of a read with factor n: w is the period of the signal read, r the reader's. One product for the five kinds: a
+// branch on the kind would be guessed wrong at every other read.
 fn period_rule(kind: Kind, w: u8, r: u8, n: u8) -> bool
     ensures { λ x. ⌜ x ≡ periodRule kind w r n ⌝ }
 {
-    let read = wide(w);
-    let reader = wide(r);
-    let factor = wide(n);
-    match kind {
-        Kind::Now => reader == read,
-        Kind::Last => reader == read,
-        Kind::When => reader == factor * read,
-        Kind::LastWhen => reader == factor * read,
-        Kind::Current => read == factor * reader,
-    }
+    let factor = wide(factor_of(kind, n));
+    let current = is_current(kind);
+    let longer = wide(either(current, w, r));
+    let shorter = wide(either(current, r, w));
+    longer == factor * shorter
 }
 
 // The refusal of a number at a place.

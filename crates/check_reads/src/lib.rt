@@ -9,7 +9,7 @@ ghost use Prim.Native.Nat.{_≤_, _<_};
 ghost use Rattle.model.specs.Rules.Outcome.{accepted};
 ghost use Rattle.model.specs.Rules.Program.{Program, parseProgram};
 ghost use Rattle.text_program.specs.Tables.{Indexed};
-ghost use Rattle.check_reads.specs.Met.{Positive, readMet, ReadsMet};
+ghost use Rattle.check_reads.specs.Met.{Below, PacedAt, readMet, ReadsMet};
 
 fn refuse(place: usize) -> Judged
     ensures { λ r. ⌜ r ≡ Judged.Refused (record { number = 14; place = place }) ⌝ }
@@ -31,8 +31,8 @@ fn judge_read(
     kind: Kind,
     operands: Sampled,
 ) -> Judged
-    requires { ⌜ (signals ≤ 64) × Positive (now periods) signals ⌝ }
-    ensures { λ r. ⌜ r ≡ readMet (now (periods .entry)) (now (phases .entry)) (now (ranks .entry)) signals at reader kind operands ⌝ }
+    requires { ⌜ signals ≤ 64 ⌝ }
+    ensures { λ r. ⌜ (PacedAt (now (periods .entry)) (now (phases .entry)) reader kind operands → r ≡ readMet (now (periods .entry)) (now (phases .entry)) (now (ranks .entry)) signals at reader kind operands) ⌝ }
 {
     let read = operands.signal as usize;
     if signals <= read {
@@ -72,7 +72,7 @@ pub fn check_reads(
     phases: &[u8; 64],
     ranks: &[u8; 64],
 ) -> Judged
-    requires { ⌜ (signals ≤ 64) × Positive (now periods) signals × Indexed (now text) (now reads) (now firsts) signals ⌝ }
+    requires { ⌜ (signals ≤ 64) × Below (now periods) (now phases) signals × Indexed (now text) (now reads) (now firsts) signals ⌝ }
     ensures { λ r. ⌜ ((p : Program) → parseProgram (now (text .entry)) ≡ accepted p → ReadsMet p (now (periods .entry)) (now (phases .entry)) (now (ranks .entry)) r) ⌝ }
 {
     let mut reader: usize = 0;

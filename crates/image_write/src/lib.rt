@@ -229,7 +229,7 @@ fn emit_offsets(
 }
 
 // Writes the code of n signals.
-fn emit_codes(text: &[u8], places: &[usize; 64], n: usize, out: &mut [u8], to: usize) -> usize
+fn emit_codes(text: &[u8], places: &[u16; 64], n: usize, out: &mut [u8], to: usize) -> usize
     requires { ⌜ Declared (now text) (now places) n × (to + length (joined (codesFrom 0 (signalsOf (now text)))) ≤ length (now out)) ⌝ }
     ensures { λ r. ⌜ Wrote (now (out .entry)) to (joined (codesFrom 0 (signalsOf (now (text .entry))))) (now (out .exit)) r ⌝ }
 {
@@ -237,7 +237,8 @@ fn emit_codes(text: &[u8], places: &[usize; 64], n: usize, out: &mut [u8], to: u
     let mut x: usize = 0;
     while x < n {
         let signal = narrow(x);
-        end = image_code::emit_signal(text, places[x], signal, out, end);
+        let place = wider(places[x]);
+        end = image_code::emit_signal(text, place, signal, out, end);
         x = x + 1;
     }
     end
@@ -257,7 +258,7 @@ fn put_record(text: &[u8], place: usize, offset: usize, out: &mut [u8], to: usiz
 // Writes the records of n signals, whose code starts at `codes` after `start`.
 fn emit_records(
     text: &[u8],
-    places: &[usize; 64],
+    places: &[u16; 64],
     n: usize,
     codes: &[u16; 65],
     start: usize,
@@ -271,7 +272,8 @@ fn emit_records(
     let mut x: usize = 0;
     while x < n {
         let code = wider(codes[x]);
-        end = put_record(text, places[x], start + code, out, end);
+        let place = wider(places[x]);
+        end = put_record(text, place, start + code, out, end);
         x = x + 1;
     }
     end

@@ -1,20 +1,19 @@
--- Laws of a search from an index on, and of products of bytes. Assumes nothing.
+-- Laws of a search from an index on, and of products of small numbers. Assumes nothing.
 use mathlib.Core.Path.{_≡_, refl, sym, ap, _∙_}
-use mathlib.Core.Bool.{Bool, true, false, cond, _&&_}
+use mathlib.Core.Bool.{Bool, true, false, cond}
 use Prim.Native.Nat.{ℕ, zero, suc, _+_, _*_, _-_, _<_, _≤_}
 use native.Mathlib.Nat.{mul-le-mul-left, mul-le-mul-right, le-trans, sub-zero}
 use native.Mathlib.Decide.{decLt}
 use native.Mathlib.Numerals.{add-one}
 use native.Mathlib.Omega.{arith}
-use borrow.Author.Tests.{le-leb, lt-leb, le-ltb}
-use lib.Dec.{leb, ltb}
-use Rattle.model.specs.Rules.Reads.{between, Rate, line, settle, lineHolds}
+use Rattle.model.specs.Rules.Reads.{Rate, line, settle, lineHolds}
 use Rattle.model.specs.Rules.Search.{firstFrom, isFound}
 use Rattle.model.specs.declared.Found.{Found}
 use Rattle.model.specs.declared.Found.the-variants.{At, Nowhere}
 use Rattle.model.specs.declared.Index.{Index}
 use Rattle.model.specs.declared.Index.the-variants.{Fixed, Open}
 use Rattle.model.specs.declared.Kind.{Kind}
+use Rattle.model.proofs.Pairs.Decide.{IsFirst, from-first}
 use Rattle.read_rule.specs.Reads.{indexBy}
 
 more : (i n : ℕ) → i < n → n - i ≡ suc (n - (i + 1))
@@ -41,32 +40,22 @@ search-from test n (suc i) h = search-from test n i (λ k l. h k (omega arith)) 
     go (yes l) = rw (add-one i) at (search-next test i n l (h i (omega arith)))
     go (no l) = search-none test i n (omega arith) ∙ sym (search-none test (suc i) n (omega arith))
 
--- The run at k is a whole period before the cycle, or more: it is neither the last at or before it nor the first at or after it.
-module _ (k period phase cycle : ℕ) (h : suc k * period + phase ≤ cycle) where
-  pub not-before : between (k * period + phase) cycle (suc k * period + phase) ≡ false
-  unfolding between
-  not-before = rw (le-leb (k * period + phase) cycle (omega arith), le-ltb cycle (suc k * period + phase) h)
+-- One candidate.
+pub search-one : (test : ℕ → Bool) (i : ℕ) → firstFrom i (i + 1 - i) test ≡ cond (test i) (At i) Nowhere
+unfolding firstFrom
+search-one test i = let e : i + 1 - i ≡ 1 = omega arith in rw e (go (test i))
+  where
+    go : (b : Bool) → elim b [ true ↦ At i | false ↦ Nowhere ] ≡ cond b (At i) Nowhere
+    go true = refl
+    go false = refl
 
-  pub not-after : between cycle (k * period + phase) (cycle + period) ≡ false
-  unfolding between
-  not-after = go (decLt 0 period)
-    where
-      go : Dec (0 < period) → (leb cycle (k * period + phase) && ltb (k * period + phase) (cycle + period)) ≡ false
-      go (yes l) = rw (lt-leb cycle (k * period + phase) (omega arith))
-      go (no l) =
-          let z : period ≡ 0 = omega arith in
-          out (decLt (k * period + phase) cycle)
-        where
-          out : Dec (k * period + phase < cycle) → (leb cycle (k * period + phase) && ltb (k * period + phase) (cycle + period)) ≡ false
-          out (yes l) = rw (lt-leb cycle (k * period + phase) l)
-          out (no m) = rw (le-leb cycle (k * period + phase) (omega arith), le-ltb (k * period + phase) (cycle + period) (omega arith))
+-- What is found is below the end.
+pub search-below : (test : ℕ → Bool) (from to i : ℕ) → firstFrom from (to - from) test ≡ At i → i < to
+search-below test from to i e = let h : IsFirst from (to - from) test (At i) = rw e at (from-first from (to - from) test) in omega arith
 
--- A product of two bytes.
-pub bytes : (a b : ℕ) → a < 256 → b < 256 → a * b ≤ 65025
-bytes a b h g =
-    let x : a ≤ 255 = omega arith in
-    let y : b ≤ 255 = omega arith in
-    le-trans (mul-le-mul-left a y) (mul-le-mul-right 255 x)
+-- A product of small numbers.
+pub small-product : (a b : ℕ) → a ≤ 256 → b ≤ 256 → a * b ≤ 65536
+small-product a b h g = le-trans (mul-le-mul-left a g) (mul-le-mul-right 256 h)
 
 -- An index is found exactly if the line holds.
 pub found-holds : (kind : Kind) (w r : Rate) (n : ℕ) (index : Index) → isFound (indexBy kind w r n index) ≡ lineHolds kind w r n index

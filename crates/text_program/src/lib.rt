@@ -455,7 +455,7 @@ fn read_command(
 // `firsts[x + 1]` of the table of reads, its code the bytes from `codes[x]` to `codes[x + 1]` of the whole code.
 pub struct Tables {
     pub signals: usize,
-    pub places: [usize; 64],
+    pub places: [u16; 64],
     pub periods: [u8; 64],
     pub weights: [u16; 64],
     pub labels: [u16; 64],
@@ -516,7 +516,7 @@ pub fn read_program(least: u8, text: &[u8], reads: &mut [u16]) -> ProgramRead
     requires { ⌜ (length (now text) ≤ 8192) × (length (now text) ≤ 2 * length (now reads)) ⌝ }
     ensures { λ r. ⌜ ProgramReads (parseWith least (now (text .entry))) (now (reads .exit)) r ⌝ }
 {
-    let mut places: [usize; 64] = [0; 64];
+    let mut places: [u16; 64] = [0; 64];
     let mut periods: [u8; 64] = [0; 64];
     let mut weights: [u16; 64] = [0; 64];
     let mut labels: [u16; 64] = [0; 64];
@@ -559,7 +559,7 @@ pub fn read_program(least: u8, text: &[u8], reads: &mut [u16]) -> ProgramRead
         to = walk.code;
         match entry {
             Entry::Signal(period, weight) => {
-                places[signals] = place;
+                places[signals] = place as u16;
                 periods[signals] = period;
                 weights[signals] = weight;
                 labels[signals] = label;

@@ -18,7 +18,7 @@ use Rattle.text_program.specs.Results.{judgementOf}
 use Rattle.check_latency.specs.Timely.{Timed}
 use Rattle.check_pair.specs.Answers.{Arranged}
 use Rattle.check_pair.specs.Steps.{runsOf}
-use Rattle.check_pair.proofs.Laws.{few-signals, positive, answers-then, answers-stop, answers-judgement, judgement-answers, judgement-fine, judgement-refused}
+use Rattle.check_pair.proofs.Laws.{few-signals, answers-then, answers-stop, answers-judgement, judgement-answers, judgement-fine, judgement-refused}
 use Rattle.check_pair.proofs.check_runs.Statement.{statement}
 use Rattle.check_pair.proofs.check_runs.Tie as tie
 
@@ -31,14 +31,7 @@ start r = r .before .before .before .before .before .before .before .before .bef
 abbrev reads : tie.After-check-load → tie.After-check-reads
 reads l = l .before .before .before .before .before .before .before
 
--- what the check of the reads asks
-bounded : (b : tie.Start) → (b .args .tables .signals ≤ 64) ×
-    ((x : ℕ) → x < b .args .tables .signals → 0 < getD (b .args .tables .periods) x 0)
-bounded b =
-    let g = b .pre .0 .2 in
-    (few-signals _ _ _ (g .parsed) (g .tables-are), positive _ _ _ (g .parsed) (g .tables-are) (b .args .tables .periods) (g .tables-are .periods))
-
--- what the load asks
+-- what the reads and the load ask
 phased : (b : tie.Start) → (b .args .tables .signals ≤ 64) × (b .args .h ≤ 240) ×
     ((x : ℕ) → x < b .args .tables .signals → getD (b .args .slots .phases) x 0 < getD (b .args .tables .periods) x 0)
 phased b =
@@ -95,7 +88,7 @@ timed b p s g m =
 check-reads-requires : tie.Need-check-reads-requires
 check-reads-requires c κs =
     let b = c .before .before .before .before .before .before .before .before .before .before in
-    (bounded b .0, bounded b .1, indexed _ _ _ (b .pre .1))
+    (phased b .0, phased b .2, indexed _ _ _ (b .pre .1))
 
 enum-told : tie.Need-enum-told
 enum-told c = search needs

@@ -34,6 +34,7 @@ use Rattle.text_program.proofs.ByIndex.{
   rises-at,
 }
 use Rattle.text_program.proofs.Rising.{allPlaces, rising-program}
+use Rattle.check_reads.specs.Met.{Below}
 use Rattle.check_reads.proofs.Judging.{unmet, unmet-there, all-unmet, one-read}
 use Rattle.check_reads.proofs.check_reads.Statement.{statement}
 use Rattle.check_reads.proofs.check_reads.Tie as tie
@@ -79,6 +80,12 @@ module _ (b : tie.In-loop2 Inv-loop2 μ-loop2 Inv-loop μ-loop) where
 
   abbrev ix : Indexed text reads firsts (b .before .before .before .before .before .before .before .before .args .signals)
   ix = b .before .before .before .before .before .before .before .before .pre .2
+
+  abbrev below : Below
+      (now (b .before .before .before .before .before .before .before .before .args .periods))
+      (now (b .before .before .before .before .before .before .before .before .args .phases))
+      (b .before .before .before .before .before .before .before .before .args .signals)
+  below = b .before .before .before .before .before .before .before .before .pre .1
 
   abbrev lt : reader < b .before .before .before .before .before .before .before .before .args .signals
   lt = b .before .before .before .before .loop-test .taken
@@ -135,7 +142,7 @@ taken-at-requires : tie.Need-taken-at-requires Inv-loop2 μ-loop2 Inv-loop μ-lo
 taken-at-requires c κs = subst (ReadStands _) (sym (c .wider2 .ensures .0)) (stands (c .before .before))
 
 judge-read-requires : tie.Need-judge-read-requires Inv-loop2 μ-loop2 Inv-loop μ-loop
-judge-read-requires c κs = (c .before .before .before .before .before .before .before .before .before .before .before .before .pre .0, c .before .before .before .before .before .before .before .before .before .before .before .before .pre .1)
+judge-read-requires c κs = c .before .before .before .before .before .before .before .before .before .before .before .before .pre .0
 
 enum-told : tie.Need-enum-told Inv-loop2 μ-loop2 Inv-loop μ-loop
 enum-told c = search needs
@@ -149,7 +156,7 @@ returns c =
     λ p e s order r t o.
     c .enum-told2 .given .1 ∙
     sym (ap judgementOf (check-refuses (reads-in p) (unmet p s) (met p s) (unmet-there p s) (reader (c .before .before .before .before .before .before .before)) _ (seen (ix (c .before .before .before .before .before .before .before)) p e (reader (c .before .before .before .before .before .before .before)) (i (c .before .before .before .before .before .before .before)) (lt (c .before .before .before .before .before .before .before)) (low (c .before .before .before .before .before .before .before)) (high (c .before .before .before .before .before .before .before))) (c .before .before .before .before .before .before .before .before .loop2 .inv .2 p e s order r t o)
-    (one-read (ix (c .before .before .before .before .before .before .before)) p e s order _ _ _ r t o (reader (c .before .before .before .before .before .before .before)) (i (c .before .before .before .before .before .before .before)) (lt (c .before .before .before .before .before .before .before)) (low (c .before .before .before .before .before .before .before)) (high (c .before .before .before .before .before .before .before)) _ (Judged.Refused _) _ (c .before .before .before .before .before .wider2 .ensures .0) (c .before .before .before .before .taken-at .ensures) (sym (c .enum-told2 .given .1) ∙ c .before .before .judge-read .ensures))))
+    (one-read (ix (c .before .before .before .before .before .before .before)) p e s order _ _ _ r t o (below (c .before .before .before .before .before .before .before)) (reader (c .before .before .before .before .before .before .before)) (i (c .before .before .before .before .before .before .before)) (lt (c .before .before .before .before .before .before .before)) (low (c .before .before .before .before .before .before .before)) (high (c .before .before .before .before .before .before .before)) _ (Judged.Refused _) _ (c .before .before .before .before .before .wider2 .ensures .0) (c .before .before .before .before .taken-at .ensures) (λ q. sym (c .enum-told2 .given .1) ∙ c .before .before .judge-read .ensures q))))
 
 add-i : tie.Need-add-i Inv-loop2 μ-loop2 Inv-loop μ-loop
 add-i c = omega (arith, c .before .before .before .before .before .before .before .loop2-test .taken, c .before .before .before .before .before .before .before .before .before .wider .ensures .1)
@@ -165,7 +172,7 @@ loop2-again c = (
       let h = low (c .before .before .before .before .before .before .before) in
       subst (Ahead (reads-in p) (unmet p s) (met p s) (reader (c .before .before .before .before .before .before .before))) (omega (arith, h))
       (check-passes (reads-in p) (unmet p s) (met p s) (unmet-there p s) (reader (c .before .before .before .before .before .before .before)) _ (seen (ix (c .before .before .before .before .before .before .before)) p e (reader (c .before .before .before .before .before .before .before)) (i (c .before .before .before .before .before .before .before)) (lt (c .before .before .before .before .before .before .before)) (low (c .before .before .before .before .before .before .before)) (high (c .before .before .before .before .before .before .before))) (c .before .before .before .before .before .before .before .before .loop2 .inv .2 p e s order r t o)
-      (one-read (ix (c .before .before .before .before .before .before .before)) p e s order _ _ _ r t o (reader (c .before .before .before .before .before .before .before)) (i (c .before .before .before .before .before .before .before)) (lt (c .before .before .before .before .before .before .before)) (low (c .before .before .before .before .before .before .before)) (high (c .before .before .before .before .before .before .before)) _ Judged.Fine _ (c .before .before .before .before .before .wider2 .ensures .0) (c .before .before .before .before .taken-at .ensures) (sym (c .enum-told .given .1) ∙ c .before .before .judge-read .ensures))),
+      (one-read (ix (c .before .before .before .before .before .before .before)) p e s order _ _ _ r t o (below (c .before .before .before .before .before .before .before)) (reader (c .before .before .before .before .before .before .before)) (i (c .before .before .before .before .before .before .before)) (lt (c .before .before .before .before .before .before .before)) (low (c .before .before .before .before .before .before .before)) (high (c .before .before .before .before .before .before .before)) _ Judged.Fine _ (c .before .before .before .before .before .wider2 .ensures .0) (c .before .before .before .before .taken-at .ensures) (λ q. sym (c .enum-told .given .1) ∙ c .before .before .judge-read .ensures q))),
 )
 
 add-reader : tie.Need-add-reader Inv-loop2 μ-loop2 Inv-loop μ-loop

@@ -106,6 +106,9 @@ module _ (c : tie.After-known-told Inv-loop μ-loop) where
       kept)
       (c .before .step .given .1) (b .read-command .ensures (reading .program) (top .loop .label) (reading .tables .counts))
 
+  place-small : top .loop .at < 65536
+  place-small = omega (arith, inside, b .before .before .before .before .before .before .pre .0)
+
   forward : length text - walk .at < length text - top .loop .at
   forward = omega (arith, added .forward, inside)
 
@@ -157,6 +160,9 @@ returns c =
 
 enum-known-entry : tie.Need-enum-known-entry Inv-loop μ-loop
 enum-known-entry c = search needs
+
+cast-places : tie.Need-cast-places Inv-loop μ-loop
+cast-places c = omega (arith, place-small (c .before .before .before))
 
 mul-places : tie.Need-mul-places Inv-loop μ-loop
 mul-places c = let f = signal (c .before .before .before) (c .before .entry .given .1) in omega (arith, f .0, f .1, f .2)
@@ -290,6 +296,7 @@ read-program-spec =
     same-length
     returns
     enum-known-entry
+    cast-places
     mul-places
     array-write-places
     array-write-periods
