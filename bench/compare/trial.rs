@@ -5,14 +5,19 @@
 //!     trial measure TRIAL FOLDER             times both programs on the longest scripts, in one interleaved run
 // The differential test uses the rest of these.
 #[allow(dead_code)]
+#[path = "../cases/generate.rs"]
 mod generate;
 #[allow(dead_code)]
+#[path = "../cases/images.rs"]
 mod images;
 #[allow(dead_code)]
+#[path = "../cases/random.rs"]
 mod random;
 #[allow(dead_code)]
+#[path = "../reference/mod.rs"]
 mod reference;
 #[allow(dead_code)]
+#[path = "../measure/rows.rs"]
 mod rows;
 
 use generate::{Pair, Shape, Twist};

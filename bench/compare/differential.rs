@@ -6,14 +6,19 @@
 //! and samples to reset, cycle and tail, and makes calls of a board. After each call the answers and all that was lent must be equal. It
 //! stops at the first difference with the bytes lent. Round r depends on the seed and on r alone.
 mod board;
+#[path = "../cases/generate.rs"]
 mod generate;
 // The benchmark uses the rest of these.
 #[allow(dead_code)]
+#[path = "../cases/images.rs"]
 mod images;
+#[path = "../library.rs"]
 mod library;
+#[path = "../cases/random.rs"]
 mod random;
 // A trial is compared by a program of its own.
 #[allow(dead_code)]
+#[path = "../reference/mod.rs"]
 mod reference;
 
 use generate::{Pair, Shape, Twist};

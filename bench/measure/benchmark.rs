@@ -1,14 +1,19 @@
 //! The library's calls against the reference built for release (rows.rs).
 // The differential test uses the rest of these.
 #[allow(dead_code)]
+#[path = "../cases/generate.rs"]
 mod generate;
 #[allow(dead_code)]
+#[path = "../cases/images.rs"]
 mod images;
 #[allow(dead_code)]
+#[path = "../library.rs"]
 mod library;
 #[allow(dead_code)]
+#[path = "../cases/random.rs"]
 mod random;
 #[allow(dead_code)]
+#[path = "../reference/mod.rs"]
 mod reference;
 mod rows;
 

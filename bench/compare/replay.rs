@@ -1,4 +1,5 @@
 //! Runs cases with expected answers (docs/VECTORS.md) on the reference: every line must be equal.
+#[path = "../reference/mod.rs"]
 mod reference;
 mod widths;
 

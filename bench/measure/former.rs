@@ -2,14 +2,19 @@
 //!
 //! The former library's calls are linked under other names, so that both run in one process.
 #[allow(dead_code)]
+#[path = "../cases/generate.rs"]
 mod generate;
 #[allow(dead_code)]
+#[path = "../cases/images.rs"]
 mod images;
 #[allow(dead_code)]
+#[path = "../library.rs"]
 mod library;
 #[allow(dead_code)]
+#[path = "../cases/random.rs"]
 mod random;
 #[allow(dead_code, unused_imports)]
+#[path = "../reference/mod.rs"]
 mod reference;
 #[allow(dead_code)]
 mod rows;
