@@ -2,7 +2,7 @@
 use Prim.Native.Nat.{ℕ, _<_}
 use mathlib.Core.Bool.{Bool, true, false}
 use mathlib.Core.List.{List, []}
-use mathlib.Core.Path.{_≡_, refl}
+use mathlib.Core.Path.{_≡_, refl, sym, ap, _∙_}
 use borrow.Author.Tests.{ltb-true}
 use lib.Dec.{leb, ltb}
 use lib.IntN.{ℤ}
@@ -28,7 +28,7 @@ use Rattle.board.specs.Board.{
   took,
   turnWith,
 }
-use Rattle.board.specs.Events.{Scene, loadBy, markBy, turnBy}
+use Rattle.board.specs.Events.{Scene, loadBy, markBy, turnBy, turnIn}
 use Rattle.board.proofs.Answers.{
   boardRefusal,
   boardDone,

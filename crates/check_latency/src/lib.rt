@@ -1,4 +1,5 @@
 // The hops of a chain, each by the one read of the link before.
+use basics::Judged;
 use latency_rule::Hop;
 use model::Declaration;
 use model::Fault;
@@ -7,7 +8,6 @@ use model::Index;
 use model::Kind;
 use model::Sampled;
 use read_rule::Timing;
-use text_program::Judged;
 use text_program::Tables;
 ghost use mathlib.Core.Path.{_≡_};
 ghost use Prim.Native.Nat.{ℕ, _*_, _≤_, _<_};
@@ -20,7 +20,7 @@ ghost use Rattle.model.specs.Rules.Search.{foundOr};
 ghost use Rattle.latency_rule.specs.Back.{noHop};
 ghost use Rattle.latency_rule.specs.Hops.{hopOf};
 ghost use Rattle.check_rates.specs.Answers.{periodAt, TabledAs};
-ghost use Rattle.text_program.specs.Results.{judgementOf};
+ghost use Rattle.basics.specs.Judgement.{judgementOf};
 ghost use Rattle.text_program.specs.Tables.{chainAt};
 ghost use Rattle.read_rule.specs.Reads.{rateIn};
 ghost use Rattle.check_latency.specs.Timely.{ByteFound, Known, Joined, Joinable, Timed, Judgeable, RouteOf, windowBy};

@@ -17,9 +17,9 @@ use Rattle.model.specs.Rules.Search.{sum, table, tableFrom, first, firstFrom}
 use Rattle.model.specs.declared.Found.{Found}
 use Rattle.model.specs.declared.Found.the-variants.{At, Nowhere}
 use Rattle.text_program.specs.Tables.{PeriodsOf, WeightsOf, capOf}
-use Rattle.text_program.specs.declared.Judged.{Judged}
-use Rattle.text_program.specs.declared.Judged.the-variants as Judged
-use Rattle.text_program.specs.Results.{judgementOf}
+use Rattle.basics.specs.declared.Judged.{Judged}
+use Rattle.basics.specs.declared.Judged.the-variants as Judged
+use Rattle.basics.specs.Judgement.{judgementOf}
 use Rattle.check_load.specs.Load.{addedIn, loadIn, LoadsOf, Raised, PhasesOf}
 
 -- A sum over a table with one entry more.

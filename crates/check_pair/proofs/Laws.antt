@@ -19,12 +19,12 @@ use Rattle.model.specs.declared.Fault.{Fault}
 use Rattle.model.proofs.Texts.Legal.{legal}
 use Rattle.model.proofs.Basics.Outcomes.{then-accepted, accepted-then, refused-then, then-then, then-same, provided-true}
 use Rattle.check_rates.specs.Answers.{cyclesOf, TabledAs}
-use Rattle.text_program.specs.Results.{judgementOf}
+use Rattle.basics.specs.Judgement.{judgementOf}
 use Rattle.check_rates.specs.declared.Cycles.{Cycles}
 use Rattle.check_rates.specs.declared.Cycles.the-variants as Cycles
 use Rattle.text_program.specs.Tables.{ProgramReads, TablesOf, ReadsOf, SlotsOf}
-use Rattle.text_program.specs.declared.Judged.{Judged}
-use Rattle.text_program.specs.declared.Judged.the-variants as Judged
+use Rattle.basics.specs.declared.Judged.{Judged}
+use Rattle.basics.specs.declared.Judged.the-variants as Judged
 use Rattle.text_program.specs.declared.ProgramRead.{ProgramRead}
 use Rattle.text_program.specs.declared.Tables.{Tables}
 use Rattle.text_schedule.specs.Slots.{EndedAt, ScheduledAs}

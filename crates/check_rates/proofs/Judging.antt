@@ -22,11 +22,11 @@ use Rattle.model.proofs.Texts.Legal.{SpellsChain, legal}
 use Rattle.model.proofs.Basics.Outcomes.{accepted-same}
 use Rattle.text_command.specs.Operator.{ReadTaken}
 use Rattle.text_command.specs.declared.Taken.{Taken}
-use Rattle.text_program.specs.Results.{judgementOf}
+use Rattle.basics.specs.Judgement.{judgementOf}
 use Rattle.text_program.specs.Tables.{noChain, chainAt, TablesOf, PeriodsOf, Indexed}
 use Rattle.text_program.specs.declared.Tables.{Tables}
-use Rattle.text_program.specs.declared.Judged.{Judged}
-use Rattle.text_program.specs.declared.Judged.the-variants as Judged
+use Rattle.basics.specs.declared.Judged.{Judged}
+use Rattle.basics.specs.declared.Judged.the-variants as Judged
 use Rattle.text_program.proofs.ByIndex.{noRead, noLink, readAt, AtItem, reads-in, links-in, faultsOf, counted, place-is, taken-is}
 use Rattle.check_rates.specs.Answers.{rateJudged, periodAt, readJudged, readRates, linkRates, lowerOf, ReadAs, TabledAs}
 use Rattle.check_rates.proofs.Joined.{join-same}

@@ -19,8 +19,8 @@ use Rattle.model.specs.declared.Sampled.{Sampled}
 use Rattle.check_rates.specs.declared.Cycles.{Cycles}
 use Rattle.check_rates.specs.declared.Cycles.the-variants as Cycles
 use Rattle.text_program.specs.Tables.{ReadsOf, TablesOf}
-use Rattle.text_program.specs.declared.Judged.{Judged}
-use Rattle.text_program.specs.declared.Judged.the-variants as Judged
+use Rattle.basics.specs.declared.Judged.{Judged}
+use Rattle.basics.specs.declared.Judged.the-variants as Judged
 use Rattle.text_program.specs.declared.Tables.{Tables}
 
 -- The hypercycle, or its refusal.

@@ -12,10 +12,10 @@ use Rattle.model.specs.Rules.Reads.{Rate, met}
 use Rattle.model.specs.Rules.Schedule.{Schedule}
 use Rattle.model.specs.declared.Kind.{Kind}
 use Rattle.model.specs.declared.Sampled.{Sampled}
-use Rattle.text_program.specs.Results.{judgementOf}
+use Rattle.basics.specs.Judgement.{judgementOf}
 use Rattle.text_program.specs.Tables.{PeriodsOf, SlotsOf}
-use Rattle.text_program.specs.declared.Judged.{Judged}
-use Rattle.text_program.specs.declared.Judged.the-variants as Judged
+use Rattle.basics.specs.declared.Judged.{Judged}
+use Rattle.basics.specs.declared.Judged.the-variants as Judged
 use Rattle.read_rule.specs.Lines.{Paced}
 use Rattle.read_rule.specs.Reads.{metBy}
 use Rattle.read_rule.specs.declared.Timing.{Timing}

@@ -1,24 +1,14 @@
 // Whether every read is met (14): over the reads by their index, with the operands that stand at their offsets.
-use model::Fault;
+use basics::Judged;
 use model::Kind;
 use model::Sampled;
 use read_rule::Timing;
-use text_program::Judged;
 ghost use mathlib.Core.Path.{_≡_};
 ghost use Prim.Native.Nat.{_≤_, _<_};
 ghost use Rattle.model.specs.Rules.Outcome.{accepted};
 ghost use Rattle.model.specs.Rules.Program.{Program, parseProgram};
 ghost use Rattle.text_program.specs.Tables.{Indexed};
 ghost use Rattle.check_reads.specs.Met.{Below, PacedAt, readMet, ReadsMet};
-
-fn refuse(place: usize) -> Judged
-    ensures { λ r. ⌜ r ≡ Judged.Refused (record { number = 14; place = place }) ⌝ }
-{
-    Judged::Refused(Fault {
-        number: 14,
-        place: place,
-    })
-}
 
 // One read in the equation of `reader`.
 fn judge_read(
@@ -53,13 +43,7 @@ fn judge_read(
     if read_rule::is_met(kind, operands, w, r, before) {
         return Judged::Fine;
     }
-    refuse(at)
-}
-
-fn wider(x: u16) -> usize
-    ensures { λ r. ⌜ (r ≡ x) × (r < 65536) ⌝ }
-{
-    x as usize
+    basics::refuse(14, at)
 }
 
 // 14 at the lowest read offset: over the reads of each signal by their index in the table.
@@ -78,9 +62,9 @@ pub fn check_reads(
     let mut reader: usize = 0;
     let mut i: usize = 0;
     while reader < signals {
-        let end = wider(firsts[reader + 1]);
+        let end = basics::wider(firsts[reader + 1]);
         while i < end {
-            let at = wider(reads[i]);
+            let at = basics::wider(reads[i]);
             let taken = text_command::taken_at(text, at);
             let kind = taken.kind;
             let operands = taken.operands;

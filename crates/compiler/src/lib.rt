@@ -1,7 +1,7 @@
 // The compiler: a program and a schedule to an image with its tail, or the first refusal.
+use basics::Judged;
 use model::Compiled;
 use model::Fault;
-use text_program::Judged;
 use text_schedule::Slots;
 ghost use mathlib.Core.Path.{_≡_};
 ghost use Rattle.model.specs.Rules.Compile.{compiledOf, compileOf};

@@ -19,23 +19,10 @@ ghost use Rattle.image_write.specs.Prepared.{LaidOut, Tabled, Fits};
 ghost use Rattle.image_write.specs.Tail.{tailBy};
 ghost use Rattle.model.specs.Rules.Writing.{Wrote};
 
-fn wide(byte: u8) -> usize
-    ensures { λ r. ⌜ (r ≡ byte) × (r < 256) ⌝ }
-{
-    byte as usize
-}
-
 fn lengthened(byte: u8) -> u16
     ensures { λ r. ⌜ r ≡ byte ⌝ }
 {
     byte as u16
-}
-
-// An entry of a table as a number.
-fn wider(x: u16) -> usize
-    ensures { λ r. ⌜ (r ≡ x) × (r < 65536) ⌝ }
-{
-    x as usize
 }
 
 fn widest(x: u32) -> usize
@@ -77,7 +64,7 @@ fn count_runs(
     let mut counts: [u32; 240] = [0; 240];
     let mut i: usize = 0;
     while i < n {
-        let x = wide(order[i]);
+        let x = basics::wide(order[i]);
         check_load::add_runs(&mut counts, periods[x], phases[x], 1, h);
         i = i + 1;
     }
@@ -92,7 +79,7 @@ fn first_runs(order: &[u8; 64], phases: &[u8; 64], n: usize) -> [u16; 64]
     let mut nexts: [u16; 64] = [0; 64];
     let mut i: usize = 0;
     while i < n {
-        let x = wide(order[i]);
+        let x = basics::wide(order[i]);
         nexts[i] = lengthened(phases[x]);
         i = i + 1;
     }
@@ -128,9 +115,9 @@ fn emit_list(
     while i < n {
         let x = order[i];
         let next = nexts[i];
-        let due = wider(next) == c;
+        let due = basics::wider(next) == c;
         end = put_run(due, x, out, end);
-        let period = periods[wide(x)];
+        let period = periods[basics::wide(x)];
         nexts[i] = run_after(due, next, period);
         i = i + 1;
     }
@@ -142,9 +129,9 @@ fn run_count(periods: &[u8; 64], phases: &[u8; 64], x: u8, h: usize) -> usize
     requires { ⌜ (x < 64) × (getD (now phases) x 0 < getD (now periods) x 0) × (h ≤ 240) ⌝ }
     ensures { λ r. ⌜ r ≡ stored (rateAt (now (periods .entry)) (now (phases .entry)) x) h ⌝ }
 {
-    let signal = wide(x);
-    let period = wide(periods[signal]);
-    let phase = wide(phases[signal]);
+    let signal = basics::wide(x);
+    let period = basics::wide(periods[signal]);
+    let phase = basics::wide(phases[signal]);
     (h + period - (phase + 1)) / period
 }
 
@@ -237,7 +224,7 @@ fn emit_codes(text: &[u8], places: &[u16; 64], n: usize, out: &mut [u8], to: usi
     let mut x: usize = 0;
     while x < n {
         let signal = narrow(x);
-        let place = wider(places[x]);
+        let place = basics::wider(places[x]);
         end = image_code::emit_signal(text, place, signal, out, end);
         x = x + 1;
     }
@@ -271,8 +258,8 @@ fn emit_records(
     let mut end = to;
     let mut x: usize = 0;
     while x < n {
-        let code = wider(codes[x]);
-        let place = wider(places[x]);
+        let code = basics::wider(codes[x]);
+        let place = basics::wider(places[x]);
         end = put_record(text, place, start + code, out, end);
         x = x + 1;
     }
@@ -313,7 +300,7 @@ pub fn lay_out(
     let lists = 4 + 6 * n + 2 * (h + 1);
     let runs = lists_length(periods, order, phases, n, h);
     let code = lists + runs;
-    let size = wider(codes[n]);
+    let size = basics::wider(codes[n]);
     let end = code + size;
     let written = end + 4 * n;
     Layout {
@@ -353,7 +340,7 @@ fn put_entry(label: u16, period: u8, phase: u8, out: &mut [u8], to: usize) -> us
     requires { ⌜ to + 4 ≤ length (now out) ⌝ }
     ensures { λ r. ⌜ Wrote (now (out .entry)) to (tailEntry label period phase) (now (out .exit)) r ⌝ }
 {
-    let number = wider(label);
+    let number = basics::wider(label);
     let at = put_offset(out, to, number);
     out[at] = period;
     out[at + 1] = phase;

@@ -17,12 +17,6 @@ pub struct Timing {
     pub phase: u8,
 }
 
-fn wide(byte: u8) -> usize
-    ensures { λ r. ⌜ (r ≡ byte) × (r < 256) ⌝ }
-{
-    byte as usize
-}
-
 fn either(first: bool, a: usize, b: usize) -> usize
     ensures { λ r. ⌜ (r ≡ cond first a b) × ((a ≤ 256) → (b ≤ 256) → r ≤ 256) ⌝ }
 {
@@ -105,9 +99,9 @@ fn line_of(kind: Kind, w: Timing, r: Timing) -> Line
 {
     let plain = is_plain(kind);
     let current = is_current(kind);
-    let period = either(current, wide(r.period), wide(w.period));
-    let start = either(current, wide(r.phase), wide(w.phase));
-    let cycle = either(current, wide(w.phase), wide(r.phase));
+    let period = either(current, basics::wide(r.period), basics::wide(w.period));
+    let start = either(current, basics::wide(r.phase), basics::wide(w.phase));
+    let cycle = either(current, basics::wide(w.phase), basics::wide(r.phase));
     let step = either(plain, 256, period);
     let stride = either(plain, 0, period);
     let ahead = either(is_before(kind), minus(step, 1), 0);
@@ -166,12 +160,12 @@ fn candidates_of(line: Line, sampled: Sampled) -> Candidates
     let index = sampled.index;
     match index {
         Index::Fixed(i) => Candidates {
-            from: wide(i),
-            to: wide(i) + 1,
+            from: basics::wide(i),
+            to: basics::wide(i) + 1,
         },
         Index::Open => Candidates {
             from: lowest,
-            to: wide(sampled.factor),
+            to: basics::wide(sampled.factor),
         },
     }
 }

@@ -11,12 +11,6 @@ ghost use Rattle.model.specs.Rules.Machine.{operatorCode, codeAt, codeOk, runCo
 ghost use Rattle.model.specs.Rules.Word.{byteAt};
 ghost use Rattle.run_code.specs.Leaf.{leafWord, leafOk, leafLength};
 
-fn wide(byte: u8) -> usize
-    ensures { λ r. ⌜ (r ≡ byte) × (r < 256) ⌝ }
-{
-    byte as usize
-}
-
 // The operator with two operands that a byte commands.
 fn operator(byte: u8) -> Binary
     requires { ⌜ (0x30 ≤ byte) × (byte ≤ 0x36) ⌝ }
@@ -42,7 +36,7 @@ fn leaf_word(code: &[u8], at: usize, state: &[i32], samples: &[i32]) -> i32
     if byte == 0x50 {
         return word::word_at(code, at + 1);
     }
-    let x = wide(code[at + 1]);
+    let x = basics::wide(code[at + 1]);
     if byte == 0x51 {
         return state[x + 1];
     }

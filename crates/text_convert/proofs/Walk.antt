@@ -44,8 +44,8 @@ use Rattle.model.proofs.Texts.Picks.{chosen-all}
 use Rattle.model.specs.Rules.Writing.{Wrote}
 use Rattle.model.proofs.Basics.Left.{Parts}
 use Rattle.text_program.specs.Tables.{ProgramReads}
-use Rattle.text_program.specs.declared.Judged.{Judged}
-use Rattle.text_program.specs.declared.Judged.the-variants as Judged
+use Rattle.basics.specs.declared.Judged.{Judged}
+use Rattle.basics.specs.declared.Judged.the-variants as Judged
 use Rattle.text_program.specs.declared.ProgramRead.{ProgramRead}
 use Rattle.text_convert.specs.Pieces.{widthIn, lengthIn, bytesIn, operatorPiece, pieceOf, pieceAt}
 use Rattle.text_convert.specs.declared.Piece.{Piece}

@@ -1,11 +1,11 @@
 // The converter: a program text with each read of factor 1 written as NOW or LAST.
+use basics::Judged;
 use model::Compiled;
 use model::Declaration;
 use model::Fault;
 use model::Kind;
 use model::Operator;
 use model::Width;
-use text_program::Judged;
 ghost use mathlib.Core.Path.{_≡_};
 ghost use mathlib.Core.List.{_++_};
 ghost use Prim.Native.Nat.{_+_, _*_, _≤_};

@@ -20,8 +20,8 @@ use Rattle.model.proofs.Basics.Outcomes.{accepted-same, lowest-sorted}
 use Rattle.text_command.specs.Operator.{ReadStands, ReadTaken}
 use Rattle.text_command.specs.declared.Taken.{Taken}
 use Rattle.text_program.specs.Tables.{noChain, readsIn, ReadsOf, Indexed}
-use Rattle.text_program.specs.declared.Judged.{Judged}
-use Rattle.text_program.specs.declared.Judged.the-variants as Judged
+use Rattle.basics.specs.declared.Judged.{Judged}
+use Rattle.basics.specs.declared.Judged.the-variants as Judged
 use Rattle.text_program.proofs.Rising.{Rising, rising-all}
 use Rattle.text_program.proofs.Sums.{sums-below}
 

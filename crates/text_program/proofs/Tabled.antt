@@ -35,7 +35,7 @@ use Rattle.text_program.specs.Tables.{noChain, Sums, readsIn, codeIn, Re
 use Rattle.text_program.specs.Walks.{placesOf, Room, Moves}
 use Rattle.text_program.specs.declared.Entry.{Entry}
 use Rattle.text_program.specs.declared.Entry.the-variants as Entry
-use Rattle.text_program.specs.declared.Judged.{Judged}
+use Rattle.basics.specs.declared.Judged.{Judged}
 use Rattle.text_program.specs.declared.ProgramRead.{ProgramRead}
 use Rattle.text_program.specs.declared.Step.{Step}
 use Rattle.text_program.specs.declared.Step.the-variants as Step

@@ -1,4 +1,5 @@
 // Texts to tables: what stands where in a program and a schedule, or the first fault.
+use basics::Judged;
 use model::Declaration;
 use model::Fault;
 use model::Kind;
@@ -485,12 +486,6 @@ impl Tables {
             limit: 0,
         }
     }
-}
-
-// Whether a text was read to its end.
-pub enum Judged {
-    Fine,
-    Refused(Fault),
 }
 
 // What reading a program finds. The tables are of use where it is fine.

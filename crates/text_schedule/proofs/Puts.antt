@@ -36,8 +36,8 @@ use Rattle.model.specs.Says.Grammar.{SpellsPuts}
 use Rattle.model.proofs.Texts.Puts.{puts-end, puts-spelled, placed-ordered}
 use Rattle.model.proofs.Texts.Written.{put-decoded}
 use Rattle.text_program.specs.Tables.{PeriodsOf, SlotsOf}
-use Rattle.text_program.specs.declared.Judged.{Judged}
-use Rattle.text_program.specs.declared.Judged.the-variants as Judged
+use Rattle.basics.specs.declared.Judged.{Judged}
+use Rattle.basics.specs.declared.Judged.the-variants as Judged
 use Rattle.text_program.proofs.Filled.{filled}
 use Rattle.text_schedule.specs.Slots.{signalsOf, SlotsAfter, putAdded, judgedBy, PutJudged, allRanked, ScheduledAs}
 use Rattle.text_schedule.specs.declared.Placing.{Placing}

@@ -1,7 +1,7 @@
 // Schedule texts to tables: the signals in PUT order, and by signal its phase and its place in that order.
+use basics::Judged;
 use model::Fault;
 use model::ScheduleCommand;
-use text_program::Judged;
 ghost use mathlib.Core.Path.{_≡_};
 ghost use mathlib.Core.List.{List, []};
 ghost use Prim.Native.Nat.{_≤_, _<_};
@@ -83,21 +83,6 @@ impl Slots {
     }
 }
 
-fn refuse(number: u8, place: usize) -> Judged
-    ensures { λ r. ⌜ r ≡ Judged.Refused (record { number = number; place = place }) ⌝ }
-{
-    Judged::Refused(Fault {
-        number: number,
-        place: place,
-    })
-}
-
-fn wide(byte: u8) -> usize
-    ensures { λ r. ⌜ (r ≡ byte) × (r < 256) ⌝ }
-{
-    byte as usize
-}
-
 // One PUT, after those that have a rank: 12 and 13.
 fn judge_put(
     ranks: &[u8; 64],
@@ -112,13 +97,13 @@ fn judge_put(
 {
     let x = signal as usize;
     if signals <= x {
-        return refuse(12, at);
+        return basics::refuse(12, at);
     }
     if ranks[x] != 64 {
-        return refuse(12, at);
+        return basics::refuse(12, at);
     }
     if periods[x] <= phase {
-        return refuse(13, at);
+        return basics::refuse(13, at);
     }
     Judged::Fine
 }
@@ -173,7 +158,7 @@ pub fn place_signals(text: &[u8], end: usize, signals: usize, periods: &[u8; 64]
         let Judged::Fine = judged else {
             return unplaced(judged);
         };
-        let x = wide(signal);
+        let x = basics::wide(signal);
         order[puts] = signal;
         phases[x] = phase;
         ranks[x] = puts as u8;
@@ -181,7 +166,7 @@ pub fn place_signals(text: &[u8], end: usize, signals: usize, periods: &[u8; 64]
         at = at + width::in_schedule(0x40);
     }
     if !all_put(&ranks, signals) {
-        return unplaced(refuse(12, end));
+        return unplaced(basics::refuse(12, end));
     }
     Placing {
         judged: Judged::Fine,

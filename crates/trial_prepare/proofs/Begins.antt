@@ -34,8 +34,8 @@ use Rattle.model.proofs.Images.Stretches.{image-length, image-count}
 use Rattle.model.proofs.Images.Tails.{headed, stated-length, written-bears, written-length}
 use Rattle.model.proofs.Bench.Scripts.{lines-count}
 use Rattle.model.proofs.Pairs.Verdict.{pair-accepted, pair-multiple, pair-bounded}
-use Rattle.text_program.specs.declared.Judged.{Judged}
-use Rattle.text_program.specs.declared.Judged.the-variants as Judged
+use Rattle.basics.specs.declared.Judged.{Judged}
+use Rattle.basics.specs.declared.Judged.the-variants as Judged
 use Rattle.machine.specs.Runnable.{Runnable}
 use Rattle.machine.proofs.Answers.{reset-done, lends-itself}
 use Rattle.machine.proofs.Runnable.{reset-runnable}

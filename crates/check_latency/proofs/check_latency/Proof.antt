@@ -10,8 +10,8 @@ use Rattle.model.specs.Rules.Program.{Program}
 use Rattle.model.specs.Rules.Schedule.{Schedule}
 use Rattle.check_rates.proofs.Chains.{restFrom, rest-start, rest-later, rest-over, rest-broken}
 use Rattle.check_rates.proofs.Linking.{few-chains}
-use Rattle.text_program.specs.Results.{judgementOf}
-use Rattle.text_program.specs.declared.Judged.the-variants as Judged
+use Rattle.basics.specs.Judgement.{judgementOf}
+use Rattle.basics.specs.declared.Judged.the-variants as Judged
 use Rattle.check_latency.specs.Timely.{Timed}
 use Rattle.check_latency.proofs.check_latency.Statement.{statement}
 use Rattle.check_latency.proofs.check_latency.Tie as tie

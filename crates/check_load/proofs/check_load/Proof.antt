@@ -7,7 +7,7 @@ use Rattle.model.specs.Rules.Load.{loaded}
 use Rattle.model.specs.Rules.Program.{Program, count}
 use Rattle.model.specs.Rules.Schedule.{Schedule}
 use Rattle.model.specs.declared.Found.{Found}
-use Rattle.text_program.specs.Results.{judgementOf}
+use Rattle.basics.specs.Judgement.{judgementOf}
 use Rattle.text_program.specs.Tables.{PeriodsOf, WeightsOf, capOf}
 use Rattle.check_load.specs.Load.{PhasesOf}
 use Rattle.check_load.proofs.Laws.{judgedAt, judged-capped, judged-uncapped}

@@ -5,7 +5,7 @@ use lib.ListN.{length}
 use borrow.Author.Tests.{le-leb, lt-leb}
 use Rattle.model.specs.Rules.Outcome.{provided}
 use Rattle.model.specs.Rules.Compile.{shortEnough}
-use Rattle.text_program.specs.Results.{judgementOf}
+use Rattle.basics.specs.Judgement.{judgementOf}
 use borrow.Author.Needs.{needs}
 use Rattle.check_pair.proofs.check_lengths.Statement.{statement}
 use Rattle.check_pair.proofs.check_lengths.Tie as tie

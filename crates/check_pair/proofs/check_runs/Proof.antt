@@ -14,7 +14,7 @@ use Rattle.model.proofs.Pairs.Hypercycle.{hypercycle-least}
 use Rattle.model.proofs.Texts.Puts.{placed-ordered}
 use Rattle.model.proofs.Pairs.Verdict.{steps-accepted}
 use Rattle.check_rates.proofs.Judging.{indexed}
-use Rattle.text_program.specs.Results.{judgementOf}
+use Rattle.basics.specs.Judgement.{judgementOf}
 use Rattle.check_latency.specs.Timely.{Timed}
 use Rattle.check_pair.specs.Answers.{Arranged}
 use Rattle.check_pair.specs.Steps.{runsOf}

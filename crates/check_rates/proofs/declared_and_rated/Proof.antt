@@ -1,7 +1,7 @@
 -- `check_rates::declared_and_rated` meets its contract. Assumes nothing.
 use mathlib.Core.Path.{ap, _∙_}
 use Rattle.model.specs.Rules.Outcome.{lowest}
-use Rattle.text_program.specs.Results.{judgementOf}
+use Rattle.basics.specs.Judgement.{judgementOf}
 use Rattle.check_rates.specs.Answers.{readRates, lowerOf}
 use Rattle.check_rates.proofs.Judging.{both-rates, indexed, few-signals, periods-of}
 use borrow.Author.Needs.{needs}

@@ -8,8 +8,8 @@ use lib.ListN.{length, getD}
 use borrow.Author.Needs.{needs}
 use Rattle.model.specs.Rules.Outcome.{accepted, lowest}
 use Rattle.model.specs.Rules.Program.{Program, parseProgram}
-use Rattle.text_program.specs.Results.{judgementOf}
-use Rattle.text_program.specs.declared.Judged.the-variants as Judged
+use Rattle.basics.specs.Judgement.{judgementOf}
+use Rattle.basics.specs.declared.Judged.the-variants as Judged
 use Rattle.text_program.specs.declared.Tables.{Tables}
 use Rattle.text_program.proofs.ByIndex.{Ahead, Before, links-in, check-starts, check-enters, check-leaves, check-ends, check-passes, check-refuses}
 use Rattle.text_program.proofs.Rising.{linkPlaces, rising-program}

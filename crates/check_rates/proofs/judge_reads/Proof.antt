@@ -8,10 +8,10 @@ use lib.ListN.{length, getD}
 use borrow.Author.Needs.{needs}
 use Rattle.model.specs.Rules.Outcome.{accepted, lowest}
 use Rattle.model.specs.Rules.Program.{Program, parseProgram}
-use Rattle.text_program.specs.Results.{judgementOf}
+use Rattle.basics.specs.Judgement.{judgementOf}
 use Rattle.text_command.specs.Operator.{ReadStands}
 use Rattle.text_program.specs.Tables.{PeriodsOf, Indexed}
-use Rattle.text_program.specs.declared.Judged.the-variants as Judged
+use Rattle.basics.specs.declared.Judged.the-variants as Judged
 use Rattle.text_program.proofs.ByIndex.{
   Ahead,
   Before,

@@ -10,8 +10,8 @@ use Rattle.model.specs.Rules.Outcome.{Outcome, accepted, fault}
 use Rattle.model.specs.Rules.Program.{Program, Chain, parseProgram}
 use Rattle.model.specs.Rules.Rates.{isLinked, linked}
 use Rattle.text_program.specs.Tables.{TablesOf}
-use Rattle.text_program.specs.declared.Judged.the-variants as Judged
-use Rattle.text_program.specs.Results.{judgementOf}
+use Rattle.basics.specs.declared.Judged.the-variants as Judged
+use Rattle.basics.specs.Judgement.{judgementOf}
 use Rattle.check_rates.proofs.Chains.{restFrom, rest-start, rest-later, rest-over, rest-broken}
 use Rattle.check_rates.proofs.Linking.{few-chains}
 use Rattle.check_rates.proofs.linked.Statement.{statement}

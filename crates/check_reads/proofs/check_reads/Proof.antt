@@ -11,10 +11,10 @@ use Rattle.model.specs.Rules.Program.{Program, count, parseProgram}
 use Rattle.model.specs.Rules.Rates.{declaredAndRated}
 use Rattle.model.specs.Rules.Reads.{met}
 use Rattle.model.specs.Rules.Schedule.{Schedule}
-use Rattle.text_program.specs.Results.{judgementOf}
+use Rattle.basics.specs.Judgement.{judgementOf}
 use Rattle.text_command.specs.Operator.{ReadStands}
 use Rattle.text_program.specs.Tables.{PeriodsOf, SlotsOf, Indexed}
-use Rattle.text_program.specs.declared.Judged.the-variants as Judged
+use Rattle.basics.specs.declared.Judged.the-variants as Judged
 use Rattle.text_program.proofs.ByIndex.{
   Ahead,
   Before,

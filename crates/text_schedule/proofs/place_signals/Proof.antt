@@ -13,7 +13,7 @@ use Rattle.model.specs.Rules.Program.{Program, count}
 use Rattle.model.specs.Rules.Schedule.{Put, isPut, parseSchedule, scheduleCommandAt}
 use Rattle.model.specs.declared.ScheduleCommand.the-variants as ScheduleCommand
 use Rattle.text_program.specs.Tables.{PeriodsOf}
-use Rattle.text_program.specs.declared.Judged.the-variants as Judged
+use Rattle.basics.specs.declared.Judged.the-variants as Judged
 use Rattle.text_schedule.specs.Slots.{allRanked}
 use Rattle.text_schedule.specs.declared.Slots.{Slots}
 use Rattle.text_schedule.proofs.Endings.{not-put}
