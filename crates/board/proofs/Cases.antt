@@ -136,4 +136,5 @@ took-below s samples k o h = go (turn-case s samples)
     go : TurnCase s samples → k < 4
     go (turn-stays f e) = absurd (never (took k o) f (sym (answered s samples h e)))
     go (turn-idles n e) = let q = answered s samples h e in let z : _≡_ {A = ℕ} 0 1 = cc in absurd (omega arith)
-    go (turn-takes j n w v e) = let q = answered s samples h e in let place : j ≡ k = cc in omega (arith, next-below (s .board) j n)
+    go (turn-takes j n w v e) =
+        let q = answered s samples h e in let place : j ≡ k = cc in omega (arith, next-below (s .board) j n)
