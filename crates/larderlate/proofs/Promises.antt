@@ -547,8 +547,8 @@ convert-keeps old schedule u l =
       program = w .program;
       accepts =
           accepted-exactly (rewrite old) schedule q .1
-          (Converted.renamed-legal old (rewrite old) schedule u (w .program) l (omega (arith, w .short, l .places .rates .short .0))
-          (w .legal) (w .renamed));
+          (Converted.renamed-legal old (rewrite old) schedule u (w .program) l
+          (omega (arith, w .short, l .places .rates .short .0)) (w .legal) (w .renamed));
       streams = c .streams;
       image = sym (c .image (u .hypercycle));
     }

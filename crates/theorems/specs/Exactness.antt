@@ -78,4 +78,5 @@ module _ (lent : List ℕ) (state : List ℤ) where
     pub data CycleRefusedAt : Fault → Type 0 where
       unready : {f : Fault} → ResetRefusedAt f → CycleRefusedAt f
       outside : {image : List ℕ} → Usable image → ¬ Positioned image → CycleRefusedAt (fault 22 0)
-      unsampled : {image : List ℕ} → Usable image → Positioned image → length samples < countOf image → CycleRefusedAt (fault 23 0)
+      unsampled : {image : List ℕ} → Usable image → Positioned image → length samples < countOf image →
+          CycleRefusedAt (fault 23 0)

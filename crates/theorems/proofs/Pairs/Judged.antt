@@ -94,9 +94,6 @@ answers-refused Q R o f h e = rw e at h
 pub data Only (number place : ℕ) (C : Type 0) : Fault → Type 0 where
   only : C → Only number place C (fault number place)
 
-pub refused-same : {A : Type 0} {f g : Fault} → _≡_ {A = Outcome A} (refused f) (refused g) → f ≡ g
-refused-same e = cc
-
 -- A test with one refusal, where N says that C does not hold.
 pub provided-judged : (t : Bool) (n x : ℕ) (C N : Type 0) → (t ≡ true) ↔ C → (t ≡ false → N) → (N → ¬ C) →
     Judged (λ u. C) (Only n x N) (provided t n x)
@@ -112,11 +109,11 @@ provided-judged true n x C N d fails apart =
 provided-judged false n x C N d fails apart =
     record {
       accepts = λ u. (λ e. absurd (accepted≢refused _ tt _ e refl), λ c. absurd (false≢true (d .1 c)));
-      refuses = λ g. (λ e. forth (refused-same e), back);
+      refuses = λ g. (forth, back);
     }
   where
-    forth : {g : Fault} → fault n x ≡ g → Only n x N g
-    forth h = rw (← h) (Only.only (fails refl))
+    forth : {g : Fault} → _≡_ {A = Outcome (Unit {0})} (refused (fault n x)) (refused g) → Only n x N g
+    forth {g} e = let same : fault n x ≡ g = cc in rw (← same) (Only.only (fails refl))
 
     back : {g : Fault} → Only n x N g → _≡_ {A = Outcome (Unit {0})} (refused (fault n x)) (refused g)
     back (Only.only h) = refl
@@ -326,7 +323,7 @@ hypercycle-judged p =
 
     only : (found : Found) (f : Fault) → hypercycleOf found ≡ refused f → fault 9 0 ≡ f
     only (At h) f e = absurd (accepted≢refused _ (suc h) _ refl e)
-    only Nowhere f e = refused-same e
+    only Nowhere f e = cc
 
     forth : (f : Fault) → hypercycle p ≡ refused f → Only 9 0 None f
     forth f e =

@@ -261,7 +261,8 @@ all-false (suc n) test e = go (allBelow n test) (test n) refl refl e (λ f. all-
 -- 12 and 13: a fault of a PUT, or a signal missing where there is none.
 pub data PlacedFault (p : Program) (puts : Parsed (List Put)) : Fault → Type 0 where
   put : {f : Fault} → LowestFault (PutFault p (puts .value)) f → PlacedFault p puts f
-  missing : PutsLegal p (puts .value) → (x : ℕ) → x < count p → ¬ IsPut (puts .value) x → PlacedFault p puts (fault 12 (puts .next))
+  missing : PutsLegal p (puts .value) → (x : ℕ) → x < count p → ¬ IsPut (puts .value) x →
+      PlacedFault p puts (fault 12 (puts .next))
 
 module _ (p : Program) (text : List ℕ) (puts : Parsed (List Put)) (l : LegalSchedule text puts) where
   abbrev AllPut : Type 0

@@ -51,7 +51,7 @@ use Rattle.theorems.proofs.Pairs.Faults.{
   join-among,
   fault-none,
 }
-use Rattle.theorems.proofs.Pairs.Judged.{Judged, refused-same, lowest-judged, read-spelled, chains-judged, linked-decides}
+use Rattle.theorems.proofs.Pairs.Judged.{Judged, lowest-judged, read-spelled, chains-judged, linked-decides}
 use Rattle.theorems.proofs.Pairs.JudgedPuts.{placed-judged}
 use Rattle.theorems.proofs.Pairs.Window.{keeps-decides}
 
@@ -209,7 +209,7 @@ module _ (p : Program) (s : Schedule) (h : ℕ) (whole : Multiple p h) where
       quiet g Nowhere q = refl
 
       fails : {g : Fault} (f : Found) → first h test ≡ f → loadedOf f ≡ refused g → LowestFault (LoadFault p s) g
-      fails (At c) q e = rw (← refused-same e) (found c q)
+      fails {g} (At c) q e = let same : fault 15 c ≡ g = cc in rw (← same) (found c q)
       fails Nowhere q e = absurd (accepted≢refused _ tt _ refl e)
 
       loud : {k : Fault} → LowestFault (LoadFault p s) k → (f : Found) → first h test ≡ f → loadedOf f ≡ refused k

@@ -34,10 +34,13 @@ module _ (p : Program) where
 module _ (program schedule : List ℕ) (q : Pair) (e : pairOf program schedule ≡ accepted q) where
   pub pair-timely : All (KeepsTime (q .program) (q .schedule)) (q .program .chains)
   pair-timely =
+      let passed = pair-passed program schedule q e in
+      let acc = pair-accepted program schedule q e in
+      let whole = pair-multiple program schedule q e in
       all-map (λ c. D c × (L c × K c)) (KeepsTime p s) (λ c h.
-      keeps-decides p s (pair-accepted program schedule q e) (q .hypercycle) (pair-multiple program schedule q e) c (h .1 .0) (h .0) .0 (h .1 .1)) (p .chains)
-      (all-both D (λ c. L c × K c) (p .chains) (links-declared p (pair-passed program schedule q e .rated))
-      (all-both L K (p .chains) (chains-linked p (pair-passed program schedule q e .links)) (chains-keep p s (q .hypercycle) (pair-passed program schedule q e .times))))
+      keeps-decides p s acc (q .hypercycle) whole c (h .1 .0) (h .0) .0 (h .1 .1)) (p .chains)
+      (all-both D (λ c. L c × K c) (p .chains) (links-declared p (passed .rated))
+      (all-both L K (p .chains) (chains-linked p (passed .links)) (chains-keep p s (q .hypercycle) (passed .times))))
     where
       p : Program
       p = q .program
@@ -109,5 +112,6 @@ module _ (program schedule : List ℕ) (q : Pair) (e : pairOf program schedule �
   -- No chain keeps a bound of 0, in either mode.
   pub no-zero-bound : 0 < c .bound
   no-zero-bound =
-      let l = last-link (c .links) (omega (arith, all-among _ _ (legal program p (pair-passed program schedule q e .parses) .1 .chains) c one .several)) in
+      let lawful = legal program p (pair-passed program schedule q e .parses) .1 in
+      let l = last-link (c .links) (omega (arith, all-among _ _ (lawful .chains) c one .several)) in
       kept-positive (l .0) (l .1) (l .2)

@@ -194,7 +194,8 @@ module _ (p : Program) (s : Schedule) (h : ℕ) (acc : Feasible p s) (whole : Mu
     cycle-turns : wordsOf (cycleWords (imageOf p s h) state samples) ≡ turns p s (sampleOf samples) at (s .order) (wordsOf state)
     unfolding ran runList
     cycle-turns =
-        ap wordsOf cycle-is ∙ set-position ran (pos moved) ∙ run-turns samples at (s .order) state (acc .ordered .only) (ready .long)
+        ap wordsOf cycle-is ∙ set-position ran (pos moved) ∙
+        run-turns samples at (s .order) state (acc .ordered .only) (ready .long)
 
     cycle-view : view (cycleWords (imageOf p s h) state samples) ≡ Turns.cycle p s h (sampleOf samples) (view state)
     unfolding at moved

@@ -106,7 +106,8 @@ module _ (p : Program) (s : Schedule) (h : ℕ) where
         record {
           follows = cycle-follows log samples st r;
           beyond = λ v lv.
-              turns-other p s (sampleOf samples) (st .position) (s .order) (st .words) v (λ j l. omega (arith, acc .ordered .only j l)) ∙
+              turns-other p s (sampleOf samples) (st .position) (s .order) (st .words) v
+              (λ j l. omega (arith, acc .ordered .only j l)) ∙
               r .beyond v lv;
         }
 

@@ -88,7 +88,8 @@ module _ (p : Program) (s : Schedule) (acc : Feasible p s) (inputs X : ℕ → �
   -- Signals have different places.
   apart : (v x : ℕ) → v < count p → x < count p → rank (s .order) v ≡ rank (s .order) x → v ≡ x
   apart v x lv lx e =
-      sym (rank-at (s .order) v (acc .ordered .put v lv)) ∙ ap (λ j. getD (s .order) j 0) e ∙ rank-at (s .order) x (acc .ordered .put x lx)
+      sym (rank-at (s .order) v (acc .ordered .put v lv)) ∙ ap (λ j. getD (s .order) j 0) e ∙
+      rank-at (s .order) x (acc .ordered .put x lx)
 
   module _ (t q : ℕ) (here : (x : ℕ) → x < count p → due (rateOf p s x) q ≡ due (rateOf p s x) t) (samples : ℕ → ℤ)
       (lent : (x k : ℕ) → x < count p → IsInput (signalAt p x .body) → runCycle (rateOf p s x) k ≡ t → samples x ≡ inputs x k) where
@@ -109,7 +110,8 @@ module _ (p : Program) (s : Schedule) (acc : Feasible p s) (inputs X : ℕ → �
         σ v ≡ X v (stored (rateOf p s v) (t + bit (ltb (rank (s .order) v) (suc (rank (s .order) x)))))
     still x v σ lt lv mid h =
         mid v lv ∙
-        ap (X v) (stored-bit (rateOf p s v) t _ _ (acc .ordered .phases v lv) (λ j e. other-place _ _ (λ q. h j e (apart v x lv lt q))))
+        ap (X v) (stored-bit (rateOf p s v) t _ _ (acc .ordered .phases v lv)
+        (λ j e. other-place _ _ (λ q. h j e (apart v x lv lt q))))
 
     -- One turn.
     turn-mid : (x : ℕ) (σ : ℕ → ℤ) → x < count p → Midway t (rank (s .order) x) σ →
@@ -139,7 +141,8 @@ module _ (p : Program) (s : Schedule) (acc : Feasible p s) (inputs X : ℕ → �
         go false d = still x v σ lt lv mid (λ j h q. run-due (rateOf p s x) t (acc .ordered .phases x lt) d j (rw q at h))
 
     -- All turns of a cycle.
-    turns-mid : (waiting : List ℕ) (i : ℕ) (σ : ℕ → ℤ) → ((j : ℕ) → j < length waiting → rank (s .order) (getD waiting j 0) ≡ i + j) →
+    turns-mid : (waiting : List ℕ) (i : ℕ) (σ : ℕ → ℤ) →
+        ((j : ℕ) → j < length waiting → rank (s .order) (getD waiting j 0) ≡ i + j) →
         ((j : ℕ) → j < length waiting → getD waiting j 0 < count p) → Midway t i σ →
         Midway t (i + length waiting) (turns p s samples q waiting σ)
     turns-mid [] i σ at known mid = subst (λ k. Midway t k σ) (omega arith) mid
@@ -156,4 +159,5 @@ module _ (p : Program) (s : Schedule) (acc : Feasible p s) (inputs X : ℕ → �
     cycle-words σ h x lx =
         turns-mid (s .order) 0 σ (λ j l. acc .ordered .once j l ∙ omega arith) (acc .ordered .only)
         (λ v lv. h v lv ∙ ap (X v) (ap (stored (rateOf p s v)) (sym (unput t (rank (s .order) v) 0 (omega arith))))) x lx ∙
-        ap (X x) (ap (stored (rateOf p s x)) (put t (rank (s .order) x) (0 + length (s .order)) (omega (arith, acc .ordered .put x lx))))
+        ap (X x) (ap (stored (rateOf p s x)) (put t (rank (s .order) x) (0 + length (s .order))
+        (omega (arith, acc .ordered .put x lx))))
