@@ -44,7 +44,8 @@ abbrev pub rateAt : List ℕ → List ℕ → ℕ → Rate
 rateAt periods phases x = record { period = periodAt periods x; phase = periodAt phases x }
 
 -- What the call of latency_rule::is_timely asks, and what it then answers.
-pub record Decided (text : List ℕ) (tables : Tables) (periods phases : List ℕ) (h : ℕ) (p : Program) (s : Schedule) (chain : ℕ) (route : Route) : Type 0 where
+pub record Decided (text : List ℕ) (tables : Tables) (periods phases : List ℕ) (h : ℕ) (p : Program) (s : Schedule) (chain : ℕ)
+    (route : Route) : Type 0 where
   pub positive : 0 < periodAt periods (route .last)
   pub few : route .count ≤ 15
   pub sound : Sound (route .hops) (route .count)
@@ -60,7 +61,8 @@ pub record Decided (text : List ℕ) (tables : Tables) (periods phases : List �
 sound-is : (p : Program) (s : Schedule) (hops : List Hop) (r : ℕ) (ρs : List Read) → ChainMet p s r ρs → HopsOf p s hops r ρs →
     Sound hops (length ρs)
 sound-is p s hops r [] ch h j lt = absurd (omega arith)
-sound-is p s hops r (ρ ∷ ρs) ch h j lt = go (eqb j (length ρs)) refl (λ l. sound-is p s hops (ρ .operands .signal) ρs (ch .1) (h .1) j l)
+sound-is p s hops r (ρ ∷ ρs) ch h j lt =
+    go (eqb j (length ρs)) refl (λ l. sound-is p s hops (ρ .operands .signal) ρs (ch .1) (h .1) j l)
   where
     go : (b : Bool) → eqb j (length ρs) ≡ b → (j < length ρs → getD hops j noHop .index < getD hops j noHop .factor) →
         getD hops j noHop .index < getD hops j noHop .factor
@@ -81,16 +83,19 @@ pub chain-command : (text : List ℕ) (tables : Tables) (periods phases : List �
 chain-command text tables periods phases h p s chain t lt =
     let k = t .joined .known in
     let l : chain < length (p .chains) = omega (arith, k .tables-are .counts .chains-are) in
-    rw (k .tables-are .starts chain l) (all-at (SpellsChain text) (p .chains) noChain (legal text p (k .parsed) .1 .chains) chain l .command)
+    rw (k .tables-are .starts chain l)
+        (all-at (SpellsChain text) (p .chains) noChain (legal text p (k .parsed) .1 .chains) chain l .command)
 
 -- The commands other than LAT.
 abbrev others : List ℕ
 others = 0 ∷ 1 ∷ 2 ∷ 3 ∷ 4 ∷ 5 ∷ 7 ∷ 8 ∷ 9 ∷ []
 
-pub missed : (c : Declaration) {mode : Mode} {bound : ℕ} → c ≡ Declaration.Latency mode bound → OneOf others (tagOf (sum enum) c) → ⊥
+pub missed : (c : Declaration) {mode : Mode} {bound : ℕ} → c ≡ Declaration.Latency mode bound →
+    OneOf others (tagOf (sum enum) c) → ⊥
 missed c e k = miss others 6 tt (subst (λ y. OneOf others (tagOf (sum enum) y)) e k)
 
-pub decided : (text : List ℕ) (tables : Tables) (periods phases : List ℕ) (h : ℕ) (p : Program) (s : Schedule) (chain : ℕ) (route : Route) →
+pub decided : (text : List ℕ) (tables : Tables) (periods phases : List ℕ) (h : ℕ) (p : Program) (s : Schedule) (chain : ℕ)
+    (route : Route) →
     Timed text tables periods phases h p s → chain < tables .chains → RouteOf p s route (backwards (chainAt p chain)) →
     Decided text tables periods phases h p s chain route
 unfolding keeps fromOf windowOf
@@ -119,10 +124,13 @@ decided text tables periods phases h p s chain route t lt (ws, whole, few, along
       small = λ i li.
           rw period
           (subst (λ m. Small (route .hops) m (route .count * (h / signalAt p r .period) + i)) n
-          (small-is p s (t .accepted) (route .hops) r (route .count * (h / signalAt p r .period) + i) ρs (d .0) ch (along .hops-are)
-          (early (route .count) h (signalAt p r .period) (phaseOf s r) i few (t .hyper) (t .accepted .ordered .phases r (d .0)) (rw period at li))));
+          (small-is p s (t .accepted) (route .hops) r (route .count * (h / signalAt p r .period) + i) ρs (d .0) ch
+              (along .hops-are)
+          (early (route .count) h (signalAt p r .period) (phaseOf s r) i few (t .hyper) (t .accepted .ordered .phases r (d .0))
+              (rw period at li))));
       same = sym (ap (keepsFrom p s h (chainAt p chain)) whole ∙
-          timely-is p s (chainAt p chain .mode) (chainAt p chain .bound) (length ρs * (h / signalAt p r .period)) (h / signalAt p r .period) (route .hops) r ρs (along .hops-are) ∙
+          timely-is p s (chainAt p chain .mode) (chainAt p chain .bound) (length ρs * (h / signalAt p r .period))
+              (h / signalAt p r .period) (route .hops) r ρs (along .hops-are) ∙
           (λ i.
           timelyBy (chainAt p chain .mode) (chainAt p chain .bound) (route .hops) (n i) (sym last i) (sym first i)
           (n i * windowBy h (sym period i)) (windowBy h (sym period i))));

@@ -32,12 +32,14 @@ settle-byte kind w r n lt = go (first n (line kind w r)) refl
     go (At i) e = let h = is-first n (line kind w r) (At i) e in omega arith
     go Nowhere e = tt
 
-module _ {text : List ℕ} {tables : Tables} {periods phases : List ℕ} {p : Program} {s : Schedule} (k : Known text tables periods phases p s) where
+module _ {text : List ℕ} {tables : Tables} {periods phases : List ℕ} {p : Program} {s : Schedule}
+    (k : Known text tables periods phases p s) where
   pub few : count p ≤ 64
   few = legal text p (k .parsed) .1 .fewSignals
 
   -- The tables have the rate of every signal.
-  pub rate-at : (x : ℕ) → x < count p → _≡_ {A = Rate} (record { period = periodAt periods x; phase = periodAt phases x }) (rateOf p s x)
+  pub rate-at : (x : ℕ) → x < count p →
+      _≡_ {A = Rate} (record { period = periodAt periods x; phase = periodAt phases x }) (rateOf p s x)
   unfolding periodAt
   rate-at x lt =
       let b = lt-ltb x 64 (omega (arith, few)) in

@@ -35,7 +35,8 @@ module _ (periods phases weights : List ℕ) (c : ℕ) where
   unfolding loadIn table tableFrom sum
   load-none = refl
 
-  load-more : (x : ℕ) → loadIn periods phases weights (x + 1) c ≡ loadIn periods phases weights x c + addedIn periods phases weights c x
+  load-more : (x : ℕ) → loadIn periods phases weights (x + 1) c ≡ loadIn periods phases weights x c + addedIn periods phases
+      weights c x
   unfolding loadIn table
   load-more x =
       ap (λ k. sum (tableFrom 0 k (addedIn periods phases weights c))) (add-one x) ∙
@@ -85,7 +86,8 @@ pub judged-load : (p : Program) (s : Schedule) (periods phases weights : List �
 unfolding loaded
 judged-load p s periods phases weights h m hp hw hf e =
     judged-found (first h (λ c. isOver (p .cap) (load p s c))) ∙
-    ap (λ f. judgedAt (first h f)) (fun-ext (λ c. ap (λ l. isOver l (load p s c)) e ∙ ap (ltb m) (load-is p s periods phases weights hp hw hf c)))
+    ap (λ f. judgedAt (first h f))
+        (fun-ext (λ c. ap (λ l. isOver l (load p s c)) e ∙ ap (ltb m) (load-is p s periods phases weights hp hw hf c)))
 
 -- With no CAP no cycle is over it.
 never-found : (i n : ℕ) → firstFrom i n (λ c. false) ≡ Nowhere
@@ -96,7 +98,8 @@ never-found i (suc n) = never-found (suc i) n
 pub judged-free : (p : Program) (s : Schedule) (h : ℕ) → p .cap ≡ unlimited → judgementOf (loaded p s h) ≡ Judged.Fine
 unfolding loaded first
 judged-free p s h e =
-    judged-found (first h (λ c. isOver (p .cap) (load p s c))) ∙ ap (λ f. judgedAt (firstFrom 0 h f)) (fun-ext (λ c. ap (λ l. isOver l (load p s c)) e)) ∙ ap judgedAt (never-found 0 h)
+    judged-found (first h (λ c. isOver (p .cap) (load p s c))) ∙
+        ap (λ f. judgedAt (firstFrom 0 h f)) (fun-ext (λ c. ap (λ l. isOver l (load p s c)) e)) ∙ ap judgedAt (never-found 0 h)
 
 -- Searches by tests that are the same below n.
 first-same : (i n : ℕ) (f g : ℕ → Bool) → ((x : ℕ) → x < n → f (i + x) ≡ g (i + x)) → firstFrom i n f ≡ firstFrom i n g

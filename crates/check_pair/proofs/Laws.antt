@@ -64,7 +64,8 @@ module _ {A : Type 0} (Q : A → Type 0) where
   answers-last (refused f) j a h = h
 
 -- The other forms in which the checks below answer.
-pub judgement-answers : (Q : Unit {0} → Type 0) (o : Outcome (Unit {0})) (j : Judged) → j ≡ judgementOf o → (o ≡ accepted tt → Q tt) → Answers Q o j
+pub judgement-answers : (Q : Unit {0} → Type 0) (o : Outcome (Unit {0})) (j : Judged) → j ≡ judgementOf o →
+    (o ≡ accepted tt → Q tt) → Answers Q o j
 unfolding Answers judgementOf
 judgement-answers Q (accepted tt) j e h = (e, h refl)
 judgement-answers Q (refused f) j e h = e

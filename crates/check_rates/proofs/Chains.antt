@@ -40,7 +40,8 @@ below-more : (n m : ℕ) (cs : List Chain) → n ≤ m → All (λ c. c .place <
 below-more n m cs le h = all-map (λ (c : Chain). c .place < n) (λ c. c .place < m) (λ c l. omega arith) cs h
 
 module _ {text : List ℕ} where
-  one-ascends : {at label next given : ℕ} {p q : Program} → DeclaresOne leastFactor text at label p next given q → Ascends (p .chains) →
+  one-ascends : {at label next given : ℕ} {p q : Program} → DeclaresOne leastFactor text at label p next given q →
+      Ascends (p .chains) →
       All (λ c. c .place < at) (p .chains) → Ascends (q .chains) × All (λ c. c .place < next) (q .chains)
   one-ascends (DeclaresOne.inputs {at = at} {p = p} room e) h g = (h, below-more at (at + 6) (p .chains) (omega arith) g)
   one-ascends (DeclaresOne.equations {at = at} {next = next} {p = p} room e u d) h g =

@@ -48,7 +48,8 @@ pub record Searched (w : ℕ) (ρs : List Read) (m many found : ℕ) : Type 0 wh
   pub none : many ≡ 0 → readAmong w ρs ≡ readAmong w (drop m ρs)
   pub one : many ≡ 1 → readAmong w ρs .place ≡ found
 
-pub same-search : {w m k f : ℕ} {ρs : List Read} (many found : ℕ) → many ≡ k → found ≡ f → Searched w ρs m k f → Searched w ρs m many found
+pub same-search : {w m k f : ℕ} {ρs : List Read} (many found : ℕ) → many ≡ k → found ≡ f → Searched w ρs m k f →
+    Searched w ρs m many found
 same-search many found a b s = rw (a, b) s
 
 module _ (w : ℕ) (ρs : List Read) where
@@ -68,7 +69,8 @@ module _ (w : ℕ) (ρs : List Read) where
     count-on b t =
         ap (countReads w) (drop-cons ρs m noRead l) ∙ ap (λ (c : Bool). cond c 1 0 + countReads w (drop (suc m) ρs)) t
 
-    read-on : (b : Bool) → eqb (here .operands .signal) w ≡ b → readAmong w (drop m ρs) ≡ cond b here (readAmong w (drop (suc m) ρs))
+    read-on : (b : Bool) → eqb (here .operands .signal) w ≡ b →
+        readAmong w (drop m ρs) ≡ cond b here (readAmong w (drop (suc m) ρs))
     unfolding readAmong
     read-on b t =
         ap (readAmong w) (drop-cons ρs m noRead l) ∙ ap (λ (c : Bool). cond c here (readAmong w (drop (suc m) ρs))) t
@@ -115,7 +117,8 @@ unfolding countReads oneRead
 none-far p w x le = rw (List·getD-eq-default (p .signals) noSignal le)
 
 -- The search by the index in the table, where the first entry has a name.
-module _ {text reads firsts : List ℕ} {n : ℕ} (ix : Indexed text reads firsts n) (p : Program) (e : parseProgram text ≡ accepted p)
+module _ {text reads firsts : List ℕ} {n : ℕ} (ix : Indexed text reads firsts n) (p : Program)
+    (e : parseProgram text ≡ accepted p)
     (w x i : ℕ) (lt : x < n) (first : ℕ) (start : first ≡ getD firsts x 0) (low : first ≤ i) where
   abbrev ρs : List Read
   ρs = bodyReads (signalAt p x .body)

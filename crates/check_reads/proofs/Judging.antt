@@ -58,12 +58,14 @@ module _ (p : Program) (s : Schedule) where
     judged-met r ρ lr lw =
         rw (lt-ltb (ρ .operands .signal) (count p) lw, lt-ltb r (count p) lr, ← (met-is r ρ lr lw)) (go (isMet p s r ρ))
       where
-        go : (b : Bool) → cond b [] (fault 14 (ρ .place) ∷ []) ≡ faultsOf (cond b Judged.Fine (Judged.Refused (fault 14 (ρ .place))))
+        go : (b : Bool) → cond b [] (fault 14 (ρ .place) ∷ []) ≡ faultsOf
+            (cond b Judged.Fine (Judged.Refused (fault 14 (ρ .place))))
         go true = refl
         go false = refl
 
 -- One read of the table.
-module _ {text reads firsts : List ℕ} {n : ℕ} (ix : Indexed text reads firsts n) (p : Program) (e : parseProgram text ≡ accepted p)
+module _ {text reads firsts : List ℕ} {n : ℕ} (ix : Indexed text reads firsts n) (p : Program)
+    (e : parseProgram text ≡ accepted p)
     (s : Schedule) (order periods phases ranks : List ℕ) (rated : declaredAndRated p ≡ accepted tt) (table : PeriodsOf p periods)
     (slots : SlotsOf p s order phases ranks) (below : Below periods phases n) (x i : ℕ) (lt : x < n) (low : getD firsts x 0 ≤ i)
     (high : i < getD firsts (x + 1) 0) where
@@ -100,6 +102,7 @@ module _ {text reads firsts : List ℕ} {n : ℕ} (ix : Indexed text reads first
   one-read r j at z h q =
       let t = taken-is ix p e x i lt low high r (subst (λ (k : ℕ). ReadTaken text k r) z h) in
       judged-met p s order periods phases ranks table slots x ρ reader-count declared ∙
-      ap faultsOf (sym (q (subst (λ (y : Taken). PacedAt periods phases x (y .kind) (y .operands)) (sym t) paced) ∙ ap (λ (y : Taken). readMet periods phases ranks n at x (y .kind) (y .operands)) t ∙
+      ap faultsOf (sym (q (subst (λ (y : Taken). PacedAt periods phases x (y .kind) (y .operands)) (sym t) paced) ∙
+          ap (λ (y : Taken). readMet periods phases ranks n at x (y .kind) (y .operands)) t ∙
       ap (λ (k : ℕ). readMet periods phases ranks n k x (ρ .kind) (ρ .operands)) (z ∙ place-is ix p e x i lt low high) ∙
       ap (λ (k : ℕ). readMet periods phases ranks k (ρ .place) x (ρ .kind) (ρ .operands)) (sym (counted ix p e))))

@@ -35,7 +35,8 @@ use Rattle.image_code.specs.Shape.{Lead, noLead, leadOf}
 -- Expressions that stand one after another, and their code.
 pub data SpellsAll (text : List ℕ) : ℕ → List Expr → ℕ → Type 0 where
   none : {at : ℕ} → SpellsAll text at [] at
-  more : {at m n : ℕ} {x : Expr} {xs : List Expr} → Spells leastFactor text at x m → SpellsAll text m xs n → SpellsAll text at (x ∷ xs) n
+  more : {at m n : ℕ} {x : Expr} {xs : List Expr} → Spells leastFactor text at x m → SpellsAll text m xs n →
+      SpellsAll text at (x ∷ xs) n
 
 unfoldable pub codeOfAll : List Expr → List ℕ
 codeOfAll [] = []
@@ -65,17 +66,20 @@ pub record Opened (text : List ℕ) (at : ℕ) (e : Expr) (n : ℕ) (c : Operato
   pub deep : (d : ℕ) → depth e ≤ suc d → All (Below d) operands
 
 module _ {text : List ℕ} where
-  opens : {at n : ℕ} {e : Expr} → Spells leastFactor text at e n → (c : Operator) × (operatorAt text at ≡ c) × Opened text at e n c
+  opens : {at n : ℕ} {e : Expr} → Spells leastFactor text at e n → (c : Operator) × (operatorAt text at ≡ c) ×
+      Opened text at e n c
   unfolding exprCode codeOfAll commandsOfAll heightOfAll
   opens (Spells.constants {w = w} e) = (
     Operator.Constant w,
     operator-decoded e,
-    record { operator = refl; operands = []; spelled = none; arity = refl; code = refl; commands = refl; height = refl; deep = λ d h. tt },
+    record { operator = refl; operands = []; spelled = none; arity = refl; code = refl; commands = refl; height = refl; deep =
+        λ d h. tt },
   )
   opens (Spells.reads {kind = kind} {x = x} e a) = (
     Operator.Read kind x,
     operator-decoded e,
-    record { operator = refl; operands = []; spelled = none; arity = refl; code = refl; commands = refl; height = refl; deep = λ d h. tt },
+    record { operator = refl; operands = []; spelled = none; arity = refl; code = refl; commands = refl; height = refl; deep =
+        λ d h. tt },
   )
   opens (Spells.two {operator = operator} {x = x} {y = y} e u v) = (
     Operator.Binary operator,
@@ -120,7 +124,8 @@ module _ {text : List ℕ} where
     },
   )
 
-  pub opened : {at n : ℕ} {e : Expr} (c : Operator) → operatorAt text at ≡ c → Spells leastFactor text at e n → Opened text at e n c
+  pub opened : {at n : ℕ} {e : Expr} (c : Operator) → operatorAt text at ≡ c → Spells leastFactor text at e n →
+      Opened text at e n c
   opened {at} {n} {e} c q u = let o = opens u in subst (Opened text at e n) (sym (o .1) ∙ q) (o .2)
 
 pub puts-length : {l l′ xs : List ℕ} {to m next end : ℕ} → Puts l to xs m l′ next end → length l′ ≡ length l

@@ -1,4 +1,5 @@
--- What the first operator of an expression says of the rest: how wide it is, how many operands follow, and the code that stands after
+-- What the first operator of an expression says of the rest: how wide it is, how many operands follow, and the code that stands
+-- after
 -- theirs.
 use Prim.Native.Nat.{ℕ}
 use mathlib.Core.Bool.{Bool, true, false}
@@ -26,6 +27,8 @@ leadOf Operator.Unknown = noLead
 leadOf Operator.OutOfRange = noLead
 leadOf (Operator.Constant w) = record { operator = true; width = inExpression 0x20; arity = 0; last = 0x50 ∷ wordBytes w }
 leadOf (Operator.Read kind x) = record { operator = true; width = readWidth kind; arity = 0; last = 0x51 ∷ x .signal ∷ [] }
-leadOf (Operator.Binary operator) = record { operator = true; width = inExpression 0x30; arity = 2; last = binaryByte operator ∷ [] }
-leadOf (Operator.Unary operator) = record { operator = true; width = inExpression 0x38; arity = 1; last = unaryByte operator ∷ [] }
+leadOf (Operator.Binary operator) =
+    record { operator = true; width = inExpression 0x30; arity = 2; last = binaryByte operator ∷ [] }
+leadOf (Operator.Unary operator) =
+    record { operator = true; width = inExpression 0x38; arity = 1; last = unaryByte operator ∷ [] }
 leadOf Operator.If = record { operator = true; width = inExpression 0x3A; arity = 3; last = 0x3A ∷ [] }

@@ -152,7 +152,8 @@ module _ {text : List ℕ} {at : ℕ} where
       }
 
   -- A leaf.
-  pub measures-leaf : {m : Measure} (c : Operator) → operatorAt text at ≡ c → leadOf c .arity ≡ 0 → m .next ≡ at + leadOf c .width →
+  pub measures-leaf : {m : Measure} (c : Operator) → operatorAt text at ≡ c → leadOf c .arity ≡ 0 →
+      m .next ≡ at + leadOf c .width →
       m .commands ≡ 1 → m .height ≡ 1 → Measures text at m
   unfolding commandsOfAll heightOfAll
   measures-leaf {m} c q z goes one low =

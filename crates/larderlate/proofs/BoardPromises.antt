@@ -41,7 +41,8 @@ use Rattle.board.proofs.Answers.{
 }
 
 -- A place whose stretch keeps demand 3 by itself (`KeptBy`), with c the number of turns that ran it since its load: word 0 is the
--- remainder of c by H, signal x its element floor((c − 1 − p)/P), or its initial word if c ≤ p, of every stream that satisfies the
+-- remainder of c by H, signal x its element floor((c − 1 − p)/P), or its initial word if c ≤ p, of every stream that satisfies
+-- the
 -- equations with the samples that these turns were lent for the place; words beyond N are as before the load.
 place-kept : (program schedule : List ℕ) (p : Program) (q : Schedule) (h : ℕ) (s : Scene) (k start size n : ℕ) →
     length (s .board .places) ≡ 4 → loadBy s k start size .answer ≡ accepted n → (es : List Event) →

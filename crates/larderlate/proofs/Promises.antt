@@ -331,17 +331,17 @@ code-written = Commands.code-written
 -- Each case of an enum has the paper's byte and values: where these bytes stand, the command is written.
 pub declaration-bytes : (text : List ℕ) (at : ℕ) (c : Declaration) → DeclarationRanged c → BytesAt text at (declarationBytes c) →
     DeclarationWritten text at c
-declaration-bytes = Enums.declaration-bytes
+declaration-bytes text at c r b = Enums.declaration-stands c r (Enums.stands b)
 
 pub operator-bytes : (text : List ℕ) (at : ℕ) (c : Operator) → OperatorRanged c → BytesAt text at (operatorBytes c) →
     OperatorWritten text at c
-operator-bytes = Enums.operator-bytes
+operator-bytes text at c r b = Enums.operator-stands c r (Enums.stands b)
 
 pub put-bytes : (text : List ℕ) (at : ℕ) (c : ScheduleCommand) → PutWhole c → BytesAt text at (putBytes c) → PutWritten text at c
-put-bytes = Enums.put-bytes
+put-bytes text at c r b = Enums.put-stands c r (Enums.stands b)
 
 pub code-bytes : (code : List ℕ) (at : ℕ) (c : Code) → CodeRanged c → BytesAt code at (codeBytes c) → CodeWritten code at c
-code-bytes = Enums.code-bytes
+code-bytes code at c r b = Enums.code-stands c r (Enums.stands b)
 
 -- It is decoded as one that ends early exactly if no byte is left or it is cut, as one out of range exactly if an operand is
 -- outside its range, and as unknown exactly if its byte is no command.
@@ -523,22 +523,26 @@ trial-lines program schedule text bytes q actions legal script =
     let s = q .schedule in
     let same = script-actions text (script .spells) in
     let lines = linesOf q text in
-    let tried : Tried program schedule text lines = record { pair = q; legal = legal; script = rw same script; lines-are = refl } in
+    let tried : Tried program schedule text lines =
+        record { pair = q; legal = legal; script = rw same script; lines-are = refl } in
     record {
       lines = lines;
       prints = trial-accepts program schedule text legal script;
       number = tried-count program schedule text bytes lines tried ∙ ap cyclesOf same;
       line = λ X sat j lt. tried-line program schedule text bytes lines tried X
-          (subst (λ (acts : List Action). Satisfies p (settled p s) (inputsOf p s (callsFrom noSamples acts)) X) (sym same) sat) j lt;
+          (subst (λ (acts : List Action). Satisfies p (settled p s) (inputsOf p s (callsFrom noSamples acts)) X) (sym same) sat) j
+              lt;
     }
 
 -- Request g. A conversion is done, or refused with each number at its place, exactly under its condition.
 pub convert-exactly : (program buffer : List ℕ) → Converts program buffer
 convert-exactly = Conversions.convert-exactly
 
--- With every schedule that the old program was legal with by the earlier rule, the converted one is accepted with the same schedule
+-- With every schedule that the old program was legal with by the earlier rule, the converted one is accepted with the same
+-- schedule
 -- and hypercycle, and has the same streams and the same image.
-pub convert-keeps : (old schedule : List ℕ) (u : Pair) → LegalPairWith earlierFactor old schedule u → ConversionKeeps old schedule u
+pub convert-keeps : (old schedule : List ℕ) (u : Pair) → LegalPairWith earlierFactor old schedule u →
+    ConversionKeeps old schedule u
 convert-keeps old schedule u l =
     let w = Rewritten.rewrite-legal old (u .program) (l .places .rates .legal) in
     let c = Converted.renamed-common (w .renamed) (u .schedule) in

@@ -26,7 +26,8 @@ below n h = omega arith
 
 module _ (hops : List Hop) where
   -- One hop more.
-  pub back-at : (n k e : ℕ) → 0 < n → e ≡ entryBy (getD hops (n - 1) noHop) k → backBy hops n k ≡ onward (λ m. backBy hops (n - 1) m) e
+  pub back-at : (n k e : ℕ) → 0 < n → e ≡ entryBy (getD hops (n - 1) noHop) k →
+      backBy hops n k ≡ onward (λ m. backBy hops (n - 1) m) e
   unfolding backBy
   back-at n k e h q = ap (λ n. backBy hops n k) (below n h) ∙ rw q (go (n - 1))
     where

@@ -27,7 +27,8 @@ pub search-here : (test : ℕ → Bool) (i n : ℕ) → i < n → test i ≡ tru
 unfolding firstFrom
 search-here test i n h t = rw (more i n h, t, firstFrom)
 
-pub search-next : (test : ℕ → Bool) (i n : ℕ) → i < n → test i ≡ false → firstFrom i (n - i) test ≡ firstFrom (i + 1) (n - (i + 1)) test
+pub search-next : (test : ℕ → Bool) (i n : ℕ) → i < n → test i ≡ false →
+    firstFrom i (n - i) test ≡ firstFrom (i + 1) (n - (i + 1)) test
 unfolding firstFrom
 search-next test i n h t = rw (more i n h, t, firstFrom) (ap (λ k. firstFrom k (n - (i + 1)) test) (sym (add-one i)))
 
@@ -51,14 +52,16 @@ search-one test i = let e : i + 1 - i ≡ 1 = omega arith in rw e (go (test i))
 
 -- What is found is below the end.
 pub search-below : (test : ℕ → Bool) (from to i : ℕ) → firstFrom from (to - from) test ≡ At i → i < to
-search-below test from to i e = let h : IsFirst from (to - from) test (At i) = rw e at (from-first from (to - from) test) in omega arith
+search-below test from to i e = let h : IsFirst from (to - from) test (At i) = rw e at (from-first from (to - from) test) in
+    omega arith
 
 -- A product of small numbers.
 pub small-product : (a b : ℕ) → a ≤ 256 → b ≤ 256 → a * b ≤ 65536
 small-product a b h g = le-trans (mul-le-mul-left a g) (mul-le-mul-right 256 h)
 
 -- An index is found exactly if the line holds.
-pub found-holds : (kind : Kind) (w r : Rate) (n : ℕ) (index : Index) → isFound (indexBy kind w r n index) ≡ lineHolds kind w r n index
+pub found-holds : (kind : Kind) (w r : Rate) (n : ℕ) (index : Index) →
+    isFound (indexBy kind w r n index) ≡ lineHolds kind w r n index
 found-holds kind w r n (Fixed i) = go (line kind w r i)
   where
     go : (b : Bool) → isFound (cond b (At i) Nowhere) ≡ b

@@ -48,7 +48,8 @@ module _ (code : List ℕ) (at : ℕ) (here : at < length code) where
   unfolding codeAt operatorCode
   is-if e = rw (inside, e)
 
-  is-operator : (byteAt code at ≡ 0x50 → ⊥) → (byteAt code at ≡ 0x51 → ⊥) → (byteAt code at ≡ 0x52 → ⊥) → (byteAt code at ≡ 0x5F → ⊥)
+  is-operator : (byteAt code at ≡ 0x50 → ⊥) → (byteAt code at ≡ 0x51 → ⊥) → (byteAt code at ≡ 0x52 → ⊥) →
+      (byteAt code at ≡ 0x5F → ⊥)
       → codeAt code at ≡ operatorCode (byteAt code at)
   unfolding codeAt
   is-operator p l f s = rw (inside, ne-eqb _ _ p, ne-eqb _ _ l, ne-eqb _ _ f, ne-eqb _ _ s)
@@ -61,7 +62,8 @@ is-end code at e = rw (le-ltb at (length code) e)
 is-unknown : (b : ℕ) → (b ≡ 0x38 → ⊥) → (b ≡ 0x3A → ⊥) → (b < 0x30) ⊎ (0x36 < b) → operatorCode b ≡ Code.Unknown
 unfolding operatorCode
 is-unknown b not-negate not-if o =
-    let no : (k : ℕ) → 0x30 ≤ k → k ≤ 0x36 → eqb b k ≡ false = λ k l h. ne-eqb b k (λ e. ⊎-elim (λ p. omega arith) (λ p. omega arith) o) in
+    let no : (k : ℕ) → 0x30 ≤ k → k ≤ 0x36 → eqb b k ≡ false = λ k l h.
+        ne-eqb b k (λ e. ⊎-elim (λ p. omega arith) (λ p. omega arith) o) in
     rw (
       no 0x30 (omega arith) (omega arith),
       no 0x31 (omega arith) (omega arith),
@@ -106,7 +108,8 @@ module _ (code : List ℕ) (n own : ℕ) (state samples : List ℤ) where
     seen e c = rw e at c
 
     -- a command that stands here is whole
-    whole : (size : ℕ) (k : Code) → Command stored total ran at stack height (wholeCode code at size k) → (at + size ≤ length code) × Command stored total ran at stack height k
+    whole : (size : ℕ) (k : Code) → Command stored total ran at stack height (wholeCode code at size k) →
+        (at + size ≤ length code) × Command stored total ran at stack height k
     unfolding commandOk
     whole size k c =
         by (leb (at + size) (length code))
@@ -115,16 +118,20 @@ module _ (code : List ℕ) (n own : ℕ) (state samples : List ℤ) where
 
     -- the command by its byte
     module _ (here : at < length code) (g : Goes stored total ran at stack height) where
-      pub push : byteAt code at ≡ 0x50 → (at + 5 ≤ length code) × Command stored total ran at stack height (Code.Push (wordAt code (at + 1)))
+      pub push : byteAt code at ≡ 0x50 → (at + 5 ≤ length code) ×
+          Command stored total ran at stack height (Code.Push (wordAt code (at + 1)))
       push e = whole 5 _ (seen (is-push code at here e) (command g))
 
-      pub load : byteAt code at ≡ 0x51 → (at + 2 ≤ length code) × Command stored total ran at stack height (Code.Load (byteAt code (at + 1)))
+      pub load : byteAt code at ≡ 0x51 → (at + 2 ≤ length code) ×
+          Command stored total ran at stack height (Code.Load (byteAt code (at + 1)))
       load e = whole 2 _ (seen (is-load code at here e) (command g))
 
-      pub fetch : byteAt code at ≡ 0x52 → (at + 2 ≤ length code) × Command stored total ran at stack height (Code.Fetch (byteAt code (at + 1)))
+      pub fetch : byteAt code at ≡ 0x52 → (at + 2 ≤ length code) ×
+          Command stored total ran at stack height (Code.Fetch (byteAt code (at + 1)))
       fetch e = whole 2 _ (seen (is-fetch code at here e) (command g))
 
-      pub store : byteAt code at ≡ 0x5F → (at + 2 ≤ length code) × Command stored total ran at stack height (Code.Store (byteAt code (at + 1)))
+      pub store : byteAt code at ≡ 0x5F → (at + 2 ≤ length code) ×
+          Command stored total ran at stack height (Code.Store (byteAt code (at + 1)))
       store e = whole 2 _ (seen (is-store code at here e) (command g))
 
       pub negate : byteAt code at ≡ 0x38 → Command stored total ran at stack height (Code.Unary Negate)
@@ -140,7 +147,8 @@ module _ (code : List ℕ) (n own : ℕ) (state samples : List ℤ) where
     pub combine : at < length code → Goes stored total ran at stack height
         → (byteAt code at ≡ 0x50 → ⊥) → (byteAt code at ≡ 0x51 → ⊥) → (byteAt code at ≡ 0x52 → ⊥) → (byteAt code at ≡ 0x5F → ⊥)
         → (byteAt code at ≡ 0x38 → ⊥) → (byteAt code at ≡ 0x3A → ⊥)
-        → (0x30 ≤ byteAt code at) × (byteAt code at ≤ 0x36) × Command stored total ran at stack height (operatorCode (byteAt code at))
+        → (0x30 ≤ byteAt code at) × (byteAt code at ≤ 0x36) ×
+            Command stored total ran at stack height (operatorCode (byteAt code at))
     combine here g p l f s n i =
         let b = byteAt code at in
         let c = seen (is-operator code at here p l f s) (command g) in (
@@ -150,11 +158,13 @@ module _ (code : List ℕ) (n own : ℕ) (state samples : List ℤ) where
         )
 
     -- the same with another name for the stack
-    pub moved : {next : List ℤ} {high : ℕ} → next ≡ stack → high ≡ height → Goes stored total ran at stack height → Goes stored total ran at next high
+    pub moved : {next : List ℤ} {high : ℕ} → next ≡ stack → high ≡ height → Goes stored total ran at stack height →
+        Goes stored total ran at next high
     moved e h g = rw (e, h) g
 
     -- and for its place
-    pub shifted : {place : ℕ} {next : List ℤ} → place ≡ at → next ≡ stack → Goes stored total ran at stack height → Goes stored total ran place next height
+    pub shifted : {place : ℕ} {next : List ℤ} → place ≡ at → next ≡ stack → Goes stored total ran at stack height →
+        Goes stored total ran place next height
     shifted p e g = rw (p, e) g
 
     -- past its end no code is well formed
@@ -167,7 +177,8 @@ module _ (code : List ℕ) (n own : ℕ) (state samples : List ℤ) where
     more g = by (ltb at (length code)) (λ t. ltb-true _ _ t) (λ t. ended (ltb-false at (length code) t) g)
 
     -- what each command does
-    pub pushed : {w : ℤ} → Command stored total ran at stack height (Code.Push w) → (height < 32) × Goes stored total (ran + 1) (at + 5) (w ∷ stack) (height + 1)
+    pub pushed : {w : ℤ} → Command stored total ran at stack height (Code.Push w) → (height < 32) ×
+        Goes stored total (ran + 1) (at + 5) (w ∷ stack) (height + 1)
     unfolding commandOk runCommand countCommand
     pushed c = let p = both (ltb height 32) _ (c .judged) in let l = ltb-true height 32 (p .0) in
         (l, record { left = c .fewer; good = p .1; runs = c .does; counts = omega (arith, c .counted); most = omega arith })
@@ -175,64 +186,81 @@ module _ (code : List ℕ) (n own : ℕ) (state samples : List ℤ) where
     pub loaded : {x : ℕ} → Command stored total ran at stack height (Code.Load x)
         → (x < n) × (height < 32) × Goes stored total (ran + 1) (at + 2) (getD state (x + 1) (pos 0) ∷ stack) (height + 1)
     unfolding commandOk runCommand countCommand
-    loaded {x} c = let p = both (ltb x n && ltb height 32) _ (c .judged) in let q = both (ltb x n) (ltb height 32) (p .0) in let l = ltb-true height 32 (q .1) in
-        (ltb-true x n (q .0), l, record { left = c .fewer; good = p .1; runs = c .does; counts = omega (arith, c .counted); most = omega arith })
+    loaded {x} c = let p = both (ltb x n && ltb height 32) _ (c .judged) in let q = both (ltb x n) (ltb height 32) (p .0) in
+        let l = ltb-true height 32 (q .1) in
+        (ltb-true x n (q .0), l, record
+            { left = c .fewer; good = p .1; runs = c .does; counts = omega (arith, c .counted); most = omega arith })
 
     pub fetched : {x : ℕ} → Command stored total ran at stack height (Code.Fetch x)
         → (x ≡ own) × (height < 32) × Goes stored total (ran + 1) (at + 2) (getD samples x (pos 0) ∷ stack) (height + 1)
     unfolding commandOk runCommand countCommand
-    fetched {x} c = let p = both (eqb x own && ltb height 32) _ (c .judged) in let q = both (eqb x own) (ltb height 32) (p .0) in let l = ltb-true height 32 (q .1) in
-        (eqb-true x own (q .0), l, record { left = c .fewer; good = p .1; runs = c .does; counts = omega (arith, c .counted); most = omega arith })
+    fetched {x} c = let p = both (eqb x own && ltb height 32) _ (c .judged) in let q = both (eqb x own) (ltb height 32) (p .0) in
+        let l = ltb-true height 32 (q .1) in
+        (eqb-true x own (q .0), l, record
+            { left = c .fewer; good = p .1; runs = c .does; counts = omega (arith, c .counted); most = omega arith })
 
-    pub last : {x : ℕ} → Command stored total ran at stack height (Code.Store x) → (height ≡ 1) × (getD stack 0 (pos 0) ≡ stored) × (ran + 1 ≡ total)
+    pub last : {x : ℕ} → Command stored total ran at stack height (Code.Store x) → (height ≡ 1) ×
+        (getD stack 0 (pos 0) ≡ stored) × (ran + 1 ≡ total)
     unfolding commandOk runCommand countCommand
-    last {x} c = let p = both (eqb x own && eqb height 1) _ (c .judged) in (eqb-true height 1 (both (eqb x own) (eqb height 1) (p .0) .1), c .does, c .counted)
+    last {x} c = let p = both (eqb x own && eqb height 1) _ (c .judged) in
+        (eqb-true height 1 (both (eqb x own) (eqb height 1) (p .0) .1), c .does, c .counted)
 
     pub negated : (operator : Unary) → Command stored total ran at stack height (Code.Unary operator) →
         (1 ≤ height) × Goes stored total (ran + 1) (at + 1) (onOne (unaryWord operator) stack) height
     unfolding commandOk runCommand countCommand
     negated operator c = let p = both (leb 1 height) _ (c .judged) in
-        (leb-true 1 height (p .0), record { left = c .fewer; good = p .1; runs = c .does; counts = omega (arith, c .counted); most = c .few })
+        (leb-true 1 height (p .0), record
+            { left = c .fewer; good = p .1; runs = c .does; counts = omega (arith, c .counted); most = c .few })
 
-    pub chosen : Command stored total ran at stack height Code.If → (3 ≤ height) × Goes stored total (ran + 1) (at + 1) (onThree ifWord stack) (height - 2)
+    pub chosen : Command stored total ran at stack height Code.If → (3 ≤ height) ×
+        Goes stored total (ran + 1) (at + 1) (onThree ifWord stack) (height - 2)
     unfolding commandOk runCommand countCommand
     chosen c = let p = both (leb 3 height) _ (c .judged) in let m = c .few in
-        (leb-true 3 height (p .0), record { left = c .fewer; good = p .1; runs = c .does; counts = omega (arith, c .counted); most = omega arith })
+        (leb-true 3 height (p .0), record
+            { left = c .fewer; good = p .1; runs = c .does; counts = omega (arith, c .counted); most = omega arith })
 
     pub combined : {operator : Binary} → Command stored total ran at stack height (Code.Binary operator)
         → (2 ≤ height) × Goes stored total (ran + 1) (at + 1) (onTwo (binaryWord operator) stack) (height - 1)
     unfolding commandOk runCommand countCommand
     combined c = let p = both (leb 2 height) _ (c .judged) in let m = c .few in
-        (leb-true 2 height (p .0), record { left = c .fewer; good = p .1; runs = c .does; counts = omega (arith, c .counted); most = omega arith })
+        (leb-true 2 height (p .0), record
+            { left = c .fewer; good = p .1; runs = c .does; counts = omega (arith, c .counted); most = omega arith })
 
   -- a leaf: its word, and what follows it
   pub record Leaf (stored : ℤ) (total ran at : ℕ) (stack : List ℤ) (height : ℕ) : Type 0 where
     pub high : height < 32
     pub reads : leafOk state samples (codeAt code at) ≡ true
-    pub next : Goes stored total (ran + 1) (at + leafLength (byteAt code at)) (leafWord state samples (codeAt code at) ∷ stack) (height + 1)
+    pub next : Goes stored total (ran + 1) (at + leafLength (byteAt code at)) (leafWord state samples (codeAt code at) ∷ stack)
+        (height + 1)
 
-  module _ {stored : ℤ} {total ran at height : ℕ} {stack : List ℤ} (here : at < length code) (g : Goes stored total ran at stack height)
+  module _ {stored : ℤ} {total ran at height : ℕ} {stack : List ℤ} (here : at < length code)
+      (g : Goes stored total ran at stack height)
       (long : n < length state) (many : n ≤ length samples) (mine : own < n) where
     at-push : byteAt code at ≡ 0x50 → Leaf stored total ran at stack height
     at-push e =
         let c = push here g e in
-        let k : codeAt code at ≡ Code.Push (wordAt code (at + 1)) = is-push code at here e ∙ rw (le-leb (at + 5) (length code) (c .0)) in
+        let k : codeAt code at ≡ Code.Push (wordAt code (at + 1)) = is-push code at here e ∙
+            rw (le-leb (at + 5) (length code) (c .0)) in
         let p = pushed (c .1) in
         record { high = p .0; reads = rw k; next = rw (e, k) (p .1) }
 
     at-load : byteAt code at ≡ 0x51 → Leaf stored total ran at stack height
     at-load e =
         let c = load here g e in
-        let k : codeAt code at ≡ Code.Load (byteAt code (at + 1)) = is-load code at here e ∙ rw (le-leb (at + 2) (length code) (c .0)) in
+        let k : codeAt code at ≡ Code.Load (byteAt code (at + 1)) = is-load code at here e ∙
+            rw (le-leb (at + 2) (length code) (c .0)) in
         let p = loaded (c .1) in
-        record { high = p .1; reads = rw k (lt-ltb (byteAt code (at + 1) + 1) (length state) (omega (arith, p .0))); next = rw (e, k) (p .2) }
+        record { high = p .1; reads = rw k (lt-ltb (byteAt code (at + 1) + 1) (length state) (omega (arith, p .0))); next =
+            rw (e, k) (p .2) }
 
     at-fetch : byteAt code at ≡ 0x52 → Leaf stored total ran at stack height
     at-fetch e =
         let c = fetch here g e in
-        let k : codeAt code at ≡ Code.Fetch (byteAt code (at + 1)) = is-fetch code at here e ∙ rw (le-leb (at + 2) (length code) (c .0)) in
+        let k : codeAt code at ≡ Code.Fetch (byteAt code (at + 1)) = is-fetch code at here e ∙
+            rw (le-leb (at + 2) (length code) (c .0)) in
         let p = fetched (c .1) in
-        record { high = p .1; reads = rw k (lt-ltb (byteAt code (at + 1)) (length samples) (omega (arith, p .0))); next = rw (e, k) (p .2) }
+        record { high = p .1; reads = rw k (lt-ltb (byteAt code (at + 1)) (length samples) (omega (arith, p .0))); next =
+            rw (e, k) (p .2) }
 
     pub leaf : 0x50 ≤ byteAt code at → byteAt code at ≤ 0x52 → Leaf stored total ran at stack height
     leaf l m =
@@ -243,7 +271,8 @@ module _ (code : List ℕ) (n own : ℕ) (state samples : List ℤ) where
 -- the leaf at an offset, by its byte
 module _ (code : List ℕ) (at : ℕ) (state samples : List ℤ) (reads : leafOk state samples (codeAt code at) ≡ true) where
   pub within : at < length code
-  within = by (ltb at (length code)) (λ t. ltb-true _ _ t) (λ t. never (rw (is-end code at (ltb-false at (length code) t)) at reads))
+  within = by (ltb at (length code)) (λ t. ltb-true _ _ t)
+      (λ t. never (rw (is-end code at (ltb-false at (length code) t)) at reads))
 
   cut : (size : ℕ) (k : Code) → codeAt code at ≡ wholeCode code at size k → (at + size ≤ length code) × (codeAt code at ≡ k)
   cut size k e =

@@ -22,7 +22,8 @@ under-above ws i w (suc n) p = ap₂ _∷_ (getD-set-other ws i (suc n) w (pos 0
 pub view-push : (t : ℤ) (ws : List ℤ) (h : ℕ) (w : ℤ) → h < length ws → viewOf w (set ws h t) (h + 1) ≡ w ∷ viewOf t ws h
 unfolding under viewOf
 view-push t ws zero w p = refl
-view-push t ws (suc n) w p = rw (add-one (suc n)) (ap (_∷_ w) (ap₂ _∷_ (getD-set-same ws (suc n) t (pos 0) p) (under-above ws (suc n) t n (omega arith))))
+view-push t ws (suc n) w p = rw (add-one (suc n))
+    (ap (_∷_ w) (ap₂ _∷_ (getD-set-same ws (suc n) t (pos 0) p) (under-above ws (suc n) t n (omega arith))))
 
 pub view-pop : (t : ℤ) (ws : List ℤ) (h : ℕ) → 0 < h → viewOf t ws h ≡ t ∷ viewOf (getD ws (h - 1) (pos 0)) ws (h - 1)
 unfolding under viewOf

@@ -193,7 +193,8 @@ turn-at text at left lt le =
     record {
       inside = within;
       short = piece-short c;
-      size = piece-length (pieceOf c) _ (length-take-le (widthIn (pieceOf c)) (drop at text) (omega (arith, length-drop at text)));
+      size = piece-length (pieceOf c) _
+          (length-take-le (widthIn (pieceOf c)) (drop at text) (omega (arith, length-drop at text)));
       parts = record { is = rewrite-step text at left lt ∙ rw (w, piece-bytes c (take (widthOf c) (drop at text))) refl };
     }
 

@@ -160,13 +160,16 @@ module _ (f : Family) (F : ℕ → f .Item → List Fault) (at-item : AtItem f F
   one-beyond n [] h le = tt
   one-beyond n (g ∷ gs) h le = (omega (arith, h .0), one-beyond n gs (h .1) le)
 
-  each-beyond : (x : ℕ) (is : List (f .Item)) → All (λ n. a ≤ n) (each f (placeOf f) x is) → All (λ g. a ≤ g .place) (each f F x is)
+  each-beyond : (x : ℕ) (is : List (f .Item)) → All (λ n. a ≤ n) (each f (placeOf f) x is) →
+      All (λ g. a ≤ g .place) (each f F x is)
   unfolding each
   each-beyond x [] h = tt
   each-beyond x (i ∷ is) h =
-      all-append (λ g. a ≤ g .place) (F x i) (each f F x is) (one-beyond (f .place i) (F x i) (at-item x i) (h .0)) (each-beyond x is (h .1))
+      all-append (λ g. a ≤ g .place) (F x i) (each f F x is) (one-beyond (f .place i) (F x i) (at-item x i) (h .0))
+          (each-beyond x is (h .1))
 
-  after-beyond : (x : ℕ) (os : List (f .Owner)) → All (λ n. a ≤ n) (after f (placeOf f) x os) → All (λ g. a ≤ g .place) (after f F x os)
+  after-beyond : (x : ℕ) (os : List (f .Owner)) → All (λ n. a ≤ n) (after f (placeOf f) x os) →
+      All (λ g. a ≤ g .place) (after f F x os)
   unfolding after
   after-beyond x [] h = tt
   after-beyond x (b ∷ os) h =
@@ -245,12 +248,14 @@ module _ (f : Family) (F : ℕ → f .Item → List Fault) (verdict : Outcome (U
     check-refuses {g} e =
         let n = f .place (itemAt f x j) in
         let z : g .place ≡ n = subst (All (λ (k : Fault). k .place ≡ n)) e (at-item x (itemAt f x j)) .0 in
-        let h = from-beyond f F at-item (suc n) x (suc j) (rising-all (suc n) (from f (placeOf f) x (suc j)) (b .end) (rises .1)) in
+        let h = from-beyond f F at-item (suc n) x (suc j) (rising-all (suc n) (from f (placeOf f) x (suc j)) (b .end) (rises .1))
+            in
         b .left ∙ ap lowest (next f F x j lt ∙ ap (_++ from f F x (suc j)) e) ∙
         lowest-sorted g g (from f F x (suc j)) (λ i l. omega (arith, all-at (λ k. suc n ≤ k .place) (from f F x (suc j)) g h i l))
 
 -- The entries of the table.
-module _ {text reads firsts : List ℕ} {n : ℕ} (ix : Indexed text reads firsts n) (p : Program) (e : parseProgram text ≡ accepted p) where
+module _ {text reads firsts : List ℕ} {n : ℕ} (ix : Indexed text reads firsts n) (p : Program)
+    (e : parseProgram text ≡ accepted p) where
   same-program : ix .program ≡ p
   same-program = accepted-same (ix .program) p (sym (ix .parsed) ∙ e)
 
@@ -308,7 +313,8 @@ module _ {text reads firsts : List ℕ} {n : ℕ} (ix : Indexed text reads first
           r ≡ record { kind = readAt p x (i - getD firsts x 0) .kind; operands = readAt p x (i - getD firsts x 0) .operands }
       taken-is r h = h .is _ _ (ap (operatorAt text) place-is ∙ spells)
 
-pub rises-at : {text reads firsts : List ℕ} {n : ℕ} (ix : Indexed text reads firsts n) (x : ℕ) → x < n → getD firsts x 0 ≤ getD firsts (x + 1) 0
+pub rises-at : {text reads firsts : List ℕ} {n : ℕ} (ix : Indexed text reads firsts n) (x : ℕ) → x < n →
+    getD firsts x 0 ≤ getD firsts (x + 1) 0
 rises-at ix x lt =
     let z : suc x ≡ x + 1 = omega arith in
     omega (arith, rw z at (ix .reads-are .sums .rises x (omega (arith, ix .count-is))))

@@ -103,14 +103,16 @@ unfolding parseLinks _▷_ provided
 links-more room text at links e h = rw (eq-eqb (byteAt text at) 0x13 e, parseLinks) (rw (le-leb (at + 2) (length text) h))
 
 -- The step of a LAT from its LINKs.
-pub chain-short : (at count to : ℕ) (o : Outcome (Parsed (List Link))) {r : LinksRead} {k n : ℕ} → r ≡ linksOf o → r ≡ Read.Links k n →
+pub chain-short : (at count to : ℕ) (o : Outcome (Parsed (List Link))) {r : LinksRead} {k n : ℕ} → r ≡ linksOf o →
+    r ≡ Read.Links k n →
     k < 2 → Step.Refused (fault 5 at) ≡ chainOf at count to o
 unfolding linksOf chainOf
 chain-short at count to (accepted x) {r} {k} {n} e g h =
     let z : k ≡ length (x .value) = cc in rw (lt-leb 2 (length (x .value)) (omega arith))
 chain-short at count to (refused f) {r} {k} {n} e g h = let z : _≡_ {A = ℕ} 0 1 = cc in absurd (omega arith)
 
-pub chain-next : (at count to : ℕ) (o : Outcome (Parsed (List Link))) {r : LinksRead} {k n : ℕ} → r ≡ linksOf o → r ≡ Read.Links k n →
+pub chain-next : (at count to : ℕ) (o : Outcome (Parsed (List Link))) {r : LinksRead} {k n : ℕ} → r ≡ linksOf o →
+    r ≡ Read.Links k n →
     2 ≤ k → Step.Adds (Entry.Chain k) (record { at = n; reads = count; code = to }) ≡ chainOf at count to o
 unfolding linksOf chainOf
 chain-next at count to (accepted x) {r} {k} {n} e g h =
@@ -119,7 +121,8 @@ chain-next at count to (accepted x) {r} {k} {n} e g h =
     rw (le-leb 2 (length (x .value)) (omega arith), z, y)
 chain-next at count to (refused f) {r} {k} {n} e g h = let z : _≡_ {A = ℕ} 0 1 = cc in absurd (omega arith)
 
-pub chain-refused : (at count to : ℕ) (o : Outcome (Parsed (List Link))) {r : LinksRead} {f : Fault} → r ≡ linksOf o → r ≡ Read.Refused f →
+pub chain-refused : (at count to : ℕ) (o : Outcome (Parsed (List Link))) {r : LinksRead} {f : Fault} → r ≡ linksOf o →
+    r ≡ Read.Refused f →
     Step.Refused f ≡ chainOf at count to o
 unfolding linksOf chainOf
 chain-refused at count to (accepted x) {r} {f} e g = let z : _≡_ {A = ℕ} 0 1 = cc in absurd (omega arith)
@@ -134,12 +137,14 @@ module _ (text : List ℕ) (at label count to : ℕ) where
   abbrev tagBy : Bool → Step
   tagBy t = cond t (Step.Adds (Entry.Label label) (record { at = at + 3; reads = count; code = to })) (Step.Refused (fault 3 at))
 
-  pub tag-by : (t : Bool) → at + 3 < length text → isSignal (byteAt text (at + 3)) ≡ t → tagBy t ≡ Results.tagOf text at label count to
+  pub tag-by : (t : Bool) → at + 3 < length text → isSignal (byteAt text (at + 3)) ≡ t →
+      tagBy t ≡ Results.tagOf text at label count to
   unfolding Results.tagOf
   tag-by t h e = rw (lt-ltb (at + 3) (length text) h) (ap tagBy (sym e))
 
 -- A declaration that does not end early stands within the text.
-pub declaration-inside : (text : List ℕ) (at : ℕ) {k : Declaration} → declarationAt text at ≡ k → (Declaration.EndsEarly ≡ k → ⊥) →
+pub declaration-inside : (text : List ℕ) (at : ℕ) {k : Declaration} → declarationAt text at ≡ k →
+    (Declaration.EndsEarly ≡ k → ⊥) →
     at < length text
 unfolding declarationAt
 declaration-inside text at {k} e h = go (ltb at (length text)) refl

@@ -25,7 +25,8 @@ use Rattle.text_program.specs.Factors.{restricted, operatorFrom}
 
 module _ (least : ℕ) (sub : ℕ → Outcome (Parsed Expr)) (text : List ℕ) (at : ℕ) where
   -- An operator that may not stand here is refused as its decoding says.
-  here-node : (operatorHere text at ▷ λ _. node least sub text at (operatorAt text at)) ≡ node least sub text at (operatorAt text at)
+  here-node : (operatorHere text at ▷ λ _. node least sub text at (operatorAt text at)) ≡ node least sub text at
+      (operatorAt text at)
   unfolding operatorHere node _▷_ provided
   here-node =
       go (ltb at (length text)) (isOperator (byteAt text at)) (λ e. ltb-false _ _ e)

@@ -44,7 +44,8 @@ module _ {text : List ℕ} where
       rw map-append
       (rising-less (at + 1) at (placesOf (readsOf x) ++ placesOf (readsOf y)) n (omega arith)
       (rising-append (at + 1) (placesOf (readsOf x)) m (placesOf (readsOf y)) n (rising-expr u) (rising-expr v)))
-  rising-expr (Spells.one {at = at} {n = n} {x = x} e u) = rising-less (at + 1) at (placesOf (readsOf x)) n (omega arith) (rising-expr u)
+  rising-expr (Spells.one {at = at} {n = n} {x = x} e u) =
+      rising-less (at + 1) at (placesOf (readsOf x)) n (omega arith) (rising-expr u)
   rising-expr (Spells.three {at = at} {m = m} {n = n} {o = o} {x = x} {y = y} {z = z} e u v w) =
       rw (map-append, map-append)
       (rising-less (at + 1) at (placesOf (readsOf x) ++ (placesOf (readsOf y) ++ placesOf (readsOf z))) o (omega arith)

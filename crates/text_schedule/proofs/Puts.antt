@@ -154,7 +154,8 @@ module _ (done : List Put) (t : Slots) (h : SlotsAfter done t) (q : Put) (low : 
         puts-are = length-append done (q ∷ []) ∙ ap (_+ 1) (h .puts-are);
         order-is = λ j lt.
             filled (λ i. getD (signalsOf (done ++ (q ∷ []))) i 0) (t .order) (t .puts) (q .signal)
-            (omega (arith, h .space .0, h .puts-are)) (sym (signals-last done q) ∙ ap (λ i. getD (signalsOf (done ++ (q ∷ []))) i 0) (h .puts-are))
+            (omega (arith, h .space .0, h .puts-are))
+                (sym (signals-last done q) ∙ ap (λ i. getD (signalsOf (done ++ (q ∷ []))) i 0) (h .puts-are))
             (λ y ly. h .order-is y (omega (arith, h .puts-are)) ∙ sym (signals-snoc done q y (omega (arith, h .puts-are)))) j
             (omega (arith, length-append done (q ∷ []), h .puts-are));
         unput = unput-after;
@@ -274,7 +275,8 @@ fresh-put p done q = go (ltb (q .signal) (count p)) (isPut done (q .signal)) (lt
     some f e = omega (arith, ap length e)
 
     go : (a b c : Bool) →
-        cond a (cond b (fault 12 (q .place) ∷ []) (cond c [] (fault 13 (q .place) ∷ []))) (fault 12 (q .place) ∷ []) ≡ [] → b ≡ false
+        cond a (cond b (fault 12 (q .place) ∷ []) (cond c [] (fault 13 (q .place) ∷ []))) (fault 12 (q .place) ∷ []) ≡ [] →
+            b ≡ false
     go true true c e = absurd (some _ e)
     go true false c e = refl
     go false b c e = absurd (some _ e)
@@ -363,7 +365,8 @@ module _ (text : List ℕ) (p : Program) (o : Parsed (List Put)) (at : ℕ) (t :
   placed-slots e =
       let s = scheduleOf p (o .value) in
       let ok = placed-ordered p o s (placed-all e) .0 in
-      let put : (x : ℕ) → x < count p → isPut (g .done) x ≡ true = λ x lt. all-true (count p) (isPut (g .done)) (sym (all-ranked (g .done) t (count p) (g .after) fit few) ∙ e) x lt in
+      let put : (x : ℕ) → x < count p → isPut (g .done) x ≡ true = λ x lt.
+          all-true (count p) (isPut (g .done)) (sym (all-ranked (g .done) t (count p) (g .after) fit few) ∙ e) x lt in
       let size : length (s .order) ≡ length (g .done) = length-map (o .value) _ ∙ ap length all-done in (
         sym (size ∙ g .after .puts-are),
         record {
@@ -453,12 +456,14 @@ progress-start text p o t e h =
     record { done = []; rest = o .value; whole = refl; spelled = puts-spelled text o e; faults = refl; after = h }
 
 -- The answers.
-pub scheduled-refused : (p : Program) (o : Outcome Schedule) (r : Placing) (f : Fault) → o ≡ refused f → r .judged ≡ Judged.Refused f →
+pub scheduled-refused : (p : Program) (o : Outcome Schedule) (r : Placing) (f : Fault) → o ≡ refused f →
+    r .judged ≡ Judged.Refused f →
     ScheduledAs p o r
 unfolding ScheduledAs
 scheduled-refused p o r f e h = rw e h
 
-pub scheduled-fine : (p : Program) (o : Outcome Schedule) (r : Placing) (s : Schedule) → o ≡ accepted s → r .judged ≡ Judged.Fine →
+pub scheduled-fine : (p : Program) (o : Outcome Schedule) (r : Placing) (s : Schedule) → o ≡ accepted s →
+    r .judged ≡ Judged.Fine →
     (r .slots .puts ≡ length (s .order)) × SlotsOf p s (r .slots .order) (r .slots .phases) (r .slots .ranks) → ScheduledAs p o r
 unfolding ScheduledAs
 scheduled-fine p o r s e h g = rw e (h, g .0, g .1)

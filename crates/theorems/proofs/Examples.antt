@@ -134,5 +134,16 @@ use Rattle.theorems.specs.Examples.{ExamplesHold}
 
 -- The definitions answer every question of the table as the paper does.
 pub examples : ExamplesHold
-unfolding _▷_ provided lowest firstFrom first allBelow tableFrom table chosen joinFrom sum bitsOf wordOf nearest addWord subWord mulWord negWord lessWord sameWord minWord maxWord ifWord twoAt fourAt wordAt twoBytes fourBytes wordBytes declarationOf declarationAt plainRead sampledRead operatorOf operatorAt operatorHere node parseExpr parseLinks declare roomFor declarationHere parseCommands parseWith readsOf readFaults linkFaults declaredAndRated isMultiple hypercycle countReads isLinked linked scheduleCommandAt scheduleCommand parsePuts parseSchedule isPut putFaults putsFaults putPhase scheduleOf placed due stored between share ordered rank settle settled isMet met value load loaded readAmong readsBack used back source latencyOf runLatency fromOf windowOf keeps timely exprCode codes runList runLists offsets records codesAt lengthOf head imageOf tailOf writtenOf operatorCode codeAt listOffset codeOffset listOf codeOf commandOk codeOkFrom codeOk headOk listsOk entriesOk codesOk wellFormed imagePart lentOk runCommand runFrom runCode runSignals nextPosition resetWords cycleWords resetOf cycleOf shortEnough pairOf verdictOf compileOf listCommands cycleCommands highest countsOf reportOf callOf after logAfter lentAt digitsUpTo natural decimal spaced lineOf scriptCommandAt scriptCommand scriptFrom scriptAt isInputOf inputsOnly checkOf callsFrom linesFrom trialOf
+unfolding _▷_ provided lowest firstFrom first allBelow tableFrom table chosen joinFrom sum bitsOf wordOf nearest addWord subWord
+    mulWord negWord lessWord sameWord minWord maxWord ifWord twoAt fourAt wordAt twoBytes fourBytes wordBytes declarationOf
+    declarationAt plainRead sampledRead operatorOf operatorAt operatorHere node parseExpr parseLinks declare roomFor
+    declarationHere parseCommands parseWith readsOf readFaults linkFaults declaredAndRated isMultiple hypercycle countReads
+    isLinked linked scheduleCommandAt scheduleCommand parsePuts parseSchedule isPut putFaults putsFaults putPhase scheduleOf
+    placed due stored between share ordered rank settle settled isMet met value load loaded readAmong readsBack used back source
+    latencyOf runLatency fromOf windowOf keeps timely exprCode codes runList runLists offsets records codesAt lengthOf head
+    imageOf tailOf writtenOf operatorCode codeAt listOffset codeOffset listOf codeOf commandOk codeOkFrom codeOk headOk listsOk
+    entriesOk codesOk wellFormed imagePart lentOk runCommand runFrom runCode runSignals nextPosition resetWords cycleWords resetOf
+    cycleOf shortEnough pairOf verdictOf compileOf listCommands cycleCommands highest countsOf reportOf callOf after logAfter
+    lentAt digitsUpTo natural decimal spaced lineOf scriptCommandAt scriptCommand scriptFrom scriptAt isInputOf inputsOnly checkOf
+    callsFrom linesFrom trialOf
 examples = refl

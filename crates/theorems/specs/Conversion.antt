@@ -47,7 +47,8 @@ module _ (program buffer : List ℕ) where
 abbrev pub Converts : List ℕ → List ℕ → Type 0
 Converts program buffer = ConvertsExactly program buffer (convertOf program buffer)
 
--- What the conversion of a program keeps of a pair u that it is accepted in by the earlier rule: with the same schedule text the new
+-- What the conversion of a program keeps of a pair u that it is accepted in by the earlier rule: with the same schedule text the
+-- new
 -- text is accepted, with the same schedule and hypercycle; it has the same streams, and the same image with its tail.
 pub record ConversionKeeps (old schedule : List ℕ) (u : Pair) : Type 0 where
   pub program : Program

@@ -19,7 +19,8 @@ use Rattle.theorems.specs.Streams.{Satisfies}
 use Rattle.model.specs.declared.Fault.{Fault}
 use Rattle.model.specs.declared.Index.the-variants.{Open}
 
--- What holds of a list of calls, its answers, its log and the state that it leaves: no reset is refused, a cycle exactly when it is
+-- What holds of a list of calls, its answers, its log and the state that it leaves: no reset is refused, a cycle exactly when it
+-- is
 -- lent fewer than N samples (23), and else answers the report's count of its position; and with every streams that satisfy the
 -- equations with the inputs that the cycles were lent, the state is what `Holds` says.
 pub record Kept (program schedule : List ℕ) (p : Program) (s : Schedule) (h : ℕ) (old : List ℤ) (cs : List Call)
@@ -58,7 +59,8 @@ pub record Memory : Type 0 where
 abbrev pub afterReset : ℕ → List ℕ → List ℤ → Memory
 afterReset size buffer old = record { buffer = buffer; state = resetOf (take size buffer) old .left }
 
--- A call of the list, or one that is lent something else: a reset or cycle with any image, this one or another, and any stretch of
+-- A call of the list, or one that is lent something else: a reset or cycle with any image, this one or another, and any stretch
+-- of
 -- this state; a compile or conversion with any stretch of the image's own buffer.
 pub data Lent : Type 0 where
   own : Call → Lent

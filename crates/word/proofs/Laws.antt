@@ -96,7 +96,8 @@ test-other a b h = eqZ-other a b (λ e. h (ap (ofZ w32) e))
 
 -- what stands in the second branch of `from_bits`
 pub high : (u : ℕ) → 2 ^ 31 ≤ u → u < 2 ^ 32 → negsuc 0 -ℤ toZ w32 (4294967295 - u) ≡ toZ w32 u
-high u h l = rw (toZ-pos w32 (4294967295 - u) (omega arith), flip-pos (4294967295 - u)) (sym (ap (toZ w32) same ∙ toZ-neg w32 (4294967295 - u) (omega arith)))
+high u h l = rw (toZ-pos w32 (4294967295 - u) (omega arith), flip-pos (4294967295 - u))
+    (sym (ap (toZ w32) same ∙ toZ-neg w32 (4294967295 - u) (omega arith)))
   where
     same : u ≡ 2 ^ 32 - suc (4294967295 - u)
     same = omega arith

@@ -64,12 +64,15 @@ returns-2 c =
     let f = c .before .before .before .before .before .before .before .before .one-read .ensures p (k .parsed) in
     let ρ : Read = readAmong (a .w) (bodyReads (signalAt p (a .r) .body)) in
     let taken : _≡_ {A = Taken} (t .result) (record { kind = ρ .kind; operands = ρ .operands }) =
-    t .ensures .is (ρ .kind) (ρ .operands) (one-spelled _ p (k .parsed) _ _ _ (sym f ∙ c .before .before .before .before .before .before .found .given .1)) in
+    t .ensures .is (ρ .kind) (ρ .operands)
+        (one-spelled _ p (k .parsed) _ _ _ (sym f ∙ c .before .before .before .before .before .before .found .given .1)) in
     let w : rateIn (read .result) ≡ rateOf p s (ρ .operands .signal) =
-    ap rateIn (read .ensures) ∙ rate-at k (a .w) lw ∙ ap (rateOf p s) (sym (read-signal (a .w) (bodyReads (signalAt p (a .r) .body)) (omega (arith, n)))) in
+    ap rateIn (read .ensures) ∙ rate-at k (a .w) lw ∙
+        ap (rateOf p s) (sym (read-signal (a .w) (bodyReads (signalAt p (a .r) .body)) (omega (arith, n)))) in
     let r : rateIn (reader .result) ≡ rateOf p s (a .r) = ap rateIn (reader .ensures) ∙ rate-at k (a .r) lr in
     let index : c .settled-index .result ≡ settled p s (a .r) ρ =
-    c .settled-index .ensures ∙ (λ i. settledIndex (taken i .kind) (w i) (r i) (taken i .operands .factor) (taken i .operands .index)) in
+    c .settled-index .ensures ∙ (λ i.
+        settledIndex (taken i .kind) (w i) (r i) (taken i .operands .factor) (taken i .operands .index)) in
     λ i. record { kind = taken i .kind; factor = taken i .operands .factor; index = index i }
 
 pub hop-at-spec : {M : Type 1} → statement M

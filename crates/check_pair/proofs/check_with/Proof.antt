@@ -40,7 +40,8 @@ looked r = r .before .before .before
 rates : (r : tie.After-check-rates) → RatedAs (ratesOf (read (looked r) .0)) (r .check-rates .result)
 rates r = let g = read (looked r) in r .check-rates .ensures (g .0) (g .1) (g .2)
 
-rated : (e : tie.After-enum-told5) → ratesOf (read (looked (e .before .before)) .0) ≡ accepted (e .before .before .check-rates .result .hypercycle)
+rated : (e : tie.After-enum-told5) →
+    ratesOf (read (looked (e .before .before)) .0) ≡ accepted (e .before .before .check-rates .result .hypercycle)
 rated e = let a = answers-fine _ _ _ (rates (e .before .before)) (e .enum-told5 .given .1) in a .1 ∙ ap accepted (sym (a .2))
 
 abbrev found : tie.After-check-schedule → tie.After-enum-told5
@@ -61,7 +62,8 @@ arranged : (e : tie.After-enum-told7) →
     let g = read x in
     let b = start (lengths x) in
     (s : Schedule) × (scheduleFor (g .0) (now (b .args .schedule)) ≡ accepted s) ×
-    Arranged (now (b .args .program)) (tables x) (d .check-schedule .result .slots) (found d .before .before .check-rates .result .hypercycle) (g .0) s
+    Arranged (now (b .args .program)) (tables x) (d .check-schedule .result .slots)
+        (found d .before .before .check-rates .result .hypercycle) (g .0) s
 arranged e =
     let d = e .before .before in
     let x = known d in
@@ -100,7 +102,8 @@ unfolding stepsOf
 returns c =
     let told = c .before .enum-told2 .given .1 in
     rw (pair-steps _ _)
-    (answers-stop _ _ _ _ _ (judgement-refused _ _ _ (c .before .before .before .check-lengths .ensures) told) (c .refused .ensures ∙ told))
+    (answers-stop _ _ _ _ _ (judgement-refused _ _ _ (c .before .before .before .check-lengths .ensures) told)
+        (c .refused .ensures ∙ told))
 
 read-program-requires : tie.Need-read-program-requires
 read-program-requires c κs =
@@ -127,7 +130,8 @@ returns-2 c =
     let told = c .before .enum-told4 .given .1 in
     rw (pair-steps _ _)
     (answers-then _ _ _ _ _ (short (r .before .before))
-    (answers-stop _ _ _ _ _ (answers-refused _ _ _ _ (program-answers _ _ _ (r .read-program .ensures)) told) (c .refused2 .ensures ∙ told)))
+    (answers-stop _ _ _ _ _ (answers-refused _ _ _ _ (program-answers _ _ _ (r .read-program .ensures)) told)
+        (c .refused2 .ensures ∙ told)))
 
 check-rates-requires : tie.Need-check-rates-requires
 check-rates-requires c κs =
@@ -173,7 +177,8 @@ refused-requires-4 : tie.Need-refused-requires-4
 refused-requires-4 c κs = search needs
 
 same-length-3 : tie.Need-same-length-3
-same-length-3 c = search (needs, c .before .before .before .before .before .before .before .before .before .before .before .before .before .before .reads .given)
+same-length-3 c = search (needs,
+    c .before .before .before .before .before .before .before .before .before .before .before .before .before .before .reads .given)
 
 returns-4 : tie.Need-returns-4
 unfolding stepsOf
@@ -185,7 +190,8 @@ returns-4 c =
     (answers-then _ _ _ _ _ (short (lengths x))
     (answers-then _ _ _ _ _ (read x .1)
     (answers-then _ _ _ _ _ (rated (found d))
-    (answers-stop _ _ _ _ _ (answers-refused _ _ _ _ (schedule-answers _ _ _ (scheduled d)) told) (c .refused4 .ensures ∙ told)))))
+    (answers-stop _ _ _ _ _ (answers-refused _ _ _ _ (schedule-answers _ _ _ (scheduled d)) told)
+        (c .refused4 .ensures ∙ told)))))
 
 check-runs-requires : tie.Need-check-runs-requires
 check-runs-requires c κs =

@@ -93,7 +93,8 @@ module _ (b : tie.In-loop2 Inv-loop2 μ-loop2 Inv-loop μ-loop) where
 
 loop-holds : tie.Need-loop-holds Inv-loop2 μ-loop2 Inv-loop μ-loop
 unfolding allPlaces
-loop-holds c = (omega arith, sym (c .before .before .pre .1 .reads-are .sums .first), λ p e t. let h = rising-program _ p e in check-starts (reads-in p) (readAs p) (lowest (readRates p)) (h .0) (h .1 .reads) (all-rates p))
+loop-holds c = (omega arith, sym (c .before .before .pre .1 .reads-are .sums .first), λ p e t. let h = rising-program _ p e in
+    check-starts (reads-in p) (readAs p) (lowest (readRates p)) (h .0) (h .1 .reads) (all-rates p))
 
 add-wider : tie.Need-add-wider Inv-loop2 μ-loop2 Inv-loop μ-loop
 add-wider c = omega (arith, c .before .before .before .before .pre .0)
@@ -110,12 +111,16 @@ wider-requires c κs = search needs
 loop2-holds : tie.Need-loop2-holds Inv-loop2 μ-loop2 Inv-loop μ-loop
 loop2-holds c = (
   omega (arith, c .before .before .before .loop .inv .1),
-  omega (arith, c .before .before .before .loop .inv .1, c .wider .ensures .0, rises-at (c .before .before .before .before .before .before .pre .1) (c .before .before .before .loop .reader) (c .before .before .loop-test .taken)),
+  omega (arith, c .before .before .before .loop .inv .1, c .wider .ensures .0,
+      rises-at (c .before .before .before .before .before .before .pre .1) (c .before .before .before .loop .reader)
+      (c .before .before .loop-test .taken)),
   λ p e t.
       let h = c .before .before .before .loop .inv .1 in
       subst (Ahead (reads-in p) (readAs p) (lowest (readRates p)) (c .before .before .before .loop .reader)) (omega (arith, h))
       (check-enters (reads-in p) (readAs p) (lowest (readRates p)) (c .before .before .before .loop .reader)
-      (omega (arith, c .before .before .loop-test .taken, counted (c .before .before .before .before .before .before .pre .1) p e)) (c .before .before .before .loop .inv .2 p e t)),
+      (omega (arith, c .before .before .loop-test .taken,
+          counted (c .before .before .before .before .before .before .pre .1) p e))
+          (c .before .before .before .loop .inv .2 p e t)),
 )
 
 mul-wider-2 : tie.Need-mul-wider-2 Inv-loop2 μ-loop2 Inv-loop μ-loop
@@ -144,11 +149,21 @@ unfolding judgementOf
 returns c =
     λ p e t.
     c .enum-told2 .given .1 ∙
-    sym (ap judgementOf (check-refuses (reads-in p) (readAs p) (lowest (readRates p)) (read-there p) (reader (c .before .before .before .before .before .before .before)) _ (seen (ix (c .before .before .before .before .before .before .before)) p e (reader (c .before .before .before .before .before .before .before)) (i (c .before .before .before .before .before .before .before)) (lt (c .before .before .before .before .before .before .before)) (low (c .before .before .before .before .before .before .before)) (high (c .before .before .before .before .before .before .before))) (c .before .before .before .before .before .before .before .before .loop2 .inv .2 p e t)
-    (one-read (ix (c .before .before .before .before .before .before .before)) p e _ (c .before .before .before .before .before .before .before .before .before .before .before .before .before .before .before .pre .0) t (reader (c .before .before .before .before .before .before .before)) (i (c .before .before .before .before .before .before .before)) (lt (c .before .before .before .before .before .before .before)) (low (c .before .before .before .before .before .before .before)) (high (c .before .before .before .before .before .before .before)) _ (Judged.Refused _) _ (c .before .before .before .before .before .wider2 .ensures .0) (c .before .before .before .before .taken-at .ensures) (sym (c .enum-told2 .given .1) ∙ c .before .before .judge-read .ensures))))
+    sym (ap judgementOf (check-refuses (reads-in p) (readAs p) (lowest (readRates p)) (read-there p)
+        (reader (c .before .before .before .before .before .before .before)) _
+        (seen (ix (c .before .before .before .before .before .before .before)) p e
+        (reader (c .before .before .before .before .before .before .before))
+        (i (c .before .before .before .before .before .before .before))
+        (lt (c .before .before .before .before .before .before .before))
+        (low (c .before .before .before .before .before .before .before))
+        (high (c .before .before .before .before .before .before .before)))
+        (c .before .before .before .before .before .before .before .before .loop2 .inv .2 p e t)
+    (one-read (ix (c .before .before .before .before .before .before .before)) p e _
+        (c .before .before .before .before .before .before .before .before .before .before .before .before .before .before .before .pre .0) t (reader (c .before .before .before .before .before .before .before)) (i (c .before .before .before .before .before .before .before)) (lt (c .before .before .before .before .before .before .before)) (low (c .before .before .before .before .before .before .before)) (high (c .before .before .before .before .before .before .before)) _ (Judged.Refused _) _ (c .before .before .before .before .before .wider2 .ensures .0) (c .before .before .before .before .taken-at .ensures) (sym (c .enum-told2 .given .1) ∙ c .before .before .judge-read .ensures))))
 
 add-i : tie.Need-add-i Inv-loop2 μ-loop2 Inv-loop μ-loop
-add-i c = omega (arith, c .before .before .before .before .before .before .before .loop2-test .taken, c .before .before .before .before .before .before .before .before .before .wider .ensures .1)
+add-i c = omega (arith, c .before .before .before .before .before .before .before .loop2-test .taken,
+    c .before .before .before .before .before .before .before .before .before .wider .ensures .1)
 
 loop2-less : tie.Need-loop2-less Inv-loop2 μ-loop2 Inv-loop μ-loop
 loop2-less c = omega (arith, c .before .before .before .before .before .before .before .loop2-test .taken)
@@ -159,13 +174,24 @@ loop2-again c = (
   omega (arith, c .before .before .before .before .before .before .before .loop2-test .taken),
   λ p e t.
       let h = low (c .before .before .before .before .before .before .before) in
-      subst (Ahead (reads-in p) (readAs p) (lowest (readRates p)) (reader (c .before .before .before .before .before .before .before))) (omega (arith, h))
-      (check-passes (reads-in p) (readAs p) (lowest (readRates p)) (read-there p) (reader (c .before .before .before .before .before .before .before)) _ (seen (ix (c .before .before .before .before .before .before .before)) p e (reader (c .before .before .before .before .before .before .before)) (i (c .before .before .before .before .before .before .before)) (lt (c .before .before .before .before .before .before .before)) (low (c .before .before .before .before .before .before .before)) (high (c .before .before .before .before .before .before .before))) (c .before .before .before .before .before .before .before .before .loop2 .inv .2 p e t)
-      (one-read (ix (c .before .before .before .before .before .before .before)) p e _ (c .before .before .before .before .before .before .before .before .before .before .before .before .before .before .before .pre .0) t (reader (c .before .before .before .before .before .before .before)) (i (c .before .before .before .before .before .before .before)) (lt (c .before .before .before .before .before .before .before)) (low (c .before .before .before .before .before .before .before)) (high (c .before .before .before .before .before .before .before)) _ Judged.Fine _ (c .before .before .before .before .before .wider2 .ensures .0) (c .before .before .before .before .taken-at .ensures) (sym (c .enum-told .given .1) ∙ c .before .before .judge-read .ensures))),
+      subst (Ahead (reads-in p) (readAs p) (lowest (readRates p))
+          (reader (c .before .before .before .before .before .before .before))) (omega (arith, h))
+      (check-passes (reads-in p) (readAs p) (lowest (readRates p)) (read-there p)
+          (reader (c .before .before .before .before .before .before .before)) _
+          (seen (ix (c .before .before .before .before .before .before .before)) p e
+          (reader (c .before .before .before .before .before .before .before))
+          (i (c .before .before .before .before .before .before .before))
+          (lt (c .before .before .before .before .before .before .before))
+          (low (c .before .before .before .before .before .before .before))
+          (high (c .before .before .before .before .before .before .before)))
+          (c .before .before .before .before .before .before .before .before .loop2 .inv .2 p e t)
+      (one-read (ix (c .before .before .before .before .before .before .before)) p e _
+          (c .before .before .before .before .before .before .before .before .before .before .before .before .before .before .before .pre .0) t (reader (c .before .before .before .before .before .before .before)) (i (c .before .before .before .before .before .before .before)) (lt (c .before .before .before .before .before .before .before)) (low (c .before .before .before .before .before .before .before)) (high (c .before .before .before .before .before .before .before)) _ Judged.Fine _ (c .before .before .before .before .before .wider2 .ensures .0) (c .before .before .before .before .taken-at .ensures) (sym (c .enum-told .given .1) ∙ c .before .before .judge-read .ensures))),
 )
 
 add-reader : tie.Need-add-reader Inv-loop2 μ-loop2 Inv-loop μ-loop
-add-reader c = omega (arith, c .before .before .before .before .loop-test .taken, c .before .before .before .before .before .before .before .before .pre .0)
+add-reader c = omega (arith, c .before .before .before .before .loop-test .taken,
+    c .before .before .before .before .before .before .before .before .pre .0)
 
 loop-less : tie.Need-loop-less Inv-loop2 μ-loop2 Inv-loop μ-loop
 loop-less c = omega (arith, c .before .before .before .before .loop-test .taken)
@@ -173,13 +199,17 @@ loop-less c = omega (arith, c .before .before .before .before .loop-test .taken)
 loop-again : tie.Need-loop-again Inv-loop2 μ-loop2 Inv-loop μ-loop
 loop-again c =
     let l = c .before .loop2 in
-    let f : getD (now (c .before .before .before .before .before .before .before .before .args .firsts)) (c .before .before .before .before .before .loop .reader + 1) 0 ≡ l .i = omega (arith, l .inv .1, c .loop2-test .left, c .before .before .wider .ensures .0) in (
+    let f : getD (now (c .before .before .before .before .before .before .before .before .args .firsts))
+        (c .before .before .before .before .before .loop .reader + 1) 0 ≡ l .i =
+        omega (arith, l .inv .1, c .loop2-test .left, c .before .before .wider .ensures .0) in (
       omega (arith, c .before .before .before .before .loop-test .taken),
       sym f,
       λ p e t.
           subst (Before (reads-in p) (readAs p) (lowest (readRates p))) (omega arith)
           (check-leaves (reads-in p) (readAs p) (lowest (readRates p)) (c .before .before .before .before .before .loop .reader) _
-          (all-seen (c .before .before .before .before .before .before .before .before .pre .1) p e (c .before .before .before .before .before .loop .reader) (l .i) (c .before .before .before .before .loop-test .taken) (l .inv .0) f) (l .inv .2 p e t)),
+          (all-seen (c .before .before .before .before .before .before .before .before .pre .1) p e
+              (c .before .before .before .before .before .loop .reader) (l .i)
+              (c .before .before .before .before .loop-test .taken) (l .inv .0) f) (l .inv .2 p e t)),
     )
 
 returns-2 : tie.Need-returns-2 Inv-loop2 μ-loop2 Inv-loop μ-loop
@@ -187,7 +217,8 @@ unfolding judgementOf
 returns-2 c =
     λ p e t.
     sym (ap judgementOf (check-ends (reads-in p) (readAs p) (lowest (readRates p)) (c .before .loop .reader)
-    (omega (arith, counted (c .before .before .before .before .pre .1) p e, c .before .loop .inv .0, c .loop-test .left)) (c .before .loop .inv .2 p e t)))
+    (omega (arith, counted (c .before .before .before .before .pre .1) p e, c .before .loop .inv .0, c .loop-test .left))
+        (c .before .loop .inv .2 p e t)))
 
 pub judge-reads-spec : {M : Type 1} → statement M
 judge-reads-spec =

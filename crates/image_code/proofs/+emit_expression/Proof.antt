@@ -117,10 +117,14 @@ in-expression-requires : (t : ℕ) → lts.Need-in-expression-requires (known t)
 in-expression-requires t c κs = search needs
 
 add-put-push : (t : ℕ) → lts.Need-add-put-push (known t) (given t) own.Post
-add-put-push t c = omega (arith, inside t (c .before .before .before .before .before) _ (c .before .before .before .decoded .given .1), c .before .before .before .before .before .before .before .before .good .0 .1)
+add-put-push t c = omega (arith,
+    inside t (c .before .before .before .before .before) _ (c .before .before .before .decoded .given .1),
+    c .before .before .before .before .before .before .before .before .good .0 .1)
 
 put-push-requires : (t : ℕ) → lts.Need-put-push-requires (known t) (given t) own.Post
-put-push-requires t c κs = omega (arith, word-length (c .before .before .before .decoded .given .0 .0), no-rooms (rooms-at t (c .before .before .before .before .before) _ (c .before .before .before .decoded .given .1)))
+put-push-requires t c κs = omega
+    (arith, word-length (c .before .before .before .decoded .given .0 .0),
+    no-rooms (rooms-at t (c .before .before .before .before .before) _ (c .before .before .before .decoded .given .1)))
 
 enum-known-decoded-2 : (t : ℕ) → lts.Need-enum-known-decoded-2 (known t) (given t) own.Post
 enum-known-decoded-2 t c = search needs
@@ -129,10 +133,13 @@ of-read-requires : (t : ℕ) → lts.Need-of-read-requires (known t) (given t) o
 of-read-requires t c κs = search needs
 
 add-put-access : (t : ℕ) → lts.Need-add-put-access (known t) (given t) own.Post
-add-put-access t c = omega (arith, inside t (c .before .before .before .before .before) _ (c .before .before .before .decoded2 .given .1), c .of-read .ensures, c .before .before .before .before .before .before .before .before .good .0 .1)
+add-put-access t c = omega (arith,
+    inside t (c .before .before .before .before .before) _ (c .before .before .before .decoded2 .given .1), c .of-read .ensures,
+    c .before .before .before .before .before .before .before .before .good .0 .1)
 
 put-access-requires : (t : ℕ) → lts.Need-put-access-requires (known t) (given t) own.Post
-put-access-requires t c κs = omega (arith, no-rooms (rooms-at t (c .before .before .before .before .before) _ (c .before .before .before .decoded2 .given .1)))
+put-access-requires t c κs = omega
+    (arith, no-rooms (rooms-at t (c .before .before .before .before .before) _ (c .before .before .before .decoded2 .given .1)))
 
 enum-known-decoded-3 : (t : ℕ) → lts.Need-enum-known-decoded-3 (known t) (given t) own.Post
 enum-known-decoded-3 t c = search needs
@@ -141,25 +148,40 @@ in-expression-requires-2 : (t : ℕ) → lts.Need-in-expression-requires-2 (know
 in-expression-requires-2 t c κs = search needs
 
 add-emit-expression : (t : ℕ) → lts.Need-add-emit-expression (known t) (given t) own.Post
-add-emit-expression t c = omega (arith, inside t (c .before .before .before .before) _ (c .before .before .decoded3 .given .1), c .before .before .before .before .before .before .before .good .0 .1)
+add-emit-expression t c = omega
+    (arith, inside t (c .before .before .before .before) _ (c .before .before .decoded3 .given .1),
+    c .before .before .before .before .before .before .before .good .0 .1)
 
 sub-emit-expression : (t : ℕ) → lts.Need-sub-emit-expression (known t) (given t) own.Post
 sub-emit-expression t c = omega (arith, some t (c .before .before .before .before) _ (c .before .before .decoded3 .given .1))
 
 emit-expression-requires : (t : ℕ) → lts.Need-emit-expression-requires (known t) (given t) own.Post
-emit-expression-requires t c κs = (omega (arith, some t (c .before .before .before .before .before) _ (c .before .before .before .decoded3 .given .1)), rw (c .before .in-expression2 .ensures) (first-room (rooms-at t (c .before .before .before .before .before) _ (c .before .before .before .decoded3 .given .1))))
+emit-expression-requires t c κs =
+    (omega (arith, some t (c .before .before .before .before .before) _ (c .before .before .before .decoded3 .given .1)),
+    rw (c .before .in-expression2 .ensures)
+    (first-room (rooms-at t (c .before .before .before .before .before) _ (c .before .before .before .decoded3 .given .1))))
 
 sub-emit-expression-2 : (t : ℕ) → lts.Need-sub-emit-expression-2 (known t) (given t) own.Post
-sub-emit-expression-2 t c = omega (arith, some t (c .before .before .before .before .before .before .before .before) _ (c .before .before .before .before .before .before .decoded3 .given .1))
+sub-emit-expression-2 t c = omega
+    (arith, some t (c .before .before .before .before .before .before .before .before) _
+    (c .before .before .before .before .before .before .decoded3 .given .1))
 
 emit-expression-requires-2 : (t : ℕ) → lts.Need-emit-expression-requires-2 (known t) (given t) own.Post
-emit-expression-requires-2 t c κs = (omega (arith, some t (c .before .before .before .before .before .before .before .before .before) _ (c .before .before .before .before .before .before .before .decoded3 .given .1)), first-room (rest-rooms (rooms-at t (c .before .before .before .before .before .before .before .before .before) _ (c .before .before .before .before .before .before .before .decoded3 .given .1)) (rw (c .before .before .before .before .before .in-expression2 .ensures) at (c .before .before .before .emit-expression .ensures))))
+emit-expression-requires-2 t c κs =
+    (omega (arith, some t (c .before .before .before .before .before .before .before .before .before) _
+    (c .before .before .before .before .before .before .before .decoded3 .given .1)),
+    first-room (rest-rooms (rooms-at t (c .before .before .before .before .before .before .before .before .before) _
+    (c .before .before .before .before .before .before .before .decoded3 .given .1))
+    (rw (c .before .before .before .before .before .in-expression2 .ensures) at
+    (c .before .before .before .emit-expression .ensures))))
 
 binary-byte-requires : (t : ℕ) → lts.Need-binary-byte-requires (known t) (given t) own.Post
 binary-byte-requires t c κs = search needs
 
 put-operator-requires : (t : ℕ) → lts.Need-put-operator-requires (known t) (given t) own.Post
-put-operator-requires t c κs = omega (arith, no-rooms (rest-rooms (rest-rooms (rooms-at t (c .before .before .before .before .before .before .before .before .before .before .before .before .before .before) _ (c .before .before .before .before .before .before .before .before .before .before .before .before .decoded3 .given .1)) (rw (c .before .before .before .before .before .before .before .before .before .before .in-expression2 .ensures) at (c .before .before .before .before .before .before .before .before .emit-expression .ensures))) (c .before .before .before .before .emit-expression2 .ensures)))
+put-operator-requires t c κs =
+    omega (arith, no-rooms (rest-rooms
+    (rest-rooms (rooms-at t (c .before .before .before .before .before .before .before .before .before .before .before .before .before .before) _ (c .before .before .before .before .before .before .before .before .before .before .before .before .decoded3 .given .1)) (rw (c .before .before .before .before .before .before .before .before .before .before .in-expression2 .ensures) at (c .before .before .before .before .before .before .before .before .emit-expression .ensures))) (c .before .before .before .before .emit-expression2 .ensures)))
 
 enum-known-decoded-4 : (t : ℕ) → lts.Need-enum-known-decoded-4 (known t) (given t) own.Post
 enum-known-decoded-4 t c = search needs
@@ -169,7 +191,8 @@ in-expression-requires-3 t c κs = search needs
 
 add-emit-expression-2 : (t : ℕ) → lts.Need-add-emit-expression-2 (known t) (given t) own.Post
 add-emit-expression-2 t c =
-    omega (arith, inside t (c .before .before .before .before) _ (c .before .before .decoded4 .given .1), c .before .before .before .before .before .before .before .good .0 .1)
+    omega (arith, inside t (c .before .before .before .before) _ (c .before .before .decoded4 .given .1),
+        c .before .before .before .before .before .before .before .good .0 .1)
 
 sub-emit-expression-3 : (t : ℕ) → lts.Need-sub-emit-expression-3 (known t) (given t) own.Post
 sub-emit-expression-3 t c = omega (arith, some t (c .before .before .before .before) _ (c .before .before .decoded4 .given .1))
@@ -188,8 +211,10 @@ put-operator-requires-2 t c κs =
     omega (
       arith,
       no-rooms
-          (rest-rooms (rooms-at t (c .before .before .before .before .before .before .before .before .before .before) _ (c .before .before .before .before .before .before .before .before .decoded4 .given .1))
-          (rw (c .before .before .before .before .before .before .in-expression3 .ensures) at (c .before .before .before .before .emit-expression3 .ensures))),
+          (rest-rooms (rooms-at t (c .before .before .before .before .before .before .before .before .before .before) _
+              (c .before .before .before .before .before .before .before .before .decoded4 .given .1))
+          (rw (c .before .before .before .before .before .before .in-expression3 .ensures) at
+              (c .before .before .before .before .emit-expression3 .ensures))),
     )
 
 enum-told : (t : ℕ) → lts.Need-enum-told (known t) (given t) own.Post
@@ -199,46 +224,78 @@ in-expression-requires-4 : (t : ℕ) → lts.Need-in-expression-requires-4 (know
 in-expression-requires-4 t c κs = search needs
 
 add-emit-expression-3 : (t : ℕ) → lts.Need-add-emit-expression-3 (known t) (given t) own.Post
-add-emit-expression-3 t c = omega (arith, inside t (c .before .before .before) _ (c .before .enum-told .given .1), c .before .before .before .before .before .before .good .0 .1)
+add-emit-expression-3 t c = omega
+    (arith, inside t (c .before .before .before) _ (c .before .enum-told .given .1),
+    c .before .before .before .before .before .before .good .0 .1)
 
 sub-emit-expression-4 : (t : ℕ) → lts.Need-sub-emit-expression-4 (known t) (given t) own.Post
 sub-emit-expression-4 t c = omega (arith, some t (c .before .before .before) _ (c .before .enum-told .given .1))
 
 emit-expression-requires-4 : (t : ℕ) → lts.Need-emit-expression-requires-4 (known t) (given t) own.Post
-emit-expression-requires-4 t c κs = (omega (arith, some t (c .before .before .before .before) _ (c .before .before .enum-told .given .1)), rw (c .before .in-expression4 .ensures) (first-room (rooms-at t (c .before .before .before .before) _ (c .before .before .enum-told .given .1))))
+emit-expression-requires-4 t c κs =
+    (omega (arith, some t (c .before .before .before .before) _ (c .before .before .enum-told .given .1)),
+    rw (c .before .in-expression4 .ensures)
+    (first-room (rooms-at t (c .before .before .before .before) _ (c .before .before .enum-told .given .1))))
 
 sub-emit-expression-5 : (t : ℕ) → lts.Need-sub-emit-expression-5 (known t) (given t) own.Post
-sub-emit-expression-5 t c = omega (arith, some t (c .before .before .before .before .before .before .before) _ (c .before .before .before .before .before .enum-told .given .1))
+sub-emit-expression-5 t c = omega
+    (arith, some t (c .before .before .before .before .before .before .before) _
+    (c .before .before .before .before .before .enum-told .given .1))
 
 emit-expression-requires-5 : (t : ℕ) → lts.Need-emit-expression-requires-5 (known t) (given t) own.Post
-emit-expression-requires-5 t c κs = (omega (arith, some t (c .before .before .before .before .before .before .before .before) _ (c .before .before .before .before .before .before .enum-told .given .1)), first-room (rest-rooms (rooms-at t (c .before .before .before .before .before .before .before .before) _ (c .before .before .before .before .before .before .enum-told .given .1)) (rw (c .before .before .before .before .before .in-expression4 .ensures) at (c .before .before .before .emit-expression4 .ensures))))
+emit-expression-requires-5 t c κs =
+    (omega (arith, some t (c .before .before .before .before .before .before .before .before) _
+    (c .before .before .before .before .before .before .enum-told .given .1)),
+    first-room (rest-rooms (rooms-at t (c .before .before .before .before .before .before .before .before) _
+    (c .before .before .before .before .before .before .enum-told .given .1))
+    (rw (c .before .before .before .before .before .in-expression4 .ensures) at
+    (c .before .before .before .emit-expression4 .ensures))))
 
 sub-emit-expression-6 : (t : ℕ) → lts.Need-sub-emit-expression-6 (known t) (given t) own.Post
-sub-emit-expression-6 t c = omega (arith, some t (c .before .before .before .before .before .before .before .before .before .before .before) _ (c .before .before .before .before .before .before .before .before .before .enum-told .given .1))
+sub-emit-expression-6 t c = omega
+    (arith, some t (c .before .before .before .before .before .before .before .before .before .before .before) _
+    (c .before .before .before .before .before .before .before .before .before .enum-told .given .1))
 
 emit-expression-requires-6 : (t : ℕ) → lts.Need-emit-expression-requires-6 (known t) (given t) own.Post
-emit-expression-requires-6 t c κs = (omega (arith, some t (c .before .before .before .before .before .before .before .before .before .before .before .before) _ (c .before .before .before .before .before .before .before .before .before .before .enum-told .given .1)), first-room (rest-rooms (rest-rooms (rooms-at t (c .before .before .before .before .before .before .before .before .before .before .before .before) _ (c .before .before .before .before .before .before .before .before .before .before .enum-told .given .1)) (rw (c .before .before .before .before .before .before .before .before .before .in-expression4 .ensures) at (c .before .before .before .before .before .before .before .emit-expression4 .ensures))) (c .before .before .before .emit-expression5 .ensures)))
+emit-expression-requires-6 t c κs =
+    (omega (arith, some t (c .before .before .before .before .before .before .before .before .before .before .before .before) _
+    (c .before .before .before .before .before .before .before .before .before .before .enum-told .given .1)),
+    first-room (rest-rooms (rest-rooms
+    (rooms-at t (c .before .before .before .before .before .before .before .before .before .before .before .before) _
+    (c .before .before .before .before .before .before .before .before .before .before .enum-told .given .1))
+    (rw (c .before .before .before .before .before .before .before .before .before .in-expression4 .ensures) at
+    (c .before .before .before .before .before .before .before .emit-expression4 .ensures)))
+    (c .before .before .before .emit-expression5 .ensures)))
 
 put-operator-requires-3 : (t : ℕ) → lts.Need-put-operator-requires-3 (known t) (given t) own.Post
-put-operator-requires-3 t c κs = omega (arith, no-rooms (rest-rooms (rest-rooms (rest-rooms (rooms-at t (c .before .before .before .before .before .before .before .before .before .before .before .before .before .before .before .before) _ (c .before .before .before .before .before .before .before .before .before .before .before .before .before .before .enum-told .given .1)) (rw (c .before .before .before .before .before .before .before .before .before .before .before .before .before .in-expression4 .ensures) at (c .before .before .before .before .before .before .before .before .before .before .before .emit-expression4 .ensures))) (c .before .before .before .before .before .before .before .emit-expression5 .ensures)) (c .before .before .before .emit-expression6 .ensures)))
+put-operator-requires-3 t c κs =
+    omega (arith, no-rooms (rest-rooms
+    (rest-rooms (rest-rooms (rooms-at t
+    (c .before .before .before .before .before .before .before .before .before .before .before .before .before .before .before .before) _ (c .before .before .before .before .before .before .before .before .before .before .before .before .before .before .enum-told .given .1)) (rw (c .before .before .before .before .before .before .before .before .before .before .before .before .before .in-expression4 .ensures) at (c .before .before .before .before .before .before .before .before .before .before .before .emit-expression4 .ensures))) (c .before .before .before .before .before .before .before .emit-expression5 .ensures)) (c .before .before .before .emit-expression6 .ensures)))
 
 same-length : (t : ℕ) → lts.Need-same-length (known t) (given t) own.Post
 same-length t c = c .before .before .put-push .kept .0
 
 returns : (t : ℕ) → lts.Need-returns (known t) (given t) own.Post
-returns t c = emits-last _ (is t (c .before .before .before .before .before .before .before .before) _ (c .before .before .before .before .before .before .decoded .given .1)) emits-none (same-word (toZ-ofZ (search needs)) (rw (c .before .before .before .in-expression .ensures) at (c .before .before .put-push .ensures)))
+returns t c = emits-last _ (is t (c .before .before .before .before .before .before .before .before) _
+    (c .before .before .before .before .before .before .decoded .given .1)) emits-none
+    (same-word (toZ-ofZ (search needs))
+    (rw (c .before .before .before .in-expression .ensures) at (c .before .before .put-push .ensures)))
 
 same-length-2 : (t : ℕ) → lts.Need-same-length-2 (known t) (given t) own.Post
 same-length-2 t c = c .before .before .put-access .kept .0
 
 returns-2 : (t : ℕ) → lts.Need-returns-2 (known t) (given t) own.Post
-returns-2 t c = emits-last _ (is t (c .before .before .before .before .before .before .before .before) _ (c .before .before .before .before .before .before .decoded2 .given .1)) emits-none (rw (c .before .before .before .of-read .ensures) at (c .before .before .put-access .ensures))
+returns-2 t c = emits-last _ (is t (c .before .before .before .before .before .before .before .before) _
+    (c .before .before .before .before .before .before .decoded2 .given .1)) emits-none
+    (rw (c .before .before .before .of-read .ensures) at (c .before .before .put-access .ensures))
 
 same-length-3 : (t : ℕ) → lts.Need-same-length-3 (known t) (given t) own.Post
 same-length-3 t c = search needs
 
 returns-3 : (t : ℕ) → lts.Need-returns-3 (known t) (given t) own.Post
-returns-3 t c = emits-last _ (is t (c .before .before .before .before .before .before .before .before .before .before .before .before .before .before .before .before .before) _ (c .before .before .before .before .before .before .before .before .before .before .before .before .before .before .before .decoded3 .given .1)) (emits-more (rw (c .before .before .before .before .before .before .before .before .before .before .before .before .before .in-expression2 .ensures) at (c .before .before .before .before .before .before .before .before .before .before .before .emit-expression .ensures)) (emits-more (c .before .before .before .before .before .before .before .emit-expression2 .ensures) emits-none)) (rw (c .before .before .before .binary-byte .ensures) at (c .before .before .put-operator .ensures))
+returns-3 t c = emits-last _ (is t
+    (c .before .before .before .before .before .before .before .before .before .before .before .before .before .before .before .before .before) _ (c .before .before .before .before .before .before .before .before .before .before .before .before .before .before .before .decoded3 .given .1)) (emits-more (rw (c .before .before .before .before .before .before .before .before .before .before .before .before .before .in-expression2 .ensures) at (c .before .before .before .before .before .before .before .before .before .before .before .emit-expression .ensures)) (emits-more (c .before .before .before .before .before .before .before .emit-expression2 .ensures) emits-none)) (rw (c .before .before .before .binary-byte .ensures) at (c .before .before .put-operator .ensures))
 
 same-length-4 : (t : ℕ) → lts.Need-same-length-4 (known t) (given t) own.Post
 same-length-4 t c = search needs
@@ -246,9 +303,11 @@ same-length-4 t c = search needs
 returns-4 : (t : ℕ) → lts.Need-returns-4 (known t) (given t) own.Post
 returns-4 t c =
     emits-last _
-    (is t (c .before .before .before .before .before .before .before .before .before .before .before .before .before) _ (c .before .before .before .before .before .before .before .before .before .before .before .decoded4 .given .1))
+    (is t (c .before .before .before .before .before .before .before .before .before .before .before .before .before) _
+        (c .before .before .before .before .before .before .before .before .before .before .before .decoded4 .given .1))
     (emits-more
-    (rw (c .before .before .before .before .before .before .before .before .before .in-expression3 .ensures) at (c .before .before .before .before .before .before .before .emit-expression3 .ensures))
+    (rw (c .before .before .before .before .before .before .before .before .before .in-expression3 .ensures) at
+        (c .before .before .before .before .before .before .before .emit-expression3 .ensures))
     emits-none)
     (rw (c .before .before .before .unary-byte .ensures) at (c .before .before .put-operator2 .ensures))
 
@@ -256,10 +315,12 @@ same-length-5 : (t : ℕ) → lts.Need-same-length-5 (known t) (given t) own.Pos
 same-length-5 t c = search needs
 
 returns-5 : (t : ℕ) → lts.Need-returns-5 (known t) (given t) own.Post
-returns-5 t c = emits-last _ (is t (c .before .before .before .before .before .before .before .before .before .before .before .before .before .before .before .before .before .before .before) _ (c .before .before .before .before .before .before .before .before .before .before .before .before .before .before .before .before .before .enum-told .given .1)) (emits-more (rw (c .before .before .before .before .before .before .before .before .before .before .before .before .before .before .before .before .in-expression4 .ensures) at (c .before .before .before .before .before .before .before .before .before .before .before .before .before .before .emit-expression4 .ensures)) (emits-more (c .before .before .before .before .before .before .before .before .before .before .emit-expression5 .ensures) (emits-more (c .before .before .before .before .before .before .emit-expression6 .ensures) emits-none))) (c .before .before .put-operator3 .ensures)
+returns-5 t c = emits-last _ (is t
+    (c .before .before .before .before .before .before .before .before .before .before .before .before .before .before .before .before .before .before .before) _ (c .before .before .before .before .before .before .before .before .before .before .before .before .before .before .before .before .before .enum-told .given .1)) (emits-more (rw (c .before .before .before .before .before .before .before .before .before .before .before .before .before .before .before .before .in-expression4 .ensures) at (c .before .before .before .before .before .before .before .before .before .before .before .before .before .before .emit-expression4 .ensures)) (emits-more (c .before .before .before .before .before .before .before .before .before .before .emit-expression5 .ensures) (emits-more (c .before .before .before .before .before .before .emit-expression6 .ensures) emits-none))) (c .before .before .put-operator3 .ensures)
 
 returns-6 : (t : ℕ) → lts.Need-returns-6 (known t) (given t) own.Post
-returns-6 t c = absurd (no-operator (c .before .operator-at .result) (c .match .keys6) (operator-stands _ (is t (c .before) _ refl) (room-at t (c .before))))
+returns-6 t c = absurd (no-operator (c .before .operator-at .result) (c .match .keys6)
+    (operator-stands _ (is t (c .before) _ refl) (room-at t (c .before))))
 
 pub +emit-expression-spec : {M : Type 1} → statement M
 +emit-expression-spec =

@@ -23,15 +23,18 @@ in-program-requires : tie.Need-in-program-requires
 in-program-requires c κs = search needs
 
 add-emit-expression : tie.Need-add-emit-expression
-add-emit-expression c = omega (arith, inside (c .before .before .before .before .before) .1 (c .before .if1 .taken), c .before .before .before .before .before .good .0 .1)
+add-emit-expression c = omega (arith, inside (c .before .before .before .before .before) .1 (c .before .if1 .taken),
+    c .before .before .before .before .before .good .0 .1)
 
 emit-expression-requires : tie.Need-emit-expression-requires
 emit-expression-requires c κs =
-    rw (c .before .in-program .ensures) (equation-room (c .before .before .if1 .taken) (c .before .before .before .before .before .before .pre))
+    rw (c .before .in-program .ensures)
+        (equation-room (c .before .before .if1 .taken) (c .before .before .before .before .before .before .pre))
 
 put-access-requires : tie.Need-put-access-requires
 put-access-requires c κs =
-    store-room (c .before .before .before .before .before .before .if1 .taken) (c .before .before .before .before .before .before .before .before .before .before .pre)
+    store-room (c .before .before .before .before .before .before .if1 .taken)
+        (c .before .before .before .before .before .before .before .before .before .before .pre)
     (rw (c .before .before .before .before .before .in-program .ensures) at (c .before .before .before .emit-expression .ensures))
 
 same-length : tie.Need-same-length
@@ -40,7 +43,8 @@ same-length c = search needs
 returns : tie.Need-returns
 returns c =
     equation-emits (c .before .before .before .before .before .before .before .before .before .if1 .taken)
-    (rw (c .before .before .before .before .before .before .before .before .in-program .ensures) at (c .before .before .before .before .before .before .emit-expression .ensures))
+    (rw (c .before .before .before .before .before .before .before .before .in-program .ensures) at
+        (c .before .before .before .before .before .before .emit-expression .ensures))
     (c .before .before .put-access .ensures)
 
 put-access-requires-2 : tie.Need-put-access-requires-2
@@ -49,13 +53,15 @@ put-access-requires-2 c κs = omega (arith, sample-room (c .before .if1 .left) (
 put-access-requires-3 : tie.Need-put-access-requires-3
 put-access-requires-3 c κs =
     let first = c .before .before .before .put-access2 .ensures in
-    omega (arith, sample-room (c .before .before .before .before .before .if1 .left) (c .before .before .before .before .before .before .before .before .before .pre), first .ends, puts-length first)
+    omega (arith, sample-room (c .before .before .before .before .before .if1 .left)
+        (c .before .before .before .before .before .before .before .before .before .pre), first .ends, puts-length first)
 
 same-length-2 : tie.Need-same-length-2
 same-length-2 c = search needs
 
 returns-2 : tie.Need-returns-2
-returns-2 c = sample-emits (c .before .before .before .before .before .before .before .before .if1 .left) (c .before .before .before .before .before .before .put-access2 .ensures) (c .before .before .put-access3 .ensures)
+returns-2 c = sample-emits (c .before .before .before .before .before .before .before .before .if1 .left)
+    (c .before .before .before .before .before .before .put-access2 .ensures) (c .before .before .put-access3 .ensures)
 
 pub emit-signal-spec : {M : Type 1} → statement M
 emit-signal-spec =

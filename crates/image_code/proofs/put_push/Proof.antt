@@ -39,7 +39,8 @@ returns c =
       ends = omega (arith, word-length (a .w));
       holds =
           c .before .before .before .put-word .ensures ∙
-          ap (λ (z : ℤ). sets (set (a .out .now) (a .to) 0x50) (a .to + 1) (wordBytes z)) (toZ-ofZ (c .before .before .before .before .before .before .fits .w)) ∙
+          ap (λ (z : ℤ). sets (set (a .out .now) (a .to) 0x50) (a .to + 1) (wordBytes z))
+              (toZ-ofZ (c .before .before .before .before .before .before .fits .w)) ∙
           ap (λ (j : ℕ). sets (set (a .out .now) (a .to) 0x50) j (wordBytes (a .w))) (add-one (a .to));
     }
 

@@ -27,13 +27,15 @@ array-copy-out-hop : tie.Need-array-copy-out-hop Inv-loop μ-loop
 array-copy-out-hop c = omega (arith, c .before .loop .inv .0, c .before .loop .inv .1)
 
 entry-of-requires : tie.Need-entry-of-requires Inv-loop μ-loop
-entry-of-requires c κs = let l = c .before .before .loop in (small-start _ _ _ (l .inv .3), l .inv .2 (l .left - 1) (omega (arith, l .inv .0)))
+entry-of-requires c κs = let l = c .before .before .loop in
+    (small-start _ _ _ (l .inv .3), l .inv .2 (l .left - 1) (omega (arith, l .inv .0)))
 
 returns : tie.Need-returns Inv-loop μ-loop
 returns c =
     let l = c .before .before .before .before .loop in
     let a = c .before .before .before .before .before .args in
-    let q = back-at (a .t1) (l .left) (l .element) (c .before .entry-of .result) (c .before .before .before .loop-test .taken) (c .before .entry-of .ensures) in
+    let q = back-at (a .t1) (l .left) (l .element) (c .before .entry-of .result) (c .before .before .before .loop-test .taken)
+        (c .before .entry-of .ensures) in
     (sym (l .inv .4 ∙ rw (c .if1 .taken) at q), tt)
 
 sub-element : tie.Need-sub-element Inv-loop μ-loop
@@ -64,7 +66,8 @@ returns-2 : tie.Need-returns-2 Inv-loop μ-loop
 returns-2 c =
     let l = c .before .loop in
     let a = c .before .before .args in
-    (sym (l .inv .4 ∙ back-end (a .t1) (l .left) (l .element) (omega (arith, c .loop-test .left))), small-start (a .t1) (l .left) (l .element) (l .inv .3))
+    (sym (l .inv .4 ∙ back-end (a .t1) (l .left) (l .element) (omega (arith, c .loop-test .left))),
+        small-start (a .t1) (l .left) (l .element) (l .inv .3))
 
 pub go-back-spec : {M : Type 1} → statement M
 go-back-spec =

@@ -84,7 +84,8 @@ module _ (p : Program) (s : Schedule) (h : ℕ) where
   pub counts-at : (c : ℕ) → c < h → getD (countsOf p s h) c 0 ≡ cycleCommands p s c
   unfolding countsOf
   counts-at c lt =
-      List·getD-append (table h (cycleCommands p s)) (replicate (240 - h) 0) 0 c (omega (arith, table-length h (cycleCommands p s))) ∙
+      List·getD-append (table h (cycleCommands p s)) (replicate (240 - h) 0) 0 c
+          (omega (arith, table-length h (cycleCommands p s))) ∙
       table-at h (cycleCommands p s) c 0 lt
 
   pub counts-past : (c : ℕ) → h ≤ c → c < 240 → getD (countsOf p s h) c 0 ≡ 0

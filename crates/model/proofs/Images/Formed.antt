@@ -144,7 +144,8 @@ module _ (Q : Read → Type 0) (n own : ℕ) (known : (ρ : Read) → Q ρ → �
 
 -- The code of a signal is well formed.
 module _ (Q : Read → Type 0) (n x : ℕ) (known : (ρ : Read) → Q ρ → ρ .operands .signal < n) where
-  signal-ok : (body : Body) → BodyWords body → bodyDepth body ≤ 16 → All Q (bodyReads body) → codeOk (signalCode x body) n x ≡ true
+  signal-ok : (body : Body) → BodyWords body → bodyDepth body ≤ 16 → All Q (bodyReads body) →
+      codeOk (signalCode x body) n x ≡ true
   unfolding codeOk commandOk
   signal-ok input fit deep q =
       let code = signalCode x input in
@@ -257,8 +258,10 @@ module _ (p : Program) (s : Schedule) (h : ℕ) (acc : Feasible p s) (whole : Mu
   codes-ok =
       rw (image-count p s h)
       (true-all (count p) _ (λ x lt.
-      rw (le-leb _ _ (code-rises p s h bounded x lt), le-leb _ _ (code-inside (x + 1) (omega arith)), code-stretch p s h bounded x lt)
-      (signal-ok (Met p s x) (count p) x (λ ρ m. m .declared) (signalAt p x .body) (bounded .constants x lt) (bounded .depths x lt)
+      rw (le-leb _ _ (code-rises p s h bounded x lt), le-leb _ _ (code-inside (x + 1) (omega arith)),
+          code-stretch p s h bounded x lt)
+      (signal-ok (Met p s x) (count p) x (λ ρ m. m .declared) (signalAt p x .body) (bounded .constants x lt)
+          (bounded .depths x lt)
       (acc .met x lt))))
 
   pub image-well-formed : wellFormed (imageOf p s h) ≡ true

@@ -215,7 +215,8 @@ unfolding offsets
 offsets-length at [] = refl
 offsets-length at (x ∷ xs) = ap suc (offsets-length (at + length x) xs)
 
-pub offset-at : (at : ℕ) (xs : List (List ℕ)) (x : ℕ) → x ≤ length xs → getD (offsets at xs) x 0 ≡ at + length (joined (take x xs))
+pub offset-at : (at : ℕ) (xs : List (List ℕ)) (x : ℕ) → x ≤ length xs →
+    getD (offsets at xs) x 0 ≡ at + length (joined (take x xs))
 unfolding offsets joinFrom
 offset-at at [] zero h = omega arith
 offset-at at [] (suc x) h = absurd (omega arith)
@@ -422,7 +423,8 @@ module _ (p : Program) (s : Schedule) (h : ℕ) where
         go false e =
             let q : x ≡ count p = omega (arith, ltb-false x (count p) e) in
             image-length ∙
-            ap (λ (l : List (List ℕ)). codesAt p s h + length (joined l)) (sym (take-all x (codes p) (omega (arith, codes-length p))))
+            ap (λ (l : List (List ℕ)). codesAt p s h + length (joined l))
+                (sym (take-all x (codes p) (omega (arith, codes-length p))))
 
     lists-start : (c : ℕ) → c ≤ length (runLists p s h) → listOffset (imageOf p s h) c ≡ listStart c
     lists-start c le = list-offset c (omega (arith, lists-length))

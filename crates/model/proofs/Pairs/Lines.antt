@@ -45,7 +45,8 @@ parts n i b lt = sym (add-mul (n - i) i b) ∙ ap (_* b) (omega arith)
 -- A read whose line holds uses what is stored before the reader's run, the cycle of the run included if the writer comes
 -- first.
 pub line-index : (kind : Kind) (w r : Rate) (n i k : ℕ) → w .phase < w .period → r .phase < r .period → i < n →
-    PeriodRule kind (w .period) (r .period) n → Line kind w r i → stored w (runCycle r k + bit (writerFirst kind)) ≡ uses kind n i k
+    PeriodRule kind (w .period) (r .period) n → Line kind w r i →
+        stored w (runCycle r k + bit (writerFirst kind)) ≡ uses kind n i k
 line-index Now w r n i k vw vr lt p l = shared w r (w .period) 1 1 1 1 k (omega arith) ∙ div-one _ ∙ omega arith
 line-index Last w r n i k vw vr lt p l = shared w r (w .period) 1 1 0 0 k (omega arith) ∙ div-one _ ∙ omega arith
 line-index When w r n i k vw vr lt p l = shared w r (w .period) n 1 (suc i) 1 k (omega arith) ∙ div-one _ ∙ omega arith
@@ -75,7 +76,8 @@ Indexed LastWhen = Unit {0}
 Indexed Current = Unit {0}
 
 -- At most one index below n meets the line of an open read.
-pub index-once : (kind : Kind) (w r : Rate) (n i j : ℕ) → Indexed kind → i < n → j < n → PeriodRule kind (w .period) (r .period) n →
+pub index-once : (kind : Kind) (w r : Rate) (n i j : ℕ) → Indexed kind → i < n → j < n →
+    PeriodRule kind (w .period) (r .period) n →
     Line kind w r i → Line kind w r j → i ≡ j
 index-once Now w r n i j x lt gt p l m = absurd x
 index-once Last w r n i j x lt gt p l m = absurd x

@@ -142,7 +142,8 @@ parseLinks (suc room) text at links =
       | false ↦ parsed links at
     ]
 
--- A declaration with its operands, after those of p; `next` reads on. `label` is that of a TAG directly before it, 0 where there is
+-- A declaration with its operands, after those of p; `next` reads on. `label` is that of a TAG directly before it, 0 where there
+-- is
 -- none; IN and EQ take it.
 unfoldable pub declare : ℕ → (ℕ → ℕ → Program → Outcome Program) → List ℕ → ℕ → ℕ → Program → Declaration → Outcome Program
 declare least next text at label p Declaration.EndsEarly = refuse 2 (length text)

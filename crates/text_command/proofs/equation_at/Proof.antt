@@ -47,7 +47,8 @@ unfolding declarationOf
 returns-3 c =
     let a = c .before .before .before .before .before .before .before .args in
     let s = now (a .text) in
-    let n : isPeriod (getD s (a .at + 1) 0) ≡ true = sym (c .before .before .before .is-period .ensures) ∙ not-false _ (c .before .before .if2 .left) in
+    let n : isPeriod (getD s (a .at + 1) 0) ≡ true = sym (c .before .before .before .is-period .ensures) ∙
+        not-false _ (c .before .before .if2 .left) in
     rw (le-leb (a .at + 2) (length s) (omega arith), n, lt-leb (a .at + 8) (length s) (omega arith))
 
 add-word-at : tie.Need-add-word-at
@@ -67,8 +68,10 @@ unfolding declarationOf
 returns-4 c =
     let a = c .before .before .before .before .before .before .before .before .before .args in
     let s = now (a .text) in
-    let n : isPeriod (getD s (a .at + 1) 0) ≡ true = sym (c .before .before .before .before .before .is-period .ensures) ∙ not-false _ (c .before .before .before .before .if2 .left) in
-    rw (le-leb (a .at + 2) (length s) (omega arith), n, le-leb (a .at + 8) (length s) (omega arith), kept _ (c .before .word-at .ok), c .before .word-at .ensures, c .two-at .ensures)
+    let n : isPeriod (getD s (a .at + 1) 0) ≡ true = sym (c .before .before .before .before .before .is-period .ensures) ∙
+        not-false _ (c .before .before .before .before .if2 .left) in
+    rw (le-leb (a .at + 2) (length s) (omega arith), n, le-leb (a .at + 8) (length s) (omega arith),
+        kept _ (c .before .word-at .ok), c .before .word-at .ensures, c .two-at .ensures)
 
 pub equation-at-spec : {M : Type 1} → statement M
 equation-at-spec =

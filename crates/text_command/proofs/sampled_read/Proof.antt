@@ -62,8 +62,10 @@ unfolding sampledRead
 returns-3 c =
     let a = c .before .before .before .before .before .before .before .before .before .before .args in
     let s = now (a .text) in
-    let n : isFactor (getD s (a .at + 3) 0) ≡ true = sym (c .before .before .before .is-period .ensures) ∙ not-false _ (c .before .before .if2 .left) in
-    let i : isIndex (getD s (a .at + 2) 0) (getD s (a .at + 3) 0) ≡ false = sym (c .before .is-index .ensures) ∙ not-true _ (c .if3 .taken) in
+    let n : isFactor (getD s (a .at + 3) 0) ≡ true = sym (c .before .before .before .is-period .ensures) ∙
+        not-false _ (c .before .before .if2 .left) in
+    let i : isIndex (getD s (a .at + 2) 0) (getD s (a .at + 3) 0) ≡ false = sym (c .before .is-index .ensures) ∙
+        not-true _ (c .if3 .taken) in
     rw (le-leb (a .at + 4) (length s) (omega arith), n, i)
 
 index-of-requires : tie.Need-index-of-requires
@@ -74,8 +76,10 @@ unfolding sampledRead
 returns-4 c =
     let a = c .before .before .before .before .before .before .before .before .before .before .before .args in
     let s = now (a .text) in
-    let n : isFactor (getD s (a .at + 3) 0) ≡ true = sym (c .before .before .before .before .is-period .ensures) ∙ not-false _ (c .before .before .before .if2 .left) in
-    let i : isIndex (getD s (a .at + 2) 0) (getD s (a .at + 3) 0) ≡ true = sym (c .before .before .is-index .ensures) ∙ not-false _ (c .before .if3 .left) in
+    let n : isFactor (getD s (a .at + 3) 0) ≡ true = sym (c .before .before .before .before .is-period .ensures) ∙
+        not-false _ (c .before .before .before .if2 .left) in
+    let i : isIndex (getD s (a .at + 2) 0) (getD s (a .at + 3) 0) ≡ true = sym (c .before .before .is-index .ensures) ∙
+        not-false _ (c .before .if3 .left) in
     rw (le-leb (a .at + 4) (length s) (omega arith), n, i, c .index-of .ensures)
 
 pub sampled-read-spec : {M : Type 1} → statement M

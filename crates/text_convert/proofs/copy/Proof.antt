@@ -23,7 +23,8 @@ step : (c : tie.After-shared-slice-known Inv-loop μ-loop) → let l = c .before
     Parts (take (l .left) (drop (l .i) text)) (getD text (l .i) 0 ∷ []) (take (l .left - 1) (drop (l .i + 1) text))
 step c = copy-step _ _ _ (omega arith) (c .before .before .loop .inv .0)
 
-space : (c : tie.After-shared-slice-known Inv-loop μ-loop) → c .before .before .loop .end + 1 ≤ length (c .before .before .loop .out)
+space : (c : tie.After-shared-slice-known Inv-loop μ-loop) →
+    c .before .before .loop .end + 1 ≤ length (c .before .before .loop .out)
 space c =
     let a = c .before .before .before .args in
     room (step c) (c .before .before .loop .inv .1)
@@ -51,7 +52,8 @@ loop-less : tie.Need-loop-less Inv-loop μ-loop
 loop-less c = search needs
 
 loop-again : tie.Need-loop-again Inv-loop μ-loop
-loop-again c = (omega (arith, c .before .before .loop .inv .0), turn (step c) (c .before .before .loop .inv .1) (record { holds = refl; ends = refl }))
+loop-again c = (omega (arith, c .before .before .loop .inv .0),
+    turn (step c) (c .before .before .loop .inv .1) (record { holds = refl; ends = refl }))
 
 same-length : tie.Need-same-length Inv-loop μ-loop
 same-length c = c .before .loop .inv .1 .size

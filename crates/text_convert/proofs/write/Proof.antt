@@ -32,7 +32,8 @@ command-piece-requires c κs = search needs
 put-requires : tie.Need-put-requires Inv-loop μ-loop
 put-requires c κs =
     let t = now-turn (c .before) in
-    (t .inside, rw (← (t .size)) (room (t .parts) (c .before .before .before .loop .inv .1) (omega (arith, c .before .before .before .before .before .before .pre))))
+    (t .inside, rw (← (t .size)) (room (t .parts) (c .before .before .before .loop .inv .1)
+        (omega (arith, c .before .before .before .before .before .before .pre))))
 
 width-of-requires : tie.Need-width-of-requires Inv-loop μ-loop
 width-of-requires c κs = search needs
@@ -51,14 +52,16 @@ loop-again : tie.Need-loop-again Inv-loop μ-loop
 loop-again c =
     let t = now-turn (c .before .before .before .before .before) in
     rw (c .width-of .ensures)
-    (t .inside, turn (t .parts) (c .before .before .before .before .before .before .before .loop .inv .1) (c .before .before .before .put .ensures))
+    (t .inside, turn (t .parts) (c .before .before .before .before .before .before .before .loop .inv .1)
+        (c .before .before .before .put .ensures))
 
 same-length : tie.Need-same-length Inv-loop μ-loop
 same-length c = c .before .loop .inv .1 .size
 
 returns : tie.Need-returns Inv-loop μ-loop
 returns c =
-    done (rewrite-ends (c .before .before .before .before .args .text .now) (c .before .loop .at) (c .before .loop .left) (omega arith))
+    done (rewrite-ends (c .before .before .before .before .args .text .now) (c .before .loop .at) (c .before .loop .left)
+        (omega arith))
     (c .before .loop .inv .1)
 
 pub write-spec : {M : Type 1} → statement M

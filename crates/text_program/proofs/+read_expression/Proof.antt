@@ -110,7 +110,8 @@ module _ (t : ℕ) (c : lts.After-operator-from (known t) (given t) own.Post) wh
     step : parseExpr least depth text at ≡ node least (λ n. parseExpr least (depth - 1) text n) text at o
     step =
         parse-node least depth text at (c .before .if1 .left) ∙
-        ap (λ (x : Operator). node least (λ n. parseExpr least (depth - 1) text n) text at x) (sym (c .operator-from .ensures) ∙ e)
+        ap (λ (x : Operator). node least (λ n. parseExpr least (depth - 1) text n) text at x)
+            (sym (c .operator-from .ensures) ∙ e)
 
     inside : (Operator.EndsEarly ≡ o → ⊥) → at < length text
     inside h = operator-inside least text at (sym (c .operator-from .ensures) ∙ e) h
@@ -128,15 +129,18 @@ module _ (t : ℕ) (c : lts.After-operator-from (known t) (given t) own.Post) wh
   read-inside : {kind : Kind} {x : Sampled} → c .operator-from .result ≡ Operator.Read kind x → at + readWidth kind ≤ length text
   unfolding node
   read-inside {kind} {x} e =
-      parsed-spans least depth text at (read (record { place = at; kind = kind; operands = x })) (at + readWidth kind) (read-step e) .inside
+      parsed-spans least depth text at (read (record { place = at; kind = kind; operands = x })) (at + readWidth kind)
+          (read-step e) .inside
 
   -- where an operand is read
-  one : {l′ : List ℕ} {r : Walked} {a : Walk} → Walks (parseExpr least (depth - 1) text (at + 1)) (now (c .before .before .before .before .args .reads)) count to l′ r →
+  one : {l′ : List ℕ} {r : Walked} {a : Walk} →
+      Walks (parseExpr least (depth - 1) text (at + 1)) (now (c .before .before .before .before .args .reads)) count to l′ r →
       r ≡ Walked.Next a → Ahead (length text) (length l′) a
   one w e = ahead least text (depth - 1) (room-after 1 room) w e
 
   more : {l l′ : List ℕ} {r : Walked} {a b : Walk} → Ahead (length text) (length l) a →
-      Walks (parseExpr least (depth - 1) text (a .at)) l (a .reads) (a .code) l′ r → r ≡ Walked.Next b → Ahead (length text) (length l′) b
+      Walks (parseExpr least (depth - 1) text (a .at)) l (a .reads) (a .code) l′ r → r ≡ Walked.Next b →
+          Ahead (length text) (length l′) b
   more h w e = ahead least text (depth - 1) (h .left) w e
 
 too-deep-requires : (t : ℕ) → lts.Need-too-deep-requires (known t) (given t) own.Post
@@ -173,13 +177,16 @@ in-expression-requires : (t : ℕ) → lts.Need-in-expression-requires (known t)
 in-expression-requires t c κs = search needs
 
 add-moved-on : (t : ℕ) → lts.Need-add-moved-on (known t) (given t) own.Post
-add-moved-on t c = omega (arith, constant-inside t (c .before .before .before) (c .before .enum-told4 .given .1), room t (c .before .before .before) .short, room t (c .before .before .before) .small)
+add-moved-on t c = omega (arith, constant-inside t (c .before .before .before) (c .before .enum-told4 .given .1),
+    room t (c .before .before .before) .short, room t (c .before .before .before) .small)
 
 in-code-requires : (t : ℕ) → lts.Need-in-code-requires (known t) (given t) own.Post
 in-code-requires t c κs = search needs
 
 add-moved-on-2 : (t : ℕ) → lts.Need-add-moved-on-2 (known t) (given t) own.Post
-add-moved-on-2 t c = omega (arith, constant-inside t (c .before .before .before .before) (c .before .before .enum-told4 .given .1), room t (c .before .before .before .before) .short, room t (c .before .before .before .before) .small)
+add-moved-on-2 t c = omega (arith,
+    constant-inside t (c .before .before .before .before) (c .before .before .enum-told4 .given .1),
+    room t (c .before .before .before .before) .short, room t (c .before .before .before .before) .small)
 
 moved-on-requires : (t : ℕ) → lts.Need-moved-on-requires (known t) (given t) own.Post
 moved-on-requires t c κs = search needs
@@ -188,28 +195,48 @@ enum-known-operator : (t : ℕ) → lts.Need-enum-known-operator (known t) (give
 enum-known-operator t c = search needs
 
 cast-reads : (t : ℕ) → lts.Need-cast-reads (known t) (given t) own.Post
-cast-reads t c = omega (arith, read-inside t (c .before .before .before) (c .before .operator .given .1), read-least (c .before .operator .given .0 .0), width-most (c .before .operator .given .0 .0), room t (c .before .before .before) .short, room t (c .before .before .before) .table, room t (c .before .before .before) .few, room t (c .before .before .before) .small)
+cast-reads t c = omega (arith, read-inside t (c .before .before .before) (c .before .operator .given .1),
+    read-least (c .before .operator .given .0 .0), width-most (c .before .operator .given .0 .0),
+    room t (c .before .before .before) .short, room t (c .before .before .before) .table, room t (c .before .before .before) .few,
+    room t (c .before .before .before) .small)
 
 mul-reads : (t : ℕ) → lts.Need-mul-reads (known t) (given t) own.Post
-mul-reads t c = omega (arith, read-inside t (c .before .before .before) (c .before .operator .given .1), read-least (c .before .operator .given .0 .0), width-most (c .before .operator .given .0 .0), room t (c .before .before .before) .short, room t (c .before .before .before) .table, room t (c .before .before .before) .few, room t (c .before .before .before) .small)
+mul-reads t c = omega (arith, read-inside t (c .before .before .before) (c .before .operator .given .1),
+    read-least (c .before .operator .given .0 .0), width-most (c .before .operator .given .0 .0),
+    room t (c .before .before .before) .short, room t (c .before .before .before) .table, room t (c .before .before .before) .few,
+    room t (c .before .before .before) .small)
 
 slice-write-reads : (t : ℕ) → lts.Need-slice-write-reads (known t) (given t) own.Post
-slice-write-reads t c = omega (arith, read-inside t (c .before .before .before) (c .before .operator .given .1), read-least (c .before .operator .given .0 .0), width-most (c .before .operator .given .0 .0), room t (c .before .before .before) .short, room t (c .before .before .before) .table, room t (c .before .before .before) .few, room t (c .before .before .before) .small)
+slice-write-reads t c = omega (arith, read-inside t (c .before .before .before) (c .before .operator .given .1),
+    read-least (c .before .operator .given .0 .0), width-most (c .before .operator .given .0 .0),
+    room t (c .before .before .before) .short, room t (c .before .before .before) .table, room t (c .before .before .before) .few,
+    room t (c .before .before .before) .small)
 
 of-read-requires : (t : ℕ) → lts.Need-of-read-requires (known t) (given t) own.Post
 of-read-requires t c κs = search needs
 
 add-moved-on-3 : (t : ℕ) → lts.Need-add-moved-on-3 (known t) (given t) own.Post
-add-moved-on-3 t c = omega (arith, read-inside t (c .before .before .before .before) (c .before .before .operator .given .1), read-least (c .before .before .operator .given .0 .0), width-most (c .before .before .operator .given .0 .0), room t (c .before .before .before .before) .short, room t (c .before .before .before .before) .table, room t (c .before .before .before .before) .few, room t (c .before .before .before .before) .small, c .of-read .ensures)
+add-moved-on-3 t c = omega (arith, read-inside t (c .before .before .before .before) (c .before .before .operator .given .1),
+    read-least (c .before .before .operator .given .0 .0), width-most (c .before .before .operator .given .0 .0),
+    room t (c .before .before .before .before) .short, room t (c .before .before .before .before) .table,
+    room t (c .before .before .before .before) .few, room t (c .before .before .before .before) .small, c .of-read .ensures)
 
 add-moved-on-4 : (t : ℕ) → lts.Need-add-moved-on-4 (known t) (given t) own.Post
-add-moved-on-4 t c = omega (arith, read-inside t (c .before .before .before .before) (c .before .before .operator .given .1), read-least (c .before .before .operator .given .0 .0), width-most (c .before .before .operator .given .0 .0), room t (c .before .before .before .before) .short, room t (c .before .before .before .before) .table, room t (c .before .before .before .before) .few, room t (c .before .before .before .before) .small, c .of-read .ensures)
+add-moved-on-4 t c = omega (arith, read-inside t (c .before .before .before .before) (c .before .before .operator .given .1),
+    read-least (c .before .before .operator .given .0 .0), width-most (c .before .before .operator .given .0 .0),
+    room t (c .before .before .before .before) .short, room t (c .before .before .before .before) .table,
+    room t (c .before .before .before .before) .few, room t (c .before .before .before .before) .small, c .of-read .ensures)
 
 in-code-requires-2 : (t : ℕ) → lts.Need-in-code-requires-2 (known t) (given t) own.Post
 in-code-requires-2 t c κs = search needs
 
 add-moved-on-5 : (t : ℕ) → lts.Need-add-moved-on-5 (known t) (given t) own.Post
-add-moved-on-5 t c = omega (arith, read-inside t (c .before .before .before .before .before) (c .before .before .before .operator .given .1), read-least (c .before .before .before .operator .given .0 .0), width-most (c .before .before .before .operator .given .0 .0), room t (c .before .before .before .before .before) .short, room t (c .before .before .before .before .before) .table, room t (c .before .before .before .before .before) .few, room t (c .before .before .before .before .before) .small, c .before .of-read .ensures)
+add-moved-on-5 t c = omega (arith,
+    read-inside t (c .before .before .before .before .before) (c .before .before .before .operator .given .1),
+    read-least (c .before .before .before .operator .given .0 .0), width-most (c .before .before .before .operator .given .0 .0),
+    room t (c .before .before .before .before .before) .short, room t (c .before .before .before .before .before) .table,
+    room t (c .before .before .before .before .before) .few, room t (c .before .before .before .before .before) .small,
+    c .before .of-read .ensures)
 
 moved-on-requires-2 : (t : ℕ) → lts.Need-moved-on-requires-2 (known t) (given t) own.Post
 moved-on-requires-2 t c κs = search needs
@@ -221,13 +248,18 @@ in-expression-requires-2 : (t : ℕ) → lts.Need-in-expression-requires-2 (know
 in-expression-requires-2 t c κs = search needs
 
 add-first-at : (t : ℕ) → lts.Need-add-first-at (known t) (given t) own.Post
-add-first-at t c = omega (arith, inside t (c .before .before .before) _ (c .before .enum-told5 .given .1) (λ e. let z : _≡_ {A = ℕ} 0 1 = cc in omega arith), room t (c .before .before .before) .short)
+add-first-at t c = omega (arith,
+    inside t (c .before .before .before) _ (c .before .enum-told5 .given .1) (λ e. let z : _≡_ {A = ℕ} 0 1 = cc in omega arith),
+    room t (c .before .before .before) .short)
 
 sub-read-expression : (t : ℕ) → lts.Need-sub-read-expression (known t) (given t) own.Post
 sub-read-expression t c = search needs
 
 read-expression-requires : (t : ℕ) → lts.Need-read-expression-requires (known t) (given t) own.Post
-read-expression-requires t c κs = (omega (arith, c .before .before .before .before .before .if1 .left, c .before .before .before .before .before .before .before .before .pre .0), rw (c .before .in-expression2 .ensures) (room-after 1 (room t (c .before .before .before .before))))
+read-expression-requires t c κs =
+    (omega (arith, c .before .before .before .before .before .if1 .left,
+    c .before .before .before .before .before .before .before .before .pre .0),
+    rw (c .before .in-expression2 .ensures) (room-after 1 (room t (c .before .before .before .before))))
 
 enum-known-first : (t : ℕ) → lts.Need-enum-known-first (known t) (given t) own.Post
 enum-known-first t c = search needs
@@ -240,13 +272,18 @@ same-length t c = search needs
 
 returns-2 : (t : ℕ) → lts.Need-returns-2 (known t) (given t) own.Post
 unfolding node
-returns-2 t c = rw (step t (c .before .before .before .before .before .before .before .before .before) _ (c .before .before .before .before .before .before .before .enum-told5 .given .1)) (stop _ _ (rw (c .before .before .before .before .before .before .in-expression2 .ensures) at (c .before .before .before .before .read-expression .ensures)) (c .enum-told6 .given .1))
+returns-2 t c = rw (step t (c .before .before .before .before .before .before .before .before .before) _
+    (c .before .before .before .before .before .before .before .enum-told5 .given .1))
+    (stop _ _ (rw (c .before .before .before .before .before .before .in-expression2 .ensures) at
+    (c .before .before .before .before .read-expression .ensures)) (c .enum-told6 .given .1))
 
 sub-read-expression-2 : (t : ℕ) → lts.Need-sub-read-expression-2 (known t) (given t) own.Post
 sub-read-expression-2 t c = search needs
 
 read-expression-requires-2 : (t : ℕ) → lts.Need-read-expression-requires-2 (known t) (given t) own.Post
-read-expression-requires-2 t c κs = (omega (arith, c .before .before .before .before .before .before .before .before .before .before .before .before .if1 .left, c .before .before .before .before .before .before .before .before .before .before .before .before .before .before .before .pre .0), one t (c .before .before .before .before .before .before .before .before .before .before .before) (rw (c .before .before .before .before .before .before .before .before .in-expression2 .ensures) at (c .before .before .before .before .before .before .read-expression .ensures)) (c .before .before .first .given .1) .left)
+read-expression-requires-2 t c κs =
+    (omega (arith, c .before .before .before .before .before .before .before .before .before .before .before .before .if1 .left,
+    c .before .before .before .before .before .before .before .before .before .before .before .before .before .before .before .pre .0), one t (c .before .before .before .before .before .before .before .before .before .before .before) (rw (c .before .before .before .before .before .before .before .before .in-expression2 .ensures) at (c .before .before .before .before .before .before .read-expression .ensures)) (c .before .before .first .given .1) .left)
 
 enum-known-second : (t : ℕ) → lts.Need-enum-known-second (known t) (given t) own.Post
 enum-known-second t c = search needs
@@ -265,7 +302,8 @@ in-code-requires-3 : (t : ℕ) → lts.Need-in-code-requires-3 (known t) (given 
 in-code-requires-3 t c κs = search needs
 
 add-moved-on-6 : (t : ℕ) → lts.Need-add-moved-on-6 (known t) (given t) own.Post
-add-moved-on-6 t c = let h = more t (c .before .before .before .before .before .before .before .before .before .before .before .before .before .before .before .before .before .before .before) (one t (c .before .before .before .before .before .before .before .before .before .before .before .before .before .before .before .before .before .before .before) (rw (c .before .before .before .before .before .before .before .before .before .before .before .before .before .before .before .before .in-expression2 .ensures) at (c .before .before .before .before .before .before .before .before .before .before .before .before .before .before .read-expression .ensures)) (c .before .before .before .before .before .before .before .before .before .before .first .given .1)) (c .before .before .before .before .before .before .before .read-expression2 .ensures) (c .before .before .before .second .given .1) in omega (arith, h .left .short, h .left .small, h .inside)
+add-moved-on-6 t c = let h = more t
+    (c .before .before .before .before .before .before .before .before .before .before .before .before .before .before .before .before .before .before .before) (one t (c .before .before .before .before .before .before .before .before .before .before .before .before .before .before .before .before .before .before .before) (rw (c .before .before .before .before .before .before .before .before .before .before .before .before .before .before .before .before .in-expression2 .ensures) at (c .before .before .before .before .before .before .before .before .before .before .before .before .before .before .read-expression .ensures)) (c .before .before .before .before .before .before .before .before .before .before .first .given .1)) (c .before .before .before .before .before .before .before .read-expression2 .ensures) (c .before .before .before .second .given .1) in omega (arith, h .left .short, h .left .small, h .inside)
 
 moved-on-requires-3 : (t : ℕ) → lts.Need-moved-on-requires-3 (known t) (given t) own.Post
 moved-on-requires-3 t c κs = search needs
@@ -277,13 +315,18 @@ in-expression-requires-3 : (t : ℕ) → lts.Need-in-expression-requires-3 (know
 in-expression-requires-3 t c κs = search needs
 
 add-operand-at : (t : ℕ) → lts.Need-add-operand-at (known t) (given t) own.Post
-add-operand-at t c = omega (arith, inside t (c .before .before .before) _ (c .before .enum-told8 .given .1) (λ e. let z : _≡_ {A = ℕ} 0 1 = cc in omega arith), room t (c .before .before .before) .short)
+add-operand-at t c = omega (arith,
+    inside t (c .before .before .before) _ (c .before .enum-told8 .given .1) (λ e. let z : _≡_ {A = ℕ} 0 1 = cc in omega arith),
+    room t (c .before .before .before) .short)
 
 sub-read-expression-3 : (t : ℕ) → lts.Need-sub-read-expression-3 (known t) (given t) own.Post
 sub-read-expression-3 t c = search needs
 
 read-expression-requires-3 : (t : ℕ) → lts.Need-read-expression-requires-3 (known t) (given t) own.Post
-read-expression-requires-3 t c κs = (omega (arith, c .before .before .before .before .before .if1 .left, c .before .before .before .before .before .before .before .before .pre .0), rw (c .before .in-expression3 .ensures) (room-after 1 (room t (c .before .before .before .before))))
+read-expression-requires-3 t c κs =
+    (omega (arith, c .before .before .before .before .before .if1 .left,
+    c .before .before .before .before .before .before .before .before .pre .0),
+    rw (c .before .in-expression3 .ensures) (room-after 1 (room t (c .before .before .before .before))))
 
 enum-known-operand : (t : ℕ) → lts.Need-enum-known-operand (known t) (given t) own.Post
 enum-known-operand t c = search needs
@@ -296,13 +339,20 @@ same-length-3 t c = search needs
 
 returns-4 : (t : ℕ) → lts.Need-returns-4 (known t) (given t) own.Post
 unfolding node
-returns-4 t c = rw (step t (c .before .before .before .before .before .before .before .before .before) _ (c .before .before .before .before .before .before .before .enum-told8 .given .1)) (stop _ _ (rw (c .before .before .before .before .before .before .in-expression3 .ensures) at (c .before .before .before .before .read-expression3 .ensures)) (c .enum-told9 .given .1))
+returns-4 t c = rw (step t (c .before .before .before .before .before .before .before .before .before) _
+    (c .before .before .before .before .before .before .before .enum-told8 .given .1))
+    (stop _ _ (rw (c .before .before .before .before .before .before .in-expression3 .ensures) at
+    (c .before .before .before .before .read-expression3 .ensures)) (c .enum-told9 .given .1))
 
 in-code-requires-4 : (t : ℕ) → lts.Need-in-code-requires-4 (known t) (given t) own.Post
 in-code-requires-4 t c κs = search needs
 
 add-moved-on-7 : (t : ℕ) → lts.Need-add-moved-on-7 (known t) (given t) own.Post
-add-moved-on-7 t c = let h = one t (c .before .before .before .before .before .before .before .before .before .before .before .before) (rw (c .before .before .before .before .before .before .before .before .before .in-expression3 .ensures) at (c .before .before .before .before .before .before .before .read-expression3 .ensures)) (c .before .before .before .operand .given .1) in omega (arith, h .left .short, h .left .small, h .inside)
+add-moved-on-7 t c = let h = one t
+    (c .before .before .before .before .before .before .before .before .before .before .before .before)
+    (rw (c .before .before .before .before .before .before .before .before .before .in-expression3 .ensures) at
+    (c .before .before .before .before .before .before .before .read-expression3 .ensures))
+    (c .before .before .before .operand .given .1) in omega (arith, h .left .short, h .left .small, h .inside)
 
 moved-on-requires-4 : (t : ℕ) → lts.Need-moved-on-requires-4 (known t) (given t) own.Post
 moved-on-requires-4 t c κs = search needs
@@ -314,13 +364,18 @@ in-expression-requires-4 : (t : ℕ) → lts.Need-in-expression-requires-4 (know
 in-expression-requires-4 t c κs = search needs
 
 add-condition-at : (t : ℕ) → lts.Need-add-condition-at (known t) (given t) own.Post
-add-condition-at t c = omega (arith, inside t (c .before .before .before) _ (c .before .enum-told10 .given .1) (λ e. let z : _≡_ {A = ℕ} 0 1 = cc in omega arith), room t (c .before .before .before) .short)
+add-condition-at t c = omega (arith,
+    inside t (c .before .before .before) _ (c .before .enum-told10 .given .1) (λ e. let z : _≡_ {A = ℕ} 0 1 = cc in omega arith),
+    room t (c .before .before .before) .short)
 
 sub-read-expression-4 : (t : ℕ) → lts.Need-sub-read-expression-4 (known t) (given t) own.Post
 sub-read-expression-4 t c = search needs
 
 read-expression-requires-4 : (t : ℕ) → lts.Need-read-expression-requires-4 (known t) (given t) own.Post
-read-expression-requires-4 t c κs = (omega (arith, c .before .before .before .before .before .if1 .left, c .before .before .before .before .before .before .before .before .pre .0), rw (c .before .in-expression4 .ensures) (room-after 1 (room t (c .before .before .before .before))))
+read-expression-requires-4 t c κs =
+    (omega (arith, c .before .before .before .before .before .if1 .left,
+    c .before .before .before .before .before .before .before .before .pre .0),
+    rw (c .before .in-expression4 .ensures) (room-after 1 (room t (c .before .before .before .before))))
 
 enum-known-condition : (t : ℕ) → lts.Need-enum-known-condition (known t) (given t) own.Post
 enum-known-condition t c = search needs
@@ -333,13 +388,18 @@ same-length-4 t c = search needs
 
 returns-5 : (t : ℕ) → lts.Need-returns-5 (known t) (given t) own.Post
 unfolding node
-returns-5 t c = rw (step t (c .before .before .before .before .before .before .before .before .before) _ (c .before .before .before .before .before .before .before .enum-told10 .given .1)) (stop _ _ (rw (c .before .before .before .before .before .before .in-expression4 .ensures) at (c .before .before .before .before .read-expression4 .ensures)) (c .enum-told11 .given .1))
+returns-5 t c = rw (step t (c .before .before .before .before .before .before .before .before .before) _
+    (c .before .before .before .before .before .before .before .enum-told10 .given .1))
+    (stop _ _ (rw (c .before .before .before .before .before .before .in-expression4 .ensures) at
+    (c .before .before .before .before .read-expression4 .ensures)) (c .enum-told11 .given .1))
 
 sub-read-expression-5 : (t : ℕ) → lts.Need-sub-read-expression-5 (known t) (given t) own.Post
 sub-read-expression-5 t c = search needs
 
 read-expression-requires-5 : (t : ℕ) → lts.Need-read-expression-requires-5 (known t) (given t) own.Post
-read-expression-requires-5 t c κs = (omega (arith, c .before .before .before .before .before .before .before .before .before .before .before .before .if1 .left, c .before .before .before .before .before .before .before .before .before .before .before .before .before .before .before .pre .0), one t (c .before .before .before .before .before .before .before .before .before .before .before) (rw (c .before .before .before .before .before .before .before .before .in-expression4 .ensures) at (c .before .before .before .before .before .before .read-expression4 .ensures)) (c .before .before .condition .given .1) .left)
+read-expression-requires-5 t c κs =
+    (omega (arith, c .before .before .before .before .before .before .before .before .before .before .before .before .if1 .left,
+    c .before .before .before .before .before .before .before .before .before .before .before .before .before .before .before .pre .0), one t (c .before .before .before .before .before .before .before .before .before .before .before) (rw (c .before .before .before .before .before .before .before .before .in-expression4 .ensures) at (c .before .before .before .before .before .before .read-expression4 .ensures)) (c .before .before .condition .given .1) .left)
 
 enum-known-first-2 : (t : ℕ) → lts.Need-enum-known-first-2 (known t) (given t) own.Post
 enum-known-first-2 t c = search needs
@@ -358,7 +418,8 @@ sub-read-expression-6 : (t : ℕ) → lts.Need-sub-read-expression-6 (known t) (
 sub-read-expression-6 t c = search needs
 
 read-expression-requires-6 : (t : ℕ) → lts.Need-read-expression-requires-6 (known t) (given t) own.Post
-read-expression-requires-6 t c κs = (omega (arith, c .before .before .before .before .before .before .before .before .before .before .before .before .before .before .before .before .before .before .before .if1 .left, c .before .before .before .before .before .before .before .before .before .before .before .before .before .before .before .before .before .before .before .before .before .before .pre .0), more t (c .before .before .before .before .before .before .before .before .before .before .before .before .before .before .before .before .before .before) (one t (c .before .before .before .before .before .before .before .before .before .before .before .before .before .before .before .before .before .before) (rw (c .before .before .before .before .before .before .before .before .before .before .before .before .before .before .before .in-expression4 .ensures) at (c .before .before .before .before .before .before .before .before .before .before .before .before .before .read-expression4 .ensures)) (c .before .before .before .before .before .before .before .before .before .condition .given .1)) (c .before .before .before .before .before .before .read-expression5 .ensures) (c .before .before .first2 .given .1) .left)
+read-expression-requires-6 t c κs =
+    (omega (arith, c .before .before .before .before .before .before .before .before .before .before .before .before .before .before .before .before .before .before .before .if1 .left, c .before .before .before .before .before .before .before .before .before .before .before .before .before .before .before .before .before .before .before .before .before .before .pre .0), more t (c .before .before .before .before .before .before .before .before .before .before .before .before .before .before .before .before .before .before) (one t (c .before .before .before .before .before .before .before .before .before .before .before .before .before .before .before .before .before .before) (rw (c .before .before .before .before .before .before .before .before .before .before .before .before .before .before .before .in-expression4 .ensures) at (c .before .before .before .before .before .before .before .before .before .before .before .before .before .read-expression4 .ensures)) (c .before .before .before .before .before .before .before .before .before .condition .given .1)) (c .before .before .before .before .before .before .read-expression5 .ensures) (c .before .before .first2 .given .1) .left)
 
 enum-known-second-2 : (t : ℕ) → lts.Need-enum-known-second-2 (known t) (given t) own.Post
 enum-known-second-2 t c = search needs
@@ -377,7 +438,8 @@ in-code-requires-5 : (t : ℕ) → lts.Need-in-code-requires-5 (known t) (given 
 in-code-requires-5 t c κs = search needs
 
 add-moved-on-8 : (t : ℕ) → lts.Need-add-moved-on-8 (known t) (given t) own.Post
-add-moved-on-8 t c = let h = more t (c .before .before .before .before .before .before .before .before .before .before .before .before .before .before .before .before .before .before .before .before .before .before .before .before .before .before) (more t (c .before .before .before .before .before .before .before .before .before .before .before .before .before .before .before .before .before .before .before .before .before .before .before .before .before .before) (one t (c .before .before .before .before .before .before .before .before .before .before .before .before .before .before .before .before .before .before .before .before .before .before .before .before .before .before) (rw (c .before .before .before .before .before .before .before .before .before .before .before .before .before .before .before .before .before .before .before .before .before .before .before .in-expression4 .ensures) at (c .before .before .before .before .before .before .before .before .before .before .before .before .before .before .before .before .before .before .before .before .before .read-expression4 .ensures)) (c .before .before .before .before .before .before .before .before .before .before .before .before .before .before .before .before .before .condition .given .1)) (c .before .before .before .before .before .before .before .before .before .before .before .before .before .before .read-expression5 .ensures) (c .before .before .before .before .before .before .before .before .before .before .first2 .given .1)) (c .before .before .before .before .before .before .before .read-expression6 .ensures) (c .before .before .before .second2 .given .1) in omega (arith, h .left .short, h .left .small, h .inside)
+add-moved-on-8 t c = let h = more t
+    (c .before .before .before .before .before .before .before .before .before .before .before .before .before .before .before .before .before .before .before .before .before .before .before .before .before .before) (more t (c .before .before .before .before .before .before .before .before .before .before .before .before .before .before .before .before .before .before .before .before .before .before .before .before .before .before) (one t (c .before .before .before .before .before .before .before .before .before .before .before .before .before .before .before .before .before .before .before .before .before .before .before .before .before .before) (rw (c .before .before .before .before .before .before .before .before .before .before .before .before .before .before .before .before .before .before .before .before .before .before .before .in-expression4 .ensures) at (c .before .before .before .before .before .before .before .before .before .before .before .before .before .before .before .before .before .before .before .before .before .read-expression4 .ensures)) (c .before .before .before .before .before .before .before .before .before .before .before .before .before .before .before .before .before .condition .given .1)) (c .before .before .before .before .before .before .before .before .before .before .before .before .before .before .read-expression5 .ensures) (c .before .before .before .before .before .before .before .before .before .before .first2 .given .1)) (c .before .before .before .before .before .before .before .read-expression6 .ensures) (c .before .before .before .second2 .given .1) in omega (arith, h .left .short, h .left .small, h .inside)
 
 moved-on-requires-5 : (t : ℕ) → lts.Need-moved-on-requires-5 (known t) (given t) own.Post
 moved-on-requires-5 t c κs = search needs
@@ -388,22 +450,27 @@ returns-8 t c = walks-refused _ (step t (c .before .before .before) _ (c .before
 
 returns-9 : (t : ℕ) → lts.Need-returns-9 (known t) (given t) own.Post
 unfolding node
-returns-9 t c = walks-refused _ (step t (c .before .before .before) _ (c .before .enum-told2 .given .1)) (c .refuse-walk2 .ensures)
+returns-9 t c = walks-refused _ (step t (c .before .before .before) _ (c .before .enum-told2 .given .1))
+    (c .refuse-walk2 .ensures)
 
 returns-10 : (t : ℕ) → lts.Need-returns-10 (known t) (given t) own.Post
 unfolding node
-returns-10 t c = walks-refused _ (step t (c .before .before .before) _ (c .before .enum-told3 .given .1)) (c .refuse-walk3 .ensures)
+returns-10 t c = walks-refused _ (step t (c .before .before .before) _ (c .before .enum-told3 .given .1))
+    (c .refuse-walk3 .ensures)
 
 returns-11 : (t : ℕ) → lts.Need-returns-11 (known t) (given t) own.Post
 unfolding node
-returns-11 t c = rw (step t (c .before .before .before .before .before) _ (c .before .before .before .enum-told4 .given .1)) (walks-constant _ _ (rw (c .before .before .in-expression .ensures, c .before .in-code .ensures) at (c .moved-on .ensures)))
+returns-11 t c = rw (step t (c .before .before .before .before .before) _ (c .before .before .before .enum-told4 .given .1))
+    (walks-constant _ _ (rw (c .before .before .in-expression .ensures, c .before .in-code .ensures) at (c .moved-on .ensures)))
 
 same-length-7 : (t : ℕ) → lts.Need-same-length-7 (known t) (given t) own.Post
 same-length-7 t c = search needs
 
 returns-12 : (t : ℕ) → lts.Need-returns-12 (known t) (given t) own.Post
 unfolding node
-returns-12 t c = rw (read-step t (c .before .before .before .before .before .before) (c .before .before .before .before .operator .given .1)) (walks-read _ (rw (c .before .before .of-read .ensures, c .before .in-code2 .ensures) at (c .moved-on2 .ensures)))
+returns-12 t c = rw (read-step t (c .before .before .before .before .before .before)
+    (c .before .before .before .before .operator .given .1))
+    (walks-read _ (rw (c .before .before .of-read .ensures, c .before .in-code2 .ensures) at (c .moved-on2 .ensures)))
 
 same-length-8 : (t : ℕ) → lts.Need-same-length-8 (known t) (given t) own.Post
 same-length-8 t c = search needs
@@ -420,7 +487,8 @@ unfolding node
 returns-14 t c = rw (step t (c .before .before .before .before .before .before .before .before .before .before .before .before .before) _ (c .before .before .before .before .before .before .before .before .before .before .before .enum-told8 .given .1)) (go-on _ _ (rw (c .before .before .before .before .before .before .before .before .before .before .in-expression3 .ensures) at (c .before .before .before .before .before .before .before .before .read-expression3 .ensures)) (c .before .before .before .before .operand .given .1) (λ x m. walks-one x m _ (rw (c .before .before .in-code4 .ensures) at (c .moved-on4 .ensures))))
 
 same-length-10 : (t : ℕ) → lts.Need-same-length-10 (known t) (given t) own.Post
-same-length-10 t c = search (needs, c .before .before .before .before .before .before .before .before .before .before .before .before .before .before .before .before .before .before .before .before .before .reads4 .given)
+same-length-10 t c = search (needs,
+    c .before .before .before .before .before .before .before .before .before .before .before .before .before .before .before .before .before .before .before .before .before .reads4 .given)
 
 returns-15 : (t : ℕ) → lts.Need-returns-15 (known t) (given t) own.Post
 unfolding node

@@ -36,7 +36,8 @@ returns : tie.Need-returns
 returns c =
     let told = c .before .enum-told .given in
     equation-refused _
-    (rw (c .before .before .before .before .before .before .before .in-program .ensures) at (c .before .before .before .before .before .read-expression .ensures)) _
+    (rw (c .before .before .before .before .before .before .before .in-program .ensures) at
+        (c .before .before .before .before .before .read-expression .ensures)) _
     (told .1) (c .step-of-walked .ensures _ (told .1))
 
 in-code-requires : tie.Need-in-code-requires
@@ -44,8 +45,11 @@ in-code-requires c κs = search needs
 
 add-adds : tie.Need-add-adds
 add-adds c =
-    let h = ahead _ _ 16 (room-after 8 (c .before .before .before .before .before .before .before .before .before .before .before .before .pre .1))
-    (rw (c .before .before .before .before .before .before .before .before .before .in-program .ensures) at (c .before .before .before .before .before .before .before .read-expression .ensures)) (c .before .before .before .walked .given .1) in
+    let h = ahead _ _ 16 (room-after 8
+        (c .before .before .before .before .before .before .before .before .before .before .before .before .pre .1))
+    (rw (c .before .before .before .before .before .before .before .before .before .in-program .ensures) at
+        (c .before .before .before .before .before .before .before .read-expression .ensures))
+        (c .before .before .before .walked .given .1) in
     omega (arith, h .left .short, h .left .small, h .inside)
 
 adds-requires : tie.Need-adds-requires
@@ -57,7 +61,8 @@ same-length-2 c = search needs
 returns-2 : tie.Need-returns-2
 returns-2 c =
     equation-next _
-    (rw (c .before .before .before .before .before .before .before .before .before .before .in-program .ensures) at (c .before .before .before .before .before .before .before .before .read-expression .ensures)) _
+    (rw (c .before .before .before .before .before .before .before .before .before .before .in-program .ensures) at
+        (c .before .before .before .before .before .before .before .before .read-expression .ensures)) _
     (c .before .before .before .before .walked .given .1) (rw (c .before .before .in-code .ensures) at (c .adds .ensures))
 
 pub equation-step-spec : {M : Type 1} → statement M

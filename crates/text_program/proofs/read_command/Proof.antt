@@ -62,7 +62,8 @@ module _ (c : tie.After-declaration-at) where
     inside h = declaration-inside text at is h
 
     refuses : {f : Fault} {r : Step} → r ≡ Step.Refused f →
-        ((next : ℕ → ℕ → Program → Outcome Program) (label : ℕ) (p : Program) → declare least next text at label p k ≡ refused f) →
+        ((next : ℕ → ℕ → Program → Outcome Program) (label : ℕ) (p : Program) →
+            declare least next text at label p k ≡ refused f) →
         Steps (now (start .args .reads)) r
     refuses q h = λ p label n.
         subst (Stepped least text at label p _ _ _ _) (sym q)
@@ -138,7 +139,8 @@ add-end c = search needs
 add-end-2 : tie.Need-add-end-2
 add-end-2 c =
     let b = c .before .before .before .before .before .before in
-    let i = inside b (c .before .before .before .before .declaration .given .1) (λ e. let z : _≡_ {A = ℕ} 0 1 = cc in omega arith) in
+    let i = inside b (c .before .before .before .before .declaration .given .1) (λ e. let z : _≡_ {A = ℕ} 0 1 = cc in omega arith)
+        in
     omega (arith, i, start b .pre .short, start b .pre .small)
 
 adds-requires : tie.Need-adds-requires
@@ -222,7 +224,8 @@ same-length c = search needs
 returns-7 : tie.Need-returns-7
 returns-7 c = λ p label k.
     let b = c .before .before .before .before .before .before .before in
-    step-equation _ _ _ label p _ _ _ (stands b p k) _ _ _ (is b (c .before .before .before .before .before .declaration2 .given .1))
+    step-equation _ _ _ label p _ _ _ (stands b p k) _ _ _
+        (is b (c .before .before .before .before .before .declaration2 .given .1))
     (c .before .before .equation-step .ensures)
 
 returns-8 : tie.Need-returns-8

@@ -48,15 +48,18 @@ tablesOf places periods weights labels firsts codes starts lengths signals chain
     }
 
 abbrev Inv-loop : tie.InvT-loop
-Inv-loop least text reads₀ places₀ periods₀ weights₀ labels₀ firsts₀ codes₀ starts₀ lengths₀ signals₀ chains₀ capped₀ limit₀ at₀ label₀
+Inv-loop least text reads₀ places₀ periods₀ weights₀ labels₀ firsts₀ codes₀ starts₀ lengths₀ signals₀ chains₀ capped₀ limit₀ at₀
+    label₀
     count₀ to₀
     reads places periods weights labels firsts codes starts lengths signals chains capped limit at label count to =
     (length reads ≡ length reads₀) ×
-    Reading least text reads (tablesOf places periods weights labels firsts codes starts lengths signals chains capped limit) at label
+    Reading least text reads (tablesOf places periods weights labels firsts codes starts lengths signals chains capped limit) at
+        label
     count to
 
 abbrev μ-loop : tie.MeasureT-loop
-μ-loop least text reads₀ places₀ periods₀ weights₀ labels₀ firsts₀ codes₀ starts₀ lengths₀ signals₀ chains₀ capped₀ limit₀ at₀ label₀
+μ-loop least text reads₀ places₀ periods₀ weights₀ labels₀ firsts₀ codes₀ starts₀ lengths₀ signals₀ chains₀ capped₀ limit₀ at₀
+    label₀
     count₀ to₀
     reads places periods weights labels firsts codes starts lengths signals chains capped limit at label count to =
     length text - at
@@ -102,7 +105,8 @@ module _ (c : tie.After-known-told Inv-loop μ-loop) where
   unfolding Stepped
   added =
       subst
-      (Stepped least text (top .loop .at) (top .loop .label) (reading .program) (top .loop .reads) (top .loop .count) (top .loop .to)
+      (Stepped least text (top .loop .at) (top .loop .label) (reading .program) (top .loop .reads) (top .loop .count)
+          (top .loop .to)
       kept)
       (c .before .step .given .1) (b .read-command .ensures (reading .program) (top .loop .label) (reading .tables .counts))
 

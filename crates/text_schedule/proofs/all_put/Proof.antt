@@ -35,7 +35,8 @@ element-copy-out-if1 c = omega arith
 
 returns : tie.Need-returns Inv-loop μ-loop
 unfolding allRanked
-returns c = sym (not-all _ _ (c .before .before .before .loop .x) (c .before .before .loop-test .taken) (rw (eq-eqb _ 64 (c .if1 .taken))))
+returns c = sym (not-all _ _ (c .before .before .before .loop .x) (c .before .before .loop-test .taken)
+    (rw (eq-eqb _ 64 (c .if1 .taken))))
 
 add-x : tie.Need-add-x Inv-loop μ-loop
 add-x c = omega arith

@@ -24,7 +24,8 @@ returns-2 : tie.Need-returns-2
 returns-2 c t e =
     let i = c .before .before .before in
     subst (PutJudged t _ _ _) (sym (c .refuse2 .ensures))
-    (put-twice t _ _ _ (i .if1 .left) (i .before .pre) (λ z. c .before .if2 .taken (ap (λ l. getD l (i .before .args .signal) 0) (sym e) ∙ z)))
+    (put-twice t _ _ _ (i .if1 .left) (i .before .pre)
+        (λ z. c .before .if2 .taken (ap (λ l. getD l (i .before .args .signal) 0) (sym e) ∙ z)))
 
 element-copy-out-if3 : tie.Need-element-copy-out-if3
 element-copy-out-if3 c = search needs
@@ -37,13 +38,15 @@ returns-3 c t e =
     let r = c .before .before .before in
     let i = r .before .before in
     subst (PutJudged t _ _ _) (sym (c .refuse3 .ensures))
-    (put-late t _ _ _ (i .if1 .left) (i .before .pre) (ap (λ l. getD l (i .before .args .signal) 0) e ∙ r .if2 .left) (c .before .if3 .taken))
+    (put-late t _ _ _ (i .if1 .left) (i .before .pre) (ap (λ l. getD l (i .before .args .signal) 0) e ∙ r .if2 .left)
+        (c .before .if3 .taken))
 
 returns-4 : tie.Need-returns-4
 returns-4 c t e =
     let r = c .before .before in
     let i = r .before .before in
-    put-good t _ _ _ (i .if1 .left) (i .before .pre) (ap (λ l. getD l (i .before .args .signal) 0) e ∙ r .if2 .left) (c .if3 .left)
+    put-good t _ _ _ (i .if1 .left) (i .before .pre) (ap (λ l. getD l (i .before .args .signal) 0) e ∙ r .if2 .left)
+        (c .if3 .left)
 
 pub judge-put-spec : {M : Type 1} → statement M
 judge-put-spec =

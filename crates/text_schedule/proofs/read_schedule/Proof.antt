@@ -47,8 +47,10 @@ returns c =
     let i = l .inv in
     let text = now (c .before .before .before .before .before .before .args .text) in
     subst (EndedAt _) (sym (c .end-at .ensures))
-    (subst (λ x. EndedAt x (endedOf text (l .at) (c .before .before .schedule-command-at .result))) (sym (i .3 ∙ ap (λ m. parsePuts m text (l .at) (i .0)) (one-less (i .1) (omega arith))))
-    (puts-stop text (l .at) (i .1 - 1) (i .0) _ (c .before .match .keys2) (sym (c .before .before .schedule-command-at .ensures))))
+    (subst (λ x. EndedAt x (endedOf text (l .at) (c .before .before .schedule-command-at .result)))
+        (sym (i .3 ∙ ap (λ m. parsePuts m text (l .at) (i .0)) (one-less (i .1) (omega arith))))
+    (puts-stop text (l .at) (i .1 - 1) (i .0) _ (c .before .match .keys2)
+        (sym (c .before .before .schedule-command-at .ensures))))
 
 in-schedule-requires : tie.Need-in-schedule-requires Inv-loop μ-loop
 in-schedule-requires c κs = search needs

@@ -67,4 +67,5 @@ writer-keeps buffer (Writer.converts program) f e =
     (provided (leb (length program) 8192) 1 0 ▷ λ _.
     parseWith 1 program ▷ λ p.
     provided (leb (length (rewrite program)) (length buffer)) 17 (length (rewrite program)) ▷ λ _.
-    accepted (record { yields = length (rewrite program); leaves = rewrite program ++ drop (length (rewrite program)) buffer })) f e
+    accepted (record { yields = length (rewrite program); leaves = rewrite program ++ drop (length (rewrite program)) buffer })) f
+        e

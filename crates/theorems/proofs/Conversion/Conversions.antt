@@ -35,7 +35,8 @@ module _ (program buffer : List ℕ) where
       provided-judged _ 1 0 (length program ≤ 8192) (8192 < length program) (leb-true _ _, le-leb _ _) (leb-false _ _)
       (λ l h. omega arith)
 
-  space-judged : Judged (λ u. size ≤ length buffer) (Only 17 size (length buffer < size)) (provided (leb size (length buffer)) 17 size)
+  space-judged : Judged (λ u. size ≤ length buffer) (Only 17 size (length buffer < size))
+      (provided (leb size (length buffer)) 17 size)
   space-judged =
       provided-judged _ 17 size (size ≤ length buffer) (length buffer < size) (leb-true _ _, le-leb _ _) (leb-false _ _)
       (λ l h. omega arith)

@@ -432,7 +432,8 @@ put-phase : (period : ℕ → ℕ) (puts : List Put) (x : ℕ) →
     ((j : ℕ) → j < length puts → putAt puts j .phase < period (putAt puts j .signal)) → IsPut puts x → putPhase puts x < period x
 unfolding putPhase
 put-phase period [] x below i = absurd (omega (arith, i .1))
-put-phase period (q ∷ qs) x below i = go (eqb (q .signal) x) refl (λ k. put-phase period qs x (λ j lt. below (suc j) (omega arith)) k)
+put-phase period (q ∷ qs) x below i =
+    go (eqb (q .signal) x) refl (λ k. put-phase period qs x (λ j lt. below (suc j) (omega arith)) k)
   where
     here : (j : ℕ) → j < length (q ∷ qs) → putAt (q ∷ qs) j .signal ≡ x → eqb (q .signal) x ≡ false → IsPut qs x
     here zero lt e f = absurd (eqb-false (q .signal) x f e)
@@ -452,7 +453,8 @@ placed-phase p puts s c x lt =
 
 module _ (p : Program) (s : Schedule) where
   -- 14.
-  met-bare : (r : ℕ) (ρ : Read) → (ρ .operands .signal < count p → phaseOf s (ρ .operands .signal) < signalAt p (ρ .operands .signal) .period) →
+  met-bare : (r : ℕ) (ρ : Read) →
+      (ρ .operands .signal < count p → phaseOf s (ρ .operands .signal) < signalAt p (ρ .operands .signal) .period) →
       phaseOf s r < signalAt p r .period → Met p s r ρ ↔ Met (bare p) s r (bareRead ρ)
   unfolding settled kind′ index′
   met-bare r ρ u v = (

@@ -129,7 +129,8 @@ command-inside text at (ofDeclaration d) w = declaration-inside w
 command-inside text at (ofOperator o) w = operator-inside w
 
 -- No command grows.
-operator-shorter : (o : Operator) (bytes : List ℕ) → length bytes ≤ operatorWidth o → length (operatorAfter o bytes) ≤ operatorWidth o
+operator-shorter : (o : Operator) (bytes : List ℕ) → length bytes ≤ operatorWidth o →
+    length (operatorAfter o bytes) ≤ operatorWidth o
 operator-shorter Operator.EndsEarly bytes h = h
 operator-shorter Operator.Unknown bytes h = h
 operator-shorter Operator.OutOfRange bytes h = h
@@ -268,7 +269,8 @@ module _ (text new : List ℕ) where
       (DeclarationWritten.equation (c .inside) (first-copied c (omega arith) ∙ b) (rw e r))
   declaration-copied (DeclarationWritten.latency h b r) c =
       let e = c .bytes 1 (omega arith) in
-      rw (← e, ← two-copied c 2 (omega arith)) (DeclarationWritten.latency (c .inside) (first-copied c (omega arith) ∙ b) (rw e r))
+      rw (← e, ← two-copied c 2 (omega arith))
+          (DeclarationWritten.latency (c .inside) (first-copied c (omega arith) ∙ b) (rw e r))
   declaration-copied (DeclarationWritten.link h b) c =
       rw (← c .bytes 1 (omega arith)) (DeclarationWritten.link (c .inside) (first-copied c (omega arith) ∙ b))
   declaration-copied (DeclarationWritten.cap h b) c =
@@ -288,8 +290,10 @@ module _ (text new : List ℕ) where
       let g = c .bytes 3 (omega arith) in
       rw (← c .bytes 1 (omega arith), ← f, ← g)
       (OperatorWritten.sampled kind e (omega (arith, c .inside)) (first-copied c (omega arith) ∙ b) (rw g r) (rw (f, g) i))
-  operator-copied (OperatorWritten.binary operator h b) c = OperatorWritten.binary operator (c .inside) (first-copied c (omega arith) ∙ b)
-  operator-copied (OperatorWritten.unary operator h b) c = OperatorWritten.unary operator (c .inside) (first-copied c (omega arith) ∙ b)
+  operator-copied (OperatorWritten.binary operator h b) c =
+      OperatorWritten.binary operator (c .inside) (first-copied c (omega arith) ∙ b)
+  operator-copied (OperatorWritten.unary operator h b) c =
+      OperatorWritten.unary operator (c .inside) (first-copied c (omega arith) ∙ b)
   operator-copied (OperatorWritten.choose h b) c = OperatorWritten.choose (c .inside) (first-copied c (omega arith) ∙ b)
 
   written-copied : {at at′ : ℕ} (c : Command) → CommandWritten text at c → Copied at at′ (widthOf c) → CommandWritten new at′ c
@@ -357,7 +361,8 @@ module _ (text new : List ℕ) where
   steps-kept {at} {at′} c w e s =
       let n = widthOf c in
       let P = take n (drop at text) in
-      let wide : length P ≡ n = length-take-le n (drop at text) (omega (arith, length-drop at text, command-inside text at c w .0)) in
+      let wide : length P ≡ n = length-take-le n (drop at text)
+          (omega (arith, length-drop at text, command-inside text at c w .0)) in
       let steps = stands-steps c w s in
       let next : Stands (at + n) (at′ + n) = subst (λ m. Stands (at + n) (at′ + m)) (ap length e ∙ wide) (steps .next) in
       let copied : Copied at at′ n =
@@ -589,7 +594,8 @@ module _ (text new : List ℕ) where
   none-after (suc left) at le =
       rw (List·getD-eq-default text 0 le, le-ltb at (length text) le) (none-after left (at + 0) (omega arith))
 
-  end-moves : (at label : ℕ) (p : Program) → DeclarationWritten text at Declaration.End → length text ≤ at + 1 → Declaring at label p p
+  end-moves : (at label : ℕ) (p : Program) → DeclarationWritten text at Declaration.End → length text ≤ at + 1 →
+      Declaring at label p p
   end-moves at label p e le at′ p′ same allowed s =
       let k = kept (ofDeclaration Declaration.End) e (λ bytes. refl) s in
       let n = k .next in
@@ -654,7 +660,8 @@ module _ (text new : List ℕ) where
       }
 
   chain-moves : (at label next bound : ℕ) (mode : Mode) (ls : List Link) (p q : Program) → length (p .chains) < 16 →
-      DeclarationWritten text at (Declaration.Latency mode bound) → ((b : ℕ) → Stands (at + 4) b → LinksMoved ls next b) → 2 ≤ length ls →
+      DeclarationWritten text at (Declaration.Latency mode bound) → ((b : ℕ) → Stands (at + 4) b → LinksMoved ls next b) →
+          2 ≤ length ls →
       length ls ≤ 16 → Declaring next 0 (withChain p (record { place = at; mode = mode; bound = bound; links = ls })) q →
       Declaring at label p q
   chain-moves at label next bound mode ls p q room e g low high f at′ p′ same allowed s =
@@ -694,7 +701,8 @@ module _ (text new : List ℕ) where
       }
 
   -- A TAG stands where it stood, and IN or EQ after it.
-  tag-moves : (at label given : ℕ) (p q : Program) → DeclarationWritten text at (Declaration.Tag given) → IsSignal (byteAt text (at + 3)) →
+  tag-moves : (at label given : ℕ) (p q : Program) → DeclarationWritten text at (Declaration.Tag given) →
+      IsSignal (byteAt text (at + 3)) →
       Follows (at + 3) → Declaring (at + 3) given p q → Declaring at label p q
   tag-moves at label given p q e signal follows f at′ p′ same allowed s =
       let k = kept (ofDeclaration (Declaration.Tag given)) e (λ bytes. refl) s in
@@ -713,8 +721,10 @@ module _ (text new : List ℕ) where
   -- A declaration keeps its first byte, so that a chain ends where it ended.
   one-follows : {at label next given : ℕ} {p q : Program} → DeclaresOne 1 text at label p next given q → Follows at
   one-follows (DeclaresOne.inputs room e) b s = kept (ofDeclaration (Declaration.Input _ _)) e (λ bytes. refl) s .first
-  one-follows (DeclaresOne.equations room e x deep) b s = kept (ofDeclaration (Declaration.Equation _ _ _)) e (λ bytes. refl) s .first
-  one-follows (DeclaresOne.chains room e l low high) b s = kept (ofDeclaration (Declaration.Latency _ _)) e (λ bytes. refl) s .first
+  one-follows (DeclaresOne.equations room e x deep) b s =
+      kept (ofDeclaration (Declaration.Equation _ _ _)) e (λ bytes. refl) s .first
+  one-follows (DeclaresOne.chains room e l low high) b s =
+      kept (ofDeclaration (Declaration.Latency _ _)) e (λ bytes. refl) s .first
   one-follows (DeclaresOne.caps room e) b s = kept (ofDeclaration (Declaration.Cap _)) e (λ bytes. refl) s .first
   one-follows (DeclaresOne.tags e more signal) b s = kept (ofDeclaration (Declaration.Tag _)) e (λ bytes. refl) s .first
 

@@ -61,7 +61,8 @@ module _ (text : List ℕ) where
       go (suc left) le =
           ap (λ d. rewriteAt text at d ++ rewriteFrom left text (at + widthOf d)) (command-decoded text at c w) ∙
           ap (λ l. l ++ rewriteFrom left text (at + n)) e ∙
-          ap (λ l. take n (drop at text) ++ l) (f .holds left (omega (arith, command-inside text at c w .1)) ∙ sym (drop-drop n at text)) ∙
+          ap (λ l. take n (drop at text) ++ l)
+              (f .holds left (omega (arith, command-inside text at c w .1)) ∙ sym (drop-drop n at text)) ∙
           take-append-drop n (drop at text)
 
   kept-same : {at : ℕ} (c : Command) → CommandWritten text at c → ((bytes : List ℕ) → bytesAfter c bytes ≡ bytes) →
@@ -122,13 +123,16 @@ module _ (text : List ℕ) where
   links-same : {at n : ℕ} {ls : List Link} → SpellsLinks text at ls n → Same n → Same at
   links-same (SpellsLinks.ends e) f = f
   links-same (SpellsLinks.link {at = at} e le r) f =
-      kept-same (ofDeclaration (Declaration.Link (byteAt text (at + 1)))) (DeclarationWritten.link le e) (λ bytes. refl) (links-same r f)
+      kept-same (ofDeclaration (Declaration.Link (byteAt text (at + 1)))) (DeclarationWritten.link le e) (λ bytes. refl)
+          (links-same r f)
 
   one-same : {at label next given : ℕ} {p q : Program} → DeclaresOne leastFactor text at label p next given q → Same next →
       Same at
   one-same (DeclaresOne.inputs room e) f = kept-same (ofDeclaration (Declaration.Input _ _)) e (λ bytes. refl) f
-  one-same (DeclaresOne.equations room e u d) f = kept-same (ofDeclaration (Declaration.Equation _ _ _)) e (λ bytes. refl) (expr-same u f)
-  one-same (DeclaresOne.chains room e u low high) f = kept-same (ofDeclaration (Declaration.Latency _ _)) e (λ bytes. refl) (links-same u f)
+  one-same (DeclaresOne.equations room e u d) f =
+      kept-same (ofDeclaration (Declaration.Equation _ _ _)) e (λ bytes. refl) (expr-same u f)
+  one-same (DeclaresOne.chains room e u low high) f =
+      kept-same (ofDeclaration (Declaration.Latency _ _)) e (λ bytes. refl) (links-same u f)
   one-same (DeclaresOne.caps room e) f = kept-same (ofDeclaration (Declaration.Cap _)) e (λ bytes. refl) f
   one-same (DeclaresOne.tags e more s) f = kept-same (ofDeclaration (Declaration.Tag _)) e (λ bytes. refl) f
 

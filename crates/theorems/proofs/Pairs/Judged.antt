@@ -238,7 +238,8 @@ module _ (p : Program) where
       read-among r ρ (fault 8 (ρ .place)) i
       (rw (lt-ltb (ρ .operands .signal) (count p) d, not-rule) (_among_.here refl))
     where
-      not-rule : periodRule (ρ .kind) (signalAt p (ρ .operands .signal) .period) (signalAt p r .period) (ρ .operands .factor) ≡ false
+      not-rule : periodRule (ρ .kind) (signalAt p (ρ .operands .signal) .period) (signalAt p r .period) (ρ .operands .factor) ≡
+          false
       not-rule = not-true-false _ (λ e. u (periods-true (ρ .kind) _ _ (ρ .operands .factor) e))
 
 -- At one place of a legal text stands one read or LINK, so that it has faults of one number only.
@@ -411,6 +412,7 @@ module _ (p : Program) where
   pub linked-decides : (c : Chain) → (isLinked p (c .links) ≡ true) ↔ Linked p c
   linked-decides c = (linked-true (c .links), true-linked (c .links))
 
-  pub linked-judged : Judged (λ u. (c : Chain) → c among p .chains → Linked p c) (LowestFault (ChainFault p (Linked p) 10)) (linked p)
+  pub linked-judged : Judged (λ u. (c : Chain) → c among p .chains → Linked p c) (LowestFault (ChainFault p (Linked p) 10))
+      (linked p)
   unfolding linked
   linked-judged = chains-judged p (Linked p) 10 (λ c. isLinked p (c .links)) (λ c i. linked-decides c)

@@ -46,7 +46,8 @@ module _ (p : Program) (s s′ : Schedule) where
       (bodyReads (signalAt p x .body)) (h x lt)
 
   -- The equations mention no phases and no places once the indices are settled.
-  pub alike-satisfy : Alike p s s′ → (inputs X : ℕ → ℕ → ℤ) → Satisfies p (settled p s) inputs X → Satisfies p (settled p s′) inputs X
+  pub alike-satisfy : Alike p s s′ → (inputs X : ℕ → ℕ → ℤ) → Satisfies p (settled p s) inputs X →
+      Satisfies p (settled p s′) inputs X
   unfolding used
   alike-satisfy alike inputs X sat x zero lt = sat x zero lt
   alike-satisfy alike inputs X sat x (suc k) lt =

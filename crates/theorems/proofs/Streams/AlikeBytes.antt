@@ -1,4 +1,5 @@
--- Two accepted schedules of one program that settle alike store the same words through the bytes of their images. Assumes nothing.
+-- Two accepted schedules of one program that settle alike store the same words through the bytes of their images. Assumes
+-- nothing.
 use Prim.Native.Nat.{ℕ, zero, suc, _<_}
 use mathlib.Core.List.{List}
 use mathlib.Core.Path.{_≡_, sym, ap, subst₂, _∙_}

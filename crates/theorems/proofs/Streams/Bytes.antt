@@ -139,7 +139,8 @@ module _ (p : Program) (s : Schedule) (h : ℕ) (acc : Feasible p s) (whole : Mu
       ap (λ (code : List ℕ). runCode code state samples) (code-stretch p s h bounded x lt) ∙
       run-signal x (signalAt p x .body) state samples (bounded .constants x lt)
 
-  run-turns : (samples : List ℤ) (q : ℕ) (order : List ℕ) (state : List ℤ) → ((j : ℕ) → j < length order → getD order j 0 < count p) →
+  run-turns : (samples : List ℤ) (q : ℕ) (order : List ℕ) (state : List ℤ) →
+      ((j : ℕ) → j < length order → getD order j 0 < count p) →
       count p < length state →
       wordsOf (runSignals (imageOf p s h) (chosen (λ x. due (rateOf p s x) q) order) samples state) ≡
       turns p s (sampleOf samples) q order (wordsOf state)
@@ -189,7 +190,8 @@ module _ (p : Program) (s : Schedule) (h : ℕ) (acc : Feasible p s) (whole : Mu
     unfolding ran
     cycle-first =
         rw cycle-is
-        (getD-set-same ran 0 (pos moved) (pos 0) (omega (arith, run-length (imageOf p s h) (runList p s at) samples state, ready .long)))
+        (getD-set-same ran 0 (pos moved) (pos 0)
+            (omega (arith, run-length (imageOf p s h) (runList p s at) samples state, ready .long)))
 
     cycle-turns : wordsOf (cycleWords (imageOf p s h) state samples) ≡ turns p s (sampleOf samples) at (s .order) (wordsOf state)
     unfolding ran runList
@@ -244,7 +246,8 @@ module _ (p : Program) (s : Schedule) (h : ℕ) (acc : Feasible p s) (whole : Mu
               yields = getD (countsOf p s h) (positionOf (getD state 0 (pos 0))) 0;
               leaves = cycleWords (imageOf p s h) state samples;
             })) ≡
-            cycled (getD (countsOf p s h) (positionOf (getD state 0 (pos 0))) 0) state (cycleWords (imageOf p s h) state samples) b
+            cycled (getD (countsOf p s h) (positionOf (getD state 0 (pos 0))) 0) state (cycleWords (imageOf p s h) state samples)
+                b
         go true e = rw (lt-leb (count p) (length samples) (ltb-true (length samples) (count p) e))
         go false e = rw (le-leb (count p) (length samples) (ltb-false (length samples) (count p) e))
 
@@ -308,7 +311,8 @@ module _ (p : Program) (s : Schedule) (h : ℕ) (acc : Feasible p s) (whole : Mu
 
   calls-shown : {n : ℕ} {state : List ℤ} {st : State} {log log′ : List (List ℤ)} (cs : List Call) →
       Shown p h n state st log log′ →
-      Shown p h n (after (imageOf p s h) state cs) (stateAfter p s h st cs) (logAfter (imageOf p s h) state log cs) (logOf p log′ cs)
+      Shown p h n (after (imageOf p s h) state cs) (stateAfter p s h st cs) (logAfter (imageOf p s h) state log cs)
+          (logOf p log′ cs)
   unfolding after logAfter callOf
   calls-shown [] x = x
   calls-shown (reset ∷ cs) x = calls-shown cs (reset-shown x)
@@ -350,7 +354,8 @@ module _ (p : Program) (s : Schedule) (h : ℕ) (acc : Feasible p s) (whole : Mu
           Answered p h counts (length log) (cycle samples ∷ cs)
           (cycled counted state left b .answer ∷ answersOf image (cycled counted state left b .left) cs)
           (length
-          (logAfter image (cycled counted state left b .left) (logged (cycle samples) (cycled counted state left b .answer) log) cs))
+          (logAfter image (cycled counted state left b .left) (logged (cycle samples) (cycled counted state left b .answer) log)
+              cs))
       go true t same next = Answered.few (ltb-true (length samples) (count p) t) same
       go false t same next = Answered.runs (ltb-false (length samples) (count p) t) next
 
@@ -386,7 +391,8 @@ module _ (p : Program) (s : Schedule) (h : ℕ) (acc : Feasible p s) (whole : Mu
         let shown = list-shown cs in
         record {
           size = shown .size;
-          position = position-is h (getD (stateBy (imageOf p s h) old cs) 0 (pos 0)) (shown .ready .position) .0 ∙ ap pos (a .position);
+          position = position-is h (getD (stateBy (imageOf p s h) old cs) 0 (pos 0)) (shown .ready .position) .0 ∙
+              ap pos (a .position);
           initial = a .initial;
           element = a .element;
           beyond = beyond;

@@ -80,7 +80,8 @@ module _ (p : Program) (s : Schedule) (h : ℕ) where
     cycle-follows log samples st r inputs X sup sat =
         record {
           position = position-next (length log) (st .position) h (whole .positive) (f .position);
-          words = cycle-words p s acc inputs X sat (length log) (st .position) here (sampleOf samples) given (st .words) (f .words);
+          words = cycle-words p s acc inputs X sat (length log) (st .position) here (sampleOf samples) given (st .words)
+              (f .words);
         }
       where
         earlier : Supplied p s log inputs

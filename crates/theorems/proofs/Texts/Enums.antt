@@ -1,4 +1,5 @@
--- The bytes that the definitions give for each case of an enum are those of that case: where they stand, it is written. Assumes nothing.
+-- The bytes that the definitions give for each case of an enum are those of that case: where they stand, it is written. Assumes
+-- nothing.
 use Prim.Native.Nat.{ℕ, _+_, _≤_, _<_, _^_}
 use mathlib.Core.List.{List, [], _∷_, _++_}
 use mathlib.Core.Logic.{inl, inr}
@@ -55,7 +56,7 @@ use Rattle.model.specs.declared.ScheduleCommand.{ScheduleCommand}
 use Rattle.model.specs.declared.ScheduleCommand.the-variants as ScheduleCommand
 use Rattle.model.proofs.Images.Stretches.{Stands, behind, front, inside, byte-here, byte-from, two-at, four-at, word-at}
 
-stands : {text bytes : List ℕ} {at : ℕ} → BytesAt text at bytes → Stands text at bytes
+pub stands : {text bytes : List ℕ} {at : ℕ} → BytesAt text at bytes → Stands text at bytes
 stands {text} {bytes} {at} b =
     record {
       rest = drop (length bytes) (drop at text);
@@ -93,7 +94,8 @@ module _ {text : List ℕ} {at : ℕ} where
       rw (← p, ← w) (DeclarationWritten.input (inside (omega arith) h) (byte-here h) (rw p (r .0)))
 
   equation-written : (period : ℕ) (initial : ℤ) (weight : ℕ) → DeclarationRanged (Declaration.Equation period initial weight) →
-      Stands text at (0x11 ∷ period ∷ (wordBytes initial ++ twoBytes weight)) → DeclarationWritten text at (Declaration.Equation period initial weight)
+      Stands text at (0x11 ∷ period ∷ (wordBytes initial ++ twoBytes weight)) →
+          DeclarationWritten text at (Declaration.Equation period initial weight)
   unfolding wordBytes fourBytes twoBytes
   equation-written period initial weight r h =
       let p = byte-from 1 (omega arith) h in
@@ -120,38 +122,45 @@ module _ {text : List ℕ} {at : ℕ} where
   cap-written n lt h =
       rw (← four-at n lt (behind (0x14 ∷ []) (fourBytes n) h)) (DeclarationWritten.cap (inside (omega arith) h) (byte-here h))
 
-  tag-written : (label : ℕ) → label ≤ 65535 → Stands text at (0x15 ∷ twoBytes label) → DeclarationWritten text at (Declaration.Tag label)
+  tag-written : (label : ℕ) → label ≤ 65535 → Stands text at (0x15 ∷ twoBytes label) →
+      DeclarationWritten text at (Declaration.Tag label)
   unfolding twoBytes
   tag-written label le h =
-      rw (← two-at label le (behind (0x15 ∷ []) (twoBytes label) h)) (DeclarationWritten.tag (inside (omega arith) h) (byte-here h))
+      rw (← two-at label le (behind (0x15 ∷ []) (twoBytes label) h))
+          (DeclarationWritten.tag (inside (omega arith) h) (byte-here h))
 
   -- CONST, and the reads.
   constant-written : (w : ℤ) → IsWord w → Stands text at (0x20 ∷ wordBytes w) → OperatorWritten text at (Operator.Constant w)
   unfolding wordBytes fourBytes
   constant-written w f h =
-      rw (← word-at w (fits w f) (behind (0x20 ∷ []) (wordBytes w) h)) (OperatorWritten.constant (inside (omega arith) h) (byte-here h))
+      rw (← word-at w (fits w f) (behind (0x20 ∷ []) (wordBytes w) h))
+          (OperatorWritten.constant (inside (omega arith) h) (byte-here h))
 
   plain-written : (kind : Kind) (x : Sampled) → readWidth kind ≡ 2 → x .factor ≡ 1 → x .index ≡ Fixed 0 →
       Stands text at (readByte kind ∷ x .signal ∷ []) → OperatorWritten text at (Operator.Read kind x)
   plain-written kind x two n i h =
       let s = byte-from 1 (omega arith) h in
-      let w : OperatorWritten text at (Operator.Read kind (record { signal = byteAt text (at + 1); factor = 1; index = Fixed 0 })) =
+      let w : OperatorWritten text at
+          (Operator.Read kind (record { signal = byteAt text (at + 1); factor = 1; index = Fixed 0 })) =
       OperatorWritten.plain kind two (inside (omega arith) h) (byte-here h) in
       let e : record { signal = byteAt text (at + 1); factor = 1; index = Fixed 0 } ≡ x =
       λ j. record { signal = s j; factor = sym n j; index = sym i j } in
       subst (λ y. OperatorWritten text at (Operator.Read kind y)) e w
 
   sampled-written : (kind : Kind) (x : Sampled) → readWidth kind ≡ 4 → InPeriods (x .factor) → IndexBelow (x .factor) (x .index) →
-      Stands text at (readByte kind ∷ x .signal ∷ indexByte (x .index) ∷ x .factor ∷ []) → OperatorWritten text at (Operator.Read kind x)
+      Stands text at (readByte kind ∷ x .signal ∷ indexByte (x .index) ∷ x .factor ∷ []) →
+          OperatorWritten text at (Operator.Read kind x)
   sampled-written kind x four n i h =
       let s = byte-from 1 (omega arith) h in
       let b = byte-from 2 (omega arith) h in
       let f = byte-from 3 (omega arith) h in
       let w : OperatorWritten text at (Operator.Read kind
       (record { signal = byteAt text (at + 1); factor = byteAt text (at + 3); index = indexOf (byteAt text (at + 2)) })) =
-      OperatorWritten.sampled kind four (inside (omega arith) h) (byte-here h) (rw f n) (rw (b, f) (below (x .factor) (x .index) i)) in
+      OperatorWritten.sampled kind four (inside (omega arith) h) (byte-here h) (rw f n)
+          (rw (b, f) (below (x .factor) (x .index) i)) in
       let back : indexOf (byteAt text (at + 2)) ≡ x .index = ap indexOf b ∙ index-back (x .factor) (x .index) i in
-      let e : record { signal = byteAt text (at + 1); factor = byteAt text (at + 3); index = indexOf (byteAt text (at + 2)) } ≡ x =
+      let e : record { signal = byteAt text (at + 1); factor = byteAt text (at + 3); index = indexOf (byteAt text (at + 2)) } ≡
+          x =
       λ j. record { signal = s j; factor = f j; index = back j } in
       subst (λ y. OperatorWritten text at (Operator.Read kind y)) e w
 
@@ -163,7 +172,8 @@ module _ {text : List ℕ} {at : ℕ} where
   read-written LastWhen x r h = sampled-written LastWhen x refl (r .0) (r .1) h
   read-written Current x r h = sampled-written Current x refl (r .0) (r .1) h
 
-  declaration-stands : (c : Declaration) → DeclarationRanged c → Stands text at (declarationBytes c) → DeclarationWritten text at c
+  pub declaration-stands : (c : Declaration) → DeclarationRanged c → Stands text at (declarationBytes c) →
+      DeclarationWritten text at c
   declaration-stands Declaration.EndsEarly r h = absurd r
   declaration-stands Declaration.Unknown r h = absurd r
   declaration-stands Declaration.OutOfRange r h = absurd r
@@ -175,7 +185,7 @@ module _ {text : List ℕ} {at : ℕ} where
   declaration-stands (Declaration.Cap n) r h = cap-written n r h
   declaration-stands (Declaration.Tag label) r h = tag-written label r h
 
-  operator-stands : (c : Operator) → OperatorRanged c → Stands text at (operatorBytes c) → OperatorWritten text at c
+  pub operator-stands : (c : Operator) → OperatorRanged c → Stands text at (operatorBytes c) → OperatorWritten text at c
   operator-stands Operator.EndsEarly r h = absurd r
   operator-stands Operator.Unknown r h = absurd r
   operator-stands Operator.OutOfRange r h = absurd r
@@ -185,40 +195,26 @@ module _ {text : List ℕ} {at : ℕ} where
   operator-stands (Operator.Unary operator) r h = OperatorWritten.unary operator (inside (omega arith) h) (byte-here h)
   operator-stands Operator.If r h = OperatorWritten.choose (inside (omega arith) h) (byte-here h)
 
--- A command stands written where the bytes of its case stand.
-pub declaration-bytes : (text : List ℕ) (at : ℕ) (c : Declaration) → DeclarationRanged c → BytesAt text at (declarationBytes c) →
-    DeclarationWritten text at c
-declaration-bytes text at c r b = declaration-stands c r (stands b)
+pub put-stands : {text : List ℕ} {at : ℕ} (c : ScheduleCommand) → PutWhole c → Stands text at (putBytes c) → PutWritten text at c
+put-stands ScheduleCommand.EndsEarly r h = absurd r
+put-stands ScheduleCommand.Unknown r h = absurd r
+put-stands ScheduleCommand.End r h = PutWritten.end (inside (omega arith) h) (byte-here h)
+put-stands (ScheduleCommand.Put signal phase) r h =
+    rw (← byte-from 1 (omega arith) h, ← byte-from 2 (omega arith) h) (PutWritten.put (inside (omega arith) h) (byte-here h))
 
-pub operator-bytes : (text : List ℕ) (at : ℕ) (c : Operator) → OperatorRanged c → BytesAt text at (operatorBytes c) →
-    OperatorWritten text at c
-operator-bytes text at c r b = operator-stands c r (stands b)
-
-pub put-bytes : (text : List ℕ) (at : ℕ) (c : ScheduleCommand) → PutWhole c → BytesAt text at (putBytes c) → PutWritten text at c
-put-bytes text at c r b = go c r (stands b)
-  where
-    go : (c : ScheduleCommand) → PutWhole c → Stands text at (putBytes c) → PutWritten text at c
-    go ScheduleCommand.EndsEarly r h = absurd r
-    go ScheduleCommand.Unknown r h = absurd r
-    go ScheduleCommand.End r h = PutWritten.end (inside (omega arith) h) (byte-here h)
-    go (ScheduleCommand.Put signal phase) r h =
-        rw (← byte-from 1 (omega arith) h, ← byte-from 2 (omega arith) h) (PutWritten.put (inside (omega arith) h) (byte-here h))
-
-push-written : {code : List ℕ} {at : ℕ} (w : ℤ) → IsWord w → Stands code at (0x50 ∷ wordBytes w) → CodeWritten code at (Code.Push w)
+push-written : {code : List ℕ} {at : ℕ} (w : ℤ) → IsWord w → Stands code at (0x50 ∷ wordBytes w) →
+    CodeWritten code at (Code.Push w)
 unfolding wordBytes fourBytes
 push-written w f h =
     rw (← word-at w (fits w f) (behind (0x50 ∷ []) (wordBytes w) h)) (CodeWritten.push (inside (omega arith) h) (byte-here h))
 
-pub code-bytes : (code : List ℕ) (at : ℕ) (c : Code) → CodeRanged c → BytesAt code at (codeBytes c) → CodeWritten code at c
-code-bytes code at c r b = go c r (stands b)
-  where
-    go : (c : Code) → CodeRanged c → Stands code at (codeBytes c) → CodeWritten code at c
-    go Code.EndsEarly r h = absurd r
-    go Code.Unknown r h = absurd r
-    go (Code.Push w) r h = push-written w r h
-    go (Code.Load x) r h = rw (← byte-from 1 (omega arith) h) (CodeWritten.load (inside (omega arith) h) (byte-here h))
-    go (Code.Fetch x) r h = rw (← byte-from 1 (omega arith) h) (CodeWritten.fetch (inside (omega arith) h) (byte-here h))
-    go (Code.Store x) r h = rw (← byte-from 1 (omega arith) h) (CodeWritten.store (inside (omega arith) h) (byte-here h))
-    go (Code.Binary operator) r h = CodeWritten.binary operator (inside (omega arith) h) (byte-here h)
-    go (Code.Unary operator) r h = CodeWritten.unary operator (inside (omega arith) h) (byte-here h)
-    go Code.If r h = CodeWritten.choose (inside (omega arith) h) (byte-here h)
+pub code-stands : {code : List ℕ} {at : ℕ} (c : Code) → CodeRanged c → Stands code at (codeBytes c) → CodeWritten code at c
+code-stands Code.EndsEarly r h = absurd r
+code-stands Code.Unknown r h = absurd r
+code-stands (Code.Push w) r h = push-written w r h
+code-stands (Code.Load x) r h = rw (← byte-from 1 (omega arith) h) (CodeWritten.load (inside (omega arith) h) (byte-here h))
+code-stands (Code.Fetch x) r h = rw (← byte-from 1 (omega arith) h) (CodeWritten.fetch (inside (omega arith) h) (byte-here h))
+code-stands (Code.Store x) r h = rw (← byte-from 1 (omega arith) h) (CodeWritten.store (inside (omega arith) h) (byte-here h))
+code-stands (Code.Binary operator) r h = CodeWritten.binary operator (inside (omega arith) h) (byte-here h)
+code-stands (Code.Unary operator) r h = CodeWritten.unary operator (inside (omega arith) h) (byte-here h)
+code-stands Code.If r h = CodeWritten.choose (inside (omega arith) h) (byte-here h)
