@@ -48,14 +48,17 @@ is-due-requires c κs = search needs
 
 returns : tie.Need-returns Inv-loop μ-loop
 returns c =
-    let l = c .before .before .before .before .before in
+    let c3 = c .before .before .before in
+    let c4 = c3 .before in
+    let c5 = c4 .before in
+    let l = c5 in
     let a = l .before .args in
     let b = boardOf (now (a .words)) in
-    let lt = c .before .before .before .before .loop-test .taken in
+    let lt = c4 .loop-test .taken in
     let due : placeAt b (l .loop .place) .due ≡ true =
     due-held (now (a .words)) (l .loop .place) lt ∙ sym (c .before .is-due .ensures) ∙ c .if2 .taken in
     first-is (a .from) (4 - a .from) (λ k. placeAt b k .due) (At (l .loop .place))
-    (c .before .before .before .if1 .taken, omega arith, due, l .loop .inv)
+    (c3 .if1 .taken, omega arith, due, l .loop .inv)
 
 add-place : tie.Need-add-place Inv-loop μ-loop
 add-place c = omega arith

@@ -67,8 +67,11 @@ window-of-requires c κs =
 
 first-run-requires : tie.Need-first-run-requires
 first-run-requires c κs =
-    let i = c .before .before .before .before .before .before .follow in
-    let a = c .before .before .before .before .before .before .before .before .before .before .before .before .before .before in
+    let c6 = c .before .before .before .before .before .before in
+    let c11 = c6 .before .before .before .before .before in
+    let c14 = c11 .before .before .before in
+    let i = c6 .follow in
+    let a = c14 in
     let t = a .pre .0 .2 in
     (decided _ _ _ _ _ _ _ _ _ t (a .pre .1) (i .ensures _ _ (t .joined)) .few, c .window-of .ensures .1)
 

@@ -26,7 +26,10 @@ abbrev Pair : tie.Start → Program → Schedule → Type 0
 Pair b p s = Arranged (now (b .args .text)) (b .args .tables) (b .args .slots) (b .args .h) p s
 
 abbrev start : tie.After-check-reads → tie.Start
-start r = r .before .before .before .before .before .before .before .before .before .before .before
+start r =
+    let r5 = r .before .before .before .before .before in
+    let r11 = r5 .before .before .before .before .before .before in
+    r11
 
 abbrev reads : tie.After-check-load → tie.After-check-reads
 reads l = l .before .before .before .before .before .before .before
@@ -88,7 +91,9 @@ timed b p s g m =
 
 check-reads-requires : tie.Need-check-reads-requires
 check-reads-requires c κs =
-    let b = c .before .before .before .before .before .before .before .before .before .before in
+    let c5 = c .before .before .before .before .before in
+    let c10 = c5 .before .before .before .before .before in
+    let b = c10 in
     (phased b .0, phased b .2, indexed _ _ _ (b .pre .1))
 
 enum-told : tie.Need-enum-told

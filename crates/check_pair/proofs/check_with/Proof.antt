@@ -177,8 +177,11 @@ refused-requires-4 : tie.Need-refused-requires-4
 refused-requires-4 c κs = search needs
 
 same-length-3 : tie.Need-same-length-3
-same-length-3 c = search (needs,
-    c .before .before .before .before .before .before .before .before .before .before .before .before .before .before .reads .given)
+same-length-3 c =
+    let c5 = c .before .before .before .before .before in
+    let c10 = c5 .before .before .before .before .before in
+    let c14 = c10 .before .before .before .before in
+    search (needs, c14 .reads .given)
 
 returns-4 : tie.Need-returns-4
 unfolding stepsOf

@@ -32,12 +32,14 @@ here : (c : tie.After-divides Inv-loop μ-loop) (p : Program) →
     c .divides .result && isMultiple (drop (c .before .before .before .loop .s + 1) (p .signals))
         (c .before .before .before .before .args .h)
 here c p n t =
-    let l = c .before .before .before .loop in
+    let c3 = c .before .before .before in
+    let c4 = c3 .before in
+    let l = c3 .loop in
     let lt : l .s < length (p .signals) = omega (arith, c .before .before .loop-test .taken) in
-    let same : c .divides .result ≡ eqb (c .before .before .before .before .args .h % signalAt p (l .s) .period) 0 =
-    c .divides .ensures ∙ ap (λ d. eqb (c .before .before .before .before .args .h % d) 0) (t (l .s) lt) in
+    let same : c .divides .result ≡ eqb (c4 .args .h % signalAt p (l .s) .period) 0 =
+    c .divides .ensures ∙ ap (λ d. eqb (c4 .args .h % d) 0) (t (l .s) lt) in
     l .inv .1 p n t ∙ multiple-here (p .signals) (l .s) _ lt ∙
-    ap (λ b. b && isMultiple (drop (l .s + 1) (p .signals)) (c .before .before .before .before .args .h)) (sym same)
+    ap (λ b. b && isMultiple (drop (l .s + 1) (p .signals)) (c4 .args .h)) (sym same)
 
 loop-holds : tie.Need-loop-holds Inv-loop μ-loop
 loop-holds c = (omega arith, λ p n t. refl)

@@ -121,24 +121,35 @@ in-program-requires-2 : tie.Need-in-program-requires-2 Inv-loop2 μ-loop2 Inv-lo
 in-program-requires-2 c κs = search needs
 
 mul-at : tie.Need-mul-at Inv-loop2 μ-loop2 Inv-loop μ-loop
-mul-at c = omega (arith, passed c, c .before .before .before .in-program .ensures,
-    within (c .before .before .before .before) (c .before .before .loop2 .i) (c .before .loop2-test .taken),
-    c .before .before .before .before .before .before .before .before .before .good .0 .1)
+mul-at c =
+    let c3 = c .before .before .before in
+    let c4 = c3 .before in
+    let c9 = c4 .before .before .before .before .before in
+    omega (arith, passed c, c3 .in-program .ensures,
+    within c4 (c .before .before .loop2 .i) (c .before .loop2-test .taken), c9 .good .0 .1)
 
 add-at : tie.Need-add-at Inv-loop2 μ-loop2 Inv-loop μ-loop
-add-at c = omega (arith, passed c, c .before .before .before .in-program .ensures,
-    within (c .before .before .before .before) (c .before .before .loop2 .i) (c .before .loop2-test .taken),
-    c .before .before .before .before .before .before .before .before .before .good .0 .1)
+add-at c =
+    let c3 = c .before .before .before in
+    let c4 = c3 .before in
+    let c9 = c4 .before .before .before .before .before in
+    omega (arith, passed c, c3 .in-program .ensures,
+    within c4 (c .before .before .loop2 .i) (c .before .loop2-test .taken), c9 .good .0 .1)
 
 add-wide : tie.Need-add-wide Inv-loop2 μ-loop2 Inv-loop μ-loop
-add-wide c = omega (arith, passed c, c .before .before .before .in-program .ensures,
-    within (c .before .before .before .before) (c .before .before .loop2 .i) (c .before .loop2-test .taken),
-    c .before .before .before .before .before .before .before .before .before .good .0 .1)
+add-wide c =
+    let c3 = c .before .before .before in
+    let c4 = c3 .before in
+    let c9 = c4 .before .before .before .before .before in
+    omega (arith, passed c, c3 .in-program .ensures,
+    within c4 (c .before .before .loop2 .i) (c .before .loop2-test .taken), c9 .good .0 .1)
 
 shared-slice-read-wide : tie.Need-shared-slice-read-wide Inv-loop2 μ-loop2 Inv-loop μ-loop
-shared-slice-read-wide c = omega
-    (arith, passed (c .before), c .before .before .before .before .in-program .ensures,
-    within (c .before .before .before .before .before) (c .before .before .before .loop2 .i)
+shared-slice-read-wide c =
+    let c3 = c .before .before .before in
+    let c4 = c3 .before in
+    let c5 = c4 .before in
+    omega (arith, passed (c .before), c4 .in-program .ensures, within c5 (c3 .loop2 .i)
     (c .before .before .loop2-test .taken))
 
 wide-requires : tie.Need-wide-requires Inv-loop2 μ-loop2 Inv-loop μ-loop
@@ -156,59 +167,43 @@ enum-told-2 c = search needs
 returns : tie.Need-returns Inv-loop2 μ-loop2 Inv-loop μ-loop
 unfolding judgementOf
 returns c =
+    let c3 = c .before .before .before in
+    let c5 = c3 .before .before in
+    let c6 = c5 .before in
+    let c7 = c6 .before in
+    let c9 = c7 .before .before in
     λ p e.
     c .enum-told2 .given .1 ∙
-    sym (ap judgementOf (check-refuses (links-in p) (linkAs p) (lowest (linkRates p)) (link-there p)
-        (x (c .before .before .before .before .before .before .before .before .before))
-        (c .before .before .before .before .before .before .before .loop2 .i)
-        (link-seen _ (t (c .before .before .before .before .before .before .before .before .before))
-        (read (c .before .before .before .before .before .before .before .before .before)) p e
-        (x (c .before .before .before .before .before .before .before .before .before))
-        (lt (c .before .before .before .before .before .before .before .before .before))
-        (c .before .before .before .before .before .before .before .loop2 .i)
-        (c .before .before .before .before .before .before .loop2-test .taken))
-        (c .before .before .before .before .before .before .before .loop2 .inv .1 p e)
-    (one-link _ (t (c .before .before .before .before .before .before .before .before .before))
-        (read (c .before .before .before .before .before .before .before .before .before)) p e
-        (x (c .before .before .before .before .before .before .before .before .before))
-        (lt (c .before .before .before .before .before .before .before .before .before))
-        (c .before .before .before .before .before .before .before .loop2 .i)
-        (c .before .before .before .before .before .before .loop2-test .taken) _ _ (Judged.Refused _)
-        (stands (c .before .before .before .before .before)) (c .before .before .before .wide .ensures .0)
+    sym (ap judgementOf (check-refuses (links-in p) (linkAs p) (lowest (linkRates p)) (link-there p) (x c9)
+        (c7 .loop2 .i) (link-seen _ (t c9) (read c9) p e (x c9) (lt c9) (c7 .loop2 .i) (c6 .loop2-test .taken))
+        (c7 .loop2 .inv .1 p e) (one-link _ (t c9) (read c9) p e (x c9) (lt c9) (c7 .loop2 .i)
+        (c6 .loop2-test .taken) _ _ (Judged.Refused _) (stands c5) (c3 .wide .ensures .0)
         (sym (c .enum-told2 .given .1) ∙ c .before .before .judge-rate .ensures))))
 
 add-i : tie.Need-add-i Inv-loop2 μ-loop2 Inv-loop μ-loop
-add-i c = omega (arith, within (c .before .before .before .before .before .before .before .before .before)
-    (c .before .before .before .before .before .before .before .loop2 .i)
-    (c .before .before .before .before .before .before .loop2-test .taken),
-    c .before .before .before .before .before .before .before .before .before .before .before .before .before .before .good .0 .1)
+add-i c =
+    let c6 = c .before .before .before .before .before .before in
+    let c7 = c6 .before in
+    let c9 = c7 .before .before in
+    let c14 = c9 .before .before .before .before .before in
+    omega (arith, within c9 (c7 .loop2 .i) (c6 .loop2-test .taken), c14 .good .0 .1)
 
 loop2-less : tie.Need-loop2-less Inv-loop2 μ-loop2 Inv-loop μ-loop
 loop2-less c = omega (arith, c .before .before .before .before .before .before .loop2-test .taken)
 
 loop2-again : tie.Need-loop2-again Inv-loop2 μ-loop2 Inv-loop μ-loop
-loop2-again c = (
-  omega (arith, c .before .before .before .before .before .before .loop2-test .taken),
-  λ p e.
-      subst (Ahead (links-in p) (linkAs p) (lowest (linkRates p))
-          (x (c .before .before .before .before .before .before .before .before .before))) (omega arith)
-      (check-passes (links-in p) (linkAs p) (lowest (linkRates p)) (link-there p)
-          (x (c .before .before .before .before .before .before .before .before .before))
-          (c .before .before .before .before .before .before .before .loop2 .i)
-          (link-seen _ (t (c .before .before .before .before .before .before .before .before .before))
-          (read (c .before .before .before .before .before .before .before .before .before)) p e
-          (x (c .before .before .before .before .before .before .before .before .before))
-          (lt (c .before .before .before .before .before .before .before .before .before))
-          (c .before .before .before .before .before .before .before .loop2 .i)
-          (c .before .before .before .before .before .before .loop2-test .taken))
-          (c .before .before .before .before .before .before .before .loop2 .inv .1 p e)
-      (one-link _ (t (c .before .before .before .before .before .before .before .before .before))
-          (read (c .before .before .before .before .before .before .before .before .before)) p e
-          (x (c .before .before .before .before .before .before .before .before .before))
-          (lt (c .before .before .before .before .before .before .before .before .before))
-          (c .before .before .before .before .before .before .before .loop2 .i)
-          (c .before .before .before .before .before .before .loop2-test .taken) _ _ Judged.Fine
-          (stands (c .before .before .before .before .before)) (c .before .before .before .wide .ensures .0)
+loop2-again c =
+    let c3 = c .before .before .before in
+    let c5 = c3 .before .before in
+    let c6 = c5 .before in
+    let c7 = c6 .before in
+    let c9 = c7 .before .before in
+    ( omega (arith, c6 .loop2-test .taken), λ p e.
+      subst (Ahead (links-in p) (linkAs p) (lowest (linkRates p)) (x c9)) (omega arith)
+      (check-passes (links-in p) (linkAs p) (lowest (linkRates p)) (link-there p) (x c9) (c7 .loop2 .i)
+          (link-seen _ (t c9) (read c9) p e (x c9) (lt c9) (c7 .loop2 .i) (c6 .loop2-test .taken))
+          (c7 .loop2 .inv .1 p e) (one-link _ (t c9) (read c9) p e (x c9) (lt c9) (c7 .loop2 .i)
+          (c6 .loop2-test .taken) _ _ Judged.Fine (stands c5) (c3 .wide .ensures .0)
           (sym (c .enum-told .given .1) ∙ c .before .before .judge-rate .ensures))),
 )
 
@@ -220,23 +215,20 @@ loop-less c = omega (arith, c .before .before .before .loop-test .taken)
 
 loop-again : tie.Need-loop-again Inv-loop2 μ-loop2 Inv-loop μ-loop
 loop-again c =
-    let l = c .before .loop2 in (
-      omega (arith, c .before .before .before .loop-test .taken),
-      λ p e.
+    let c3 = c .before .before .before in
+    let l = c .before .loop2 in ( omega (arith, c3 .loop-test .taken), λ p e.
           subst (Before (links-in p) (linkAs p) (lowest (linkRates p))) (omega arith)
-          (check-leaves (links-in p) (linkAs p) (lowest (linkRates p)) (x (c .before .before .before)) (l .i)
-          (omega (arith, l .inv .0, c .loop2-test .left,
-              length-is _ (t (c .before .before .before)) (read (c .before .before .before)) p e (x (c .before .before .before))
-              (lt (c .before .before .before)))) (l .inv .1 p e)),
-    )
+          (check-leaves (links-in p) (linkAs p) (lowest (linkRates p)) (x c3) (l .i)
+          (omega (arith, l .inv .0, c .loop2-test .left, length-is _ (t c3) (read c3) p e (x c3)
+              (lt c3))) (l .inv .1 p e)), )
 
 returns-2 : tie.Need-returns-2 Inv-loop2 μ-loop2 Inv-loop μ-loop
 unfolding judgementOf
 returns-2 c =
+    let c5 = c .before .before .before .before .before in
     λ p e.
     sym (ap judgementOf (check-ends (links-in p) (linkAs p) (lowest (linkRates p)) (c .before .loop .chain)
-    (omega (arith, chains-are _ (c .before .before .before .before .before .args .tables)
-        (c .before .before .before .before .before .pre) p e, c .before .loop .inv .0, c .loop-test .left))
+    (omega (arith, chains-are _ (c5 .args .tables) (c5 .pre) p e, c .before .loop .inv .0, c .loop-test .left))
         (c .before .loop .inv .1 p e)))
 
 pub judge-links-spec : {M : Type 1} → statement M

@@ -54,8 +54,11 @@ refuse-requires c κs = search needs
 
 returns-4 : tie.Need-returns-4
 unfolding readMet
-returns-4 c = λ q.
-    let e = c .before .before .before .before .before .before .before .before .before in
+returns-4 c =
+    let c5 = c .before .before .before .before .before in
+    let c9 = c5 .before .before .before .before in
+    λ q.
+    let e = c9 in
     let a = e .before .before .before .args in
     rw (lt-ltb (a .operands .signal) (a .signals) (omega (arith, e .before .if1 .left)),
         lt-ltb (a .reader) (a .signals) (omega (arith, e .if2 .left)), sym (c .before .before .is-met .ensures q) ∙

@@ -88,14 +88,16 @@ loop-less : tie.Need-loop-less Inv-loop μ-loop
 loop-less c = omega arith
 
 loop-again : tie.Need-loop-again Inv-loop μ-loop
-loop-again c = let t = c .before .before .before .before .before in
+loop-again c =
+    let c4 = c .before .before .before .before in
+    let c5 = c4 .before in
+    let t = c5 in
     let l = t .before in
-    let m = c .before .before .before .before .w .given in
+    let m = c4 .w .given in
     let w = kept _ m in
     let p = put-is (ap decimal w) (c .before .before .put-decimal .ensures) in (
       put-is (sym (spaced-more (start l .args .words .now) (l .loop .i) (t .loop-test .taken)))
-          (put-then (l .loop .inv .0) (put-then (put-one _ _ _ (slice-write-out (c .before .before .before .before))) p)),
-      omega arith,
+          (put-then (l .loop .inv .0) (put-then (put-one _ _ _ (slice-write-out c4)) p)), omega arith,
       omega (arith, p .ends, l .loop .inv .2, decimal-length (getD (start l .args .words .now) (l .loop .i) (pos 0)) m),
     )
 

@@ -23,8 +23,9 @@ in-program-requires : tie.Need-in-program-requires
 in-program-requires c κs = search needs
 
 add-emit-expression : tie.Need-add-emit-expression
-add-emit-expression c = omega (arith, inside (c .before .before .before .before .before) .1 (c .before .if1 .taken),
-    c .before .before .before .before .before .good .0 .1)
+add-emit-expression c =
+    let c5 = c .before .before .before .before .before in
+    omega (arith, inside c5 .1 (c .before .if1 .taken), c5 .good .0 .1)
 
 emit-expression-requires : tie.Need-emit-expression-requires
 emit-expression-requires c κs =
@@ -33,18 +34,21 @@ emit-expression-requires c κs =
 
 put-access-requires : tie.Need-put-access-requires
 put-access-requires c κs =
-    store-room (c .before .before .before .before .before .before .if1 .taken)
-        (c .before .before .before .before .before .before .before .before .before .before .pre)
-    (rw (c .before .before .before .before .before .in-program .ensures) at (c .before .before .before .emit-expression .ensures))
+    let c3 = c .before .before .before in
+    let c5 = c3 .before .before in
+    let c6 = c5 .before in
+    let c10 = c6 .before .before .before .before in
+    store-room (c6 .if1 .taken) (c10 .pre) (rw (c5 .in-program .ensures) at (c3 .emit-expression .ensures))
 
 same-length : tie.Need-same-length
 same-length c = search needs
 
 returns : tie.Need-returns
 returns c =
-    equation-emits (c .before .before .before .before .before .before .before .before .before .if1 .taken)
-    (rw (c .before .before .before .before .before .before .before .before .in-program .ensures) at
-        (c .before .before .before .before .before .before .emit-expression .ensures))
+    let c6 = c .before .before .before .before .before .before in
+    let c8 = c6 .before .before in
+    let c9 = c8 .before in
+    equation-emits (c9 .if1 .taken) (rw (c8 .in-program .ensures) at (c6 .emit-expression .ensures))
     (c .before .before .put-access .ensures)
 
 put-access-requires-2 : tie.Need-put-access-requires-2
@@ -52,16 +56,20 @@ put-access-requires-2 c κs = omega (arith, sample-room (c .before .if1 .left) (
 
 put-access-requires-3 : tie.Need-put-access-requires-3
 put-access-requires-3 c κs =
-    let first = c .before .before .before .put-access2 .ensures in
-    omega (arith, sample-room (c .before .before .before .before .before .if1 .left)
-        (c .before .before .before .before .before .before .before .before .before .pre), first .ends, puts-length first)
+    let c3 = c .before .before .before in
+    let c5 = c3 .before .before in
+    let c9 = c5 .before .before .before .before in
+    let first = c3 .put-access2 .ensures in
+    omega (arith, sample-room (c5 .if1 .left) (c9 .pre), first .ends, puts-length first)
 
 same-length-2 : tie.Need-same-length-2
 same-length-2 c = search needs
 
 returns-2 : tie.Need-returns-2
-returns-2 c = sample-emits (c .before .before .before .before .before .before .before .before .if1 .left)
-    (c .before .before .before .before .before .before .put-access2 .ensures) (c .before .before .put-access3 .ensures)
+returns-2 c =
+    let c6 = c .before .before .before .before .before .before in
+    let c8 = c6 .before .before in
+    sample-emits (c8 .if1 .left) (c6 .put-access2 .ensures) (c .before .before .put-access3 .ensures)
 
 pub emit-signal-spec : {M : Type 1} → statement M
 emit-signal-spec =

@@ -133,10 +133,9 @@ sub-measure-expression t c = omega (arith, some t (c .before .before .before) _ 
 
 measure-expression-requires : (t : ℕ) → lts.Need-measure-expression-requires (known t) (given t) own.Post
 measure-expression-requires t c κs =
-    rw (c .in-expression2 .ensures)
-        ((omega (arith, some t (c .before .before .before) _ (c .before .enum-told2 .given .1))),
-        (first-nests (all t (c .before .before .before) _ (c .before .enum-told2 .given .1)),
-        short t (c .before .before .before)))
+    let c3 = c .before .before .before in
+    rw (c .in-expression2 .ensures) ((omega (arith, some t c3 _ (c .before .enum-told2 .given .1))),
+        (first-nests (all t c3 _ (c .before .enum-told2 .given .1)), short t c3))
 
 sub-measure-expression-2 : (t : ℕ) → lts.Need-sub-measure-expression-2 (known t) (given t) own.Post
 sub-measure-expression-2 t c =
@@ -144,9 +143,10 @@ sub-measure-expression-2 t c =
 
 measure-expression-requires-2 : (t : ℕ) → lts.Need-measure-expression-requires-2 (known t) (given t) own.Post
 measure-expression-requires-2 t c κs =
-    ((omega (arith, some t (c .before .before .before .before) _ (c .before .before .enum-told2 .given .1))),
-    (first-nests (rest-nests (all t (c .before .before .before .before) _ (c .before .before .enum-told2 .given .1))
-    (rw (c .before .in-expression2 .ensures) at (c .measure-expression .ensures))), short t (c .before .before .before .before)))
+    let c4 = c .before .before .before .before in
+    ((omega (arith, some t c4 _ (c .before .before .enum-told2 .given .1))),
+    (first-nests (rest-nests (all t c4 _ (c .before .before .enum-told2 .given .1))
+    (rw (c .before .in-expression2 .ensures) at (c .measure-expression .ensures))), short t c4))
 
 -- the operands of an operator with two
 two : (t : ℕ) (c : lts.After-measure-expression2 (known t) (given t) own.Post) →
@@ -186,10 +186,9 @@ sub-measure-expression-3 t c = omega (arith, some t (c .before .before .before) 
 
 measure-expression-requires-3 : (t : ℕ) → lts.Need-measure-expression-requires-3 (known t) (given t) own.Post
 measure-expression-requires-3 t c κs =
-    rw (c .in-expression3 .ensures)
-        ((omega (arith, some t (c .before .before .before) _ (c .before .enum-told3 .given .1))),
-        (first-nests (all t (c .before .before .before) _ (c .before .enum-told3 .given .1)),
-        short t (c .before .before .before)))
+    let c3 = c .before .before .before in
+    rw (c .in-expression3 .ensures) ((omega (arith, some t c3 _ (c .before .enum-told3 .given .1))),
+        (first-nests (all t c3 _ (c .before .enum-told3 .given .1)), short t c3))
 
 operated-requires-2 : (t : ℕ) → lts.Need-operated-requires-2 (known t) (given t) own.Post
 operated-requires-2 t c κs = let s =
@@ -212,10 +211,9 @@ sub-measure-expression-4 t c = omega (arith, some t (c .before .before .before) 
 
 measure-expression-requires-4 : (t : ℕ) → lts.Need-measure-expression-requires-4 (known t) (given t) own.Post
 measure-expression-requires-4 t c κs =
-    rw (c .in-expression4 .ensures)
-        ((omega (arith, some t (c .before .before .before) _ (c .before .enum-told4 .given .1))),
-        (first-nests (all t (c .before .before .before) _ (c .before .enum-told4 .given .1)),
-        short t (c .before .before .before)))
+    let c3 = c .before .before .before in
+    rw (c .in-expression4 .ensures) ((omega (arith, some t c3 _ (c .before .enum-told4 .given .1))),
+        (first-nests (all t c3 _ (c .before .enum-told4 .given .1)), short t c3))
 
 sub-measure-expression-5 : (t : ℕ) → lts.Need-sub-measure-expression-5 (known t) (given t) own.Post
 sub-measure-expression-5 t c =
@@ -223,9 +221,10 @@ sub-measure-expression-5 t c =
 
 measure-expression-requires-5 : (t : ℕ) → lts.Need-measure-expression-requires-5 (known t) (given t) own.Post
 measure-expression-requires-5 t c κs =
-    ((omega (arith, some t (c .before .before .before .before) _ (c .before .before .enum-told4 .given .1))),
-    (first-nests (rest-nests (all t (c .before .before .before .before) _ (c .before .before .enum-told4 .given .1))
-    (rw (c .before .in-expression4 .ensures) at (c .measure-expression4 .ensures))), short t (c .before .before .before .before)))
+    let c4 = c .before .before .before .before in
+    ((omega (arith, some t c4 _ (c .before .before .enum-told4 .given .1))),
+    (first-nests (rest-nests (all t c4 _ (c .before .before .enum-told4 .given .1))
+    (rw (c .before .in-expression4 .ensures) at (c .measure-expression4 .ensures))), short t c4))
 
 sub-measure-expression-6 : (t : ℕ) → lts.Need-sub-measure-expression-6 (known t) (given t) own.Post
 sub-measure-expression-6 t c =
@@ -233,11 +232,12 @@ sub-measure-expression-6 t c =
 
 measure-expression-requires-6 : (t : ℕ) → lts.Need-measure-expression-requires-6 (known t) (given t) own.Post
 measure-expression-requires-6 t c κs =
-    ((omega (arith, some t (c .before .before .before .before .before) _ (c .before .before .before .enum-told4 .given .1))),
-    (first-nests (rest-nests (rest-nests
-    (all t (c .before .before .before .before .before) _ (c .before .before .before .enum-told4 .given .1))
+    let c3 = c .before .before .before in
+    let c5 = c3 .before .before in
+    ((omega (arith, some t c5 _ (c3 .enum-told4 .given .1))), (first-nests (rest-nests (rest-nests
+    (all t c5 _ (c3 .enum-told4 .given .1))
     (rw (c .before .before .in-expression4 .ensures) at (c .before .measure-expression4 .ensures)))
-    (c .measure-expression5 .ensures)), short t (c .before .before .before .before .before)))
+    (c .measure-expression5 .ensures)), short t c5))
 
 -- the operands of IF
 three : (t : ℕ) (c : lts.After-measure-expression6 (known t) (given t) own.Post) →
@@ -248,12 +248,12 @@ three : (t : ℕ) (c : lts.After-measure-expression6 (known t) (given t) own.Pos
     Small (text t (c .before .before .before .before .before .before)) (c .before .measure-expression5 .result .next)
         (c .measure-expression6 .result)
 three t c =
-    let a = all t (c .before .before .before .before .before .before) _ (c .before .before .before .before .enum-told4 .given .1)
-        in
-    let b = rest-nests a (rw (c .before .before .before .in-expression4 .ensures) at
-        (c .before .before .measure-expression4 .ensures)) in (
-      small (first-nests a) (rw (c .before .before .before .in-expression4 .ensures) at
-          (c .before .before .measure-expression4 .ensures)),
+    let c3 = c .before .before .before in
+    let c4 = c3 .before in
+    let c6 = c4 .before .before in
+    let a = all t c6 _ (c4 .enum-told4 .given .1) in
+    let b = rest-nests a (rw (c3 .in-expression4 .ensures) at (c .before .before .measure-expression4 .ensures)) in (
+      small (first-nests a) (rw (c3 .in-expression4 .ensures) at (c .before .before .measure-expression4 .ensures)),
       small (first-nests b) (c .before .measure-expression5 .ensures),
       small (first-nests (rest-nests b (c .before .measure-expression5 .ensures))) (c .measure-expression6 .ensures),
     )
@@ -284,11 +284,14 @@ returns-2 t c = measures-leaf _ (is t (c .before .before .before .before) _ (c .
     (ap (λ (k : ℕ). at t (c .before .before .before .before) + k) (c .of-read .ensures)) refl refl
 
 returns-3 : (t : ℕ) → lts.Need-returns-3 (known t) (given t) own.Post
-returns-3 t c = measures-last _
-    (is t (c .before .before .before .before .before .before .before) _
-    (c .before .before .before .before .before .enum-told2 .given .1)) (omega arith)
-    (measures-more (rw (c .before .before .before .before .in-expression2 .ensures) at
-    (c .before .before .before .measure-expression .ensures)) (measures-one (c .before .before .measure-expression2 .ensures))
+returns-3 t c =
+    let c3 = c .before .before .before in
+    let c4 = c3 .before in
+    let c5 = c4 .before in
+    let c7 = c5 .before .before in
+    measures-last _ (is t c7 _ (c5 .enum-told2 .given .1)) (omega arith)
+    (measures-more (rw (c4 .in-expression2 .ensures) at
+    (c3 .measure-expression .ensures)) (measures-one (c .before .before .measure-expression2 .ensures))
     (c .before .joined .ensures)) (c .operated .ensures)
 
 returns-4 : (t : ℕ) → lts.Need-returns-4 (known t) (given t) own.Post
@@ -298,13 +301,17 @@ returns-4 t c = measures-last _
     (c .operated2 .ensures)
 
 returns-5 : (t : ℕ) → lts.Need-returns-5 (known t) (given t) own.Post
-returns-5 t c = measures-last _
-    (is t (c .before .before .before .before .before .before .before .before .before) _
-    (c .before .before .before .before .before .before .before .enum-told4 .given .1)) (omega arith)
-    (measures-more (rw (c .before .before .before .before .before .before .in-expression4 .ensures) at
-    (c .before .before .before .before .before .measure-expression4 .ensures))
-    (measures-more (c .before .before .before .before .measure-expression5 .ensures)
-    (measures-one (c .before .before .before .measure-expression6 .ensures)) (c .before .before .joined2 .ensures))
+returns-5 t c =
+    let c3 = c .before .before .before in
+    let c4 = c3 .before in
+    let c5 = c4 .before in
+    let c6 = c5 .before in
+    let c7 = c6 .before in
+    let c9 = c7 .before .before in
+    measures-last _ (is t c9 _ (c7 .enum-told4 .given .1)) (omega arith)
+    (measures-more (rw (c6 .in-expression4 .ensures) at (c5 .measure-expression4 .ensures))
+    (measures-more (c4 .measure-expression5 .ensures)
+    (measures-one (c3 .measure-expression6 .ensures)) (c .before .before .joined2 .ensures))
     (c .before .joined3 .ensures)) (c .operated3 .ensures)
 
 returns-6 : (t : ℕ) → lts.Need-returns-6 (known t) (given t) own.Post

@@ -94,8 +94,10 @@ part-code-ok-end : tie.Need-part-code-ok-end Inv-loop μ-loop
 part-code-ok-end c = c .if2 .left
 
 code-ok-requires : tie.Need-code-ok-requires Inv-loop μ-loop
-code-ok-requires c κs = (c .before .before .before .before .before .before .before .before .before .before .shapes .ensures,
-    c .before .before .before .before .before .before .loop-test .taken)
+code-ok-requires c κs =
+    let c6 = c .before .before .before .before .before .before in
+    let c10 = c6 .before .before .before .before in
+    (c10 .shapes .ensures, c6 .loop-test .taken)
 
 returns-3 : tie.Need-returns-3 Inv-loop μ-loop
 unfolding codesOk

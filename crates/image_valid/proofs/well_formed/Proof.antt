@@ -43,8 +43,10 @@ returns-2 c = let l = c .before in
     (sym (l .lists-ok .ensures) ∙ not-true _ (c .if2 .taken)))
 
 entries-ok-requires : tie.Need-entries-ok-requires
-entries-ok-requires c κs = (good (c .before .before .before .before .before .before), listed c, refl,
-    c .before .before .before .before .wide .ensures .0)
+entries-ok-requires c κs =
+    let c4 = c .before .before .before .before in
+    let c6 = c4 .before .before in
+    (good c6, listed c, refl, c4 .wide .ensures .0)
 
 returns-3 : tie.Need-returns-3
 returns-3 c =

@@ -114,16 +114,22 @@ length-of-requires : tie.Need-length-of-requires Inv-loop μ-loop
 length-of-requires c κs = search needs
 
 add-at : tie.Need-add-at Inv-loop μ-loop
-add-at c = let z = length-some
-    (getD (c .before .before .before .before .before .before .before .before .before .before .args .code .now)
-    (c .before .before .before .before .before .before .before .before .loop .at) 0) in
-    omega (arith, z .1, c .length-of .ensures, c .before .before .before .before .before .before .before .loop-test .taken)
+add-at c =
+    let c5 = c .before .before .before .before .before in
+    let c7 = c5 .before .before in
+    let c8 = c7 .before in
+    let c10 = c8 .before .before in
+    let z = length-some (getD (c10 .args .code .now) (c8 .loop .at) 0) in
+    omega (arith, z .1, c .length-of .ensures, c7 .loop-test .taken)
 
 loop-less : tie.Need-loop-less Inv-loop μ-loop
-loop-less c = let z = length-some
-    (getD (c .before .before .before .before .before .before .before .before .before .before .args .code .now)
-    (c .before .before .before .before .before .before .before .before .loop .at) 0) in
-    omega (arith, z .0, z .1, c .length-of .ensures, c .before .before .before .before .before .before .before .loop-test .taken)
+loop-less c =
+    let c5 = c .before .before .before .before .before in
+    let c7 = c5 .before .before in
+    let c8 = c7 .before in
+    let c10 = c8 .before .before in
+    let z = length-some (getD (c10 .args .code .now) (c8 .loop .at) 0) in
+    omega (arith, z .0, z .1, c .length-of .ensures, c7 .loop-test .taken)
 
 loop-again : tie.Need-loop-again Inv-loop μ-loop
 loop-again c =

@@ -33,9 +33,12 @@ is-plain-requires c κs = search needs
 
 returns : tie.Need-returns Inv-loop μ-loop
 returns c =
-    let l = c .before .before .before .before .loop in
-    let a = c .before .before .before .before .before .args in
-    sym (all-fails (a .count) (l .i) (λ j. isPlain (getD (a .t1) j noHop .kind)) (c .before .before .before .loop-test .taken)
+    let c3 = c .before .before .before in
+    let c4 = c3 .before in
+    let c5 = c4 .before in
+    let l = c4 .loop in
+    let a = c5 .args in
+    sym (all-fails (a .count) (l .i) (λ j. isPlain (getD (a .t1) j noHop .kind)) (c3 .loop-test .taken)
     (sym (c .before .is-plain .ensures) ∙ not-true (c .before .is-plain .result) (c .if1 .taken)))
 
 add-i : tie.Need-add-i Inv-loop μ-loop
@@ -46,13 +49,12 @@ loop-less c = omega arith
 
 loop-again : tie.Need-loop-again Inv-loop μ-loop
 loop-again c =
-    let l = c .before .before .before .before .loop in
-    let a = c .before .before .before .before .before .args in (
-      omega arith,
-      l .inv .1,
+    let c4 = c .before .before .before .before in
+    let c5 = c4 .before in
+    let l = c4 .loop in
+    let a = c5 .args in ( omega arith, l .inv .1,
       all-more (l .i) (λ j. isPlain (getD (a .t1) j noHop .kind)) (l .inv .2)
-          (sym (c .before .is-plain .ensures) ∙ not-false (c .before .is-plain .result) (c .if1 .left)),
-    )
+          (sym (c .before .is-plain .ensures) ∙ not-false (c .before .is-plain .result) (c .if1 .left)), )
 
 returns-2 : tie.Need-returns-2 Inv-loop μ-loop
 returns-2 c =

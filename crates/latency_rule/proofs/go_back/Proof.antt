@@ -32,9 +32,12 @@ entry-of-requires c κs = let l = c .before .before .loop in
 
 returns : tie.Need-returns Inv-loop μ-loop
 returns c =
-    let l = c .before .before .before .before .loop in
-    let a = c .before .before .before .before .before .args in
-    let q = back-at (a .t1) (l .left) (l .element) (c .before .entry-of .result) (c .before .before .before .loop-test .taken)
+    let c3 = c .before .before .before in
+    let c4 = c3 .before in
+    let c5 = c4 .before in
+    let l = c4 .loop in
+    let a = c5 .args in
+    let q = back-at (a .t1) (l .left) (l .element) (c .before .entry-of .result) (c3 .loop-test .taken)
         (c .before .entry-of .ensures) in
     (sym (l .inv .4 ∙ rw (c .if1 .taken) at q), tt)
 
@@ -49,18 +52,17 @@ loop-less c = omega arith
 
 loop-again : tie.Need-loop-again Inv-loop μ-loop
 loop-again c =
-    let l = c .before .before .before .before .loop in
-    let a = c .before .before .before .before .before .args in
-    let lt = c .before .before .before .loop-test .taken in
-    let e = c .before .entry-of .result in (
-      omega (arith, l .inv .0),
-      l .inv .1,
-      l .inv .2,
+    let c3 = c .before .before .before in
+    let c4 = c3 .before in
+    let c5 = c4 .before in
+    let l = c4 .loop in
+    let a = c5 .args in
+    let lt = c3 .loop-test .taken in
+    let e = c .before .entry-of .result in ( omega (arith, l .inv .0), l .inv .1, l .inv .2,
       small-onward (λ m. Small (a .t1) (l .left - 1) m) e (c .if1 .left)
           (small-at (a .t1) (l .left) (l .element) e lt (c .before .entry-of .ensures) (l .inv .3)),
       l .inv .4 ∙ back-at (a .t1) (l .left) (l .element) e lt (c .before .entry-of .ensures) ∙
-          onward-at (λ m. backBy (a .t1) (l .left - 1) m) e (c .if1 .left),
-    )
+          onward-at (λ m. backBy (a .t1) (l .left - 1) m) e (c .if1 .left), )
 
 returns-2 : tie.Need-returns-2 Inv-loop μ-loop
 returns-2 c =

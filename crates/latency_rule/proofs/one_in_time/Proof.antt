@@ -37,11 +37,14 @@ is-in-time-requires c κs = search needs
 
 returns : tie.Need-returns Inv-loop μ-loop
 returns c =
-    let l = c .before .before .before .before .loop in
-    let a = c .before .before .before .before .before .args in
+    let c3 = c .before .before .before in
+    let c4 = c3 .before in
+    let c5 = c4 .before in
+    let l = c4 .loop in
+    let a = c5 .args in
     sym (ap isFound (l .inv .4 ∙ search-here
         (λ i. inTimeBy (a .bound) (runLatencyBy (a .hops) (a .count) (rateIn (a .last)) (rateIn (a .source)) (a .from + i)))
-        (l .i) (a .window) (c .before .before .before .loop-test .taken)
+        (l .i) (a .window) (c3 .loop-test .taken)
         (ap (inTimeBy (a .bound)) (sym (c .before .before .run-latency .ensures)) ∙ sym (c .before .is-in-time .ensures) ∙
         c .if1 .taken)))
 
@@ -53,12 +56,14 @@ loop-less c = omega arith
 
 loop-again : tie.Need-loop-again Inv-loop μ-loop
 loop-again c =
-    let l = c .before .before .before .before .loop in
-    let a = c .before .before .before .before .before .args in
-    (l .inv .0, l .inv .1, l .inv .2, l .inv .3, l .inv .4 ∙
-        search-next (λ i. inTimeBy (a .bound)
+    let c3 = c .before .before .before in
+    let c4 = c3 .before in
+    let c5 = c4 .before in
+    let l = c4 .loop in
+    let a = c5 .args in
+    (l .inv .0, l .inv .1, l .inv .2, l .inv .3, l .inv .4 ∙ search-next (λ i. inTimeBy (a .bound)
         (runLatencyBy (a .hops) (a .count) (rateIn (a .last)) (rateIn (a .source)) (a .from + i))) (l .i) (a .window)
-        (c .before .before .before .loop-test .taken)
+        (c3 .loop-test .taken)
         (ap (inTimeBy (a .bound)) (sym (c .before .before .run-latency .ensures)) ∙ sym (c .before .is-in-time .ensures) ∙
         c .if1 .left))
 

@@ -45,9 +45,11 @@ in-program-requires c κs = search needs
 returns-3 : tie.Need-returns-3
 unfolding declarationOf
 returns-3 c =
-    let a = c .before .before .before .before .before .before .before .args in
+    let c3 = c .before .before .before in
+    let c7 = c3 .before .before .before .before in
+    let a = c7 .args in
     let s = now (a .text) in
-    let n : isPeriod (getD s (a .at + 1) 0) ≡ true = sym (c .before .before .before .is-period .ensures) ∙
+    let n : isPeriod (getD s (a .at + 1) 0) ≡ true = sym (c3 .is-period .ensures) ∙
         not-false _ (c .before .before .if2 .left) in
     rw (le-leb (a .at + 2) (length s) (omega arith), n, lt-leb (a .at + 8) (length s) (omega arith))
 
@@ -66,10 +68,12 @@ two-at-requires c κs = search needs
 returns-4 : tie.Need-returns-4
 unfolding declarationOf
 returns-4 c =
-    let a = c .before .before .before .before .before .before .before .before .before .args in
+    let c4 = c .before .before .before .before in
+    let c5 = c4 .before in
+    let c9 = c5 .before .before .before .before in
+    let a = c9 .args in
     let s = now (a .text) in
-    let n : isPeriod (getD s (a .at + 1) 0) ≡ true = sym (c .before .before .before .before .before .is-period .ensures) ∙
-        not-false _ (c .before .before .before .before .if2 .left) in
+    let n : isPeriod (getD s (a .at + 1) 0) ≡ true = sym (c5 .is-period .ensures) ∙ not-false _ (c4 .if2 .left) in
     rw (le-leb (a .at + 2) (length s) (omega arith), n, le-leb (a .at + 8) (length s) (omega arith),
         kept _ (c .before .word-at .ok), c .before .word-at .ensures, c .two-at .ensures)
 

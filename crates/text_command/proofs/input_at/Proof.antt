@@ -45,9 +45,11 @@ in-program-requires c κs = search needs
 returns-3 : tie.Need-returns-3
 unfolding declarationOf
 returns-3 c =
-    let a = c .before .before .before .before .before .before .before .args in
+    let c3 = c .before .before .before in
+    let c7 = c3 .before .before .before .before in
+    let a = c7 .args in
     let s = now (a .text) in
-    let n : isPeriod (getD s (a .at + 1) 0) ≡ true = sym (c .before .before .before .is-period .ensures) ∙
+    let n : isPeriod (getD s (a .at + 1) 0) ≡ true = sym (c3 .is-period .ensures) ∙
         not-false _ (c .before .before .if2 .left) in
     rw (le-leb (a .at + 2) (length s) (omega arith), n, lt-leb (a .at + 6) (length s) (omega arith))
 
@@ -60,10 +62,12 @@ word-at-requires c κs = search needs
 returns-4 : tie.Need-returns-4
 unfolding declarationOf
 returns-4 c =
-    let a = c .before .before .before .before .before .before .before .before .args in
+    let c3 = c .before .before .before in
+    let c4 = c3 .before in
+    let c8 = c4 .before .before .before .before in
+    let a = c8 .args in
     let s = now (a .text) in
-    let n : isPeriod (getD s (a .at + 1) 0) ≡ true = sym (c .before .before .before .before .is-period .ensures) ∙
-        not-false _ (c .before .before .before .if2 .left) in
+    let n : isPeriod (getD s (a .at + 1) 0) ≡ true = sym (c4 .is-period .ensures) ∙ not-false _ (c3 .if2 .left) in
     rw (le-leb (a .at + 2) (length s) (omega arith), n, le-leb (a .at + 6) (length s) (omega arith), kept _ (c .word-at .ok),
         c .word-at .ensures)
 

@@ -50,8 +50,9 @@ add-t9 c = omega (arith, shape (c .before .before .before .before .before .befor
 
 shared-slice-read-t8 : tie.Need-shared-slice-read-t8
 shared-slice-read-t8 c =
-    omega (arith, shape (c .before .before .before .before .before .before .before .before .pre) .wide
-        (c .before .before .before .if1 .left))
+    let c3 = c .before .before .before in
+    let c8 = c3 .before .before .before .before .before in
+    omega (arith, shape (c8 .pre) .wide (c3 .if1 .left))
 
 returns-2 : tie.Need-returns-2
 returns-2 c =

@@ -26,9 +26,10 @@ step c = copy-step _ _ _ (omega arith) (c .before .before .loop .inv .0)
 space : (c : tie.After-shared-slice-known Inv-loop μ-loop) →
     c .before .before .loop .end + 1 ≤ length (c .before .before .loop .out)
 space c =
-    let a = c .before .before .before .args in
+    let c3 = c .before .before .before in
+    let a = c3 .args in
     room (step c) (c .before .before .loop .inv .1)
-    (copy-fits (a .text .now) (a .at) (a .n) (a .to) _ (c .before .before .before .pre .0) (c .before .before .before .pre .1))
+    (copy-fits (a .text .now) (a .at) (a .n) (a .to) _ (c3 .pre .0) (c3 .pre .1))
 
 loop-holds : tie.Need-loop-holds Inv-loop μ-loop
 loop-holds c = (omega (arith, c .pre .0), starts)

@@ -31,9 +31,10 @@ command-piece-requires c κs = search needs
 
 put-requires : tie.Need-put-requires Inv-loop μ-loop
 put-requires c κs =
+    let c3 = c .before .before .before in
+    let c6 = c3 .before .before .before in
     let t = now-turn (c .before) in
-    (t .inside, rw (← (t .size)) (room (t .parts) (c .before .before .before .loop .inv .1)
-        (omega (arith, c .before .before .before .before .before .before .pre))))
+    (t .inside, rw (← (t .size)) (room (t .parts) (c3 .loop .inv .1) (omega (arith, c6 .pre))))
 
 width-of-requires : tie.Need-width-of-requires Inv-loop μ-loop
 width-of-requires c κs = search needs
@@ -50,10 +51,11 @@ loop-less c = search needs
 
 loop-again : tie.Need-loop-again Inv-loop μ-loop
 loop-again c =
-    let t = now-turn (c .before .before .before .before .before) in
-    rw (c .width-of .ensures)
-    (t .inside, turn (t .parts) (c .before .before .before .before .before .before .before .loop .inv .1)
-        (c .before .before .before .put .ensures))
+    let c3 = c .before .before .before in
+    let c5 = c3 .before .before in
+    let c7 = c5 .before .before in
+    let t = now-turn c5 in
+    rw (c .width-of .ensures) (t .inside, turn (t .parts) (c7 .loop .inv .1) (c3 .put .ensures))
 
 same-length : tie.Need-same-length Inv-loop μ-loop
 same-length c = c .before .loop .inv .1 .size

@@ -177,16 +177,17 @@ in-expression-requires : (t : ℕ) → lts.Need-in-expression-requires (known t)
 in-expression-requires t c κs = search needs
 
 add-moved-on : (t : ℕ) → lts.Need-add-moved-on (known t) (given t) own.Post
-add-moved-on t c = omega (arith, constant-inside t (c .before .before .before) (c .before .enum-told4 .given .1),
-    room t (c .before .before .before) .short, room t (c .before .before .before) .small)
+add-moved-on t c =
+    let c3 = c .before .before .before in
+    omega (arith, constant-inside t c3 (c .before .enum-told4 .given .1), room t c3 .short, room t c3 .small)
 
 in-code-requires : (t : ℕ) → lts.Need-in-code-requires (known t) (given t) own.Post
 in-code-requires t c κs = search needs
 
 add-moved-on-2 : (t : ℕ) → lts.Need-add-moved-on-2 (known t) (given t) own.Post
-add-moved-on-2 t c = omega (arith,
-    constant-inside t (c .before .before .before .before) (c .before .before .enum-told4 .given .1),
-    room t (c .before .before .before .before) .short, room t (c .before .before .before .before) .small)
+add-moved-on-2 t c =
+    let c4 = c .before .before .before .before in
+    omega (arith, constant-inside t c4 (c .before .before .enum-told4 .given .1), room t c4 .short, room t c4 .small)
 
 moved-on-requires : (t : ℕ) → lts.Need-moved-on-requires (known t) (given t) own.Post
 moved-on-requires t c κs = search needs
@@ -195,48 +196,53 @@ enum-known-operator : (t : ℕ) → lts.Need-enum-known-operator (known t) (give
 enum-known-operator t c = search needs
 
 cast-reads : (t : ℕ) → lts.Need-cast-reads (known t) (given t) own.Post
-cast-reads t c = omega (arith, read-inside t (c .before .before .before) (c .before .operator .given .1),
+cast-reads t c =
+    let c3 = c .before .before .before in
+    omega (arith, read-inside t c3 (c .before .operator .given .1),
     read-least (c .before .operator .given .0 .0), width-most (c .before .operator .given .0 .0),
-    room t (c .before .before .before) .short, room t (c .before .before .before) .table, room t (c .before .before .before) .few,
-    room t (c .before .before .before) .small)
+    room t c3 .short, room t c3 .table, room t c3 .few, room t c3 .small)
 
 mul-reads : (t : ℕ) → lts.Need-mul-reads (known t) (given t) own.Post
-mul-reads t c = omega (arith, read-inside t (c .before .before .before) (c .before .operator .given .1),
+mul-reads t c =
+    let c3 = c .before .before .before in
+    omega (arith, read-inside t c3 (c .before .operator .given .1),
     read-least (c .before .operator .given .0 .0), width-most (c .before .operator .given .0 .0),
-    room t (c .before .before .before) .short, room t (c .before .before .before) .table, room t (c .before .before .before) .few,
-    room t (c .before .before .before) .small)
+    room t c3 .short, room t c3 .table, room t c3 .few, room t c3 .small)
 
 slice-write-reads : (t : ℕ) → lts.Need-slice-write-reads (known t) (given t) own.Post
-slice-write-reads t c = omega (arith, read-inside t (c .before .before .before) (c .before .operator .given .1),
+slice-write-reads t c =
+    let c3 = c .before .before .before in
+    omega (arith, read-inside t c3 (c .before .operator .given .1),
     read-least (c .before .operator .given .0 .0), width-most (c .before .operator .given .0 .0),
-    room t (c .before .before .before) .short, room t (c .before .before .before) .table, room t (c .before .before .before) .few,
-    room t (c .before .before .before) .small)
+    room t c3 .short, room t c3 .table, room t c3 .few, room t c3 .small)
 
 of-read-requires : (t : ℕ) → lts.Need-of-read-requires (known t) (given t) own.Post
 of-read-requires t c κs = search needs
 
 add-moved-on-3 : (t : ℕ) → lts.Need-add-moved-on-3 (known t) (given t) own.Post
-add-moved-on-3 t c = omega (arith, read-inside t (c .before .before .before .before) (c .before .before .operator .given .1),
+add-moved-on-3 t c =
+    let c4 = c .before .before .before .before in
+    omega (arith, read-inside t c4 (c .before .before .operator .given .1),
     read-least (c .before .before .operator .given .0 .0), width-most (c .before .before .operator .given .0 .0),
-    room t (c .before .before .before .before) .short, room t (c .before .before .before .before) .table,
-    room t (c .before .before .before .before) .few, room t (c .before .before .before .before) .small, c .of-read .ensures)
+    room t c4 .short, room t c4 .table, room t c4 .few, room t c4 .small, c .of-read .ensures)
 
 add-moved-on-4 : (t : ℕ) → lts.Need-add-moved-on-4 (known t) (given t) own.Post
-add-moved-on-4 t c = omega (arith, read-inside t (c .before .before .before .before) (c .before .before .operator .given .1),
+add-moved-on-4 t c =
+    let c4 = c .before .before .before .before in
+    omega (arith, read-inside t c4 (c .before .before .operator .given .1),
     read-least (c .before .before .operator .given .0 .0), width-most (c .before .before .operator .given .0 .0),
-    room t (c .before .before .before .before) .short, room t (c .before .before .before .before) .table,
-    room t (c .before .before .before .before) .few, room t (c .before .before .before .before) .small, c .of-read .ensures)
+    room t c4 .short, room t c4 .table, room t c4 .few, room t c4 .small, c .of-read .ensures)
 
 in-code-requires-2 : (t : ℕ) → lts.Need-in-code-requires-2 (known t) (given t) own.Post
 in-code-requires-2 t c κs = search needs
 
 add-moved-on-5 : (t : ℕ) → lts.Need-add-moved-on-5 (known t) (given t) own.Post
-add-moved-on-5 t c = omega (arith,
-    read-inside t (c .before .before .before .before .before) (c .before .before .before .operator .given .1),
-    read-least (c .before .before .before .operator .given .0 .0), width-most (c .before .before .before .operator .given .0 .0),
-    room t (c .before .before .before .before .before) .short, room t (c .before .before .before .before .before) .table,
-    room t (c .before .before .before .before .before) .few, room t (c .before .before .before .before .before) .small,
-    c .before .of-read .ensures)
+add-moved-on-5 t c =
+    let c3 = c .before .before .before in
+    let c5 = c3 .before .before in
+    omega (arith, read-inside t c5 (c3 .operator .given .1),
+    read-least (c3 .operator .given .0 .0), width-most (c3 .operator .given .0 .0),
+    room t c5 .short, room t c5 .table, room t c5 .few, room t c5 .small, c .before .of-read .ensures)
 
 moved-on-requires-2 : (t : ℕ) → lts.Need-moved-on-requires-2 (known t) (given t) own.Post
 moved-on-requires-2 t c κs = search needs
@@ -257,9 +263,10 @@ sub-read-expression t c = search needs
 
 read-expression-requires : (t : ℕ) → lts.Need-read-expression-requires (known t) (given t) own.Post
 read-expression-requires t c κs =
-    (omega (arith, c .before .before .before .before .before .if1 .left,
-    c .before .before .before .before .before .before .before .before .pre .0),
-    rw (c .before .in-expression2 .ensures) (room-after 1 (room t (c .before .before .before .before))))
+    let c4 = c .before .before .before .before in
+    let c5 = c4 .before in
+    let c8 = c5 .before .before .before in
+    (omega (arith, c5 .if1 .left, c8 .pre .0), rw (c .before .in-expression2 .ensures) (room-after 1 (room t c4)))
 
 enum-known-first : (t : ℕ) → lts.Need-enum-known-first (known t) (given t) own.Post
 enum-known-first t c = search needs
@@ -272,18 +279,26 @@ same-length t c = search needs
 
 returns-2 : (t : ℕ) → lts.Need-returns-2 (known t) (given t) own.Post
 unfolding node
-returns-2 t c = rw (step t (c .before .before .before .before .before .before .before .before .before) _
-    (c .before .before .before .before .before .before .before .enum-told5 .given .1))
-    (stop _ _ (rw (c .before .before .before .before .before .before .in-expression2 .ensures) at
-    (c .before .before .before .before .read-expression .ensures)) (c .enum-told6 .given .1))
+returns-2 t c =
+    let c4 = c .before .before .before .before in
+    let c6 = c4 .before .before in
+    let c7 = c6 .before in
+    let c9 = c7 .before .before in
+    rw (step t c9 _ (c7 .enum-told5 .given .1)) (stop _ _ (rw (c6 .in-expression2 .ensures) at
+    (c4 .read-expression .ensures)) (c .enum-told6 .given .1))
 
 sub-read-expression-2 : (t : ℕ) → lts.Need-sub-read-expression-2 (known t) (given t) own.Post
 sub-read-expression-2 t c = search needs
 
 read-expression-requires-2 : (t : ℕ) → lts.Need-read-expression-requires-2 (known t) (given t) own.Post
 read-expression-requires-2 t c κs =
-    (omega (arith, c .before .before .before .before .before .before .before .before .before .before .before .before .if1 .left,
-    c .before .before .before .before .before .before .before .before .before .before .before .before .before .before .before .pre .0), one t (c .before .before .before .before .before .before .before .before .before .before .before) (rw (c .before .before .before .before .before .before .before .before .in-expression2 .ensures) at (c .before .before .before .before .before .before .read-expression .ensures)) (c .before .before .first .given .1) .left)
+    let c6 = c .before .before .before .before .before .before in
+    let c8 = c6 .before .before in
+    let c11 = c8 .before .before .before in
+    let c12 = c11 .before in
+    let c15 = c12 .before .before .before in
+    (omega (arith, c12 .if1 .left,
+    c15 .pre .0), one t c11 (rw (c8 .in-expression2 .ensures) at (c6 .read-expression .ensures)) (c .before .before .first .given .1) .left)
 
 enum-known-second : (t : ℕ) → lts.Need-enum-known-second (known t) (given t) own.Post
 enum-known-second t c = search needs
@@ -296,14 +311,28 @@ same-length-2 t c = search needs
 
 returns-3 : (t : ℕ) → lts.Need-returns-3 (known t) (given t) own.Post
 unfolding node
-returns-3 t c = rw (step t (c .before .before .before .before .before .before .before .before .before .before .before .before .before .before .before .before) _ (c .before .before .before .before .before .before .before .before .before .before .before .before .before .before .enum-told5 .given .1)) (go-on _ _ (rw (c .before .before .before .before .before .before .before .before .before .before .before .before .before .in-expression2 .ensures) at (c .before .before .before .before .before .before .before .before .before .before .before .read-expression .ensures)) (c .before .before .before .before .before .before .before .first .given .1) (λ x m. stop _ _ (c .before .before .before .before .read-expression2 .ensures) (c .enum-told7 .given .1)))
+returns-3 t c =
+    let c4 = c .before .before .before .before in
+    let c7 = c4 .before .before .before in
+    let c11 = c7 .before .before .before .before in
+    let c13 = c11 .before .before in
+    let c14 = c13 .before in
+    let c16 = c14 .before .before in
+    rw (step t c16 _ (c14 .enum-told5 .given .1)) (go-on _ _ (rw (c13 .in-expression2 .ensures) at (c11 .read-expression .ensures)) (c7 .first .given .1) (λ x m. stop _ _ (c4 .read-expression2 .ensures) (c .enum-told7 .given .1)))
 
 in-code-requires-3 : (t : ℕ) → lts.Need-in-code-requires-3 (known t) (given t) own.Post
 in-code-requires-3 t c κs = search needs
 
 add-moved-on-6 : (t : ℕ) → lts.Need-add-moved-on-6 (known t) (given t) own.Post
-add-moved-on-6 t c = let h = more t
-    (c .before .before .before .before .before .before .before .before .before .before .before .before .before .before .before .before .before .before .before) (one t (c .before .before .before .before .before .before .before .before .before .before .before .before .before .before .before .before .before .before .before) (rw (c .before .before .before .before .before .before .before .before .before .before .before .before .before .before .before .before .in-expression2 .ensures) at (c .before .before .before .before .before .before .before .before .before .before .before .before .before .before .read-expression .ensures)) (c .before .before .before .before .before .before .before .before .before .before .first .given .1)) (c .before .before .before .before .before .before .before .read-expression2 .ensures) (c .before .before .before .second .given .1) in omega (arith, h .left .short, h .left .small, h .inside)
+add-moved-on-6 t c =
+    let c3 = c .before .before .before in
+    let c7 = c3 .before .before .before .before in
+    let c10 = c7 .before .before .before in
+    let c14 = c10 .before .before .before .before in
+    let c16 = c14 .before .before in
+    let c19 = c16 .before .before .before in
+    let h = more t
+    c19 (one t c19 (rw (c16 .in-expression2 .ensures) at (c14 .read-expression .ensures)) (c10 .first .given .1)) (c7 .read-expression2 .ensures) (c3 .second .given .1) in omega (arith, h .left .short, h .left .small, h .inside)
 
 moved-on-requires-3 : (t : ℕ) → lts.Need-moved-on-requires-3 (known t) (given t) own.Post
 moved-on-requires-3 t c κs = search needs
@@ -324,9 +353,10 @@ sub-read-expression-3 t c = search needs
 
 read-expression-requires-3 : (t : ℕ) → lts.Need-read-expression-requires-3 (known t) (given t) own.Post
 read-expression-requires-3 t c κs =
-    (omega (arith, c .before .before .before .before .before .if1 .left,
-    c .before .before .before .before .before .before .before .before .pre .0),
-    rw (c .before .in-expression3 .ensures) (room-after 1 (room t (c .before .before .before .before))))
+    let c4 = c .before .before .before .before in
+    let c5 = c4 .before in
+    let c8 = c5 .before .before .before in
+    (omega (arith, c5 .if1 .left, c8 .pre .0), rw (c .before .in-expression3 .ensures) (room-after 1 (room t c4)))
 
 enum-known-operand : (t : ℕ) → lts.Need-enum-known-operand (known t) (given t) own.Post
 enum-known-operand t c = search needs
@@ -339,20 +369,25 @@ same-length-3 t c = search needs
 
 returns-4 : (t : ℕ) → lts.Need-returns-4 (known t) (given t) own.Post
 unfolding node
-returns-4 t c = rw (step t (c .before .before .before .before .before .before .before .before .before) _
-    (c .before .before .before .before .before .before .before .enum-told8 .given .1))
-    (stop _ _ (rw (c .before .before .before .before .before .before .in-expression3 .ensures) at
-    (c .before .before .before .before .read-expression3 .ensures)) (c .enum-told9 .given .1))
+returns-4 t c =
+    let c4 = c .before .before .before .before in
+    let c6 = c4 .before .before in
+    let c7 = c6 .before in
+    let c9 = c7 .before .before in
+    rw (step t c9 _ (c7 .enum-told8 .given .1)) (stop _ _ (rw (c6 .in-expression3 .ensures) at
+    (c4 .read-expression3 .ensures)) (c .enum-told9 .given .1))
 
 in-code-requires-4 : (t : ℕ) → lts.Need-in-code-requires-4 (known t) (given t) own.Post
 in-code-requires-4 t c κs = search needs
 
 add-moved-on-7 : (t : ℕ) → lts.Need-add-moved-on-7 (known t) (given t) own.Post
-add-moved-on-7 t c = let h = one t
-    (c .before .before .before .before .before .before .before .before .before .before .before .before)
-    (rw (c .before .before .before .before .before .before .before .before .before .in-expression3 .ensures) at
-    (c .before .before .before .before .before .before .before .read-expression3 .ensures))
-    (c .before .before .before .operand .given .1) in omega (arith, h .left .short, h .left .small, h .inside)
+add-moved-on-7 t c =
+    let c3 = c .before .before .before in
+    let c7 = c3 .before .before .before .before in
+    let c9 = c7 .before .before in
+    let c12 = c9 .before .before .before in
+    let h = one t c12 (rw (c9 .in-expression3 .ensures) at (c7 .read-expression3 .ensures))
+    (c3 .operand .given .1) in omega (arith, h .left .short, h .left .small, h .inside)
 
 moved-on-requires-4 : (t : ℕ) → lts.Need-moved-on-requires-4 (known t) (given t) own.Post
 moved-on-requires-4 t c κs = search needs
@@ -373,9 +408,10 @@ sub-read-expression-4 t c = search needs
 
 read-expression-requires-4 : (t : ℕ) → lts.Need-read-expression-requires-4 (known t) (given t) own.Post
 read-expression-requires-4 t c κs =
-    (omega (arith, c .before .before .before .before .before .if1 .left,
-    c .before .before .before .before .before .before .before .before .pre .0),
-    rw (c .before .in-expression4 .ensures) (room-after 1 (room t (c .before .before .before .before))))
+    let c4 = c .before .before .before .before in
+    let c5 = c4 .before in
+    let c8 = c5 .before .before .before in
+    (omega (arith, c5 .if1 .left, c8 .pre .0), rw (c .before .in-expression4 .ensures) (room-after 1 (room t c4)))
 
 enum-known-condition : (t : ℕ) → lts.Need-enum-known-condition (known t) (given t) own.Post
 enum-known-condition t c = search needs
@@ -388,18 +424,26 @@ same-length-4 t c = search needs
 
 returns-5 : (t : ℕ) → lts.Need-returns-5 (known t) (given t) own.Post
 unfolding node
-returns-5 t c = rw (step t (c .before .before .before .before .before .before .before .before .before) _
-    (c .before .before .before .before .before .before .before .enum-told10 .given .1))
-    (stop _ _ (rw (c .before .before .before .before .before .before .in-expression4 .ensures) at
-    (c .before .before .before .before .read-expression4 .ensures)) (c .enum-told11 .given .1))
+returns-5 t c =
+    let c4 = c .before .before .before .before in
+    let c6 = c4 .before .before in
+    let c7 = c6 .before in
+    let c9 = c7 .before .before in
+    rw (step t c9 _ (c7 .enum-told10 .given .1)) (stop _ _ (rw (c6 .in-expression4 .ensures) at
+    (c4 .read-expression4 .ensures)) (c .enum-told11 .given .1))
 
 sub-read-expression-5 : (t : ℕ) → lts.Need-sub-read-expression-5 (known t) (given t) own.Post
 sub-read-expression-5 t c = search needs
 
 read-expression-requires-5 : (t : ℕ) → lts.Need-read-expression-requires-5 (known t) (given t) own.Post
 read-expression-requires-5 t c κs =
-    (omega (arith, c .before .before .before .before .before .before .before .before .before .before .before .before .if1 .left,
-    c .before .before .before .before .before .before .before .before .before .before .before .before .before .before .before .pre .0), one t (c .before .before .before .before .before .before .before .before .before .before .before) (rw (c .before .before .before .before .before .before .before .before .in-expression4 .ensures) at (c .before .before .before .before .before .before .read-expression4 .ensures)) (c .before .before .condition .given .1) .left)
+    let c6 = c .before .before .before .before .before .before in
+    let c8 = c6 .before .before in
+    let c11 = c8 .before .before .before in
+    let c12 = c11 .before in
+    let c15 = c12 .before .before .before in
+    (omega (arith, c12 .if1 .left,
+    c15 .pre .0), one t c11 (rw (c8 .in-expression4 .ensures) at (c6 .read-expression4 .ensures)) (c .before .before .condition .given .1) .left)
 
 enum-known-first-2 : (t : ℕ) → lts.Need-enum-known-first-2 (known t) (given t) own.Post
 enum-known-first-2 t c = search needs
@@ -412,14 +456,28 @@ same-length-5 t c = search needs
 
 returns-6 : (t : ℕ) → lts.Need-returns-6 (known t) (given t) own.Post
 unfolding node
-returns-6 t c = rw (step t (c .before .before .before .before .before .before .before .before .before .before .before .before .before .before .before .before) _ (c .before .before .before .before .before .before .before .before .before .before .before .before .before .before .enum-told10 .given .1)) (go-on _ _ (rw (c .before .before .before .before .before .before .before .before .before .before .before .before .before .in-expression4 .ensures) at (c .before .before .before .before .before .before .before .before .before .before .before .read-expression4 .ensures)) (c .before .before .before .before .before .before .before .condition .given .1) (λ x m. stop _ _ (c .before .before .before .before .read-expression5 .ensures) (c .enum-told12 .given .1)))
+returns-6 t c =
+    let c4 = c .before .before .before .before in
+    let c7 = c4 .before .before .before in
+    let c11 = c7 .before .before .before .before in
+    let c13 = c11 .before .before in
+    let c14 = c13 .before in
+    let c16 = c14 .before .before in
+    rw (step t c16 _ (c14 .enum-told10 .given .1)) (go-on _ _ (rw (c13 .in-expression4 .ensures) at (c11 .read-expression4 .ensures)) (c7 .condition .given .1) (λ x m. stop _ _ (c4 .read-expression5 .ensures) (c .enum-told12 .given .1)))
 
 sub-read-expression-6 : (t : ℕ) → lts.Need-sub-read-expression-6 (known t) (given t) own.Post
 sub-read-expression-6 t c = search needs
 
 read-expression-requires-6 : (t : ℕ) → lts.Need-read-expression-requires-6 (known t) (given t) own.Post
 read-expression-requires-6 t c κs =
-    (omega (arith, c .before .before .before .before .before .before .before .before .before .before .before .before .before .before .before .before .before .before .before .if1 .left, c .before .before .before .before .before .before .before .before .before .before .before .before .before .before .before .before .before .before .before .before .before .before .pre .0), more t (c .before .before .before .before .before .before .before .before .before .before .before .before .before .before .before .before .before .before) (one t (c .before .before .before .before .before .before .before .before .before .before .before .before .before .before .before .before .before .before) (rw (c .before .before .before .before .before .before .before .before .before .before .before .before .before .before .before .in-expression4 .ensures) at (c .before .before .before .before .before .before .before .before .before .before .before .before .before .read-expression4 .ensures)) (c .before .before .before .before .before .before .before .before .before .condition .given .1)) (c .before .before .before .before .before .before .read-expression5 .ensures) (c .before .before .first2 .given .1) .left)
+    let c6 = c .before .before .before .before .before .before in
+    let c9 = c6 .before .before .before in
+    let c13 = c9 .before .before .before .before in
+    let c15 = c13 .before .before in
+    let c18 = c15 .before .before .before in
+    let c19 = c18 .before in
+    let c22 = c19 .before .before .before in
+    (omega (arith, c19 .if1 .left, c22 .pre .0), more t c18 (one t c18 (rw (c15 .in-expression4 .ensures) at (c13 .read-expression4 .ensures)) (c9 .condition .given .1)) (c6 .read-expression5 .ensures) (c .before .before .first2 .given .1) .left)
 
 enum-known-second-2 : (t : ℕ) → lts.Need-enum-known-second-2 (known t) (given t) own.Post
 enum-known-second-2 t c = search needs
@@ -432,14 +490,32 @@ same-length-6 t c = search needs
 
 returns-7 : (t : ℕ) → lts.Need-returns-7 (known t) (given t) own.Post
 unfolding node
-returns-7 t c = rw (step t (c .before .before .before .before .before .before .before .before .before .before .before .before .before .before .before .before .before .before .before .before .before .before .before) _ (c .before .before .before .before .before .before .before .before .before .before .before .before .before .before .before .before .before .before .before .before .before .enum-told10 .given .1)) (go-on _ _ (rw (c .before .before .before .before .before .before .before .before .before .before .before .before .before .before .before .before .before .before .before .before .in-expression4 .ensures) at (c .before .before .before .before .before .before .before .before .before .before .before .before .before .before .before .before .before .before .read-expression4 .ensures)) (c .before .before .before .before .before .before .before .before .before .before .before .before .before .before .condition .given .1) (λ x m. go-on _ _ (c .before .before .before .before .before .before .before .before .before .before .before .read-expression5 .ensures) (c .before .before .before .before .before .before .before .first2 .given .1) (λ y n. stop _ _ (c .before .before .before .before .read-expression6 .ensures) (c .enum-told13 .given .1))))
+returns-7 t c =
+    let c4 = c .before .before .before .before in
+    let c7 = c4 .before .before .before in
+    let c11 = c7 .before .before .before .before in
+    let c14 = c11 .before .before .before in
+    let c18 = c14 .before .before .before .before in
+    let c20 = c18 .before .before in
+    let c21 = c20 .before in
+    let c23 = c21 .before .before in
+    rw (step t c23 _ (c21 .enum-told10 .given .1)) (go-on _ _ (rw (c20 .in-expression4 .ensures) at (c18 .read-expression4 .ensures)) (c14 .condition .given .1) (λ x m. go-on _ _ (c11 .read-expression5 .ensures) (c7 .first2 .given .1) (λ y n. stop _ _ (c4 .read-expression6 .ensures) (c .enum-told13 .given .1))))
 
 in-code-requires-5 : (t : ℕ) → lts.Need-in-code-requires-5 (known t) (given t) own.Post
 in-code-requires-5 t c κs = search needs
 
 add-moved-on-8 : (t : ℕ) → lts.Need-add-moved-on-8 (known t) (given t) own.Post
-add-moved-on-8 t c = let h = more t
-    (c .before .before .before .before .before .before .before .before .before .before .before .before .before .before .before .before .before .before .before .before .before .before .before .before .before .before) (more t (c .before .before .before .before .before .before .before .before .before .before .before .before .before .before .before .before .before .before .before .before .before .before .before .before .before .before) (one t (c .before .before .before .before .before .before .before .before .before .before .before .before .before .before .before .before .before .before .before .before .before .before .before .before .before .before) (rw (c .before .before .before .before .before .before .before .before .before .before .before .before .before .before .before .before .before .before .before .before .before .before .before .in-expression4 .ensures) at (c .before .before .before .before .before .before .before .before .before .before .before .before .before .before .before .before .before .before .before .before .before .read-expression4 .ensures)) (c .before .before .before .before .before .before .before .before .before .before .before .before .before .before .before .before .before .condition .given .1)) (c .before .before .before .before .before .before .before .before .before .before .before .before .before .before .read-expression5 .ensures) (c .before .before .before .before .before .before .before .before .before .before .first2 .given .1)) (c .before .before .before .before .before .before .before .read-expression6 .ensures) (c .before .before .before .second2 .given .1) in omega (arith, h .left .short, h .left .small, h .inside)
+add-moved-on-8 t c =
+    let c3 = c .before .before .before in
+    let c7 = c3 .before .before .before .before in
+    let c10 = c7 .before .before .before in
+    let c14 = c10 .before .before .before .before in
+    let c17 = c14 .before .before .before in
+    let c21 = c17 .before .before .before .before in
+    let c23 = c21 .before .before in
+    let c26 = c23 .before .before .before in
+    let h = more t
+    c26 (more t c26 (one t c26 (rw (c23 .in-expression4 .ensures) at (c21 .read-expression4 .ensures)) (c17 .condition .given .1)) (c14 .read-expression5 .ensures) (c10 .first2 .given .1)) (c7 .read-expression6 .ensures) (c3 .second2 .given .1) in omega (arith, h .left .short, h .left .small, h .inside)
 
 moved-on-requires-5 : (t : ℕ) → lts.Need-moved-on-requires-5 (known t) (given t) own.Post
 moved-on-requires-5 t c κs = search needs
@@ -468,8 +544,10 @@ same-length-7 t c = search needs
 
 returns-12 : (t : ℕ) → lts.Need-returns-12 (known t) (given t) own.Post
 unfolding node
-returns-12 t c = rw (read-step t (c .before .before .before .before .before .before)
-    (c .before .before .before .before .operator .given .1))
+returns-12 t c =
+    let c4 = c .before .before .before .before in
+    let c6 = c4 .before .before in
+    rw (read-step t c6 (c4 .operator .given .1))
     (walks-read _ (rw (c .before .before .of-read .ensures, c .before .in-code2 .ensures) at (c .moved-on2 .ensures)))
 
 same-length-8 : (t : ℕ) → lts.Need-same-length-8 (known t) (given t) own.Post
@@ -477,22 +555,50 @@ same-length-8 t c = search needs
 
 returns-13 : (t : ℕ) → lts.Need-returns-13 (known t) (given t) own.Post
 unfolding node
-returns-13 t c = rw (step t (c .before .before .before .before .before .before .before .before .before .before .before .before .before .before .before .before .before .before .before .before) _ (c .before .before .before .before .before .before .before .before .before .before .before .before .before .before .before .before .before .before .enum-told5 .given .1)) (go-on _ _ (rw (c .before .before .before .before .before .before .before .before .before .before .before .before .before .before .before .before .before .in-expression2 .ensures) at (c .before .before .before .before .before .before .before .before .before .before .before .before .before .before .before .read-expression .ensures)) (c .before .before .before .before .before .before .before .before .before .before .before .first .given .1) (λ x m. go-on _ _ (c .before .before .before .before .before .before .before .before .read-expression2 .ensures) (c .before .before .before .before .second .given .1) (λ y n. walks-two x m y n _ (rw (c .before .before .in-code3 .ensures) at (c .moved-on3 .ensures)))))
+returns-13 t c =
+    let c4 = c .before .before .before .before in
+    let c8 = c4 .before .before .before .before in
+    let c11 = c8 .before .before .before in
+    let c15 = c11 .before .before .before .before in
+    let c17 = c15 .before .before in
+    let c18 = c17 .before in
+    let c20 = c18 .before .before in
+    rw (step t c20 _ (c18 .enum-told5 .given .1)) (go-on _ _ (rw (c17 .in-expression2 .ensures) at (c15 .read-expression .ensures)) (c11 .first .given .1) (λ x m. go-on _ _ (c8 .read-expression2 .ensures) (c4 .second .given .1) (λ y n. walks-two x m y n _ (rw (c .before .before .in-code3 .ensures) at (c .moved-on3 .ensures)))))
 
 same-length-9 : (t : ℕ) → lts.Need-same-length-9 (known t) (given t) own.Post
 same-length-9 t c = search needs
 
 returns-14 : (t : ℕ) → lts.Need-returns-14 (known t) (given t) own.Post
 unfolding node
-returns-14 t c = rw (step t (c .before .before .before .before .before .before .before .before .before .before .before .before .before) _ (c .before .before .before .before .before .before .before .before .before .before .before .enum-told8 .given .1)) (go-on _ _ (rw (c .before .before .before .before .before .before .before .before .before .before .in-expression3 .ensures) at (c .before .before .before .before .before .before .before .before .read-expression3 .ensures)) (c .before .before .before .before .operand .given .1) (λ x m. walks-one x m _ (rw (c .before .before .in-code4 .ensures) at (c .moved-on4 .ensures))))
+returns-14 t c =
+    let c4 = c .before .before .before .before in
+    let c8 = c4 .before .before .before .before in
+    let c10 = c8 .before .before in
+    let c11 = c10 .before in
+    let c13 = c11 .before .before in
+    rw (step t c13 _ (c11 .enum-told8 .given .1)) (go-on _ _ (rw (c10 .in-expression3 .ensures) at (c8 .read-expression3 .ensures)) (c4 .operand .given .1) (λ x m. walks-one x m _ (rw (c .before .before .in-code4 .ensures) at (c .moved-on4 .ensures))))
 
 same-length-10 : (t : ℕ) → lts.Need-same-length-10 (known t) (given t) own.Post
-same-length-10 t c = search (needs,
-    c .before .before .before .before .before .before .before .before .before .before .before .before .before .before .before .before .before .before .before .before .before .reads4 .given)
+same-length-10 t c =
+    let c5 = c .before .before .before .before .before in
+    let c10 = c5 .before .before .before .before .before in
+    let c15 = c10 .before .before .before .before .before in
+    let c21 = c15 .before .before .before .before .before .before in
+    search (needs, c21 .reads4 .given)
 
 returns-15 : (t : ℕ) → lts.Need-returns-15 (known t) (given t) own.Post
 unfolding node
-returns-15 t c = rw (step t (c .before .before .before .before .before .before .before .before .before .before .before .before .before .before .before .before .before .before .before .before .before .before .before .before .before .before .before) _ (c .before .before .before .before .before .before .before .before .before .before .before .before .before .before .before .before .before .before .before .before .before .before .before .before .before .enum-told10 .given .1)) (go-on _ _ (rw (c .before .before .before .before .before .before .before .before .before .before .before .before .before .before .before .before .before .before .before .before .before .before .before .before .in-expression4 .ensures) at (c .before .before .before .before .before .before .before .before .before .before .before .before .before .before .before .before .before .before .before .before .before .before .read-expression4 .ensures)) (c .before .before .before .before .before .before .before .before .before .before .before .before .before .before .before .before .before .before .condition .given .1) (λ x m. go-on _ _ (c .before .before .before .before .before .before .before .before .before .before .before .before .before .before .before .read-expression5 .ensures) (c .before .before .before .before .before .before .before .before .before .before .before .first2 .given .1) (λ y n. go-on _ _ (c .before .before .before .before .before .before .before .before .read-expression6 .ensures) (c .before .before .before .before .second2 .given .1) (λ z k. walks-three x m y n z k (rw (c .before .before .in-code5 .ensures) at (c .moved-on5 .ensures))))))
+returns-15 t c =
+    let c4 = c .before .before .before .before in
+    let c8 = c4 .before .before .before .before in
+    let c11 = c8 .before .before .before in
+    let c15 = c11 .before .before .before .before in
+    let c18 = c15 .before .before .before in
+    let c22 = c18 .before .before .before .before in
+    let c24 = c22 .before .before in
+    let c25 = c24 .before in
+    let c27 = c25 .before .before in
+    rw (step t c27 _ (c25 .enum-told10 .given .1)) (go-on _ _ (rw (c24 .in-expression4 .ensures) at (c22 .read-expression4 .ensures)) (c18 .condition .given .1) (λ x m. go-on _ _ (c15 .read-expression5 .ensures) (c11 .first2 .given .1) (λ y n. go-on _ _ (c8 .read-expression6 .ensures) (c4 .second2 .given .1) (λ z k. walks-three x m y n z k (rw (c .before .before .in-code5 .ensures) at (c .moved-on5 .ensures))))))
 
 pub +read-expression-spec : {M : Type 1} → statement M
 +read-expression-spec =

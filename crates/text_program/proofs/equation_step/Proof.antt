@@ -34,10 +34,10 @@ same-length c = search needs
 
 returns : tie.Need-returns
 returns c =
+    let c5 = c .before .before .before .before .before in
+    let c7 = c5 .before .before in
     let told = c .before .enum-told .given in
-    equation-refused _
-    (rw (c .before .before .before .before .before .before .before .in-program .ensures) at
-        (c .before .before .before .before .before .read-expression .ensures)) _
+    equation-refused _ (rw (c7 .in-program .ensures) at (c5 .read-expression .ensures)) _
     (told .1) (c .step-of-walked .ensures _ (told .1))
 
 in-code-requires : tie.Need-in-code-requires
@@ -45,11 +45,12 @@ in-code-requires c κs = search needs
 
 add-adds : tie.Need-add-adds
 add-adds c =
-    let h = ahead _ _ 16 (room-after 8
-        (c .before .before .before .before .before .before .before .before .before .before .before .before .pre .1))
-    (rw (c .before .before .before .before .before .before .before .before .before .in-program .ensures) at
-        (c .before .before .before .before .before .before .before .read-expression .ensures))
-        (c .before .before .before .walked .given .1) in
+    let c3 = c .before .before .before in
+    let c7 = c3 .before .before .before .before in
+    let c9 = c7 .before .before in
+    let c12 = c9 .before .before .before in
+    let h = ahead _ _ 16 (room-after 8 (c12 .pre .1)) (rw (c9 .in-program .ensures) at (c7 .read-expression .ensures))
+        (c3 .walked .given .1) in
     omega (arith, h .left .short, h .left .small, h .inside)
 
 adds-requires : tie.Need-adds-requires
@@ -60,10 +61,11 @@ same-length-2 c = search needs
 
 returns-2 : tie.Need-returns-2
 returns-2 c =
-    equation-next _
-    (rw (c .before .before .before .before .before .before .before .before .before .before .in-program .ensures) at
-        (c .before .before .before .before .before .before .before .before .read-expression .ensures)) _
-    (c .before .before .before .before .walked .given .1) (rw (c .before .before .in-code .ensures) at (c .adds .ensures))
+    let c4 = c .before .before .before .before in
+    let c8 = c4 .before .before .before .before in
+    let c10 = c8 .before .before in
+    equation-next _ (rw (c10 .in-program .ensures) at (c8 .read-expression .ensures)) _
+    (c4 .walked .given .1) (rw (c .before .before .in-code .ensures) at (c .adds .ensures))
 
 pub equation-step-spec : {M : Type 1} → statement M
 equation-step-spec =

@@ -138,9 +138,10 @@ add-end c = search needs
 
 add-end-2 : tie.Need-add-end-2
 add-end-2 c =
-    let b = c .before .before .before .before .before .before in
-    let i = inside b (c .before .before .before .before .declaration .given .1) (λ e. let z : _≡_ {A = ℕ} 0 1 = cc in omega arith)
-        in
+    let c4 = c .before .before .before .before in
+    let c6 = c4 .before .before in
+    let b = c6 in
+    let i = inside b (c4 .declaration .given .1) (λ e. let z : _≡_ {A = ℕ} 0 1 = cc in omega arith) in
     omega (arith, i, start b .pre .short, start b .pre .small)
 
 adds-requires : tie.Need-adds-requires
@@ -210,22 +211,26 @@ returns-5 c = λ p label k.
     (step-end _ _ _ label p _ _ _ (stands b p k) (is b (c .before .enum-told6 .given .1)))
 
 returns-6 : tie.Need-returns-6
-returns-6 c = λ p label k.
-    let b = c .before .before .before .before .before .before .before in
-    subst (Stepped _ _ _ label p _ _ _ _)
-    (sym
-    (rw (c .before .before .before .in-program .ensures, c .before .before .in-code .ensures, c .before .in-code2 .ensures) at
-    (c .adds .ensures)))
-    (step-input _ _ _ label p _ _ _ (stands b p k) _ _ (is b (c .before .before .before .before .before .declaration .given .1)))
+returns-6 c =
+    let c3 = c .before .before .before in
+    let c5 = c3 .before .before in
+    let c7 = c5 .before .before in
+    λ p label k.
+    let b = c7 in
+    subst (Stepped _ _ _ label p _ _ _ _) (sym
+    (rw (c3 .in-program .ensures, c .before .before .in-code .ensures, c .before .in-code2 .ensures) at
+    (c .adds .ensures))) (step-input _ _ _ label p _ _ _ (stands b p k) _ _ (is b (c5 .declaration .given .1)))
 
 same-length : tie.Need-same-length
 same-length c = search needs
 
 returns-7 : tie.Need-returns-7
-returns-7 c = λ p label k.
-    let b = c .before .before .before .before .before .before .before in
-    step-equation _ _ _ label p _ _ _ (stands b p k) _ _ _
-        (is b (c .before .before .before .before .before .declaration2 .given .1))
+returns-7 c =
+    let c5 = c .before .before .before .before .before in
+    let c7 = c5 .before .before in
+    λ p label k.
+    let b = c7 in
+    step-equation _ _ _ label p _ _ _ (stands b p k) _ _ _ (is b (c5 .declaration2 .given .1))
     (c .before .before .equation-step .ensures)
 
 returns-8 : tie.Need-returns-8

@@ -59,10 +59,11 @@ module _ (c : tie.Else2 Inv-loop μ-loop) where
 returns-2 : tie.Need-returns-2 Inv-loop μ-loop
 unfolding linksOf
 returns-2 c =
-    let l = c .before .before .before .before .before .loop in
-    let text = now (c .before .before .before .before .before .before .before .args .text) in
-    c .refuse-links .ensures ∙
-    sym (ap linksOf
+    let c5 = c .before .before .before .before .before in
+    let c7 = c5 .before .before in
+    let l = c5 .loop in
+    let text = now (c7 .args .text) in
+    c .refuse-links .ensures ∙ sym (ap linksOf
     (l .inv .3 ∙ ap (λ m. parseLinks m text (l .next) (l .inv .0)) (none (l .count) (omega arith)) ∙
     links-many text (l .next) (l .inv .0) (c .before .before .if1 .left)))
 

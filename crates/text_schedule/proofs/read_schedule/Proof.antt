@@ -43,9 +43,11 @@ end-at-requires c κs = search needs
 
 returns : tie.Need-returns Inv-loop μ-loop
 returns c =
-    let l = c .before .before .before .before .loop in
+    let c4 = c .before .before .before .before in
+    let c6 = c4 .before .before in
+    let l = c4 .loop in
     let i = l .inv in
-    let text = now (c .before .before .before .before .before .before .args .text) in
+    let text = now (c6 .args .text) in
     subst (EndedAt _) (sym (c .end-at .ensures))
     (subst (λ x. EndedAt x (endedOf text (l .at) (c .before .before .schedule-command-at .result)))
         (sym (i .3 ∙ ap (λ m. parsePuts m text (l .at) (i .0)) (one-less (i .1) (omega arith))))
@@ -63,17 +65,16 @@ loop-less c = omega arith
 
 loop-again : tie.Need-loop-again Inv-loop μ-loop
 loop-again c =
-    let l = c .before .before .before .before .before .loop in
+    let c3 = c .before .before .before in
+    let c5 = c3 .before .before in
+    let c7 = c5 .before .before in
+    let l = c5 .loop in
     let i = l .inv in
-    let text = now (c .before .before .before .before .before .before .before .args .text) in
-    rw (c .in-schedule .ensures) (
-      _,
-      i .1 - 1,
-      omega arith,
+    let text = now (c7 .args .text) in
+    rw (c .in-schedule .ensures) ( _, i .1 - 1, omega arith,
       i .3 ∙ ap (λ m. parsePuts m text (l .at) (i .0)) (one-less (i .1) (omega arith)) ∙
           puts-more (i .1 - 1) text (l .at) (i .0) _ _
-          (sym (c .before .before .before .schedule-command-at .ensures) ∙ c .before .enum-told .given .1),
-    )
+          (sym (c3 .schedule-command-at .ensures) ∙ c .before .enum-told .given .1), )
 
 refuse-end-requires : tie.Need-refuse-end-requires Inv-loop μ-loop
 refuse-end-requires c κs = search needs
