@@ -37,7 +37,7 @@ module _ (a : Rate) (v : a .phase < a .period) where
       rw (← n) (run-is-due (suc (t / a .period)))
 
   -- Nothing is due before the first run, nor between two runs.
-  due-before : (c : ℕ) → c < a .phase → due a c ≡ false
+  pub due-before : (c : ℕ) → c < a .phase → due a c ≡ false
   unfolding due
   due-before c h =
       let l : c < a .period = omega arith in

@@ -64,15 +64,17 @@ after-records c =
     let s = c .before .before .before .before .before .before .before .before .before .before .before .before in
     turn (both (recorded s) _) (after-head (c .before .before .before .before .before .before)) (rw (code-at s) at (c .emit-records .ensures))
 
-after-offsets : (c : tie.After-emit-offsets) → let s = c .before .before .before .before .before .before .before .before .before .before .before .before .before .before .before .before in
-    Rest s (c .emit-offsets .last .1 .1 .1 .1 .1 .1 .0) (c .emit-offsets .result) (joined (lists s) ++ joined (codes s))
+after-offsets : (c : tie.After-emit-offsets) → let s = c .before .before .before .before .before .before .before .before .before .before .before .before .before .before .before .before .before in
+    Rest s (c .emit-offsets .last .1 .1 .1 .1 .1 .1 .1 .0) (c .emit-offsets .result) (joined (lists s) ++ joined (codes s))
 after-offsets c =
-    let s = c .before .before .before .before .before .before .before .before .before .before .before .before .before .before .before .before in
-    turn (both (paired s) _) (after-records (c .before .before .before .before)) (rw (lists-at s) at (c .emit-offsets .ensures))
+    let s = c .before .before .before .before .before .before .before .before .before .before .before .before .before .before .before .before .before in
+    turn (both (paired s) _) (after-records (c .before .before .before .before .before)) (rw (lists-at s) at (c .emit-offsets .ensures .1))
 
-after-lists : (c : tie.After-emit-lists) → let s = c .before .before .before .before .before .before .before .before .before .before .before .before .before .before .before .before .before .before .before .before in
-    Rest s (c .emit-lists .last .1 .1 .1 .1 .1 .0) (c .emit-lists .result) (joined (codes s))
-after-lists c = let s = c .before .before .before .before .before .before .before .before .before .before .before .before .before .before .before .before .before .before .before .before in turn (both (joined (lists s)) _) (after-offsets (c .before .before .before .before)) (c .emit-lists .ensures)
+after-lists : (c : tie.After-emit-lists) → let s = c .before .before .before .before .before .before .before .before .before .before .before .before .before .before .before .before .before .before .before .before .before .before in
+    Rest s (c .emit-lists .last .1 .1 .1 .1 .1 .1 .0) (c .emit-lists .result) (joined (codes s))
+after-lists c =
+    let s = c .before .before .before .before .before .before .before .before .before .before .before .before .before .before .before .before .before .before .before .before .before .before in
+    turn (both (joined (lists s)) _) (after-offsets (c .before .before .before .before .before)) (c .emit-lists .ensures)
 
 put-head-requires : tie.Need-put-head-requires
 unfolding twoBytes
@@ -95,8 +97,9 @@ emit-records-requires c κs =
 
 emit-offsets-requires : tie.Need-emit-offsets-requires
 emit-offsets-requires c κs =
-    let s = c .before .before .before .before .before .before .before .before .before .before .before .before .before .before .before in
-    let l = after-records (c .before .before .before) in (
+    let s = c .before .before .before .before .before .before .before .before .before .before .before .before .before .before .before .before in
+    let l = after-records (c .before .before .before .before) in (
+      refl,
       (timed (s .pre .ready .prepared), phased (s .pre .ready .prepared), s .pre .ready .hyper),
       omega (arith, lists-at s, ends s, s .pre .room, l .size),
       rw (lists-at s) (room (both (paired s) _) l (space s)),
@@ -104,12 +107,16 @@ emit-offsets-requires c κs =
 
 emit-lists-requires : tie.Need-emit-lists-requires
 emit-lists-requires c κs =
-    let s = c .before .before .before .before .before .before .before .before .before .before .before .before .before .before .before .before .before .before .before in
-    ((timed (s .pre .ready .prepared), phased (s .pre .ready .prepared), s .pre .ready .hyper), room (both (joined (lists s)) _) (after-offsets (c .before .before .before)) (space s))
+    let s = c .before .before .before .before .before .before .before .before .before .before .before .before .before .before .before .before .before .before .before .before .before in
+    let o = c .before .before .before .before in (
+      (timed (s .pre .ready .prepared), phased (s .pre .ready .prepared), s .pre .ready .hyper),
+      o .emit-offsets .ensures .0,
+      room (both (joined (lists s)) _) (after-offsets o) (space s),
+    )
 
 emit-codes-requires : tie.Need-emit-codes-requires
 emit-codes-requires c κs =
-    let s = c .before .before .before .before .before .before .before .before .before .before .before .before .before .before .before .before .before .before .before .before .before .before .before .before in
+    let s = c .before .before .before .before .before .before .before .before .before .before .before .before .before .before .before .before .before .before .before .before .before .before .before .before .before .before in
     (declared (s .pre .ready .prepared), room (last (joined (codes s))) (after-lists (c .before .before .before .before)) (space s))
 
 same-length : tie.Need-same-length
@@ -117,7 +124,7 @@ same-length c = search needs
 
 returns : tie.Need-returns
 returns c =
-    let s = c .before .before .before .before .before .before .before .before .before .before .before .before .before .before .before .before .before .before .before .before .before .before .before .before .before .before .before in
+    let s = c .before .before .before .before .before .before .before .before .before .before .before .before .before .before .before .before .before .before .before .before .before .before .before .before .before .before .before .before .before in
     let l = turn (last (joined (codes s))) (after-lists (c .before .before .before .before .before .before .before)) (c .before .before .emit-codes .ensures) in
     λ p q e. image-written e (s .args .h) (omega (arith, length-by e (s .args .h), ends s, s .pre .room)) (done refl l)
 
