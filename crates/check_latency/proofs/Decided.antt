@@ -84,7 +84,7 @@ chain-command text tables periods phases h p s chain t lt =
     let k = t .joined .known in
     let l : chain < length (p .chains) = omega (arith, k .tables-are .counts .chains-are) in
     rw (k .tables-are .starts chain l)
-        (all-at (SpellsChain text) (p .chains) noChain (legal text p (k .parsed) .1 .chains) chain l .command)
+    (all-at (SpellsChain text) (p .chains) noChain (legal text p (k .parsed) .1 .chains) chain l .command)
 
 -- The commands other than LAT.
 abbrev others : List ℕ
@@ -125,12 +125,12 @@ decided text tables periods phases h p s chain route t lt (ws, whole, few, along
           rw period
           (subst (λ m. Small (route .hops) m (route .count * (h / signalAt p r .period) + i)) n
           (small-is p s (t .accepted) (route .hops) r (route .count * (h / signalAt p r .period) + i) ρs (d .0) ch
-              (along .hops-are)
+          (along .hops-are)
           (early (route .count) h (signalAt p r .period) (phaseOf s r) i few (t .hyper) (t .accepted .ordered .phases r (d .0))
-              (rw period at li))));
+          (rw period at li))));
       same = sym (ap (keepsFrom p s h (chainAt p chain)) whole ∙
           timely-is p s (chainAt p chain .mode) (chainAt p chain .bound) (length ρs * (h / signalAt p r .period))
-              (h / signalAt p r .period) (route .hops) r ρs (along .hops-are) ∙
+          (h / signalAt p r .period) (route .hops) r ρs (along .hops-are) ∙
           (λ i.
           timelyBy (chainAt p chain .mode) (chainAt p chain .bound) (route .hops) (n i) (sym last i) (sym first i)
           (n i * windowBy h (sym period i)) (windowBy h (sym period i))));

@@ -30,9 +30,10 @@ module _ (p : Program) (s : Schedule) where
   hops-kept : (hops : List Hop) (i : ℕ) (hop : Hop) (r : ℕ) (ρs : List Read) → length ρs ≤ i → HopsOf p s hops r ρs →
       HopsOf p s (set hops i hop) r ρs
   hops-kept hops i hop r [] le h = tt
-  hops-kept hops i hop r (ρ ∷ ρs) le h =
-      (getD-set-other hops i (length ρs) hop noHop (λ e. omega arith) ∙ h .0,
-          hops-kept hops i hop (ρ .operands .signal) ρs (omega arith) (h .1))
+  hops-kept hops i hop r (ρ ∷ ρs) le h = (
+    getD-set-other hops i (length ρs) hop noHop (λ e. omega arith) ∙ h .0,
+    hops-kept hops i hop (ρ .operands .signal) ρs (omega arith) (h .1),
+  )
 
 pub reads-length : (p : Program) (r : ℕ) (ws : List ℕ) → length (readsBack p r ws) ≡ length ws
 unfolding readsBack
@@ -103,7 +104,7 @@ module _ (text : List ℕ) (p : Program) (s : Schedule) (back : List ℕ) (sourc
           let b = and-eq-true-iff _ (isLinked p (record { place = at + 2; signal = byteAt text (at + 2 + 1) } ∷ ls)) .0 k in
           let once : countReads last (bodyReads (signalAt p (byteAt text (at + 2 + 1)) .body)) ≡ 1 =
           ap (λ x. countReads x (bodyReads (signalAt p (byteAt text (at + 2 + 1)) .body))) (sym (f .here)) ∙
-              eqb-true _ _ (b .0) in
+          eqb-true _ _ (b .0) in
           record {
             inside = omega arith;
             read = subst (λ x. x < count p) (f .here) (d .0);
@@ -145,7 +146,7 @@ pub record Begun (text : List ℕ) (tables : Tables) (p : Program) (s : Schedule
   pub start : (hops : List Hop) → length hops ≡ 15 →
       let at : ℕ = getD (tables .starts) chain 0 + 4 in
       Following text p s (backwards (chainAt p chain)) (byteAt text (at + 1)) at (getD (tables .lengths) chain 0)
-          (byteAt text (at + 1)) 0 hops
+      (byteAt text (at + 1)) 0 hops
 
 pub begun : (text : List ℕ) (tables : Tables) (periods phases : List ℕ) (p : Program) (s : Schedule) (chain : ℕ) →
     Joined text tables periods phases p s → chain < tables .chains → Begun text tables p s chain

@@ -87,7 +87,7 @@ unfolding loaded
 judged-load p s periods phases weights h m hp hw hf e =
     judged-found (first h (λ c. isOver (p .cap) (load p s c))) ∙
     ap (λ f. judgedAt (first h f))
-        (fun-ext (λ c. ap (λ l. isOver l (load p s c)) e ∙ ap (ltb m) (load-is p s periods phases weights hp hw hf c)))
+    (fun-ext (λ c. ap (λ l. isOver l (load p s c)) e ∙ ap (ltb m) (load-is p s periods phases weights hp hw hf c)))
 
 -- With no CAP no cycle is over it.
 never-found : (i n : ℕ) → firstFrom i n (λ c. false) ≡ Nowhere
@@ -99,7 +99,7 @@ pub judged-free : (p : Program) (s : Schedule) (h : ℕ) → p .cap ≡ unlimite
 unfolding loaded first
 judged-free p s h e =
     judged-found (first h (λ c. isOver (p .cap) (load p s c))) ∙
-        ap (λ f. judgedAt (firstFrom 0 h f)) (fun-ext (λ c. ap (λ l. isOver l (load p s c)) e)) ∙ ap judgedAt (never-found 0 h)
+    ap (λ f. judgedAt (firstFrom 0 h f)) (fun-ext (λ c. ap (λ l. isOver l (load p s c)) e)) ∙ ap judgedAt (never-found 0 h)
 
 -- Searches by tests that are the same below n.
 first-same : (i n : ℕ) (f g : ℕ → Bool) → ((x : ℕ) → x < n → f (i + x) ≡ g (i + x)) → firstFrom i n f ≡ firstFrom i n g

@@ -53,7 +53,7 @@ module _ (a : Rate) (v : a .phase < a .period) where
           let r = due-run a t e in
           let q = due-run a c d in
           let same = sym (stored-is a (suc t) j (omega arith) (omega arith)) ∙
-              stored-is a (suc t) (c / a .period) (omega arith) (omega arith) in
+          stored-is a (suc t) (c / a .period) (omega arith) (omega arith) in
           absurd (omega (arith, ap (runCycle a) same))
 
   module _ (w : ℕ) (old : List ℕ) where
@@ -71,7 +71,7 @@ module _ (a : Rate) (v : a .phase < a .period) where
             go (yes l) m = getD-set-other new t c _ 0 (λ z. omega arith) ∙ h .0 c l
             go (no l) (yes m) =
                 getD-set-other new t c _ 0 (λ z. omega arith) ∙ h .1 c (omega arith) ∙
-                    rw (due-between t c e m g) (sym (add-zero _))
+                rw (due-between t c e m g) (sym (add-zero _))
             go (no l) (no m) =
                 let z : c ≡ t = omega arith in
                 rw (z, e) (getD-set-same new t _ 0 lt ∙ ap (_+ w) (h .1 t (omega arith)))

@@ -92,7 +92,7 @@ module _ (p : Program) where
         go : (b : Bool) → ltb (ρ .operands .signal) (count p) ≡ b →
             cond b
             (cond (periodRule (ρ .kind) (signalAt p (ρ .operands .signal) .period) (signalAt p x .period) (ρ .operands .factor))
-                []
+            []
             (fault 8 (ρ .place) ∷ []))
             (fault 7 (ρ .place) ∷ []) ≡
             faultsOf
@@ -135,12 +135,12 @@ lower-again : (f g h : Fault) (a b c : Bool) → ltb (h .place) (g .place) ≡ a
     cond (ltb (cond a h g .place) (f .place)) (cond a h g) f ≡ cond (ltb (h .place) (cond b g f .place)) h (cond b g f)
 lower-again f g h true true c p q r =
     let k : h .place < f .place = omega (arith, ltb-true (h .place) (g .place) p, ltb-true (g .place) (f .place) q) in
-        rw (lt-ltb (h .place) (f .place) k, p)
+    rw (lt-ltb (h .place) (f .place) k, p)
 lower-again f g h true false c p q r = refl
 lower-again f g h false true c p q r = rw (q, p)
 lower-again f g h false false c p q r =
     let k : f .place ≤ h .place = omega (arith, ltb-false (h .place) (g .place) p, ltb-false (g .place) (f .place) q) in
-        rw (q, le-ltb (h .place) (f .place) k)
+    rw (q, le-ltb (h .place) (f .place) k)
 
 lowest-append : (xs ys : List Fault) → lowest (xs ++ ys) ≡ orLower (lowest xs) (lowest ys)
 unfolding lowest
@@ -166,7 +166,7 @@ both-rates p = sym (ap judgementOf (lowest-append (readRates p) (linkRates p)) �
 module _ {text : List ℕ} where
   link-at : {at n : ℕ} {ls : List Link} → SpellsLinks text at ls n → (j : ℕ) → j < length ls →
       (getD ls j noLink .place ≡ at + 2 * j) × (getD ls j noLink .signal ≡ byteAt text (at + 2 * j + 1)) ×
-          (at + 2 * j + 2 ≤ length text)
+      (at + 2 * j + 2 ≤ length text)
   link-at (SpellsLinks.ends e) j lt = absurd (omega arith)
   link-at (SpellsLinks.link {at = at} e le r) zero lt =
       let z : at + 1 ≡ at + 2 * 0 + 1 = omega arith in (omega arith, ap (λ (k : ℕ). getD text k 0) z, omega arith)

@@ -103,6 +103,6 @@ module _ {text reads firsts : List ℕ} {n : ℕ} (ix : Indexed text reads first
       let t = taken-is ix p e x i lt low high r (subst (λ (k : ℕ). ReadTaken text k r) z h) in
       judged-met p s order periods phases ranks table slots x ρ reader-count declared ∙
       ap faultsOf (sym (q (subst (λ (y : Taken). PacedAt periods phases x (y .kind) (y .operands)) (sym t) paced) ∙
-          ap (λ (y : Taken). readMet periods phases ranks n at x (y .kind) (y .operands)) t ∙
+      ap (λ (y : Taken). readMet periods phases ranks n at x (y .kind) (y .operands)) t ∙
       ap (λ (k : ℕ). readMet periods phases ranks n k x (ρ .kind) (ρ .operands)) (z ∙ place-is ix p e x i lt low high) ∙
       ap (λ (k : ℕ). readMet periods phases ranks k (ρ .place) x (ρ .kind) (ρ .operands)) (sym (counted ix p e))))

@@ -72,14 +72,32 @@ module _ {text : List ℕ} where
   opens (Spells.constants {w = w} e) = (
     Operator.Constant w,
     operator-decoded e,
-    record { operator = refl; operands = []; spelled = none; arity = refl; code = refl; commands = refl; height = refl; deep =
-        λ d h. tt },
+    record {
+      operator = refl;
+      operands = [];
+      spelled = none;
+      arity = refl;
+      code = refl;
+      commands = refl;
+      height = refl;
+      deep =
+          λ d h. tt;
+    },
   )
   opens (Spells.reads {kind = kind} {x = x} e a) = (
     Operator.Read kind x,
     operator-decoded e,
-    record { operator = refl; operands = []; spelled = none; arity = refl; code = refl; commands = refl; height = refl; deep =
-        λ d h. tt },
+    record {
+      operator = refl;
+      operands = [];
+      spelled = none;
+      arity = refl;
+      code = refl;
+      commands = refl;
+      height = refl;
+      deep =
+          λ d h. tt;
+    },
   )
   opens (Spells.two {operator = operator} {x = x} {y = y} e u v) = (
     Operator.Binary operator,

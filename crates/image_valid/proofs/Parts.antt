@@ -29,9 +29,9 @@ pub head : (image : List ℕ) → headOk image ≡ true → Head image
 unfolding headOk
 head image h =
     let f = both (leb 4 (length image) && eqb (twoAt image 2) (length image) && leb 1 (hyperOf image) && leb (hyperOf image) 240
-        && leb (countOf image) 64) _ h in
+    && leb (countOf image) 64) _ h in
     let e = both (leb 4 (length image) && eqb (twoAt image 2) (length image) && leb 1 (hyperOf image) && leb (hyperOf image) 240)
-        _ (f .0) in
+    _ (f .0) in
     let d = both (leb 4 (length image) && eqb (twoAt image 2) (length image) && leb 1 (hyperOf image)) _ (e .0) in
     let c = both (leb 4 (length image) && eqb (twoAt image 2) (length image)) _ (d .0) in
     let a = both (leb 4 (length image)) _ (c .0) in
@@ -67,7 +67,7 @@ unfolding listsOk
 lists image h =
     let up : Bool = allBelow (hyperOf image) (λ c. leb (listOffset image c) (listOffset image (c + 1))) in
     let c = both (eqb (listOffset image 0) (listsAt (countOf image) (hyperOf image)) && up && eqb
-        (listOffset image (hyperOf image)) (codeOffset image 0)) _ h in
+    (listOffset image (hyperOf image)) (codeOffset image 0)) _ h in
     let b = both (eqb (listOffset image 0) (listsAt (countOf image) (hyperOf image)) && up) _ (c .0) in
     let a = both (eqb (listOffset image 0) (listsAt (countOf image) (hyperOf image))) up (b .0) in
     record {
@@ -103,7 +103,7 @@ module _ (image : List ℕ) (l : Lists image) where
       let high = to-code (c + 1) (omega arith) in
       let in-list : k < b - a = omega (arith, simp (length-take, length-drop) at m) in
       let here : byteAt image (s + (a - s + k)) < countOf image =
-          ltb-true _ _ (all-at (codeOffset image 0 - s) _ e (a - s + k) (omega arith)) in
+      ltb-true _ _ (all-at (codeOffset image 0 - s) _ e (a - s + k) (omega arith)) in
       let same : s + (a - s + k) ≡ a + k = omega arith in
       rw (getD-take (b - a) (drop a image) k 0 in-list, getD-drop a image k 0) (rw same at here)
 
@@ -138,7 +138,7 @@ entries-none image l z =
     t ∙ sym (ap (λ (k : ℕ). allBelow k (λ i. ltb (byteAt image (s + i)) (countOf image))) none ∙ all-none _))
     (λ t. let some : 0 < e - s = omega (arith, eqb-false s e t) in
     t ∙ sym (all-fails (e - s) (λ i. ltb (byteAt image (s + i)) (countOf image)) 0 some
-        (ap (ltb (byteAt image (s + 0))) z ∙ le-ltb (byteAt image (s + 0)) 0 (omega arith))))
+    (ap (ltb (byteAt image (s + 0))) z ∙ le-ltb (byteAt image (s + 0)) 0 (omega arith))))
 
 -- the code of signal x
 pub record CodePart (image : List ℕ) (x : ℕ) : Type 0 where
@@ -167,7 +167,7 @@ formed image h = go (headOk image) (listsOk image) refl refl h
   where
     go : (a b : Bool) → headOk image ≡ a → listsOk image ≡ b
         → elim a [ true ↦ elim b [ true ↦ entriesOk image && codesOk image | false ↦ false ] | false ↦ false ] ≡ true →
-            Formed image
+        Formed image
     go true true p q t = let e = both (entriesOk image) (codesOk image) t in
         record { good = p; listed = q; entered = e .0; coded = e .1 }
     go true false p q t = never t

@@ -211,7 +211,7 @@ module _ (left : ℕ) (code : List ℕ) (at n own h : ℕ) (two : at + 1 < lengt
   unfolding Goes after-of shapeOf
   goes b =
       by-byte b Goes push-goes load-goes fetch-goes (λ no. absurd (no refl)) (op-30, op-31, op-32, op-33, op-34, op-35, op-36)
-          op-38 op-3A
+      op-38 op-3A
       (λ o no. absurd (no (no-shape o)))
 
   -- the turn is the last one
@@ -254,9 +254,9 @@ module _ (left : ℕ) (code : List ℕ) (at n own h : ℕ) (few : length code �
   unfolding Fails operatorCode commandOk
   fails b =
       by-byte b Fails (rw (cut 5 (omega arith)) refl) (rw (cut 2 (omega arith)) refl) (rw (cut 2 (omega arith)) refl)
-          (rw (cut 2 (omega arith)) refl)
+      (rw (cut 2 (omega arith)) refl)
       (ends 2 (h - 1), ends 2 (h - 1), ends 2 (h - 1), ends 2 (h - 1), ends 2 (h - 1), ends 2 (h - 1), ends 2 (h - 1)) (ends 1 h)
-          (ends 3 (h - 2))
+      (ends 3 (h - 2))
       (λ o. rw (no-command code at o))
 
 pub short : (left : ℕ) (code : List ℕ) (at n own h : ℕ) → length code ≤ at + 1 → codeOkFrom left code n own at h ≡ false
@@ -266,7 +266,7 @@ short (suc left) code at n own h p =
     by (leb (length code) at)
     (λ t. past (suc left) code at n own h (leb-true _ _ t))
     (λ t. turn (suc left) code at n own h (leb-false _ _ t) (omega arith) ∙
-        fails (suc left - 1) code at n own h p (byteAt code at))
+    fails (suc left - 1) code at n own h p (byteAt code at))
 
 Small : ℕ → Type 0
 Small b = shapeOf b ≤ 9

@@ -16,6 +16,7 @@ use Rattle.model.specs.Rules.Program.{Program}
 use Rattle.model.specs.Rules.Reads.{settled}
 use Rattle.model.specs.Rules.Schedule.{Schedule}
 use Rattle.model.specs.Rules.Tail.{Bears}
+use Rattle.model.specs.Rules.Word.{AreBytes}
 use Rattle.theorems.specs.Held.{stateBy, logBy, Supplied, Holds}
 use Rattle.theorems.specs.Lists.{KeptBy}
 use Rattle.theorems.specs.Streams.{Satisfies}
@@ -24,7 +25,6 @@ use Rattle.board.specs.Events.{Event, load, Scene, loadBy, afterEvent, afterEve
 use Rattle.board_words.specs.Record.{turnDone}
 use Rattle.larderlate.specs.Code.{Codable}
 use Rattle.board.specs.declared.Board.{Board}
-use Rattle.model.proofs.Texts.Commands as Texts
 use Rattle.board.proofs.Promises.{place-alone, place-cycles}
 use Rattle.larderlate.proofs.Promises.{calls-hold, reset-codable}
 use Rattle.board.proofs.Answers.{
@@ -63,7 +63,7 @@ place-kept program schedule p q h s k start size n four a es free inputs X kept 
 
 -- So it is where the stretch holds the image of an accepted pair, with a tail or without, and it and the place's words are not
 -- changed from outside.
-module _ (program schedule : List ℕ) (bytes : Texts.Bytes program) (p : Program) (q : Schedule) (h : ℕ)
+module _ (program schedule : List ℕ) (bytes : AreBytes program) (p : Program) (q : Schedule) (h : ℕ)
     (e : pairOf program schedule ≡ accepted (record { program = p; schedule = q; hypercycle = h })) where
   pub place-streams : (s : Scene) (k start size n : ℕ) → length (s .board .places) ≡ 4 →
       loadBy s k start size .answer ≡ accepted n → (tail : List ℕ) →

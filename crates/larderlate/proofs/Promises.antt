@@ -45,7 +45,7 @@ use Rattle.model.specs.Rules.Schedule.{Schedule, scheduleCommandAt}
 use Rattle.model.specs.Rules.Script.{Action, noSamples, callsFrom, cyclesOf}
 use Rattle.model.specs.Rules.Tail.{tailIn, Bears}
 use Rattle.model.specs.Rules.Trial.{trialOf}
-use Rattle.model.specs.Rules.Word.{byteAt}
+use Rattle.model.specs.Rules.Word.{byteAt, AreBytes}
 use Rattle.model.specs.Says.Written.{
   DeclarationWritten,
   DeclarationCut,
@@ -108,7 +108,6 @@ use Rattle.model.specs.declared.ScheduleCommand.{ScheduleCommand}
 use Rattle.model.specs.declared.ScheduleCommand.the-variants as ScheduleCommand
 use Rattle.model.specs.declared.Sizes.{Sizes}
 use Rattle.model.proofs.Images.Bounds.{Bounded}
-use Rattle.model.proofs.Texts.Commands as Texts
 use Rattle.model.proofs.Images.Counts.{counts-length, counts-at, counts-past}
 use Rattle.model.proofs.Texts.Legal.{signal-label}
 use Rattle.model.proofs.Basics.Outcomes.{accepted≢refused}
@@ -192,7 +191,7 @@ small-code : (f : Fault) → f .place ≤ 65791 → codeNumber (refused f) ≡ f
 small-code f le = ap (λ n. f .number * 4294967296 + n) (mod-eq-of-lt (omega arith))
 
 -- Every refusal has a place below 2^32, so that number × 2^32 + place, the answer of a C call, tells both.
-pub compile-code : (program schedule buffer : List ℕ) → Texts.Bytes program → (f : Fault) →
+pub compile-code : (program schedule buffer : List ℕ) → AreBytes program → (f : Fault) →
     compileOf program schedule buffer .answer ≡ refused f → codeNumber (refused f) ≡ f .number * 4294967296 + f .place
 compile-code program schedule buffer bytes f e = small-code f (places-small program schedule buffer bytes f e)
 
@@ -228,7 +227,7 @@ report-exactly program schedule counts =
     tells (refused g) sizes e = let z : _≡_ {A = ℕ} 0 1 = cc in absurd (omega arith)
 
 -- Its places are small, too.
-pub report-code : (program schedule counts : List ℕ) → Texts.Bytes program → (f : Fault) →
+pub report-code : (program schedule counts : List ℕ) → AreBytes program → (f : Fault) →
     reportOf program schedule counts .answer ≡ refused f → codeNumber (refused f) ≡ f .number * 4294967296 + f .place
 unfolding compileOf verdictOf _▷_
 report-code program schedule counts bytes f e =
@@ -244,7 +243,7 @@ report-keeps program schedule counts f = go (pairOf program schedule)
     go (refused g) e = refl
 
 -- Whatever a cycle is lent, its count has 32 bits.
-pub count-small : (lent : List ℕ) (state samples : List ℤ) → Texts.Bytes lent → (n : ℕ) →
+pub count-small : (lent : List ℕ) (state samples : List ℤ) → AreBytes lent → (n : ℕ) →
     cycleOf lent state samples .answer ≡ accepted n → n < 2 ^ 32
 unfolding cycleOf _▷_ provided
 count-small lent state samples bytes n e =
@@ -393,7 +392,7 @@ pub others-nothing : (size : ℕ) (m : Memory) (log : List (List ℤ)) (ls : Lis
 others-nothing = Among.others-nothing
 
 -- An accepted pair.
-module _ (program schedule : List ℕ) (bytes : Texts.Bytes program) (p : Program) (s : Schedule) (h : ℕ)
+module _ (program schedule : List ℕ) (bytes : AreBytes program) (p : Program) (s : Schedule) (h : ℕ)
     (e : pairOf program schedule ≡ accepted (record { program = p; schedule = s; hypercycle = h })) where
   accepts : Feasible p s
   accepts = pair-accepted program schedule _ e
@@ -467,7 +466,7 @@ module _ (program schedule : List ℕ) (bytes : Texts.Bytes program) (p : Progra
       rw (a .answers, a .logs, a .state) (calls-hold tail (take size buffer) bears old r (owns ls))
 
 -- Two accepted schedules of one program that settle alike: each open read has the same index under both.
-module _ (program schedule schedule′ : List ℕ) (bytes : Texts.Bytes program) (p : Program) (s s′ : Schedule) (h : ℕ)
+module _ (program schedule schedule′ : List ℕ) (bytes : AreBytes program) (p : Program) (s s′ : Schedule) (h : ℕ)
     (e : pairOf program schedule ≡ accepted (record { program = p; schedule = s; hypercycle = h }))
     (e′ : pairOf program schedule′ ≡ accepted (record { program = p; schedule = s′; hypercycle = h }))
     (alike : SettleAlike p s s′) where
@@ -516,7 +515,7 @@ pub trial-refused-exactly : (program schedule text : List ℕ) (f : Fault) →
     (trialOf program schedule text ≡ refused f) ↔ TrialRefusedAt program schedule text f
 trial-refused-exactly = trial-refused
 
-pub trial-lines : (program schedule text : List ℕ) → Texts.Bytes program → (q : Pair) (actions : List Action) →
+pub trial-lines : (program schedule text : List ℕ) → AreBytes program → (q : Pair) (actions : List Action) →
     LegalPair program schedule q → LegalScript (q .program) text actions → TrialLines program schedule text q actions
 trial-lines program schedule text bytes q actions legal script =
     let p = q .program in
@@ -524,14 +523,14 @@ trial-lines program schedule text bytes q actions legal script =
     let same = script-actions text (script .spells) in
     let lines = linesOf q text in
     let tried : Tried program schedule text lines =
-        record { pair = q; legal = legal; script = rw same script; lines-are = refl } in
+    record { pair = q; legal = legal; script = rw same script; lines-are = refl } in
     record {
       lines = lines;
       prints = trial-accepts program schedule text legal script;
       number = tried-count program schedule text bytes lines tried ∙ ap cyclesOf same;
       line = λ X sat j lt. tried-line program schedule text bytes lines tried X
           (subst (λ (acts : List Action). Satisfies p (settled p s) (inputsOf p s (callsFrom noSamples acts)) X) (sym same) sat) j
-              lt;
+          lt;
     }
 
 -- Request g. A conversion is done, or refused with each number at its place, exactly under its condition.
@@ -599,7 +598,7 @@ pub cycle-exactly : (lent : List ℕ) (state samples : List ℤ) →
 cycle-exactly = CallsExact.cycle-exactly
 
 -- 24,678 bytes, the header's LARDERLATE_IMAGE_BYTES, hold what compile writes for every accepted pair.
-pub image-bytes : (program schedule : List ℕ) → Texts.Bytes program → (q : Pair) → pairOf program schedule ≡ accepted q →
+pub image-bytes : (program schedule : List ℕ) → AreBytes program → (q : Pair) → pairOf program schedule ≡ accepted q →
     (buffer : List ℕ) → 24678 ≤ length buffer → compileOf program schedule buffer .answer ≡ accepted (sizeOf q)
 image-bytes program schedule bytes q e buffer le =
     compile-exactly program schedule buffer .done (sizeOf q) _ .1
@@ -624,7 +623,7 @@ code-tells (refused f) (refused g) c d e =
     ap₂ (λ (n x : ℕ). refused (fault n x)) number place
 
 -- .. since lengths and places are below 2^32 and the numbers of refusals above 0, in every call.
-pub compile-codable : (program schedule buffer : List ℕ) → Texts.Bytes program →
+pub compile-codable : (program schedule buffer : List ℕ) → AreBytes program →
     Codable (compileOf program schedule buffer .answer)
 compile-codable program schedule buffer bytes = go (compileOf program schedule buffer .answer) refl
   where
@@ -635,7 +634,7 @@ compile-codable program schedule buffer bytes = go (compileOf program schedule b
       omega (arith, places-small program schedule buffer bytes f e),
     )
 
-pub report-codable : (program schedule counts : List ℕ) → Texts.Bytes program →
+pub report-codable : (program schedule counts : List ℕ) → AreBytes program →
     Codable (lengthIn (reportOf program schedule counts .answer))
 report-codable program schedule counts bytes = go (reportOf program schedule counts .answer) refl
   where
@@ -661,7 +660,7 @@ reset-codable lent state = go (resetOf lent state .answer) refl
       omega (arith, places-zero lent state Call.reset f e),
     )
 
-pub call-codable : (lent : List ℕ) (state : List ℤ) (c : Call) → Texts.Bytes lent → Codable (callOf lent state c .answer)
+pub call-codable : (lent : List ℕ) (state : List ℤ) (c : Call) → AreBytes lent → Codable (callOf lent state c .answer)
 unfolding callOf
 call-codable lent state Call.reset bytes = reset-codable lent state
 call-codable lent state (Call.cycle samples) bytes = go (cycleOf lent state samples .answer) refl

@@ -67,7 +67,7 @@ module _ {lent image : List ℕ} (l : Lends lent image) (state samples : List �
   pub cycle-done : wellFormed image ≡ true → ltb (countOf image) (length state) ≡ true →
       isPosition (hyperOf image) (getD state 0 (pos 0)) ≡ true
       → leb (countOf image) (length samples) ≡ true →
-          cycleOf lent state samples ≡ done (cycleCount image state) (cycleWords image state samples)
+      cycleOf lent state samples ≡ done (cycleCount image state) (cycleWords image state samples)
   unfolding cycleOf provided _▷_
   cycle-done a b c d = rw (l .judged ∙ a, sym (l .part a), b, c, d)
 

@@ -23,7 +23,7 @@ module _ (image list : List ℕ) (i : ℕ) (samples state : List ℤ) where
   pub signals-next : i < length list
       → runSignals image (drop i list) samples state
       ≡ runSignals image (drop (i + 1) list) samples
-          (set state (byteAt list i + 1) (runCode (codeOf image (byteAt list i)) state samples))
+      (set state (byteAt list i + 1) (runCode (codeOf image (byteAt list i)) state samples))
   unfolding runSignals
   signals-next h = ap (λ (l : List ℕ). runSignals image l samples state) (drop-cons list i 0 h) ∙ rw (add-one i)
 
@@ -79,13 +79,13 @@ unfolding begun
 begun-more image x state h =
     let f : ℕ → ℤ = λ y. wordAt image (4 + 6 * y) in
     let next : drop (x + 1) state ≡ getD state (x + 1) (pos 0) ∷ drop (x + 1 + 1) state =
-        rw (add-one (x + 1)) (drop-cons state (x + 1) (pos 0) h) in
+    rw (add-one (x + 1)) (drop-cons state (x + 1) (pos 0) h) in
     ap (λ (k : ℕ). set (begun image x state) k (f x)) (add-one x)
     ∙ ap (λ (r : List ℤ). pos 0 ∷ set (table x f ++ r) x (f x)) next
     ∙ ap (λ (r : List ℤ). pos 0 ∷ r)
     (set-at (table x f) (getD state (x + 1) (pos 0)) (drop (x + 1 + 1) state) (f x) x (table-length f x)
     ∙ sym (ap (λ (t : List ℤ). t ++ drop (x + 1 + 1) state) (table-more f x) ∙
-        append-snoc (table x f) (f x) (drop (x + 1 + 1) state)))
+    append-snoc (table x f) (f x) (drop (x + 1 + 1) state)))
 
 drop-set : (x : ℕ) (state : List ℤ) (w : ℤ) → drop (suc x) (set state 0 w) ≡ drop (suc x) state
 drop-set x [] w = refl
@@ -96,7 +96,7 @@ unfolding begun resetWords
 begun-all image state =
     ap (λ (r : List ℤ). pos 0 ∷ (table (countOf image) (λ y. wordAt image (4 + 6 * y)) ++ r))
     (ap (λ (k : ℕ). drop k (set state 0 (pos 0))) (add-one (countOf image)) ∙ drop-set (countOf image) state (pos 0) ∙
-        ap (λ (k : ℕ). drop k state) (sym (add-one (countOf image))))
+    ap (λ (k : ℕ). drop k state) (sym (add-one (countOf image))))
 
 -- a word that is not negative is a position by its number alone
 pub record Position (z : ℤ) : Type 0 where

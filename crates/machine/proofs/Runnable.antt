@@ -46,7 +46,7 @@ module _ {image : List ℕ} {state samples : List ℤ} (r : Runnable image state
   cycle-leaves =
       ap (λ (e : Effect ℤ). e .left)
       (cycle-done (lends-itself (r .formed)) state samples (r .formed) (lt-ltb (countOf image) (length state) (r .long))
-          (r .position)
+      (r .position)
       (le-leb (countOf image) (length samples) (r .enough)))
 
 -- A reset of a well-formed image that is not refused: with 64 samples the state that it leaves can be run.

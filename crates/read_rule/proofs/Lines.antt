@@ -53,7 +53,7 @@ module _ (w r : Timing) (bw : w .phase < 256) (br : r .phase < 256) where
       between-leb (r .phase) (w .phase + 0 + i * 0) (r .phase + 256) (r .phase) (w .phase) (λ h. omega arith) (λ h. omega arith)
   meets-line When i =
       same-between (r .phase) (w .phase + (w .period - 1) + i * w .period) (r .phase + w .period) (i * w .period + w .phase)
-          (r .phase)
+      (r .phase)
       (suc i * w .period + w .phase) (λ h. omega arith) (λ h. omega arith)
   meets-line LastWhen i =
       same-between (r .phase) (w .phase + 0 + i * w .period) (r .phase + w .period) (r .phase) (i * w .period + w .phase)

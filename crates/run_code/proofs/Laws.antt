@@ -63,7 +63,7 @@ is-unknown : (b : ℕ) → (b ≡ 0x38 → ⊥) → (b ≡ 0x3A → ⊥) → (b 
 unfolding operatorCode
 is-unknown b not-negate not-if o =
     let no : (k : ℕ) → 0x30 ≤ k → k ≤ 0x36 → eqb b k ≡ false = λ k l h.
-        ne-eqb b k (λ e. ⊎-elim (λ p. omega arith) (λ p. omega arith) o) in
+    ne-eqb b k (λ e. ⊎-elim (λ p. omega arith) (λ p. omega arith) o) in
     rw (
       no 0x30 (omega arith) (omega arith),
       no 0x31 (omega arith) (omega arith),
@@ -148,7 +148,7 @@ module _ (code : List ℕ) (n own : ℕ) (state samples : List ℤ) where
         → (byteAt code at ≡ 0x50 → ⊥) → (byteAt code at ≡ 0x51 → ⊥) → (byteAt code at ≡ 0x52 → ⊥) → (byteAt code at ≡ 0x5F → ⊥)
         → (byteAt code at ≡ 0x38 → ⊥) → (byteAt code at ≡ 0x3A → ⊥)
         → (0x30 ≤ byteAt code at) × (byteAt code at ≤ 0x36) ×
-            Command stored total ran at stack height (operatorCode (byteAt code at))
+        Command stored total ran at stack height (operatorCode (byteAt code at))
     combine here g p l f s n i =
         let b = byteAt code at in
         let c = seen (is-operator code at here p l f s) (command g) in (
@@ -187,17 +187,23 @@ module _ (code : List ℕ) (n own : ℕ) (state samples : List ℤ) where
         → (x < n) × (height < 32) × Goes stored total (ran + 1) (at + 2) (getD state (x + 1) (pos 0) ∷ stack) (height + 1)
     unfolding commandOk runCommand countCommand
     loaded {x} c = let p = both (ltb x n && ltb height 32) _ (c .judged) in let q = both (ltb x n) (ltb height 32) (p .0) in
-        let l = ltb-true height 32 (q .1) in
-        (ltb-true x n (q .0), l, record
-            { left = c .fewer; good = p .1; runs = c .does; counts = omega (arith, c .counted); most = omega arith })
+        let l = ltb-true height 32 (q .1) in (
+          ltb-true x n (q .0),
+          l,
+          record
+              { left = c .fewer; good = p .1; runs = c .does; counts = omega (arith, c .counted); most = omega arith },
+        )
 
     pub fetched : {x : ℕ} → Command stored total ran at stack height (Code.Fetch x)
         → (x ≡ own) × (height < 32) × Goes stored total (ran + 1) (at + 2) (getD samples x (pos 0) ∷ stack) (height + 1)
     unfolding commandOk runCommand countCommand
     fetched {x} c = let p = both (eqb x own && ltb height 32) _ (c .judged) in let q = both (eqb x own) (ltb height 32) (p .0) in
-        let l = ltb-true height 32 (q .1) in
-        (eqb-true x own (q .0), l, record
-            { left = c .fewer; good = p .1; runs = c .does; counts = omega (arith, c .counted); most = omega arith })
+        let l = ltb-true height 32 (q .1) in (
+          eqb-true x own (q .0),
+          l,
+          record
+              { left = c .fewer; good = p .1; runs = c .does; counts = omega (arith, c .counted); most = omega arith },
+        )
 
     pub last : {x : ℕ} → Command stored total ran at stack height (Code.Store x) → (height ≡ 1) ×
         (getD stack 0 (pos 0) ≡ stored) × (ran + 1 ≡ total)
@@ -208,23 +214,29 @@ module _ (code : List ℕ) (n own : ℕ) (state samples : List ℤ) where
     pub negated : (operator : Unary) → Command stored total ran at stack height (Code.Unary operator) →
         (1 ≤ height) × Goes stored total (ran + 1) (at + 1) (onOne (unaryWord operator) stack) height
     unfolding commandOk runCommand countCommand
-    negated operator c = let p = both (leb 1 height) _ (c .judged) in
-        (leb-true 1 height (p .0), record
-            { left = c .fewer; good = p .1; runs = c .does; counts = omega (arith, c .counted); most = c .few })
+    negated operator c = let p = both (leb 1 height) _ (c .judged) in (
+      leb-true 1 height (p .0),
+      record
+          { left = c .fewer; good = p .1; runs = c .does; counts = omega (arith, c .counted); most = c .few },
+    )
 
     pub chosen : Command stored total ran at stack height Code.If → (3 ≤ height) ×
         Goes stored total (ran + 1) (at + 1) (onThree ifWord stack) (height - 2)
     unfolding commandOk runCommand countCommand
-    chosen c = let p = both (leb 3 height) _ (c .judged) in let m = c .few in
-        (leb-true 3 height (p .0), record
-            { left = c .fewer; good = p .1; runs = c .does; counts = omega (arith, c .counted); most = omega arith })
+    chosen c = let p = both (leb 3 height) _ (c .judged) in let m = c .few in (
+      leb-true 3 height (p .0),
+      record
+          { left = c .fewer; good = p .1; runs = c .does; counts = omega (arith, c .counted); most = omega arith },
+    )
 
     pub combined : {operator : Binary} → Command stored total ran at stack height (Code.Binary operator)
         → (2 ≤ height) × Goes stored total (ran + 1) (at + 1) (onTwo (binaryWord operator) stack) (height - 1)
     unfolding commandOk runCommand countCommand
-    combined c = let p = both (leb 2 height) _ (c .judged) in let m = c .few in
-        (leb-true 2 height (p .0), record
-            { left = c .fewer; good = p .1; runs = c .does; counts = omega (arith, c .counted); most = omega arith })
+    combined c = let p = both (leb 2 height) _ (c .judged) in let m = c .few in (
+      leb-true 2 height (p .0),
+      record
+          { left = c .fewer; good = p .1; runs = c .does; counts = omega (arith, c .counted); most = omega arith },
+    )
 
   -- a leaf: its word, and what follows it
   pub record Leaf (stored : ℤ) (total ran at : ℕ) (stack : List ℤ) (height : ℕ) : Type 0 where
@@ -240,7 +252,7 @@ module _ (code : List ℕ) (n own : ℕ) (state samples : List ℤ) where
     at-push e =
         let c = push here g e in
         let k : codeAt code at ≡ Code.Push (wordAt code (at + 1)) = is-push code at here e ∙
-            rw (le-leb (at + 5) (length code) (c .0)) in
+        rw (le-leb (at + 5) (length code) (c .0)) in
         let p = pushed (c .1) in
         record { high = p .0; reads = rw k; next = rw (e, k) (p .1) }
 
@@ -248,19 +260,27 @@ module _ (code : List ℕ) (n own : ℕ) (state samples : List ℤ) where
     at-load e =
         let c = load here g e in
         let k : codeAt code at ≡ Code.Load (byteAt code (at + 1)) = is-load code at here e ∙
-            rw (le-leb (at + 2) (length code) (c .0)) in
+        rw (le-leb (at + 2) (length code) (c .0)) in
         let p = loaded (c .1) in
-        record { high = p .1; reads = rw k (lt-ltb (byteAt code (at + 1) + 1) (length state) (omega (arith, p .0))); next =
-            rw (e, k) (p .2) }
+        record {
+          high = p .1;
+          reads = rw k (lt-ltb (byteAt code (at + 1) + 1) (length state) (omega (arith, p .0)));
+          next =
+              rw (e, k) (p .2);
+        }
 
     at-fetch : byteAt code at ≡ 0x52 → Leaf stored total ran at stack height
     at-fetch e =
         let c = fetch here g e in
         let k : codeAt code at ≡ Code.Fetch (byteAt code (at + 1)) = is-fetch code at here e ∙
-            rw (le-leb (at + 2) (length code) (c .0)) in
+        rw (le-leb (at + 2) (length code) (c .0)) in
         let p = fetched (c .1) in
-        record { high = p .1; reads = rw k (lt-ltb (byteAt code (at + 1)) (length samples) (omega (arith, p .0))); next =
-            rw (e, k) (p .2) }
+        record {
+          high = p .1;
+          reads = rw k (lt-ltb (byteAt code (at + 1)) (length samples) (omega (arith, p .0)));
+          next =
+              rw (e, k) (p .2);
+        }
 
     pub leaf : 0x50 ≤ byteAt code at → byteAt code at ≤ 0x52 → Leaf stored total ran at stack height
     leaf l m =

@@ -34,11 +34,23 @@ module _ {text : List ℕ} {at : ℕ} where
   shape-of : {kind : Kind} {x : Sampled} → OperatorWritten text at (Operator.Read kind x) → Shape text at kind x
   unfolding kindOf
   shape-of (OperatorWritten.plain Now e h b) =
-      record { kind-is = rw b; inside = h; plain = λ l. refl; wide = λ l. absurd (omega arith); sampled = λ l.
-          absurd (omega arith) }
+      record {
+        kind-is = rw b;
+        inside = h;
+        plain = λ l. refl;
+        wide = λ l. absurd (omega arith);
+        sampled = λ l.
+            absurd (omega arith);
+      }
   shape-of (OperatorWritten.plain Last e h b) =
-      record { kind-is = rw b; inside = h; plain = λ l. refl; wide = λ l. absurd (omega arith); sampled = λ l.
-          absurd (omega arith) }
+      record {
+        kind-is = rw b;
+        inside = h;
+        plain = λ l. refl;
+        wide = λ l. absurd (omega arith);
+        sampled = λ l.
+            absurd (omega arith);
+      }
   shape-of (OperatorWritten.plain When e h b) = absurd (omega arith)
   shape-of (OperatorWritten.plain LastWhen e h b) = absurd (omega arith)
   shape-of (OperatorWritten.plain Current e h b) = absurd (omega arith)

@@ -166,7 +166,7 @@ module _ (f : Family) (F : ℕ → f .Item → List Fault) (at-item : AtItem f F
   each-beyond x [] h = tt
   each-beyond x (i ∷ is) h =
       all-append (λ g. a ≤ g .place) (F x i) (each f F x is) (one-beyond (f .place i) (F x i) (at-item x i) (h .0))
-          (each-beyond x is (h .1))
+      (each-beyond x is (h .1))
 
   after-beyond : (x : ℕ) (os : List (f .Owner)) → All (λ n. a ≤ n) (after f (placeOf f) x os) →
       All (λ g. a ≤ g .place) (after f F x os)
@@ -249,7 +249,7 @@ module _ (f : Family) (F : ℕ → f .Item → List Fault) (verdict : Outcome (U
         let n = f .place (itemAt f x j) in
         let z : g .place ≡ n = subst (All (λ (k : Fault). k .place ≡ n)) e (at-item x (itemAt f x j)) .0 in
         let h = from-beyond f F at-item (suc n) x (suc j) (rising-all (suc n) (from f (placeOf f) x (suc j)) (b .end) (rises .1))
-            in
+        in
         b .left ∙ ap lowest (next f F x j lt ∙ ap (_++ from f F x (suc j)) e) ∙
         lowest-sorted g g (from f F x (suc j)) (λ i l. omega (arith, all-at (λ k. suc n ≤ k .place) (from f F x (suc j)) g h i l))
 

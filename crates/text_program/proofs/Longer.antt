@@ -36,5 +36,5 @@ past-links (suc room) text at links =
     go false e d f h = rw (links-end (suc room) text at links (eqb-false _ _ e)) (omega arith)
     go true e true f h =
         rw (links-more room text at links (eqb-true _ _ e) (leb-true _ _ f))
-            (past-less at 2 (parseLinks room text (at + 2) _) (h _))
+        (past-less at 2 (parseLinks room text (at + 2) _) (h _))
     go true e false f h = rw (links-cut room text at links (eqb-true _ _ e) (leb-false _ _ f)) tt

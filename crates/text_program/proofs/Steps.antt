@@ -74,7 +74,7 @@ module _ (least : ℕ) (text : List ℕ) (at label : ℕ) (p : Program) (l : Lis
     -- It is declared as its operands say.
     declared : (c : Declaration) → declarationAt text at ≡ c → (left : ℕ) →
         parseCommands least (suc left) text at label p ≡ declare least (λ m g q. parseCommands least left text m g q) text at
-            label p c
+        label p c
     unfolding parseCommands _▷_
     declared c e left = rw (here, e)
 
@@ -145,20 +145,20 @@ module _ (least : ℕ) (text : List ℕ) (at label : ℕ) (p : Program) (l : Lis
     pub step-equation : {l′ : List ℕ} {r : Step} (period : ℕ) (initial : ℤ) (weight : ℕ) →
         declarationAt text at ≡ Declaration.Equation period initial weight →
         WalksEquation (parseExpr least 16 text (at + 8)) (Entry.Signal period weight) l n to l′ r →
-            Stepped least text at label p l n to l′ r
+        Stepped least text at label p l n to l′ r
     step-equation period initial weight e v = equation-by (parseExpr least 16 text (at + 8)) period initial weight refl e v
 
     -- A LAT goes on after its LINKs, of which there are two at least.
     chain-by : (o : Outcome (Parsed (List Link))) (mode : Mode) (bound : ℕ) → parseLinks 16 text (at + 4) [] ≡ o →
         Past (at + 4) o → declarationAt text at ≡ Declaration.Latency mode bound →
-            Stepped least text at label p l n to l (chainOf at n to o)
+        Stepped least text at label p l n to l (chainOf at n to o)
     unfolding Stepped Adds chainOf declare _▷_
     chain-by (accepted x) mode bound h q e = go (leb 2 (length (x .value))) refl
       where
         go : (b : Bool) → leb 2 (length (x .value)) ≡ b →
             Stepped least text at label p l n to l
             (cond b (Step.Adds (Entry.Chain (length (x .value))) (record { at = x .next; reads = n; code = to }))
-                (Step.Refused (fault 5 at)))
+            (Step.Refused (fault 5 at)))
         go true f =
             record {
               program = withChain p (record { place = at; mode = mode; bound = bound; links = x .value });
@@ -190,7 +190,7 @@ module _ (least : ℕ) (text : List ℕ) (at label : ℕ) (p : Program) (l : Lis
 
     pub step-input : (period : ℕ) (initial : ℤ) → declarationAt text at ≡ Declaration.Input period initial →
         Stepped least text at label p l n to l
-            (Step.Adds (Entry.Signal period 0) (record { at = at + 6; reads = n; code = to + 4 }))
+        (Step.Adds (Entry.Signal period 0) (record { at = at + 6; reads = n; code = to + 4 }))
     unfolding Stepped Adds declare
     step-input period initial e =
         record {

@@ -219,7 +219,7 @@ module _ {least : ℕ} {text reads : List ℕ} {t : Tables} {at label n to : ℕ
                   (omega (arith, s .starts, c .room, h .counts .chains-are)) (c .stands) (h .starts);
               lengths =
                   one-more (λ x. length (x .links)) noChain (p .chains) (c .chain) (t .lengths) (t .chains) k
-                      (h .counts .chains-are)
+                  (h .counts .chains-are)
                   (omega (arith, s .lengths, c .room, h .counts .chains-are)) (c .links-are) (h .lengths);
               cap = h .cap;
               space = (
@@ -283,7 +283,7 @@ module _ {least : ℕ} {text reads : List ℕ} {t : Tables} {at label n to : ℕ
               sums = record { first = g .sums .first; rises = g .sums .rises };
               stand = λ x j lx lj.
                   ap (λ (l : List ℕ). getD l (getD (t .firsts) x 0 + j) 0) (m .holds ∙ ap (sets reads n) (b .1)) ∙
-                      g .stand x j lx lj;
+                  g .stand x j lx lj;
               fits = omega (arith, g .fits, same-size);
             };
         count-is = r .count-is ∙ sym (count-same (b .1) (b .2));
@@ -396,11 +396,11 @@ module _ {least : ℕ} {text reads : List ℕ} {t : Tables} {at label n to : ℕ
                     };
                 places =
                     one-more (λ x. x .place) noSignal (p .signals) σ (t .places) (t .signals) at c (omega (arith, s .places))
-                        (b .stands)
+                    (b .stands)
                     (h .places);
                 periods =
                     one-more (λ x. x .period) noSignal (p .signals) σ (t .periods) (t .signals) period c
-                        (omega (arith, s .periods))
+                    (omega (arith, s .periods))
                     (b .period-is) (h .periods);
                 weights =
                     one-more (λ x. weightOf (x .body)) noSignal (p .signals) σ (t .weights) (t .signals) weight c
@@ -451,12 +451,12 @@ module _ {least : ℕ} {text reads : List ℕ} {t : Tables} {at label n to : ℕ
   signal-next q = signal-made q (signal-added q)
 
   -- There is space for it, and its numbers fit two bytes.
-  pub record Fits : Type 0 where
+  pub record SpaceLeft : Type 0 where
     pub below : t .signals < 64
     pub few : w .reads < 65536
     pub small : w .code < 65536
 
-  pub signal-fits : {period weight : ℕ} → e ≡ Entry.Signal period weight → Fits
+  pub signal-fits : {period weight : ℕ} → e ≡ Entry.Signal period weight → SpaceLeft
   signal-fits q =
       let b = signal-added q in
       record {

@@ -93,7 +93,7 @@ go-on (accepted x) k {l} {l₁} {l′} {l₂} {c} {t} {c′} {t′} {r₁} {r} {
     let z : w .by .0 ≡ a = cc in
     let m : Moves (x .next) (placesOf (readsOf (x .value))) (length (exprCode (x .value))) l c t l₁ a =
     subst (λ (y : Walk). Moves (x .next) (placesOf (readsOf (x .value))) (length (exprCode (x .value))) l c t l₁ y) z (w .by .2)
-        in
+    in
     subst (λ (n : ℕ). Walks (k (record { value = x .value; next = n })) l′ c′ t′ l₂ r) (m .goes)
     (h (x .value) (record { goes = refl; counts = m .counts; codes = m .codes; holds = m .holds }))
 go-on (refused f) k {r₁ = r₁} {a = a} w e h =
@@ -219,7 +219,7 @@ ahead least text {l} {l′} {at} {count} {to} {r} {a} d h w e = go (parseExpr le
         let f = w .by .1 in
         let z : w .by .0 ≡ a = cc in
         let m = subst (λ (y : Walk). Moves (x .next) (placesOf (readsOf (x .value))) (length (exprCode (x .value))) l count to l′
-            y) z (w .by .2) in
+        y) z (w .by .2) in
         record {
           left =
               record {
@@ -251,7 +251,7 @@ module _ (o : Outcome (Parsed Expr)) {l l′ : List ℕ} {count to : ℕ} {r : W
           let f = w .by .1 in
           let z : w .by .0 ≡ a = cc in
           let m = subst (λ (y : Walk). Moves (x .next) (placesOf (readsOf (x .value))) (length (exprCode (x .value))) l count to
-              l′ y) z (w .by .2) in
+          l′ y) z (w .by .2) in
           record { by = (record { at = a .at; reads = a .reads; code = a .code + 2 }, h, longer 2 m) }
       go (refused f) w =
           let k = w .by in

@@ -155,7 +155,7 @@ module _ (done : List Put) (t : Slots) (h : SlotsAfter done t) (q : Put) (low : 
         order-is = λ j lt.
             filled (λ i. getD (signalsOf (done ++ (q ∷ []))) i 0) (t .order) (t .puts) (q .signal)
             (omega (arith, h .space .0, h .puts-are))
-                (sym (signals-last done q) ∙ ap (λ i. getD (signalsOf (done ++ (q ∷ []))) i 0) (h .puts-are))
+            (sym (signals-last done q) ∙ ap (λ i. getD (signalsOf (done ++ (q ∷ []))) i 0) (h .puts-are))
             (λ y ly. h .order-is y (omega (arith, h .puts-are)) ∙ sym (signals-snoc done q y (omega (arith, h .puts-are)))) j
             (omega (arith, length-append done (q ∷ []), h .puts-are));
         unput = unput-after;
@@ -276,7 +276,7 @@ fresh-put p done q = go (ltb (q .signal) (count p)) (isPut done (q .signal)) (lt
 
     go : (a b c : Bool) →
         cond a (cond b (fault 12 (q .place) ∷ []) (cond c [] (fault 13 (q .place) ∷ []))) (fault 12 (q .place) ∷ []) ≡ [] →
-            b ≡ false
+        b ≡ false
     go true true c e = absurd (some _ e)
     go true false c e = refl
     go false b c e = absurd (some _ e)
@@ -366,7 +366,7 @@ module _ (text : List ℕ) (p : Program) (o : Parsed (List Put)) (at : ℕ) (t :
       let s = scheduleOf p (o .value) in
       let ok = placed-ordered p o s (placed-all e) .0 in
       let put : (x : ℕ) → x < count p → isPut (g .done) x ≡ true = λ x lt.
-          all-true (count p) (isPut (g .done)) (sym (all-ranked (g .done) t (count p) (g .after) fit few) ∙ e) x lt in
+      all-true (count p) (isPut (g .done)) (sym (all-ranked (g .done) t (count p) (g .after) fit few) ∙ e) x lt in
       let size : length (s .order) ≡ length (g .done) = length-map (o .value) _ ∙ ap length all-done in (
         sym (size ∙ g .after .puts-are),
         record {

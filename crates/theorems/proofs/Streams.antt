@@ -5,7 +5,7 @@ pub mod Unique
 pub mod Turns
 pub mod Lists
 pub mod Computes
-pub mod Bytes
+pub mod OnBytes
 pub mod Alike
 pub mod AlikeBytes
 pub mod Demand

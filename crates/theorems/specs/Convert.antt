@@ -72,8 +72,14 @@ mapBody f (equation weight e) = equation weight (mapExpr f e)
 
 module _ (f : Read → Read) (g : ℕ → ℕ) where
   abbrev pub mapSignal : Signal → Signal
-  mapSignal x = record { place = g (x .place); period = x .period; initial = x .initial; body = mapBody f (x .body); label =
-      x .label }
+  mapSignal x = record {
+    place = g (x .place);
+    period = x .period;
+    initial = x .initial;
+    body = mapBody f (x .body);
+    label =
+        x .label;
+  }
 
   abbrev pub mapLink : Link → Link
   mapLink l = record { place = g (l .place); signal = l .signal }

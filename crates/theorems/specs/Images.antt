@@ -18,7 +18,7 @@ use Rattle.model.specs.declared.Fault.{Fault}
 use Rattle.model.specs.declared.Sizes.{Sizes}
 
 -- An offset that an image gives is the one of the layout, at most 65,535, and within the image.
-pub record Fits (image : List ℕ) (given layout : ℕ) : Type 0 where
+pub record OffsetFits (image : List ℕ) (given layout : ℕ) : Type 0 where
   pub exact : given ≡ layout
   pub bound : given ≤ 65535
   pub inside : given ≤ length image
@@ -26,9 +26,9 @@ pub record Fits (image : List ℕ) (given layout : ℕ) : Type 0 where
 -- The code offsets of all signals, and the offsets of all run lists with the end of the last.
 pub record OffsetsFit (p : Program) (s : Schedule) (h : ℕ) : Type 0 where
   pub codeOffsets : (x : ℕ) → x < count p →
-      Fits (imageOf p s h) (codeOffset (imageOf p s h) x) (getD (offsets (codesAt p s h) (codes p)) x 0)
+      OffsetFits (imageOf p s h) (codeOffset (imageOf p s h) x) (getD (offsets (codesAt p s h) (codes p)) x 0)
   pub listOffsets : (c : ℕ) → c ≤ h →
-      Fits (imageOf p s h) (listOffset (imageOf p s h) c) (getD (offsets (listsAt (count p) h) (runLists p s h)) c 0)
+      OffsetFits (imageOf p s h) (listOffset (imageOf p s h) c) (getD (offsets (listsAt (count p) h) (runLists p s h)) c 0)
 
 -- One image: compile writes it and after it its tail, four bytes a signal, answers the length of both and keeps the bytes past
 -- that wherever there is space, and else answers 17 with that length. The image is well formed and at most 65,535 bytes long,

@@ -17,9 +17,9 @@ use Rattle.model.specs.Rules.Program.{Program}
 use Rattle.model.specs.Rules.Schedule.{Schedule}
 use Rattle.model.specs.Rules.Script.{isInputOf, scriptOf, inputsOnly, noSamples, checkOf, callsOf, cyclesOf}
 use Rattle.model.specs.Rules.Trial.{linesFrom, startOf, trialOf}
+use Rattle.model.specs.Rules.Word.{AreBytes}
 use Rattle.model.specs.declared.Fault.{Fault}
 use Rattle.model.proofs.Images.Bounds.{Bounded}
-use Rattle.model.proofs.Texts.Commands.{Bytes}
 use Rattle.model.proofs.Images.Formed.{image-well-formed}
 use Rattle.model.proofs.Basics.Outcomes.{
   accepted≢refused,
@@ -114,7 +114,7 @@ module _ (program schedule image : List ℕ) (n : ℕ) (w : Written program sche
             take-append-seam (imageOf p s h) (tailOf p s ++ drop n image);
       }
 
-module _ (program schedule buffer : List ℕ) (bytes : Bytes program) (room : 65791 ≤ length buffer) where
+module _ (program schedule buffer : List ℕ) (bytes : AreBytes program) (room : 65791 ≤ length buffer) where
   abbrev both : Pair → List ℕ
   both q = writtenOf (q .program) (q .schedule) (q .hypercycle)
 

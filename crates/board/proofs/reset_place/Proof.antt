@@ -25,7 +25,7 @@ returns : tie.Need-returns
 returns c =
     let w = c .before .before in
     gives-effect (outside-27 _ _ _ _ _ (sym (w .is-inside .ensures) ∙ not-true _ (c .before .if1 .taken))) (c .refused .ensures)
-        refl
+    refl
 
 add-end : tie.Need-add-end
 add-end c =

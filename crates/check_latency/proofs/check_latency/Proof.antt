@@ -56,8 +56,8 @@ returns c =
     let lt : l .chain < length (p .chains) = omega (arith, b .if1 .taken, k .tables-are .counts .chains-are) in
     ap (λ n. Judged.Refused (fault 16 n)) (k .tables-are .starts (l .chain) lt) ∙
     sym (ap judgementOf (l .inv p s t ∙
-        rest-broken p 16 (keeps p s _) _ (k .parsed) (l .chain) lt
-        (sym (c .before .keeps-time .ensures p s t) ∙ not-true (c .before .keeps-time .result) (c .if2 .taken))))
+    rest-broken p 16 (keeps p s _) _ (k .parsed) (l .chain) lt
+    (sym (c .before .keeps-time .ensures p s t) ∙ not-true (c .before .keeps-time .result) (c .if2 .taken))))
 
 add-chain : tie.Need-add-chain Inv-loop μ-loop
 add-chain c = omega (arith, few (c .before .before))
@@ -72,7 +72,7 @@ loop-again c =
     λ p s t.
     let lt : l .chain < length (p .chains) = omega (arith, b .if1 .taken, t .joined .known .tables-are .counts .chains-are) in
     l .inv p s t ∙ rest-later p 16 (keeps p s _) (l .chain) lt
-        (sym (c .before .keeps-time .ensures p s t) ∙ not-false (c .before .keeps-time .result) (c .if2 .left))
+    (sym (c .before .keeps-time .ensures p s t) ∙ not-false (c .before .keeps-time .result) (c .if2 .left))
 
 returns-2 : tie.Need-returns-2 Inv-loop μ-loop
 unfolding judgementOf

@@ -40,14 +40,14 @@ few c =
 -- and so do the two at hand
 next : (c : tie.In-loop Inv-loop μ-loop) →
     (c .before .loop .at + 4 ≤ length
-        (now (c .before .before .before .before .before .before .before .before .before .args .text))) ×
+    (now (c .before .before .before .before .before .before .before .before .before .args .text))) ×
     (c .before .loop .count < 15)
 next c =
     let c5 = c .before .before .before .before .before in
     let c9 = c5 .before .before .before .before in
     let s = c9 in
     let n = next-link _ _ _ _ _ _ _ _ _ _ (c .before .loop .inv (s .pre .0 .0) (s .pre .0 .1) (s .pre .0 .2))
-        (c .loop-test .taken) in
+    (c .loop-test .taken) in
     (n .inside, n .room)
 
 mul-at : tie.Need-mul-at Inv-loop μ-loop

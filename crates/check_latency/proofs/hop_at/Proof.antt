@@ -76,11 +76,11 @@ returns-2 c =
     t .ensures .is (ρ .kind) (ρ .operands) (one-spelled _ p (k .parsed) _ _ _ (sym f ∙ c6 .found .given .1)) in
     let w : rateIn (read .result) ≡ rateOf p s (ρ .operands .signal) =
     ap rateIn (read .ensures) ∙ rate-at k (a .w) lw ∙
-        ap (rateOf p s) (sym (read-signal (a .w) (bodyReads (signalAt p (a .r) .body)) (omega (arith, n)))) in
+    ap (rateOf p s) (sym (read-signal (a .w) (bodyReads (signalAt p (a .r) .body)) (omega (arith, n)))) in
     let r : rateIn (reader .result) ≡ rateOf p s (a .r) = ap rateIn (reader .ensures) ∙ rate-at k (a .r) lr in
     let index : c .settled-index .result ≡ settled p s (a .r) ρ =
     c .settled-index .ensures ∙ (λ i.
-        settledIndex (taken i .kind) (w i) (r i) (taken i .operands .factor) (taken i .operands .index)) in
+    settledIndex (taken i .kind) (w i) (r i) (taken i .operands .factor) (taken i .operands .index)) in
     λ i. record { kind = taken i .kind; factor = taken i .operands .factor; index = index i }
 
 pub hop-at-spec : {M : Type 1} → statement M

@@ -39,7 +39,7 @@ returns : tie.Need-returns
 returns c =
     let b = c .before .before .before .before .before in
     λ p s t. absurd (missed _ (c .before .declaration-at .ensures ∙ chain-command _ _ _ _ _ p s _ t (b .pre .1))
-        (c .match .keys2))
+    (c .match .keys2))
 
 follow-requires : tie.Need-follow-requires
 follow-requires c κs = search needs
@@ -106,7 +106,7 @@ returns-2 c =
     let found = m .before .before .before .declaration-at in
     let v = m .before .declaration .given in
     let same : _≡_ {A = Declaration} (Declaration.Latency (v .0 .0) (v .0 .1 .0))
-        (Declaration.Latency (chainAt p (a .args .chain) .mode) (chainAt p (a .args .chain) .bound)) =
+    (Declaration.Latency (chainAt p (a .args .chain) .mode) (chainAt p (a .args .chain) .bound)) =
     sym (v .1) ∙ found .ensures ∙ chain-command _ _ _ _ _ p s _ t (a .pre .1) in
     let mode : v .0 .0 ≡ chainAt p (a .args .chain) .mode = cc same in
     let bound : v .0 .1 .0 ≡ chainAt p (a .args .chain) .bound = cc same in
@@ -114,11 +114,11 @@ returns-2 c =
     let w : g .result ≡ windowBy (a .args .h) (periodAt (now (a .args .periods)) (i .result .last)) =
     g .ensures .0 ∙ ap (λ x. windowBy (a .args .h) (x .period)) (b .timing-at .ensures) in
     let from : c .before .first-run .result ≡ i .result .count * windowBy (a .args .h)
-        (periodAt (now (a .args .periods)) (i .result .last)) =
+    (periodAt (now (a .args .periods)) (i .result .last)) =
     c .before .first-run .ensures .0 ∙ ap (i .result .count *_) w in
     c .is-timely .ensures ∙
     (λ j. timelyBy (mode j) (bound j) (i .result .hops) (i .result .count) (rateIn (b .timing-at .ensures j))
-        (rateIn (e .timing-at2 .ensures j)) (from j) (w j)) ∙
+    (rateIn (e .timing-at2 .ensures j)) (from j) (w j)) ∙
     d .same
 
 pub keeps-time-spec : {M : Type 1} → statement M

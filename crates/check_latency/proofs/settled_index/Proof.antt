@@ -22,7 +22,7 @@ unfolding indexFound
 index-found-requires c κs =
     let a = c .before .before .before .args in
     rw (c .find-index .ensures, c .before .enum-told .given .1)
-        (settle-byte (a .kind) (rateIn (a .w)) (rateIn (a .r)) (a .sampled .factor) (omega arith))
+    (settle-byte (a .kind) (rateIn (a .w)) (rateIn (a .r)) (a .sampled .factor) (omega arith))
 
 returns : tie.Need-returns
 returns c = search needs

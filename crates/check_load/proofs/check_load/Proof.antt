@@ -22,13 +22,13 @@ judged : (f : tie.After-first-over) (found : Found) → f .first-over .result �
     let a = start f .args in
     (p : Program) (s : Schedule) → count p ≡ a .signals → PeriodsOf p (now (a .periods)) → WeightsOf p (now (a .weights)) →
     PhasesOf p s (now (a .phases)) → p .cap ≡ capOf (a .capped) (a .limit) →
-        judgedAt found ≡ judgementOf (loaded p s (a .hypercycle))
+    judgedAt found ≡ judgementOf (loaded p s (a .hypercycle))
 judged f found e p s n hp hw hf cap =
     let a = start f .args in
     judged-capped p s (now (a .periods)) (now (a .phases)) (now (a .weights)) (f .before .before .loads-of .result) (a .signals)
-        (a .hypercycle) (a .limit) (a .capped) found
+    (a .hypercycle) (a .limit) (a .capped) found
     (not-false _ (f .before .before .before .if1 .left)) n hp hw hf cap (f .before .before .loads-of .ensures)
-        (sym (f .first-over .ensures) ∙ e)
+    (sym (f .first-over .ensures) ∙ e)
 
 returns : tie.Need-returns
 returns c =

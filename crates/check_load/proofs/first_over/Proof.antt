@@ -44,9 +44,11 @@ loop-less c = omega arith
 loop-again : tie.Need-loop-again Inv-loop μ-loop
 loop-again c =
     let l = c .before .before .before .loop in
-    let a = c .before .before .before .before .args in
-    (l .inv .0, l .inv .1 ∙ search-next _ (l .cycle) (a .hypercycle) (c .before .before .loop-test .taken)
-        (le-ltb _ _ (c .if1 .left)))
+    let a = c .before .before .before .before .args in (
+      l .inv .0,
+      l .inv .1 ∙ search-next _ (l .cycle) (a .hypercycle) (c .before .before .loop-test .taken)
+          (le-ltb _ _ (c .if1 .left)),
+    )
 
 returns-2 : tie.Need-returns-2 Inv-loop μ-loop
 returns-2 c =

@@ -61,7 +61,12 @@ loop-again c =
     let l = c6 .loop in
     let i = l .inv in
     let a = c7 .args in
-    let r = c .add-runs .ensures in ( omega arith, i .1, i .2, i .3, r .long,
+    let r = c .add-runs .ensures in (
+      omega arith,
+      i .1,
+      i .2,
+      i .3,
+      r .long,
       (λ d lt. omega (arith, r .bounded d lt, i .5 d lt)),
       loads-more (now (a .periods)) (now (a .phases)) (now (a .weights)) (l .x) (a .hypercycle) (l .loads) _ (i .6) r,
     )

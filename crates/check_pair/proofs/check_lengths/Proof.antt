@@ -24,14 +24,18 @@ refuse-requires-2 c κs = search needs
 returns-2 : tie.Need-returns-2
 unfolding judgementOf shortEnough provided
 returns-2 c = let a = c .before .before .before .before .before .args in
-    rw (le-leb (length (now (a .program))) 8192 (omega (arith, c .before .before .if1 .left)),
-    lt-leb (length (now (a .schedule))) 193 (c .before .if2 .taken)) (c .refuse2 .ensures)
+    rw (
+      le-leb (length (now (a .program))) 8192 (omega (arith, c .before .before .if1 .left)),
+      lt-leb (length (now (a .schedule))) 193 (c .before .if2 .taken),
+    ) (c .refuse2 .ensures)
 
 returns-3 : tie.Need-returns-3
 unfolding judgementOf shortEnough provided
 returns-3 c = let a = c .before .before .before .before .args in
-    rw (le-leb (length (now (a .program))) 8192 (omega (arith, c .before .if1 .left)),
-    le-leb (length (now (a .schedule))) 193 (omega (arith, c .if2 .left)))
+    rw (
+      le-leb (length (now (a .program))) 8192 (omega (arith, c .before .if1 .left)),
+      le-leb (length (now (a .schedule))) 193 (omega (arith, c .if2 .left)),
+    )
 
 pub check-lengths-spec : {M : Type 1} → statement M
 check-lengths-spec =

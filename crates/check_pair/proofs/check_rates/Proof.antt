@@ -49,7 +49,7 @@ returns-2 c p e t =
     let h = c .before .before .before .before in
     let d = h .before .before .before .before .before in
     answers-then _ _ _ _ _ (judgement-fine _ _ (d .declared-and-rated .ensures p e)
-        (h .before .before .before .enum-told .given .1))
+    (h .before .before .before .enum-told .given .1))
     (answers-stop _ _ _ _ _ (cycles-refused _ _ _ (h .hypercycle .ensures p n (t .periods)) (told .1))
     (c .unrated2 .ensures ∙ c .before .judged-cycles .ensures _ (told .1)))
 
@@ -63,7 +63,7 @@ returns-3 c p e t =
     let h = c .before .before .before .before in
     let d = h .before .before .before .before .before in
     answers-then _ _ _ _ _ (judgement-fine _ _ (d .declared-and-rated .ensures p e)
-        (h .before .before .before .enum-told .given .1))
+    (h .before .before .before .enum-told .given .1))
     (answers-then _ _ _ _ _ (cycles-least _ _ _ (h .hypercycle .ensures p n (t .periods)) (c .before .before .cycles .given .1))
     (answers-last _ _ _ _ (judgement-answers _ _ _ (c .linked .ensures p e t) (λ _. refl))))
 

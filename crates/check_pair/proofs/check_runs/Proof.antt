@@ -45,8 +45,12 @@ phased b =
       hypercycle-least p (b .args .h) .0 (g .hyper) .bound,
       (λ x lt.
           let l : x < count p = omega (arith, g .tables-are .counts .signals-are) in
-          omega (arith, g .slots-are .phases-are x l, g .tables-are .periods x l,
-              placed-ordered p (g .puts) s (g .places) .0 .phases x l)),
+          omega (
+            arith,
+            g .slots-are .phases-are x l,
+            g .tables-are .periods x l,
+            placed-ordered p (g .puts) s (g .places) .0 .phases x l,
+          )),
     )
 
 -- what the first two checks find of a pair

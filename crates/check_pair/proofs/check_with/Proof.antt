@@ -63,7 +63,7 @@ arranged : (e : tie.After-enum-told7) →
     let b = start (lengths x) in
     (s : Schedule) × (scheduleFor (g .0) (now (b .args .schedule)) ≡ accepted s) ×
     Arranged (now (b .args .program)) (tables x) (d .check-schedule .result .slots)
-        (found d .before .before .check-rates .result .hypercycle) (g .0) s
+    (found d .before .before .check-rates .result .hypercycle) (g .0) s
 arranged e =
     let d = e .before .before in
     let x = known d in
@@ -103,7 +103,7 @@ returns c =
     let told = c .before .enum-told2 .given .1 in
     rw (pair-steps _ _)
     (answers-stop _ _ _ _ _ (judgement-refused _ _ _ (c .before .before .before .check-lengths .ensures) told)
-        (c .refused .ensures ∙ told))
+    (c .refused .ensures ∙ told))
 
 read-program-requires : tie.Need-read-program-requires
 read-program-requires c κs =
@@ -131,7 +131,7 @@ returns-2 c =
     rw (pair-steps _ _)
     (answers-then _ _ _ _ _ (short (r .before .before))
     (answers-stop _ _ _ _ _ (answers-refused _ _ _ _ (program-answers _ _ _ (r .read-program .ensures)) told)
-        (c .refused2 .ensures ∙ told)))
+    (c .refused2 .ensures ∙ told)))
 
 check-rates-requires : tie.Need-check-rates-requires
 check-rates-requires c κs =
@@ -194,7 +194,7 @@ returns-4 c =
     (answers-then _ _ _ _ _ (read x .1)
     (answers-then _ _ _ _ _ (rated (found d))
     (answers-stop _ _ _ _ _ (answers-refused _ _ _ _ (schedule-answers _ _ _ (scheduled d)) told)
-        (c .refused4 .ensures ∙ told)))))
+    (c .refused4 .ensures ∙ told)))))
 
 check-runs-requires : tie.Need-check-runs-requires
 check-runs-requires c κs =

@@ -28,7 +28,7 @@ returns c =
     let c9 = c5 .before .before .before .before in
     λ p e.
     c .lower .ensures ∙ ap (λ x. lowerOf x (c .before .judge-links .result))
-        (c .before .before .judge-reads .ensures p e (periods-of _ _ _ (c9 .pre) p e)) ∙
+    (c .before .before .judge-reads .ensures p e (periods-of _ _ _ (c9 .pre) p e)) ∙
     ap (λ x. lowerOf (judgementOf (lowest (readRates p))) x) (c .before .judge-links .ensures p e) ∙ both-rates p
 
 pub declared-and-rated-spec : {M : Type 1} → statement M

@@ -101,7 +101,7 @@ returns c =
     λ p q t.
     let r = rw two at (c .before .before .one-read .ensures p q) in
     sym (link-broken _ _ _ _ _ (b .before .loop .inv p q t) (b .loop-test .taken)
-        (found-none _ _ (sym r ∙ c .enum-told2 .given .1)))
+    (found-none _ _ (sym r ∙ c .enum-told2 .given .1)))
 
 sub-left : tie.Need-sub-left Inv-loop μ-loop
 sub-left c = omega (arith, c .before .before .before .before .before .before .before .loop-test .taken)

@@ -19,7 +19,7 @@ abbrev Inv-loop : tie.InvT-loop
 Inv-loop count periods h s₀ s =
     (s ≤ count) ×
     ((p : Program) → length (p .signals) ≡ count → PeriodsOf p periods →
-        isMultiple (p .signals) h ≡ isMultiple (drop s (p .signals)) h)
+    isMultiple (p .signals) h ≡ isMultiple (drop s (p .signals)) h)
 
 abbrev μ-loop : tie.MeasureT-loop
 μ-loop count periods h s₀ s = count - s
@@ -30,7 +30,7 @@ here : (c : tie.After-divides Inv-loop μ-loop) (p : Program) →
     PeriodsOf p (now (c .before .before .before .before .args .periods)) →
     isMultiple (p .signals) (c .before .before .before .before .args .h) ≡
     c .divides .result && isMultiple (drop (c .before .before .before .loop .s + 1) (p .signals))
-        (c .before .before .before .before .args .h)
+    (c .before .before .before .before .args .h)
 here c p n t =
     let c3 = c .before .before .before in
     let c4 = c3 .before in

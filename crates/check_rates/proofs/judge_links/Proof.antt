@@ -91,8 +91,11 @@ module _ (c : tie.After-in-program2 Inv-loop2 μ-loop2 Inv-loop μ-loop) where
 
 loop-holds : tie.Need-loop-holds Inv-loop2 μ-loop2 Inv-loop μ-loop
 unfolding linkPlaces
-loop-holds c = (omega arith, λ p e. let h = rising-program _ p e in
-    check-starts (links-in p) (linkAs p) (lowest (linkRates p)) (h .0) (h .1 .links) refl)
+loop-holds c = (
+  omega arith,
+  λ p e. let h = rising-program _ p e in
+      check-starts (links-in p) (linkAs p) (lowest (linkRates p)) (h .0) (h .1 .links) refl,
+)
 
 mul-first : tie.Need-mul-first Inv-loop2 μ-loop2 Inv-loop μ-loop
 mul-first c = omega (arith, below c)
@@ -113,9 +116,12 @@ array-read-links : tie.Need-array-read-links Inv-loop2 μ-loop2 Inv-loop μ-loop
 array-read-links c = omega (arith, below (c .before))
 
 loop2-holds : tie.Need-loop2-holds Inv-loop2 μ-loop2 Inv-loop μ-loop
-loop2-holds c = (omega arith, λ p e.
-    check-enters (links-in p) (linkAs p) (lowest (linkRates p)) (x (c .before))
-    (omega (arith, lt (c .before), chains-are _ (t (c .before)) (read (c .before)) p e)) (c .before .before .loop .inv .1 p e))
+loop2-holds c = (
+  omega arith,
+  λ p e.
+      check-enters (links-in p) (linkAs p) (lowest (linkRates p)) (x (c .before))
+      (omega (arith, lt (c .before), chains-are _ (t (c .before)) (read (c .before)) p e)) (c .before .before .loop .inv .1 p e),
+)
 
 in-program-requires-2 : tie.Need-in-program-requires-2 Inv-loop2 μ-loop2 Inv-loop μ-loop
 in-program-requires-2 c κs = search needs
@@ -125,32 +131,52 @@ mul-at c =
     let c3 = c .before .before .before in
     let c4 = c3 .before in
     let c9 = c4 .before .before .before .before .before in
-    omega (arith, passed c, c3 .in-program .ensures,
-    within c4 (c .before .before .loop2 .i) (c .before .loop2-test .taken), c9 .good .0 .1)
+    omega (
+      arith,
+      passed c,
+      c3 .in-program .ensures,
+      within c4 (c .before .before .loop2 .i) (c .before .loop2-test .taken),
+      c9 .good .0 .1,
+    )
 
 add-at : tie.Need-add-at Inv-loop2 μ-loop2 Inv-loop μ-loop
 add-at c =
     let c3 = c .before .before .before in
     let c4 = c3 .before in
     let c9 = c4 .before .before .before .before .before in
-    omega (arith, passed c, c3 .in-program .ensures,
-    within c4 (c .before .before .loop2 .i) (c .before .loop2-test .taken), c9 .good .0 .1)
+    omega (
+      arith,
+      passed c,
+      c3 .in-program .ensures,
+      within c4 (c .before .before .loop2 .i) (c .before .loop2-test .taken),
+      c9 .good .0 .1,
+    )
 
 add-wide : tie.Need-add-wide Inv-loop2 μ-loop2 Inv-loop μ-loop
 add-wide c =
     let c3 = c .before .before .before in
     let c4 = c3 .before in
     let c9 = c4 .before .before .before .before .before in
-    omega (arith, passed c, c3 .in-program .ensures,
-    within c4 (c .before .before .loop2 .i) (c .before .loop2-test .taken), c9 .good .0 .1)
+    omega (
+      arith,
+      passed c,
+      c3 .in-program .ensures,
+      within c4 (c .before .before .loop2 .i) (c .before .loop2-test .taken),
+      c9 .good .0 .1,
+    )
 
 shared-slice-read-wide : tie.Need-shared-slice-read-wide Inv-loop2 μ-loop2 Inv-loop μ-loop
 shared-slice-read-wide c =
     let c3 = c .before .before .before in
     let c4 = c3 .before in
     let c5 = c4 .before in
-    omega (arith, passed (c .before), c4 .in-program .ensures, within c5 (c3 .loop2 .i)
-    (c .before .before .loop2-test .taken))
+    omega (
+      arith,
+      passed (c .before),
+      c4 .in-program .ensures,
+      within c5 (c3 .loop2 .i)
+          (c .before .before .loop2-test .taken),
+    )
 
 wide-requires : tie.Need-wide-requires Inv-loop2 μ-loop2 Inv-loop μ-loop
 wide-requires c κs = search needs
@@ -175,10 +201,10 @@ returns c =
     λ p e.
     c .enum-told2 .given .1 ∙
     sym (ap judgementOf (check-refuses (links-in p) (linkAs p) (lowest (linkRates p)) (link-there p) (x c9)
-        (c7 .loop2 .i) (link-seen _ (t c9) (read c9) p e (x c9) (lt c9) (c7 .loop2 .i) (c6 .loop2-test .taken))
-        (c7 .loop2 .inv .1 p e) (one-link _ (t c9) (read c9) p e (x c9) (lt c9) (c7 .loop2 .i)
-        (c6 .loop2-test .taken) _ _ (Judged.Refused _) (stands c5) (c3 .wide .ensures .0)
-        (sym (c .enum-told2 .given .1) ∙ c .before .before .judge-rate .ensures))))
+    (c7 .loop2 .i) (link-seen _ (t c9) (read c9) p e (x c9) (lt c9) (c7 .loop2 .i) (c6 .loop2-test .taken))
+    (c7 .loop2 .inv .1 p e) (one-link _ (t c9) (read c9) p e (x c9) (lt c9) (c7 .loop2 .i)
+    (c6 .loop2-test .taken) _ _ (Judged.Refused _) (stands c5) (c3 .wide .ensures .0)
+    (sym (c .enum-told2 .given .1) ∙ c .before .before .judge-rate .ensures))))
 
 add-i : tie.Need-add-i Inv-loop2 μ-loop2 Inv-loop μ-loop
 add-i c =
@@ -197,15 +223,16 @@ loop2-again c =
     let c5 = c3 .before .before in
     let c6 = c5 .before in
     let c7 = c6 .before in
-    let c9 = c7 .before .before in
-    ( omega (arith, c6 .loop2-test .taken), λ p e.
-      subst (Ahead (links-in p) (linkAs p) (lowest (linkRates p)) (x c9)) (omega arith)
-      (check-passes (links-in p) (linkAs p) (lowest (linkRates p)) (link-there p) (x c9) (c7 .loop2 .i)
+    let c9 = c7 .before .before in (
+      omega (arith, c6 .loop2-test .taken),
+      λ p e.
+          subst (Ahead (links-in p) (linkAs p) (lowest (linkRates p)) (x c9)) (omega arith)
+          (check-passes (links-in p) (linkAs p) (lowest (linkRates p)) (link-there p) (x c9) (c7 .loop2 .i)
           (link-seen _ (t c9) (read c9) p e (x c9) (lt c9) (c7 .loop2 .i) (c6 .loop2-test .taken))
           (c7 .loop2 .inv .1 p e) (one-link _ (t c9) (read c9) p e (x c9) (lt c9) (c7 .loop2 .i)
           (c6 .loop2-test .taken) _ _ Judged.Fine (stands c5) (c3 .wide .ensures .0)
           (sym (c .enum-told .given .1) ∙ c .before .before .judge-rate .ensures))),
-)
+    )
 
 add-chain : tie.Need-add-chain Inv-loop2 μ-loop2 Inv-loop μ-loop
 add-chain c = omega (arith, below (c .before .before .before))
@@ -216,11 +243,19 @@ loop-less c = omega (arith, c .before .before .before .loop-test .taken)
 loop-again : tie.Need-loop-again Inv-loop2 μ-loop2 Inv-loop μ-loop
 loop-again c =
     let c3 = c .before .before .before in
-    let l = c .before .loop2 in ( omega (arith, c3 .loop-test .taken), λ p e.
+    let l = c .before .loop2 in (
+      omega (arith, c3 .loop-test .taken),
+      λ p e.
           subst (Before (links-in p) (linkAs p) (lowest (linkRates p))) (omega arith)
           (check-leaves (links-in p) (linkAs p) (lowest (linkRates p)) (x c3) (l .i)
-          (omega (arith, l .inv .0, c .loop2-test .left, length-is _ (t c3) (read c3) p e (x c3)
-              (lt c3))) (l .inv .1 p e)), )
+          (omega (
+            arith,
+            l .inv .0,
+            c .loop2-test .left,
+            length-is _ (t c3) (read c3) p e (x c3)
+                (lt c3),
+          )) (l .inv .1 p e)),
+    )
 
 returns-2 : tie.Need-returns-2 Inv-loop2 μ-loop2 Inv-loop μ-loop
 unfolding judgementOf
@@ -229,7 +264,7 @@ returns-2 c =
     λ p e.
     sym (ap judgementOf (check-ends (links-in p) (linkAs p) (lowest (linkRates p)) (c .before .loop .chain)
     (omega (arith, chains-are _ (c5 .args .tables) (c5 .pre) p e, c .before .loop .inv .0, c .loop-test .left))
-        (c .before .loop .inv .1 p e)))
+    (c .before .loop .inv .1 p e)))
 
 pub judge-links-spec : {M : Type 1} → statement M
 judge-links-spec =

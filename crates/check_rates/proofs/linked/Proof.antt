@@ -60,8 +60,8 @@ returns c =
     let lt : l .chain < length (p .chains) = omega (arith, b .before .if1 .taken, t .counts .chains-are) in
     c .refuse .ensures ∙ ap (λ n. Judged.Refused (fault 10 n)) (t .starts (l .chain) lt) ∙
     sym (ap judgementOf (l .inv p q t ∙
-        rest-broken p 10 (linkedIn p) _ q (l .chain) lt
-        (sym (b .is-linked .ensures p q t) ∙ not-true (b .is-linked .result) (c .before .if2 .taken))))
+    rest-broken p 10 (linkedIn p) _ q (l .chain) lt
+    (sym (b .is-linked .ensures p q t) ∙ not-true (b .is-linked .result) (c .before .if2 .taken))))
 
 add-chain : tie.Need-add-chain Inv-loop μ-loop
 add-chain c = let s = c .before .before .before .before .before .before .before .before .pre in
@@ -77,7 +77,7 @@ loop-again c =
     λ p q t.
     let lt : l .chain < length (p .chains) = omega (arith, b .before .if1 .taken, t .counts .chains-are) in
     l .inv p q t ∙ rest-later p 10 (linkedIn p) (l .chain) lt
-        (sym (b .is-linked .ensures p q t) ∙ not-false (b .is-linked .result) (c .if2 .left))
+    (sym (b .is-linked .ensures p q t) ∙ not-false (b .is-linked .result) (c .if2 .left))
 
 returns-2 : tie.Need-returns-2 Inv-loop μ-loop
 unfolding judgementOf

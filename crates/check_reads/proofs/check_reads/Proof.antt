@@ -104,8 +104,12 @@ module _ (b : tie.In-loop2 Inv-loop2 μ-loop2 Inv-loop μ-loop) where
 
 loop-holds : tie.Need-loop-holds Inv-loop2 μ-loop2 Inv-loop μ-loop
 unfolding allPlaces
-loop-holds c = (omega arith, sym (c .before .before .pre .2 .reads-are .sums .first), λ p e s order r t o. let h =
-    rising-program _ p e in check-starts (reads-in p) (unmet p s) (met p s) (h .0) (h .1 .reads) (all-unmet p s))
+loop-holds c = (
+  omega arith,
+  sym (c .before .before .pre .2 .reads-are .sums .first),
+  λ p e s order r t o. let h =
+      rising-program _ p e in check-starts (reads-in p) (unmet p s) (met p s) (h .0) (h .1 .reads) (all-unmet p s),
+)
 
 add-wider : tie.Need-add-wider Inv-loop2 μ-loop2 Inv-loop μ-loop
 add-wider c = omega (arith, c .before .before .before .before .pre .0)
@@ -122,15 +126,21 @@ wider-requires c κs = search needs
 loop2-holds : tie.Need-loop2-holds Inv-loop2 μ-loop2 Inv-loop μ-loop
 loop2-holds c =
     let c3 = c .before .before .before in
-    let c6 = c3 .before .before .before in
-    ( omega (arith, c3 .loop .inv .1), omega (arith, c3 .loop .inv .1, c .wider .ensures .0,
-      rises-at (c6 .pre .2) (c3 .loop .reader) (c .before .before .loop-test .taken)), λ p e s order r t o.
-      let h = c3 .loop .inv .1 in
-      subst (Ahead (reads-in p) (unmet p s) (met p s) (c3 .loop .reader)) (omega (arith, h))
-      (check-enters (reads-in p) (unmet p s) (met p s) (c3 .loop .reader)
-      (omega (arith, c .before .before .loop-test .taken, counted (c6 .pre .2) p e))
+    let c6 = c3 .before .before .before in (
+      omega (arith, c3 .loop .inv .1),
+      omega (
+        arith,
+        c3 .loop .inv .1,
+        c .wider .ensures .0,
+        rises-at (c6 .pre .2) (c3 .loop .reader) (c .before .before .loop-test .taken),
+      ),
+      λ p e s order r t o.
+          let h = c3 .loop .inv .1 in
+          subst (Ahead (reads-in p) (unmet p s) (met p s) (c3 .loop .reader)) (omega (arith, h))
+          (check-enters (reads-in p) (unmet p s) (met p s) (c3 .loop .reader)
+          (omega (arith, c .before .before .loop-test .taken, counted (c6 .pre .2) p e))
           (c3 .loop .inv .2 p e s order r t o)),
-)
+    )
 
 mul-wider-2 : tie.Need-mul-wider-2 Inv-loop2 μ-loop2 Inv-loop μ-loop
 mul-wider-2 c = omega (arith, c .loop2-test .taken, c .before .before .wider .ensures .1)
@@ -166,10 +176,10 @@ returns c =
     let c8 = c7 .before in
     λ p e s order r t o.
     c .enum-told2 .given .1 ∙ sym (ap judgementOf (check-refuses (reads-in p) (unmet p s) (met p s) (unmet-there p s)
-        (reader c7) _ (seen (ix c7) p e (reader c7) (i c7) (lt c7) (low c7) (high c7))
-        (c8 .loop2 .inv .2 p e s order r t o) (one-read (ix c7) p e s order _ _ _ r t o (below c7) (reader c7) (i c7)
-        (lt c7) (low c7) (high c7) _ (Judged.Refused _) _ (c5 .wider2 .ensures .0) (c4 .taken-at .ensures)
-        (λ q. sym (c .enum-told2 .given .1) ∙ c .before .before .judge-read .ensures q))))
+    (reader c7) _ (seen (ix c7) p e (reader c7) (i c7) (lt c7) (low c7) (high c7))
+    (c8 .loop2 .inv .2 p e s order r t o) (one-read (ix c7) p e s order _ _ _ r t o (below c7) (reader c7) (i c7)
+    (lt c7) (low c7) (high c7) _ (Judged.Refused _) _ (c5 .wider2 .ensures .0) (c4 .taken-at .ensures)
+    (λ q. sym (c .enum-told2 .given .1) ∙ c .before .before .judge-read .ensures q))))
 
 add-i : tie.Need-add-i Inv-loop2 μ-loop2 Inv-loop μ-loop
 add-i c =
@@ -186,16 +196,18 @@ loop2-again c =
     let c4 = c .before .before .before .before in
     let c5 = c4 .before in
     let c7 = c5 .before .before in
-    let c8 = c7 .before in
-    ( omega (arith, low c7), omega (arith, c7 .loop2-test .taken), λ p e s order r t o.
-      let h = low c7 in
-      subst (Ahead (reads-in p) (unmet p s) (met p s) (reader c7)) (omega (arith, h))
-      (check-passes (reads-in p) (unmet p s) (met p s) (unmet-there p s) (reader c7) _ (seen (ix c7) p e (reader c7)
+    let c8 = c7 .before in (
+      omega (arith, low c7),
+      omega (arith, c7 .loop2-test .taken),
+      λ p e s order r t o.
+          let h = low c7 in
+          subst (Ahead (reads-in p) (unmet p s) (met p s) (reader c7)) (omega (arith, h))
+          (check-passes (reads-in p) (unmet p s) (met p s) (unmet-there p s) (reader c7) _ (seen (ix c7) p e (reader c7)
           (i c7) (lt c7) (low c7) (high c7)) (c8 .loop2 .inv .2 p e s order r t o)
-      (one-read (ix c7) p e s order _ _ _ r t o (below c7) (reader c7) (i c7) (lt c7) (low c7)
+          (one-read (ix c7) p e s order _ _ _ r t o (below c7) (reader c7) (i c7) (lt c7) (low c7)
           (high c7) _ Judged.Fine _ (c5 .wider2 .ensures .0) (c4 .taken-at .ensures)
           (λ q. sym (c .enum-told .given .1) ∙ c .before .before .judge-read .ensures q))),
-)
+    )
 
 add-reader : tie.Need-add-reader Inv-loop2 μ-loop2 Inv-loop μ-loop
 add-reader c =
@@ -213,11 +225,14 @@ loop-again c =
     let c8 = c5 .before .before .before in
     let l = c .before .loop2 in
     let f : getD (now (c8 .args .firsts)) (c5 .loop .reader + 1) 0 ≡ l .i =
-        omega (arith, l .inv .1, c .loop2-test .left, c .before .before .wider .ensures .0) in (
-      omega (arith, c4 .loop-test .taken), sym f, λ p e s order r t o.
+    omega (arith, l .inv .1, c .loop2-test .left, c .before .before .wider .ensures .0) in (
+      omega (arith, c4 .loop-test .taken),
+      sym f,
+      λ p e s order r t o.
           subst (Before (reads-in p) (unmet p s) (met p s)) (omega arith)
           (check-leaves (reads-in p) (unmet p s) (met p s) (c5 .loop .reader) _ (all-seen (c8 .pre .2) p e
-              (c5 .loop .reader) (l .i) (c4 .loop-test .taken) (l .inv .0) f) (l .inv .2 p e s order r t o)), )
+          (c5 .loop .reader) (l .i) (c4 .loop-test .taken) (l .inv .0) f) (l .inv .2 p e s order r t o)),
+    )
 
 returns-2 : tie.Need-returns-2 Inv-loop2 μ-loop2 Inv-loop μ-loop
 unfolding judgementOf
@@ -225,7 +240,7 @@ returns-2 c =
     λ p e s order r t o.
     sym (ap judgementOf (check-ends (reads-in p) (unmet p s) (met p s) (c .before .loop .reader)
     (omega (arith, counted (c .before .before .before .before .pre .2) p e, c .before .loop .inv .0, c .loop-test .left))
-        (c .before .loop .inv .2 p e s order r t o)))
+    (c .before .loop .inv .2 p e s order r t o)))
 
 pub check-reads-spec : {M : Type 1} → statement M
 check-reads-spec =

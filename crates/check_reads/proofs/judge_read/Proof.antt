@@ -17,8 +17,10 @@ returns c = λ q. let a = c .before .before .args in rw (le-ltb (a .operands .si
 returns-2 : tie.Need-returns-2
 unfolding readMet
 returns-2 c = λ q. let a = c .before .before .before .args in
-    rw (lt-ltb (a .operands .signal) (a .signals) (omega (arith, c .before .if1 .left)),
-    le-ltb (a .reader) (a .signals) (c .if2 .taken))
+    rw (
+      lt-ltb (a .operands .signal) (a .signals) (omega (arith, c .before .if1 .left)),
+      le-ltb (a .reader) (a .signals) (c .if2 .taken),
+    )
 
 element-copy-out-before : tie.Need-element-copy-out-before
 element-copy-out-before c = search needs
@@ -46,8 +48,11 @@ unfolding readMet
 returns-3 c = λ q.
     let e = c .before .before .before .before .before .before .before .before in
     let a = e .before .before .before .args in
-    rw (lt-ltb (a .operands .signal) (a .signals) (omega (arith, e .before .if1 .left)),
-        lt-ltb (a .reader) (a .signals) (omega (arith, e .if2 .left)), sym (c .before .is-met .ensures q) ∙ c .if3 .taken)
+    rw (
+      lt-ltb (a .operands .signal) (a .signals) (omega (arith, e .before .if1 .left)),
+      lt-ltb (a .reader) (a .signals) (omega (arith, e .if2 .left)),
+      sym (c .before .is-met .ensures q) ∙ c .if3 .taken,
+    )
 
 refuse-requires : tie.Need-refuse-requires
 refuse-requires c κs = search needs
@@ -60,9 +65,12 @@ returns-4 c =
     λ q.
     let e = c9 in
     let a = e .before .before .before .args in
-    rw (lt-ltb (a .operands .signal) (a .signals) (omega (arith, e .before .if1 .left)),
-        lt-ltb (a .reader) (a .signals) (omega (arith, e .if2 .left)), sym (c .before .before .is-met .ensures q) ∙
-        c .before .if3 .left) (c .refuse .ensures)
+    rw (
+      lt-ltb (a .operands .signal) (a .signals) (omega (arith, e .before .if1 .left)),
+      lt-ltb (a .reader) (a .signals) (omega (arith, e .if2 .left)),
+      sym (c .before .before .is-met .ensures q) ∙
+          c .before .if3 .left,
+    ) (c .refuse .ensures)
 
 pub judge-read-spec : {M : Type 1} → statement M
 judge-read-spec =

@@ -97,7 +97,8 @@ loop-again c =
     let w = kept _ m in
     let p = put-is (ap decimal w) (c .before .before .put-decimal .ensures) in (
       put-is (sym (spaced-more (start l .args .words .now) (l .loop .i) (t .loop-test .taken)))
-          (put-then (l .loop .inv .0) (put-then (put-one _ _ _ (slice-write-out c4)) p)), omega arith,
+          (put-then (l .loop .inv .0) (put-then (put-one _ _ _ (slice-write-out c4)) p)),
+      omega arith,
       omega (arith, p .ends, l .loop .inv .2, decimal-length (getD (start l .args .words .now) (l .loop .i) (pos 0)) m),
     )
 

@@ -164,9 +164,11 @@ sub-emit-expression t c = omega (arith, some t (c .before .before .before .befor
 emit-expression-requires : (t : ℕ) → lts.Need-emit-expression-requires (known t) (given t) own.Post
 emit-expression-requires t c κs =
     let c3 = c .before .before .before in
-    let c5 = c3 .before .before in
-    (omega (arith, some t c5 _ (c3 .decoded3 .given .1)), rw (c .before .in-expression2 .ensures)
-    (first-room (rooms-at t c5 _ (c3 .decoded3 .given .1))))
+    let c5 = c3 .before .before in (
+      omega (arith, some t c5 _ (c3 .decoded3 .given .1)),
+      rw (c .before .in-expression2 .ensures)
+          (first-room (rooms-at t c5 _ (c3 .decoded3 .given .1))),
+    )
 
 sub-emit-expression-2 : (t : ℕ) → lts.Need-sub-emit-expression-2 (known t) (given t) own.Post
 sub-emit-expression-2 t c =
@@ -179,9 +181,11 @@ emit-expression-requires-2 t c κs =
     let c3 = c .before .before .before in
     let c5 = c3 .before .before in
     let c7 = c5 .before .before in
-    let c9 = c7 .before .before in
-    (omega (arith, some t c9 _ (c7 .decoded3 .given .1)), first-room (rest-rooms (rooms-at t c9 _
-    (c7 .decoded3 .given .1)) (rw (c5 .in-expression2 .ensures) at (c3 .emit-expression .ensures))))
+    let c9 = c7 .before .before in (
+      omega (arith, some t c9 _ (c7 .decoded3 .given .1)),
+      first-room (rest-rooms (rooms-at t c9 _
+          (c7 .decoded3 .given .1)) (rw (c5 .in-expression2 .ensures) at (c3 .emit-expression .ensures))),
+    )
 
 binary-byte-requires : (t : ℕ) → lts.Need-binary-byte-requires (known t) (given t) own.Post
 binary-byte-requires t c κs = search needs
@@ -193,8 +197,11 @@ put-operator-requires t c κs =
     let c10 = c8 .before .before in
     let c12 = c10 .before .before in
     let c14 = c12 .before .before in
-    omega (arith, no-rooms (rest-rooms
-    (rest-rooms (rooms-at t c14 _ (c12 .decoded3 .given .1)) (rw (c10 .in-expression2 .ensures) at (c8 .emit-expression .ensures))) (c4 .emit-expression2 .ensures)))
+    omega (
+      arith,
+      no-rooms (rest-rooms
+          (rest-rooms (rooms-at t c14 _ (c12 .decoded3 .given .1)) (rw (c10 .in-expression2 .ensures) at (c8 .emit-expression .ensures))) (c4 .emit-expression2 .ensures)),
+    )
 
 enum-known-decoded-4 : (t : ℕ) → lts.Need-enum-known-decoded-4 (known t) (given t) own.Post
 enum-known-decoded-4 t c = search needs
@@ -226,8 +233,11 @@ put-operator-requires-2 t c κs =
     let c6 = c4 .before .before in
     let c8 = c6 .before .before in
     let c10 = c8 .before .before in
-    omega ( arith, no-rooms (rest-rooms (rooms-at t c10 _ (c8 .decoded4 .given .1))
-          (rw (c6 .in-expression3 .ensures) at (c4 .emit-expression3 .ensures))), )
+    omega (
+      arith,
+      no-rooms (rest-rooms (rooms-at t c10 _ (c8 .decoded4 .given .1))
+          (rw (c6 .in-expression3 .ensures) at (c4 .emit-expression3 .ensures))),
+    )
 
 enum-told : (t : ℕ) → lts.Need-enum-told (known t) (given t) own.Post
 enum-told t c = search needs
@@ -245,10 +255,11 @@ sub-emit-expression-4 : (t : ℕ) → lts.Need-sub-emit-expression-4 (known t) (
 sub-emit-expression-4 t c = omega (arith, some t (c .before .before .before) _ (c .before .enum-told .given .1))
 
 emit-expression-requires-4 : (t : ℕ) → lts.Need-emit-expression-requires-4 (known t) (given t) own.Post
-emit-expression-requires-4 t c κs =
-    (omega (arith, some t (c .before .before .before .before) _ (c .before .before .enum-told .given .1)),
-    rw (c .before .in-expression4 .ensures)
-    (first-room (rooms-at t (c .before .before .before .before) _ (c .before .before .enum-told .given .1))))
+emit-expression-requires-4 t c κs = (
+  omega (arith, some t (c .before .before .before .before) _ (c .before .before .enum-told .given .1)),
+  rw (c .before .in-expression4 .ensures)
+      (first-room (rooms-at t (c .before .before .before .before) _ (c .before .before .enum-told .given .1))),
+)
 
 sub-emit-expression-5 : (t : ℕ) → lts.Need-sub-emit-expression-5 (known t) (given t) own.Post
 sub-emit-expression-5 t c =
@@ -261,9 +272,11 @@ emit-expression-requires-5 t c κs =
     let c3 = c .before .before .before in
     let c5 = c3 .before .before in
     let c6 = c5 .before in
-    let c8 = c6 .before .before in
-    (omega (arith, some t c8 _ (c6 .enum-told .given .1)), first-room (rest-rooms (rooms-at t c8 _
-    (c6 .enum-told .given .1)) (rw (c5 .in-expression4 .ensures) at (c3 .emit-expression4 .ensures))))
+    let c8 = c6 .before .before in (
+      omega (arith, some t c8 _ (c6 .enum-told .given .1)),
+      first-room (rest-rooms (rooms-at t c8 _
+          (c6 .enum-told .given .1)) (rw (c5 .in-expression4 .ensures) at (c3 .emit-expression4 .ensures))),
+    )
 
 sub-emit-expression-6 : (t : ℕ) → lts.Need-sub-emit-expression-6 (known t) (given t) own.Post
 sub-emit-expression-6 t c =
@@ -278,10 +291,12 @@ emit-expression-requires-6 t c κs =
     let c7 = c3 .before .before .before .before in
     let c9 = c7 .before .before in
     let c10 = c9 .before in
-    let c12 = c10 .before .before in
-    (omega (arith, some t c12 _ (c10 .enum-told .given .1)), first-room (rest-rooms (rest-rooms (rooms-at t c12 _
-    (c10 .enum-told .given .1)) (rw (c9 .in-expression4 .ensures) at (c7 .emit-expression4 .ensures)))
-    (c3 .emit-expression5 .ensures)))
+    let c12 = c10 .before .before in (
+      omega (arith, some t c12 _ (c10 .enum-told .given .1)),
+      first-room (rest-rooms (rest-rooms (rooms-at t c12 _
+          (c10 .enum-told .given .1)) (rw (c9 .in-expression4 .ensures) at (c7 .emit-expression4 .ensures)))
+          (c3 .emit-expression5 .ensures)),
+    )
 
 put-operator-requires-3 : (t : ℕ) → lts.Need-put-operator-requires-3 (known t) (given t) own.Post
 put-operator-requires-3 t c κs =
@@ -291,8 +306,11 @@ put-operator-requires-3 t c κs =
     let c13 = c11 .before .before in
     let c14 = c13 .before in
     let c16 = c14 .before .before in
-    omega (arith, no-rooms (rest-rooms (rest-rooms (rest-rooms (rooms-at t
-    c16 _ (c14 .enum-told .given .1)) (rw (c13 .in-expression4 .ensures) at (c11 .emit-expression4 .ensures))) (c7 .emit-expression5 .ensures)) (c3 .emit-expression6 .ensures)))
+    omega (
+      arith,
+      no-rooms (rest-rooms (rest-rooms (rest-rooms (rooms-at t
+          c16 _ (c14 .enum-told .given .1)) (rw (c13 .in-expression4 .ensures) at (c11 .emit-expression4 .ensures))) (c7 .emit-expression5 .ensures)) (c3 .emit-expression6 .ensures)),
+    )
 
 same-length : (t : ℕ) → lts.Need-same-length (known t) (given t) own.Post
 same-length t c = c .before .before .put-push .kept .0
@@ -341,7 +359,7 @@ returns-4 t c =
     let c11 = c9 .before .before in
     let c13 = c11 .before .before in
     emits-last _ (is t c13 _ (c11 .decoded4 .given .1)) (emits-more (rw (c9 .in-expression3 .ensures) at
-        (c7 .emit-expression3 .ensures)) emits-none)
+    (c7 .emit-expression3 .ensures)) emits-none)
     (rw (c3 .unary-byte .ensures) at (c .before .before .put-operator2 .ensures))
 
 same-length-5 : (t : ℕ) → lts.Need-same-length-5 (known t) (given t) own.Post

@@ -30,7 +30,7 @@ add-emit-expression c =
 emit-expression-requires : tie.Need-emit-expression-requires
 emit-expression-requires c κs =
     rw (c .before .in-program .ensures)
-        (equation-room (c .before .before .if1 .taken) (c .before .before .before .before .before .before .pre))
+    (equation-room (c .before .before .if1 .taken) (c .before .before .before .before .before .before .pre))
 
 put-access-requires : tie.Need-put-access-requires
 put-access-requires c κs =

@@ -38,10 +38,12 @@ returns c =
     let a = c6 .args in
     record {
       goes = refl;
-      ends = omega (arith, word-length (a .w)); holds =
+      ends = omega (arith, word-length (a .w));
+      holds =
           c3 .put-word .ensures ∙
           ap (λ (z : ℤ). sets (set (a .out .now) (a .to) 0x50) (a .to + 1) (wordBytes z)) (toZ-ofZ (c6 .fits .w)) ∙
-          ap (λ (j : ℕ). sets (set (a .out .now) (a .to) 0x50) j (wordBytes (a .w))) (add-one (a .to)); }
+          ap (λ (j : ℕ). sets (set (a .out .now) (a .to) 0x50) j (wordBytes (a .w))) (add-one (a .to));
+    }
 
 pub put-push-spec : {M : Type 1} → statement M
 put-push-spec =

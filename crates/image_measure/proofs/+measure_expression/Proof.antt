@@ -105,8 +105,11 @@ in-expression-requires : (t : ℕ) → lts.Need-in-expression-requires (known t)
 in-expression-requires t c κs = search needs
 
 add-next : (t : ℕ) → lts.Need-add-next (known t) (given t) own.Post
-add-next t c = omega (arith, inside t (c .before .before .before) _ (c .before .enum-told .given .1),
-    short t (c .before .before .before))
+add-next t c = omega (
+  arith,
+  inside t (c .before .before .before) _ (c .before .enum-told .given .1),
+  short t (c .before .before .before),
+)
 
 enum-known-decoded : (t : ℕ) → lts.Need-enum-known-decoded (known t) (given t) own.Post
 enum-known-decoded t c = search needs
@@ -115,8 +118,12 @@ of-read-requires : (t : ℕ) → lts.Need-of-read-requires (known t) (given t) o
 of-read-requires t c κs = search needs
 
 add-next-2 : (t : ℕ) → lts.Need-add-next-2 (known t) (given t) own.Post
-add-next-2 t c = omega (arith, inside t (c .before .before .before .before) _ (c .before .before .decoded .given .1),
-    c .of-read .ensures, short t (c .before .before .before .before))
+add-next-2 t c = omega (
+  arith,
+  inside t (c .before .before .before .before) _ (c .before .before .decoded .given .1),
+  c .of-read .ensures,
+  short t (c .before .before .before .before),
+)
 
 enum-told-2 : (t : ℕ) → lts.Need-enum-told-2 (known t) (given t) own.Post
 enum-told-2 t c = search needs
@@ -134,8 +141,10 @@ sub-measure-expression t c = omega (arith, some t (c .before .before .before) _ 
 measure-expression-requires : (t : ℕ) → lts.Need-measure-expression-requires (known t) (given t) own.Post
 measure-expression-requires t c κs =
     let c3 = c .before .before .before in
-    rw (c .in-expression2 .ensures) ((omega (arith, some t c3 _ (c .before .enum-told2 .given .1))),
-        (first-nests (all t c3 _ (c .before .enum-told2 .given .1)), short t c3))
+    rw (c .in-expression2 .ensures) (
+      (omega (arith, some t c3 _ (c .before .enum-told2 .given .1))),
+      (first-nests (all t c3 _ (c .before .enum-told2 .given .1)), short t c3),
+    )
 
 sub-measure-expression-2 : (t : ℕ) → lts.Need-sub-measure-expression-2 (known t) (given t) own.Post
 sub-measure-expression-2 t c =
@@ -143,33 +152,47 @@ sub-measure-expression-2 t c =
 
 measure-expression-requires-2 : (t : ℕ) → lts.Need-measure-expression-requires-2 (known t) (given t) own.Post
 measure-expression-requires-2 t c κs =
-    let c4 = c .before .before .before .before in
-    ((omega (arith, some t c4 _ (c .before .before .enum-told2 .given .1))),
-    (first-nests (rest-nests (all t c4 _ (c .before .before .enum-told2 .given .1))
-    (rw (c .before .in-expression2 .ensures) at (c .measure-expression .ensures))), short t c4))
+    let c4 = c .before .before .before .before in (
+      (omega (arith, some t c4 _ (c .before .before .enum-told2 .given .1))),
+      (
+        first-nests (rest-nests (all t c4 _ (c .before .before .enum-told2 .given .1))
+            (rw (c .before .in-expression2 .ensures) at (c .measure-expression .ensures))),
+        short t c4,
+      ),
+    )
 
 -- the operands of an operator with two
 two : (t : ℕ) (c : lts.After-measure-expression2 (known t) (given t) own.Post) →
     Small (text t (c .before .before .before .before .before)) (at t (c .before .before .before .before .before) + 1)
-        (c .before .measure-expression .result) ×
+    (c .before .measure-expression .result) ×
     Small (text t (c .before .before .before .before .before)) (c .before .measure-expression .result .next)
-        (c .measure-expression2 .result)
+    (c .measure-expression2 .result)
 two t c =
-    let a = all t (c .before .before .before .before .before) _ (c .before .before .before .enum-told2 .given .1) in
-    (small (first-nests a) (rw (c .before .before .in-expression2 .ensures) at (c .before .measure-expression .ensures)),
-        small (first-nests (rest-nests a
-        (rw (c .before .before .in-expression2 .ensures) at (c .before .measure-expression .ensures))))
-        (c .measure-expression2 .ensures))
+    let a = all t (c .before .before .before .before .before) _ (c .before .before .before .enum-told2 .given .1) in (
+      small (first-nests a) (rw (c .before .before .in-expression2 .ensures) at (c .before .measure-expression .ensures)),
+      small (first-nests (rest-nests a
+          (rw (c .before .before .in-expression2 .ensures) at (c .before .measure-expression .ensures))))
+          (c .measure-expression2 .ensures),
+    )
 
 joined-requires : (t : ℕ) → lts.Need-joined-requires (known t) (given t) own.Post
-joined-requires t c κs = let s = two t c in let l = short t (c .before .before .before .before .before) in
-    (omega (arith, s .0 .fits, s .0 .within), omega (arith, s .1 .fits, s .1 .within),
-    omega (arith, s .1 .low, s .1 .fits, s .1 .within))
+joined-requires t c κs = let s = two t c in let l = short t (c .before .before .before .before .before) in (
+  omega (arith, s .0 .fits, s .0 .within),
+  omega (arith, s .1 .fits, s .1 .within),
+  omega (arith, s .1 .low, s .1 .fits, s .1 .within),
+)
 
 operated-requires : (t : ℕ) → lts.Need-operated-requires (known t) (given t) own.Post
 operated-requires t c κs = let s = two t (c .before) in
-    omega (arith, c .joined .ensures .commands, s .0 .fits, s .0 .within, s .1 .fits, s .1 .within,
-    short t (c .before .before .before .before .before .before))
+    omega (
+      arith,
+      c .joined .ensures .commands,
+      s .0 .fits,
+      s .0 .within,
+      s .1 .fits,
+      s .1 .within,
+      short t (c .before .before .before .before .before .before),
+    )
 
 enum-told-3 : (t : ℕ) → lts.Need-enum-told-3 (known t) (given t) own.Post
 enum-told-3 t c = search needs
@@ -187,8 +210,10 @@ sub-measure-expression-3 t c = omega (arith, some t (c .before .before .before) 
 measure-expression-requires-3 : (t : ℕ) → lts.Need-measure-expression-requires-3 (known t) (given t) own.Post
 measure-expression-requires-3 t c κs =
     let c3 = c .before .before .before in
-    rw (c .in-expression3 .ensures) ((omega (arith, some t c3 _ (c .before .enum-told3 .given .1))),
-        (first-nests (all t c3 _ (c .before .enum-told3 .given .1)), short t c3))
+    rw (c .in-expression3 .ensures) (
+      (omega (arith, some t c3 _ (c .before .enum-told3 .given .1))),
+      (first-nests (all t c3 _ (c .before .enum-told3 .given .1)), short t c3),
+    )
 
 operated-requires-2 : (t : ℕ) → lts.Need-operated-requires-2 (known t) (given t) own.Post
 operated-requires-2 t c κs = let s =
@@ -212,8 +237,10 @@ sub-measure-expression-4 t c = omega (arith, some t (c .before .before .before) 
 measure-expression-requires-4 : (t : ℕ) → lts.Need-measure-expression-requires-4 (known t) (given t) own.Post
 measure-expression-requires-4 t c κs =
     let c3 = c .before .before .before in
-    rw (c .in-expression4 .ensures) ((omega (arith, some t c3 _ (c .before .enum-told4 .given .1))),
-        (first-nests (all t c3 _ (c .before .enum-told4 .given .1)), short t c3))
+    rw (c .in-expression4 .ensures) (
+      (omega (arith, some t c3 _ (c .before .enum-told4 .given .1))),
+      (first-nests (all t c3 _ (c .before .enum-told4 .given .1)), short t c3),
+    )
 
 sub-measure-expression-5 : (t : ℕ) → lts.Need-sub-measure-expression-5 (known t) (given t) own.Post
 sub-measure-expression-5 t c =
@@ -221,10 +248,14 @@ sub-measure-expression-5 t c =
 
 measure-expression-requires-5 : (t : ℕ) → lts.Need-measure-expression-requires-5 (known t) (given t) own.Post
 measure-expression-requires-5 t c κs =
-    let c4 = c .before .before .before .before in
-    ((omega (arith, some t c4 _ (c .before .before .enum-told4 .given .1))),
-    (first-nests (rest-nests (all t c4 _ (c .before .before .enum-told4 .given .1))
-    (rw (c .before .in-expression4 .ensures) at (c .measure-expression4 .ensures))), short t c4))
+    let c4 = c .before .before .before .before in (
+      (omega (arith, some t c4 _ (c .before .before .enum-told4 .given .1))),
+      (
+        first-nests (rest-nests (all t c4 _ (c .before .before .enum-told4 .given .1))
+            (rw (c .before .in-expression4 .ensures) at (c .measure-expression4 .ensures))),
+        short t c4,
+      ),
+    )
 
 sub-measure-expression-6 : (t : ℕ) → lts.Need-sub-measure-expression-6 (known t) (given t) own.Post
 sub-measure-expression-6 t c =
@@ -233,20 +264,25 @@ sub-measure-expression-6 t c =
 measure-expression-requires-6 : (t : ℕ) → lts.Need-measure-expression-requires-6 (known t) (given t) own.Post
 measure-expression-requires-6 t c κs =
     let c3 = c .before .before .before in
-    let c5 = c3 .before .before in
-    ((omega (arith, some t c5 _ (c3 .enum-told4 .given .1))), (first-nests (rest-nests (rest-nests
-    (all t c5 _ (c3 .enum-told4 .given .1))
-    (rw (c .before .before .in-expression4 .ensures) at (c .before .measure-expression4 .ensures)))
-    (c .measure-expression5 .ensures)), short t c5))
+    let c5 = c3 .before .before in (
+      (omega (arith, some t c5 _ (c3 .enum-told4 .given .1))),
+      (
+        first-nests (rest-nests (rest-nests
+            (all t c5 _ (c3 .enum-told4 .given .1))
+            (rw (c .before .before .in-expression4 .ensures) at (c .before .measure-expression4 .ensures)))
+            (c .measure-expression5 .ensures)),
+        short t c5,
+      ),
+    )
 
 -- the operands of IF
 three : (t : ℕ) (c : lts.After-measure-expression6 (known t) (given t) own.Post) →
     Small (text t (c .before .before .before .before .before .before))
-        (at t (c .before .before .before .before .before .before) + 1) (c .before .before .measure-expression4 .result) ×
+    (at t (c .before .before .before .before .before .before) + 1) (c .before .before .measure-expression4 .result) ×
     Small (text t (c .before .before .before .before .before .before)) (c .before .before .measure-expression4 .result .next)
-        (c .before .measure-expression5 .result) ×
+    (c .before .measure-expression5 .result) ×
     Small (text t (c .before .before .before .before .before .before)) (c .before .measure-expression5 .result .next)
-        (c .measure-expression6 .result)
+    (c .measure-expression6 .result)
 three t c =
     let c3 = c .before .before .before in
     let c4 = c3 .before in
@@ -259,20 +295,34 @@ three t c =
     )
 
 joined-requires-2 : (t : ℕ) → lts.Need-joined-requires-2 (known t) (given t) own.Post
-joined-requires-2 t c κs = let s = three t c in let l = short t (c .before .before .before .before .before .before) in
-    (omega (arith, s .1 .fits, s .1 .within), omega (arith, s .2 .fits, s .2 .within),
-    omega (arith, s .2 .low, s .2 .fits, s .2 .within))
+joined-requires-2 t c κs = let s = three t c in let l = short t (c .before .before .before .before .before .before) in (
+  omega (arith, s .1 .fits, s .1 .within),
+  omega (arith, s .2 .fits, s .2 .within),
+  omega (arith, s .2 .low, s .2 .fits, s .2 .within),
+)
 
 joined-requires-3 : (t : ℕ) → lts.Need-joined-requires-3 (known t) (given t) own.Post
 joined-requires-3 t c κs = let s = three t (c .before) in let l =
-    short t (c .before .before .before .before .before .before .before) in let j = c .joined2 .ensures in
-    (omega (arith, s .0 .fits, s .0 .within), omega (arith, j .commands, s .1 .fits, s .1 .within, s .2 .fits, s .2 .within),
-    omega (arith, j .height, s .1 .low, s .1 .fits, s .1 .within, s .2 .low, s .2 .fits, s .2 .within))
+    short t (c .before .before .before .before .before .before .before) in let j = c .joined2 .ensures in (
+      omega (arith, s .0 .fits, s .0 .within),
+      omega (arith, j .commands, s .1 .fits, s .1 .within, s .2 .fits, s .2 .within),
+      omega (arith, j .height, s .1 .low, s .1 .fits, s .1 .within, s .2 .low, s .2 .fits, s .2 .within),
+    )
 
 operated-requires-3 : (t : ℕ) → lts.Need-operated-requires-3 (known t) (given t) own.Post
 operated-requires-3 t c κs = let s = three t (c .before .before) in
-    omega (arith, c .joined3 .ensures .commands, c .before .joined2 .ensures .commands, s .0 .fits, s .0 .within, s .1 .fits,
-    s .1 .within, s .2 .fits, s .2 .within, short t (c .before .before .before .before .before .before .before .before))
+    omega (
+      arith,
+      c .joined3 .ensures .commands,
+      c .before .joined2 .ensures .commands,
+      s .0 .fits,
+      s .0 .within,
+      s .1 .fits,
+      s .1 .within,
+      s .2 .fits,
+      s .2 .within,
+      short t (c .before .before .before .before .before .before .before .before),
+    )
 
 returns : (t : ℕ) → lts.Need-returns (known t) (given t) own.Post
 returns t c =

@@ -18,7 +18,7 @@ use Rattle.image_valid.proofs.codes_ok.Tie as tie
 abbrev good : List ℕ → ℕ → Bool
 good image x =
     leb (codeOffset image x) (codeOffset image (x + 1)) && leb (codeOffset image (x + 1)) (length image) && codeOk
-        (codeOf image x) (countOf image) x
+    (codeOf image x) (countOf image) x
 
 abbrev Inv-loop : tie.InvT-loop
 Inv-loop image n table count from₀ x₀ from x = (allBelow x (good image) ≡ true) × (x ≤ n) × (from ≡ codeOffset image x)
@@ -104,8 +104,12 @@ unfolding codesOk
 returns-3 c =
     let k = c .before in
     let e = k .before .before .before in
-    fails (e .before .before) (rw (← (turn (e .before .before) .loop .inv .2), ← (ends (e .before .before)),
-        le-leb _ _ (e .before .if1 .left), le-leb _ _ (e .if2 .left)) (code k (not-true _ (c .if3 .taken))))
+    fails (e .before .before) (rw (
+      ← (turn (e .before .before) .loop .inv .2),
+      ← (ends (e .before .before)),
+      le-leb _ _ (e .before .if1 .left),
+      le-leb _ _ (e .if2 .left),
+    ) (code k (not-true _ (c .if3 .taken))))
 
 add-x : tie.Need-add-x Inv-loop μ-loop
 add-x c = omega arith
@@ -121,7 +125,7 @@ loop-again c =
     let l = turn o in (
       all-more (l .loop .x) (good (start l .args .image .now)) (l .loop .inv .0)
           (rw (← (l .loop .inv .2), ← (ends o), le-leb _ _ (e .before .if1 .left), le-leb _ _ (e .if2 .left))
-              (code k (not-false _ (c .if3 .left)))),
+          (code k (not-false _ (c .if3 .left)))),
       omega arith,
       ends o,
     )

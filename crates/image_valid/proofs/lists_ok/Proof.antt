@@ -125,8 +125,11 @@ returns-3 c =
     let o = c .before in
     let l = o .before .before in
     let image = start l .args .image .now in
-    rw (first (l .before), rose (o .before),
-        ne-eqb (listOffset image (hyperOf image)) _ (λ e. c .if3 .taken (ends (o .before) ∙ e ∙ sym (o .code-offset .ensures))))
+    rw (
+      first (l .before),
+      rose (o .before),
+      ne-eqb (listOffset image (hyperOf image)) _ (λ e. c .if3 .taken (ends (o .before) ∙ e ∙ sym (o .code-offset .ensures))),
+    )
 
 returns-4 : tie.Need-returns-4 Inv-loop μ-loop
 unfolding listsOk
@@ -135,9 +138,14 @@ returns-4 c =
     let l = o .before .before in
     let image = start l .args .image .now in
     let same : listOffset image (hyperOf image) ≡ codeOffset image 0 = sym (ends (o .before)) ∙ c .if3 .left ∙
-        o .code-offset .ensures in
-    rw (first (l .before), rose (o .before), eq-eqb (listOffset image (hyperOf image)) (codeOffset image 0) same, ← same,
-        ← (ends (o .before)))
+    o .code-offset .ensures in
+    rw (
+      first (l .before),
+      rose (o .before),
+      eq-eqb (listOffset image (hyperOf image)) (codeOffset image 0) same,
+      ← same,
+      ← (ends (o .before)),
+    )
 
 pub lists-ok-spec : {M : Type 1} → statement M
 lists-ok-spec =

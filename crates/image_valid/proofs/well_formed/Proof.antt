@@ -52,7 +52,7 @@ returns-3 : tie.Need-returns-3
 returns-3 c =
     let e = c .before .before in
     sym (with-lists _ (good (e .before .before .before .before .before .before)) (listed e) ∙
-        rw (sym (c .before .entries-ok .ensures) ∙ not-true _ (c .if3 .taken)))
+    rw (sym (c .before .entries-ok .ensures) ∙ not-true _ (c .if3 .taken)))
 
 codes-ok-requires : tie.Need-codes-ok-requires
 codes-ok-requires c κs = (good (c .before .before .before .before .before .before .before .before), refl)
@@ -63,7 +63,7 @@ returns-4 c =
     let e = n .before .before in
     c .codes-ok .ensures
     ∙ sym (with-lists _ (good (e .before .before .before .before .before .before)) (listed e) ∙
-        rw (sym (n .before .entries-ok .ensures) ∙ not-false _ (n .if3 .left)))
+    rw (sym (n .before .entries-ok .ensures) ∙ not-false _ (n .if3 .left)))
 
 pub well-formed-spec : {M : Type 1} → statement M
 well-formed-spec =

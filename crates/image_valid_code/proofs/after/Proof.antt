@@ -46,15 +46,21 @@ sub-result c = search needs
 
 returns-3 : tie.Need-returns-3
 unfolding afterOf
-returns-3 c = simp (le-ltb _ _ (c .before .before .before .before .before .if1 .left),
-    lt-leb _ _ (under (c .before .before .before) (c .before .before .if2 .left)), eq-eqb _ _ (c .before .if3 .taken),
-    eq-eqb _ _ (c .if4 .taken))
+returns-3 c = simp (
+  le-ltb _ _ (c .before .before .before .before .before .if1 .left),
+  lt-leb _ _ (under (c .before .before .before) (c .before .before .if2 .left)),
+  eq-eqb _ _ (c .before .if3 .taken),
+  eq-eqb _ _ (c .if4 .taken),
+)
 
 returns-4 : tie.Need-returns-4
 unfolding afterOf
-returns-4 c = simp (le-ltb _ _ (c .before .before .before .before .before .if1 .left),
-    lt-leb _ _ (under (c .before .before .before) (c .before .before .if2 .left)), eq-eqb _ _ (c .before .if3 .taken),
-    ne-eqb _ _ (c .if4 .left))
+returns-4 c = simp (
+  le-ltb _ _ (c .before .before .before .before .before .if1 .left),
+  lt-leb _ _ (under (c .before .before .before) (c .before .before .if2 .left)),
+  eq-eqb _ _ (c .before .if3 .taken),
+  ne-eqb _ _ (c .if4 .left),
+)
 
 add-result-2 : tie.Need-add-result-2
 add-result-2 c = search needs
@@ -64,8 +70,11 @@ sub-result-2 c = search needs
 
 returns-5 : tie.Need-returns-5
 unfolding afterOf
-returns-5 c = simp (le-ltb _ _ (c .before .before .before .before .if1 .left),
-    lt-leb _ _ (under (c .before .before) (c .before .if2 .left)), ne-eqb _ _ (c .if3 .left))
+returns-5 c = simp (
+  le-ltb _ _ (c .before .before .before .before .if1 .left),
+  lt-leb _ _ (under (c .before .before) (c .before .if2 .left)),
+  ne-eqb _ _ (c .if3 .left),
+)
 
 pub after-spec : {M : Type 1} → statement M
 after-spec =

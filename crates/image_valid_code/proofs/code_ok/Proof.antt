@@ -28,10 +28,10 @@ loop-holds c = ((length (c .before .args .code .now), omega arith, refl), omega 
 module _ (d : tie.After-shape Inv-loop μ-loop) where
   begun : let l = d .before .before .before .before in let s = l .before .before in let code = s .args .code .now in
       codeOk code (s .args .n) (s .args .own) ≡ step (commandOf (getD code (l .loop .at) 0) code (l .loop .at))
-          (l .loop .inv .0 .0 - 1) code (l .loop .at) (s .args .n) (s .args .own) (l .loop .h)
+      (l .loop .inv .0 .0 - 1) code (l .loop .at) (s .args .n) (s .args .own) (l .loop .h)
   begun = let i = d .before .before .before in let l = i .before in let s = l .before .before in
       sym (l .loop .inv .0 .2) ∙ turn (l .loop .inv .0 .0) (s .args .code .now) (l .loop .at) (s .args .n) (s .args .own)
-          (l .loop .h) (omega (arith, i .loop-test .taken)) (omega (arith, i .loop-test .taken, l .loop .inv .0 .1))
+      (l .loop .h) (omega (arith, i .loop-test .taken)) (omega (arith, i .loop-test .taken, l .loop .inv .0 .1))
 
   some : 0 < d .before .before .before .before .before .before .args .n
   some = omega (arith, d .before .before .before .before .before .before .pre .1)
@@ -40,18 +40,18 @@ module _ (d : tie.After-shape Inv-loop μ-loop) where
       (d .before .before .before .before .loop .at) 0) ≡ 0
       → let l = d .before .before .before .before in let s = l .before .before in let code = s .args .code .now in
       codeOk code (s .args .n) (s .args .own) ≡
-          (lastOf (getD code (l .loop .at) 0) (getD code (l .loop .at + 1) 0) (s .args .own) (l .loop .h) && eqb (l .loop .at + 2)
-          (length code))
+      (lastOf (getD code (l .loop .at) 0) (getD code (l .loop .at + 1) 0) (s .args .own) (l .loop .h) && eqb (l .loop .at + 2)
+      (length code))
   ended e = let i = d .before .before .before in let l = i .before in let s = l .before .before in
       begun ∙ stops (l .loop .inv .0 .0 - 1) (s .args .code .now) (l .loop .at) (s .args .n) (s .args .own) (l .loop .h)
-          (i .loop-test .taken) (l .loop .inv .2) some (getD (s .args .code .now) (l .loop .at) 0) e
+      (i .loop-test .taken) (l .loop .inv .2) some (getD (s .args .code .now) (l .loop .at) 0) e
 
 -- a turn that goes on
 going : (a : tie.After-after Inv-loop μ-loop) → let l = a .before .before .before .before .before .before in let s =
     l .before .before in let code = s .args .code .now in
     codeOk code (s .args .n) (s .args .own) ≡ cond (ltb 32 (a .after .result)) false
-        (codeOkFrom (l .loop .inv .0 .0 - 1) code (s .args .n) (s .args .own) (l .loop .at + lengthOf (getD code (l .loop .at) 0))
-        (a .after .result))
+    (codeOkFrom (l .loop .inv .0 .0 - 1) code (s .args .n) (s .args .own) (l .loop .at + lengthOf (getD code (l .loop .at) 0))
+    (a .after .result))
 going a =
     let d = a .before .before in
     let i = d .before .before .before in
@@ -61,12 +61,12 @@ going a =
     let b = getD code (l .loop .at) 0 in
     let same : afterOf (shapeOf b) b (getD code (l .loop .at + 1) 0) (l .loop .h) (s .args .n) (s .args .own) ≡ a .after .result =
     sym (a .after .ensures ∙ ap (λ (p : ℕ). afterOf p b (getD code (l .loop .at + 1) 0) (l .loop .h) (s .args .n) (s .args .own))
-        (d .shape .ensures)) in
+    (d .shape .ensures)) in
     begun d
     ∙ goes (l .loop .inv .0 .0 - 1) code (l .loop .at) (s .args .n) (s .args .own) (l .loop .h) (i .loop-test .taken)
-        (l .loop .inv .2) (some d) b (λ e. a .before .if1 .left (d .shape .ensures ∙ e))
+    (l .loop .inv .2) (some d) b (λ e. a .before .if1 .left (d .shape .ensures ∙ e))
     ∙ ap (λ (r : ℕ). cond (ltb 32 r) false
-        (codeOkFrom (l .loop .inv .0 .0 - 1) code (s .args .n) (s .args .own) (l .loop .at + lengthOf b) r)) same
+    (codeOkFrom (l .loop .inv .0 .0 - 1) code (s .args .n) (s .args .own) (l .loop .at + lengthOf b) r)) same
 
 add-loop : tie.Need-add-loop Inv-loop μ-loop
 add-loop c = search needs
@@ -102,7 +102,7 @@ returns-2 : tie.Need-returns-2 Inv-loop μ-loop
 returns-2 c =
     let d = c .before .before .before in
     sym (ended d (sym (d .shape .ensures) ∙ c .before .before .if1 .taken) ∙
-        rw (sym (c .before .is-last .ensures) ∙ c .if2 .left) refl)
+    rw (sym (c .before .is-last .ensures) ∙ c .if2 .left) refl)
 
 after-requires : tie.Need-after-requires Inv-loop μ-loop
 after-requires c κs = (c .before .before .before .before .before .loop .inv .2, rw (c .before .shape .ensures) (shape-most _))

@@ -14,8 +14,8 @@ use Rattle.latency_rule.proofs.all_in_time.Tie as tie
 abbrev Inv-loop : tie.InvT-loop
 Inv-loop bound hops count last source from window i₀ i =
     (count ≤ 15) × Sound hops count × ((i : ℕ) → i < window → Small hops count (from + i)) × (from + window ≤ 1000000) ×
-        (i ≤ window) × (allBelow i (λ i. not (lateBy bound (runLatencyBy hops count (rateIn last) (rateIn source) (from + i)))) ≡
-        true)
+    (i ≤ window) × (allBelow i (λ i. not (lateBy bound (runLatencyBy hops count (rateIn last) (rateIn source) (from + i)))) ≡
+    true)
 
 abbrev μ-loop : tie.MeasureT-loop
 μ-loop bound hops count last source from window i₀ i = window - i
@@ -43,10 +43,10 @@ returns c =
     let l = c4 .loop in
     let a = c5 .args in
     sym (all-fails (a .window) (l .i)
-        (λ i. not (lateBy (a .bound) (runLatencyBy (a .hops) (a .count) (rateIn (a .last)) (rateIn (a .source)) (a .from + i))))
-        (c3 .loop-test .taken)
-        (ap not (ap (lateBy (a .bound)) (sym (c .before .before .run-latency .ensures)) ∙ sym (c .before .is-late .ensures) ∙
-        c .if1 .taken)))
+    (λ i. not (lateBy (a .bound) (runLatencyBy (a .hops) (a .count) (rateIn (a .last)) (rateIn (a .source)) (a .from + i))))
+    (c3 .loop-test .taken)
+    (ap not (ap (lateBy (a .bound)) (sym (c .before .before .run-latency .ensures)) ∙ sym (c .before .is-late .ensures) ∙
+    c .if1 .taken)))
 
 add-i : tie.Need-add-i Inv-loop μ-loop
 add-i c = omega (arith, c .before .before .before .before .loop .inv .3)
@@ -59,20 +59,26 @@ loop-again c =
     let c4 = c .before .before .before .before in
     let c5 = c4 .before in
     let l = c4 .loop in
-    let a = c5 .args in
-    (l .inv .0, l .inv .1, l .inv .2, l .inv .3, omega arith, all-more (l .i) (λ i. not (lateBy (a .bound)
-        (runLatencyBy (a .hops) (a .count) (rateIn (a .last)) (rateIn (a .source)) (a .from + i)))) (l .inv .5)
-        (ap not (ap (lateBy (a .bound)) (sym (c .before .before .run-latency .ensures)) ∙ sym (c .before .is-late .ensures) ∙
-        c .if1 .left)))
+    let a = c5 .args in (
+      l .inv .0,
+      l .inv .1,
+      l .inv .2,
+      l .inv .3,
+      omega arith,
+      all-more (l .i) (λ i. not (lateBy (a .bound)
+          (runLatencyBy (a .hops) (a .count) (rateIn (a .last)) (rateIn (a .source)) (a .from + i)))) (l .inv .5)
+          (ap not (ap (lateBy (a .bound)) (sym (c .before .before .run-latency .ensures)) ∙ sym (c .before .is-late .ensures) ∙
+          c .if1 .left)),
+    )
 
 returns-2 : tie.Need-returns-2 Inv-loop μ-loop
 returns-2 c =
     let l = c .before .loop in
     let a = c .before .before .args in
     let e : l .i ≡ a .window = omega (arith, l .inv .4) in
-        sym (subst (λ n. allBelow n (λ i.
-        not (lateBy (a .bound) (runLatencyBy (a .hops) (a .count) (rateIn (a .last)) (rateIn (a .source)) (a .from + i)))) ≡ true)
-        e (l .inv .5))
+    sym (subst (λ n. allBelow n (λ i.
+    not (lateBy (a .bound) (runLatencyBy (a .hops) (a .count) (rateIn (a .last)) (rateIn (a .source)) (a .from + i)))) ≡ true)
+    e (l .inv .5))
 
 pub all-in-time-spec : {M : Type 1} → statement M
 all-in-time-spec =

@@ -52,9 +52,12 @@ loop-again c =
     let c4 = c .before .before .before .before in
     let c5 = c4 .before in
     let l = c4 .loop in
-    let a = c5 .args in ( omega arith, l .inv .1,
+    let a = c5 .args in (
+      omega arith,
+      l .inv .1,
       all-more (l .i) (λ j. isPlain (getD (a .t1) j noHop .kind)) (l .inv .2)
-          (sym (c .before .is-plain .ensures) ∙ not-false (c .before .is-plain .result) (c .if1 .left)), )
+          (sym (c .before .is-plain .ensures) ∙ not-false (c .before .is-plain .result) (c .if1 .left)),
+    )
 
 returns-2 : tie.Need-returns-2 Inv-loop μ-loop
 returns-2 c =

@@ -38,7 +38,7 @@ returns c =
     let l = c4 .loop in
     let a = c5 .args in
     let q = back-at (a .t1) (l .left) (l .element) (c .before .entry-of .result) (c3 .loop-test .taken)
-        (c .before .entry-of .ensures) in
+    (c .before .entry-of .ensures) in
     (sym (l .inv .4 ∙ rw (c .if1 .taken) at q), tt)
 
 sub-element : tie.Need-sub-element Inv-loop μ-loop
@@ -58,18 +58,23 @@ loop-again c =
     let l = c4 .loop in
     let a = c5 .args in
     let lt = c3 .loop-test .taken in
-    let e = c .before .entry-of .result in ( omega (arith, l .inv .0), l .inv .1, l .inv .2,
+    let e = c .before .entry-of .result in (
+      omega (arith, l .inv .0),
+      l .inv .1,
+      l .inv .2,
       small-onward (λ m. Small (a .t1) (l .left - 1) m) e (c .if1 .left)
           (small-at (a .t1) (l .left) (l .element) e lt (c .before .entry-of .ensures) (l .inv .3)),
       l .inv .4 ∙ back-at (a .t1) (l .left) (l .element) e lt (c .before .entry-of .ensures) ∙
-          onward-at (λ m. backBy (a .t1) (l .left - 1) m) e (c .if1 .left), )
+          onward-at (λ m. backBy (a .t1) (l .left - 1) m) e (c .if1 .left),
+    )
 
 returns-2 : tie.Need-returns-2 Inv-loop μ-loop
 returns-2 c =
     let l = c .before .loop in
-    let a = c .before .before .args in
-    (sym (l .inv .4 ∙ back-end (a .t1) (l .left) (l .element) (omega (arith, c .loop-test .left))),
-        small-start (a .t1) (l .left) (l .element) (l .inv .3))
+    let a = c .before .before .args in (
+      sym (l .inv .4 ∙ back-end (a .t1) (l .left) (l .element) (omega (arith, c .loop-test .left))),
+      small-start (a .t1) (l .left) (l .element) (l .inv .3),
+    )
 
 pub go-back-spec : {M : Type 1} → statement M
 go-back-spec =

@@ -14,7 +14,7 @@ use Rattle.latency_rule.proofs.one_in_time.Tie as tie
 abbrev Inv-loop : tie.InvT-loop
 Inv-loop bound hops count last source from window i₀ i =
     (count ≤ 15) × Sound hops count × ((i : ℕ) → i < window → Small hops count (from + i)) × (from + window ≤ 1000000) ×
-        (first window (λ i. inTimeBy bound (runLatencyBy hops count (rateIn last) (rateIn source) (from + i))) ≡
+    (first window (λ i. inTimeBy bound (runLatencyBy hops count (rateIn last) (rateIn source) (from + i))) ≡
     firstFrom i (window - i) (λ i. inTimeBy bound (runLatencyBy hops count (rateIn last) (rateIn source) (from + i))))
 
 abbrev μ-loop : tie.MeasureT-loop
@@ -43,10 +43,10 @@ returns c =
     let l = c4 .loop in
     let a = c5 .args in
     sym (ap isFound (l .inv .4 ∙ search-here
-        (λ i. inTimeBy (a .bound) (runLatencyBy (a .hops) (a .count) (rateIn (a .last)) (rateIn (a .source)) (a .from + i)))
-        (l .i) (a .window) (c3 .loop-test .taken)
-        (ap (inTimeBy (a .bound)) (sym (c .before .before .run-latency .ensures)) ∙ sym (c .before .is-in-time .ensures) ∙
-        c .if1 .taken)))
+    (λ i. inTimeBy (a .bound) (runLatencyBy (a .hops) (a .count) (rateIn (a .last)) (rateIn (a .source)) (a .from + i)))
+    (l .i) (a .window) (c3 .loop-test .taken)
+    (ap (inTimeBy (a .bound)) (sym (c .before .before .run-latency .ensures)) ∙ sym (c .before .is-in-time .ensures) ∙
+    c .if1 .taken)))
 
 add-i : tie.Need-add-i Inv-loop μ-loop
 add-i c = omega (arith, c .before .before .before .before .loop .inv .3)
@@ -60,20 +60,25 @@ loop-again c =
     let c4 = c3 .before in
     let c5 = c4 .before in
     let l = c4 .loop in
-    let a = c5 .args in
-    (l .inv .0, l .inv .1, l .inv .2, l .inv .3, l .inv .4 ∙ search-next (λ i. inTimeBy (a .bound)
-        (runLatencyBy (a .hops) (a .count) (rateIn (a .last)) (rateIn (a .source)) (a .from + i))) (l .i) (a .window)
-        (c3 .loop-test .taken)
-        (ap (inTimeBy (a .bound)) (sym (c .before .before .run-latency .ensures)) ∙ sym (c .before .is-in-time .ensures) ∙
-        c .if1 .left))
+    let a = c5 .args in (
+      l .inv .0,
+      l .inv .1,
+      l .inv .2,
+      l .inv .3,
+      l .inv .4 ∙ search-next (λ i. inTimeBy (a .bound)
+          (runLatencyBy (a .hops) (a .count) (rateIn (a .last)) (rateIn (a .source)) (a .from + i))) (l .i) (a .window)
+          (c3 .loop-test .taken)
+          (ap (inTimeBy (a .bound)) (sym (c .before .before .run-latency .ensures)) ∙ sym (c .before .is-in-time .ensures) ∙
+          c .if1 .left),
+    )
 
 returns-2 : tie.Need-returns-2 Inv-loop μ-loop
 returns-2 c =
     let l = c .before .loop in
     let a = c .before .before .args in
     sym (ap isFound (l .inv .4 ∙ search-none
-        (λ i. inTimeBy (a .bound) (runLatencyBy (a .hops) (a .count) (rateIn (a .last)) (rateIn (a .source)) (a .from + i)))
-        (l .i) (a .window) (c .loop-test .left)))
+    (λ i. inTimeBy (a .bound) (runLatencyBy (a .hops) (a .count) (rateIn (a .last)) (rateIn (a .source)) (a .from + i)))
+    (l .i) (a .window) (c .loop-test .left)))
 
 pub one-in-time-spec : {M : Type 1} → statement M
 one-in-time-spec =

@@ -66,9 +66,9 @@ loop-again c =
     let image = s .args .image .now in
     let x = l .loop .x in
     let word : toZ w32 (ofZ w32 (c .word-at .result)) ≡ wordAt image (4 + 6 * x) = kept _ (c .word-at .ok) ∙
-        c .word-at .ensures in
+    c .word-at .ensures in
     let room : x + 1 < length (set (s .args .state .now) 0 (pos 0)) =
-        omega (arith, length-set (s .args .state .now) 0 (pos 0), s .pre .2) in (
+    omega (arith, length-set (s .args .state .now) 0 (pos 0), s .pre .2) in (
       ap₂ (λ (t : List ℤ) (w : ℤ). set t (x + 1) w) (l .loop .inv .0) word ∙
           begun-more image x (set (s .args .state .now) 0 (pos 0)) room,
       length-set (l .loop .state) (x + 1) (toZ w32 (ofZ w32 (c .word-at .result))) ∙ l .loop .inv .1,
@@ -85,7 +85,7 @@ returns c =
     let image = s .args .image .now in
     let e : l .loop .x ≡ countOf image = omega (arith, s .pre .1) in
     l .loop .inv .0 ∙ ap (λ (k : ℕ). begun image k (set (s .args .state .now) 0 (pos 0))) e ∙
-        begun-all image (s .args .state .now)
+    begun-all image (s .args .state .now)
 
 pub initial-words-spec : {M : Type 1} → statement M
 initial-words-spec =

@@ -21,7 +21,7 @@ use Rattle.machine.proofs.run_signals.Tie as tie
 abbrev Inv-loop : tie.InvT-loop
 Inv-loop list image n state₀ samples count total₀ i₀ state total i =
     (runSignals image (drop i list) samples state ≡ runSignals image list samples state₀) × (length state ≡ length state₀) ×
-        (i ≤ length list)
+    (i ≤ length list)
     × (total + countSignals image (drop i list) ≡ countSignals image list)
 
 abbrev μ-loop : tie.MeasureT-loop
@@ -54,18 +54,24 @@ part : (image : List ℕ) (n x from to : ℕ) → CodePart image x → n ≡ cou
     to ≡ codeOffset image (x + 1) → Part image n x from to
 unfolding codeOf
 part image n x from to p e f t =
-    record { ordered = rw (f, t) (p .ordered); within = rw t (p .within); formed = rw (e, f, t) (p .formed); part =
-    rw (f, t); short = simp (length-take, length-drop) (omega arith) }
+    record {
+      ordered = rw (f, t) (p .ordered);
+      within = rw t (p .within);
+      formed = rw (e, f, t) (p .formed);
+      part =
+          rw (f, t);
+      short = simp (length-take, length-drop) (omega arith);
+    }
 
 this : (o : tie.After-code-offset2 Inv-loop μ-loop)
     → Part (start (turn o) .args .image .now) (start (turn o) .args .n) (signal o) (o .before .code-offset .result)
-        (o .code-offset2 .result)
+    (o .code-offset2 .result)
 this o =
     let s = start (turn o) in
     let image = s .args .image .now in
     let own = o .before .before .wide2 .ensures .0 in
     part _ _ _ _ _ (codes image (formed image (s .pre .0 .0) .coded) (signal o)
-        (rw (← (s .pre .0 .1)) (s .pre .1 .0 (turn o .loop .i) (taken o)))) (s .pre .0 .1)
+    (rw (← (s .pre .0 .1)) (s .pre .1 .0 (turn o .loop .i) (taken o)))) (s .pre .0 .1)
     (o .before .code-offset .ensures ∙ ap (codeOffset image) own)
     (o .code-offset2 .ensures ∙ ap (λ (k : ℕ). codeOffset image (k + 1)) own)
 
@@ -105,9 +111,13 @@ run-code-requires : tie.Need-run-code-requires Inv-loop μ-loop
 run-code-requires c κs =
     let o = c .before .before in
     let l = turn o in
-    let s = start l in
-    (this o .formed, omega (arith, l .loop .inv .1, s .pre .1 .1 .0), s .pre .1 .1 .1, s .pre .1 .0 (l .loop .i) (taken o),
-        omega (arith, this o .short, s .pre .1 .1 .2))
+    let s = start l in (
+      this o .formed,
+      omega (arith, l .loop .inv .1, s .pre .1 .1 .0),
+      s .pre .1 .1 .1,
+      s .pre .1 .0 (l .loop .i) (taken o),
+      omega (arith, this o .short, s .pre .1 .1 .2),
+    )
 
 add-w : tie.Need-add-w Inv-loop μ-loop
 add-w c = let o = c .before .before .before .before in omega (arith, o .before .before .wide2 .ensures .1)
@@ -129,12 +139,16 @@ counted r = r .run-code .ensures .1 ∙ ap countCode (this (r .before .before .b
 
 counts : (r : tie.After-run-code Inv-loop μ-loop) → let l = turn (r .before .before .before) in let a = start l .args in
     l .loop .total + r .run-code .result .count + countSignals (a .image .now) (drop (l .loop .i + 1) (a .list .now)) ≡
-        countSignals (a .image .now) (a .list .now)
+    countSignals (a .image .now) (a .list .now)
 counts r =
     let o = r .before .before .before in
     let l = turn o in
-    omega (arith, counted r, counts-next (start l .args .image .now) (start l .args .list .now) (l .loop .i) (taken o),
-        l .loop .inv .3)
+    omega (
+      arith,
+      counted r,
+      counts-next (start l .args .image .now) (start l .args .list .now) (l .loop .i) (taken o),
+      l .loop .inv .3,
+    )
 
 add-total : tie.Need-add-total Inv-loop μ-loop
 add-total c =
@@ -155,14 +169,14 @@ loop-again c =
     let l = turn o in
     let a = start l .args in
     let word : toZ w32 (ofZ w32 (r .run-code .result .word)) ≡ runCode (codeOf (a .image .now) (signal o)) (l .loop .state)
-        (a .samples .now) =
+    (a .samples .now) =
     kept (r .run-code .result .word) (c .before .struct-told .given .0 .1) ∙ r .run-code .ensures .0 ∙
-        ap (λ (x : List ℕ). runCode x (l .loop .state) (a .samples .now)) (this o .part) in (
+    ap (λ (x : List ℕ). runCode x (l .loop .state) (a .samples .now)) (this o .part) in (
       ap₂ (λ (k : ℕ) (w : ℤ). runSignals (a .image .now) (drop (l .loop .i + 1) (a .list .now)) (a .samples .now)
           (set (l .loop .state) (k + 1) w))
           (o .before .before .wide2 .ensures .0) word
           ∙ sym (signals-next (a .image .now) (a .list .now) (l .loop .i) (a .samples .now) (l .loop .state) (taken o)) ∙
-              l .loop .inv .0,
+          l .loop .inv .0,
       simp length-set (l .loop .inv .1),
       omega arith,
       counts r,

@@ -22,10 +22,9 @@ use Rattle.model.specs.Rules.Program.{Program}
 use Rattle.model.specs.Rules.Report.{cycleCommands, countsOf}
 use Rattle.model.specs.Rules.Schedule.{Schedule}
 use Rattle.model.specs.Rules.Search.{table}
-use Rattle.model.specs.Rules.Word.{twoAt}
+use Rattle.model.specs.Rules.Word.{twoAt, AreBytes}
 use Rattle.model.specs.declared.Code.{Code}
 use Rattle.model.specs.declared.Code.the-variants as Code
-use Rattle.model.proofs.Texts.Commands.{Bytes}
 use Rattle.model.proofs.Images.Tails.{headed}
 use Rattle.model.proofs.Images.Stretches.{table-length, table-at}
 
@@ -66,7 +65,7 @@ signals-most image [] = omega arith
 signals-most image (x ∷ xs) =
     omega (arith, code-most (codeOf image x), codes-inside image x, signals-most image xs)
 
-pub image-short : (image : List ℕ) → Bytes image → wellFormed image ≡ true → length image ≤ 65535
+pub image-short : (image : List ℕ) → AreBytes image → wellFormed image ≡ true → length image ≤ 65535
 unfolding twoAt
 image-short image bytes h = omega (arith, headed image h .stated, bytes 2, bytes 3)
 
@@ -85,7 +84,7 @@ module _ (p : Program) (s : Schedule) (h : ℕ) where
   unfolding countsOf
   counts-at c lt =
       List·getD-append (table h (cycleCommands p s)) (replicate (240 - h) 0) 0 c
-          (omega (arith, table-length h (cycleCommands p s))) ∙
+      (omega (arith, table-length h (cycleCommands p s))) ∙
       table-at h (cycleCommands p s) c 0 lt
 
   pub counts-past : (c : ℕ) → h ≤ c → c < 240 → getD (countsOf p s h) c 0 ≡ 0

@@ -258,10 +258,13 @@ module _ (p : Program) (s : Schedule) (h : ℕ) (acc : Feasible p s) (whole : Mu
   codes-ok =
       rw (image-count p s h)
       (true-all (count p) _ (λ x lt.
-      rw (le-leb _ _ (code-rises p s h bounded x lt), le-leb _ _ (code-inside (x + 1) (omega arith)),
-          code-stretch p s h bounded x lt)
+      rw (
+        le-leb _ _ (code-rises p s h bounded x lt),
+        le-leb _ _ (code-inside (x + 1) (omega arith)),
+        code-stretch p s h bounded x lt,
+      )
       (signal-ok (Met p s x) (count p) x (λ ρ m. m .declared) (signalAt p x .body) (bounded .constants x lt)
-          (bounded .depths x lt)
+      (bounded .depths x lt)
       (acc .met x lt))))
 
   pub image-well-formed : wellFormed (imageOf p s h) ≡ true

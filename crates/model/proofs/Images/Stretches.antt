@@ -424,7 +424,7 @@ module _ (p : Program) (s : Schedule) (h : ℕ) where
             let q : x ≡ count p = omega (arith, ltb-false x (count p) e) in
             image-length ∙
             ap (λ (l : List (List ℕ)). codesAt p s h + length (joined l))
-                (sym (take-all x (codes p) (omega (arith, codes-length p))))
+            (sym (take-all x (codes p) (omega (arith, codes-length p))))
 
     lists-start : (c : ℕ) → c ≤ length (runLists p s h) → listOffset (imageOf p s h) c ≡ listStart c
     lists-start c le = list-offset c (omega (arith, lists-length))

@@ -58,11 +58,11 @@ headed image h = go (headOk image) refl h
   where
     go : (b : Bool) → headOk image ≡ b →
         elim b [ true ↦ elim (listsOk image) [ true ↦ entriesOk image && codesOk image | false ↦ false ] | false ↦ false ] ≡
-            true →
+        true →
         Headed image
     go true e t =
         let a = both (leb 4 (length image) && eqb (statedLength image) (length image)) _
-            (both _ _ (both _ _ (both _ _ e .0) .0) .0) .0 in
+        (both _ _ (both _ _ (both _ _ e .0) .0) .0) .0 in
         let b = both (leb 4 (length image)) _ a in
         record { four = leb-true _ _ (b .0); stated = eqb-true _ _ (b .1) }
     go false e t = never t

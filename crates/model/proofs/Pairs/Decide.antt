@@ -321,7 +321,7 @@ module _ (p : Program) (s : Schedule) (r : ℕ) (ρ : Read) where
   unfolding settled
   met-settled m =
       line-settled (ρ .kind) (rateOf p s (ρ .operands .signal)) (rateOf p s r) (ρ .operands .factor) (ρ .operands .index)
-          (m .line)
+      (m .line)
 
   pub met-true : ρ .operands .signal < count p → rank (s .order) (ρ .operands .signal) < length (s .order) →
       rank (s .order) r < length (s .order) → InRange (ρ .operands .factor) (ρ .operands .index) →

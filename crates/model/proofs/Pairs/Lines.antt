@@ -16,13 +16,13 @@ use Rattle.model.proofs.Pairs.Rate.{stored-is, stored-bit, bit}
 
 -- The reader's period is n parts of b cycles and the signal's m parts; d is 1 for a read that wants the writer first.
 -- e parts on, the signal's phase comes to stand in the part that ends m parts after the reader's phase.
-abbrev pub Fits : Rate → Rate → (b n m e d : ℕ) → Type 0
-Fits w r b n m e d =
+abbrev pub Aligned : Rate → Rate → (b n m e d : ℕ) → Type 0
+Aligned w r b n m e d =
     (zero < m) × (r .period ≡ n * b) × (w .period ≡ m * b) ×
     (r .phase + d + m * b ≤ e * b + w .phase + b) × (e * b + w .phase < r .phase + d + m * b)
 
 -- The fact that all five share: how many elements of w are stored when run k of r comes.
-pub shared : (w r : Rate) (b n m e d k : ℕ) → Fits w r b n m e d → stored w (runCycle r k + d) ≡ (k * n + e) / m
+pub shared : (w r : Rate) (b n m e d k : ℕ) → Aligned w r b n m e d → stored w (runCycle r k + d) ≡ (k * n + e) / m
 shared w r b n m e d k fit =
     let q : ℕ = (k * n + e) / m in
     let f : q * m * b ≤ (k * n + e) * b = mul-le-mul-right b (div-mul-le-self (k * n + e) m) in
@@ -32,7 +32,7 @@ shared w r b n m e d k fit =
     stored-is w (runCycle r k + d) q (omega arith) (omega arith)
 
 -- At most one e fits.
-pub once : (w r : Rate) (b n m e e′ d : ℕ) → Fits w r b n m e d → Fits w r b n m e′ d → e ≡ e′
+pub once : (w r : Rate) (b n m e e′ d : ℕ) → Aligned w r b n m e d → Aligned w r b n m e′ d → e ≡ e′
 once w r b n m e e′ d fit fit′ =
     let a : Rate = record { period = b; phase = w .phase } in
     sym (stored-is a (r .phase + d + m * b - b) e (omega arith) (omega arith)) ∙
@@ -46,7 +46,7 @@ parts n i b lt = sym (add-mul (n - i) i b) ∙ ap (_* b) (omega arith)
 -- first.
 pub line-index : (kind : Kind) (w r : Rate) (n i k : ℕ) → w .phase < w .period → r .phase < r .period → i < n →
     PeriodRule kind (w .period) (r .period) n → Line kind w r i →
-        stored w (runCycle r k + bit (writerFirst kind)) ≡ uses kind n i k
+    stored w (runCycle r k + bit (writerFirst kind)) ≡ uses kind n i k
 line-index Now w r n i k vw vr lt p l = shared w r (w .period) 1 1 1 1 k (omega arith) ∙ div-one _ ∙ omega arith
 line-index Last w r n i k vw vr lt p l = shared w r (w .period) 1 1 0 0 k (omega arith) ∙ div-one _ ∙ omega arith
 line-index When w r n i k vw vr lt p l = shared w r (w .period) n 1 (suc i) 1 k (omega arith) ∙ div-one _ ∙ omega arith

@@ -19,9 +19,9 @@ use Rattle.model.specs.Rules.Rates.{periodRule, readFaults, linkFaults, 
 use Rattle.model.specs.Rules.Reads.{isMet, met}
 use Rattle.model.specs.Rules.Schedule.{Put, parseSchedule, Schedule, placed}
 use Rattle.model.specs.Rules.Search.{table, joinFrom}
+use Rattle.model.specs.Rules.Word.{AreBytes}
 use Rattle.model.proofs.Basics.All.{at-all, all-both, all-map, all-joined, joined-length, chosen-length}
 use Rattle.model.proofs.Images.Bounds.{Bounded}
-use Rattle.model.proofs.Texts.Commands.{Bytes}
 use Rattle.model.proofs.Pairs.Decide.{periods-true, met-true}
 use Rattle.model.proofs.Pairs.Hypercycle.{hypercycle-least}
 use Rattle.model.proofs.Texts.Legal.{
@@ -205,7 +205,7 @@ module _ (program schedule : List ℕ) (q : Pair) (e : pairOf program schedule �
   pair-accepted =
       steps-accepted program (q .program) (q .schedule) (passed .parses) (passed .rated) (ordered .0) (passed .meets)
 
-  pub pair-bounded : Bytes program → Bounded (q .program) (q .schedule) (q .hypercycle)
+  pub pair-bounded : AreBytes program → Bounded (q .program) (q .schedule) (q .hypercycle)
   unfolding shortEnough lengthOf codesAt
   pair-bounded bytes =
       let h = hypercycle-least (q .program) (q .hypercycle) .0 (passed .hyper) .bound in

@@ -13,7 +13,7 @@ use mir.Syntax.{w32}
 use mir.Val.{SFits}
 use Rattle.model.specs.Rules.Command.{indexOf, declarationAt, operatorAt}
 use Rattle.model.specs.Rules.Width.{inProgram, inExpression, readWidth}
-use Rattle.model.specs.Rules.Word.{byteAt, twoAt, fourAt, wordOf, wordAt}
+use Rattle.model.specs.Rules.Word.{byteAt, twoAt, fourAt, wordOf, wordAt, AreBytes}
 use Rattle.model.specs.Says.Written.{InPeriods, InIndices, DeclarationWritten, OperatorWritten, OperatorByte}
 use Rattle.model.specs.declared.Declaration.{Declaration}
 use Rattle.model.specs.declared.Declaration.the-variants as Declaration
@@ -28,16 +28,12 @@ use Rattle.model.proofs.Pairs.Decide.{InRange}
 use Rattle.model.proofs.Pairs.Lines.{Indexed}
 use Rattle.model.proofs.Texts.Written.{DeclarationDecodes, declaration-decodes, OperatorDecodes, operator-decodes, decoded}
 
--- The elements of a text are bytes.
-abbrev pub Bytes : List ℕ → Type 0
-Bytes text = (i : ℕ) → getD text i 0 < 256
-
-pub word-fits : (text : List ℕ) (at : ℕ) → Bytes text → SFits w32 (wordAt text at)
+pub word-fits : (text : List ℕ) (at : ℕ) → AreBytes text → SFits w32 (wordAt text at)
 unfolding wordAt fourAt wordOf
 word-fits text at b =
     sfits-toZ {w = w32} {n = fourAt text at} (record { fits = omega (arith, b at, b (at + 1), b (at + 2), b (at + 3)) })
 
-pub two-fits : (text : List ℕ) (at : ℕ) → Bytes text → twoAt text at < 65536
+pub two-fits : (text : List ℕ) (at : ℕ) → AreBytes text → twoAt text at < 65536
 unfolding twoAt
 two-fits text at b = omega (arith, b at, b (at + 1))
 

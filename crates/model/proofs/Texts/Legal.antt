@@ -34,22 +34,14 @@ use Rattle.model.specs.Rules.Program.{
 }
 use Rattle.model.specs.Rules.Search.{joinFrom}
 use Rattle.model.specs.Rules.Width.{inProgram, readWidth}
-use Rattle.model.specs.Rules.Word.{wordBytes, fourBytes}
+use Rattle.model.specs.Rules.Word.{wordBytes, fourBytes, AreBytes}
 use Rattle.model.specs.declared.Declaration.the-variants as Declaration
 use Rattle.model.specs.declared.Operator.the-variants as Operator
 use Rattle.model.specs.declared.Kind.{Kind}
 use Rattle.model.specs.declared.Kind.the-variants.{Now, Last, When, LastWhen, Current}
 use Rattle.model.proofs.Basics.All.{all-append, all-at}
 use Rattle.model.proofs.Images.Bounds.{depth, bodyDepth, Words, BodyWords}
-use Rattle.model.proofs.Texts.Commands.{
-  Bytes,
-  word-fits,
-  two-fits,
-  ReadSound,
-  declaration-sound,
-  operator-sound,
-  link-decoded,
-}
+use Rattle.model.proofs.Texts.Commands.{word-fits, two-fits, ReadSound, declaration-sound, operator-sound, link-decoded}
 use Rattle.model.proofs.Basics.Outcomes.{joinFrom-append}
 use Rattle.model.proofs.Texts.Spelled.{Spells, SpellsLinks, DeclaresOne, Declares, declared}
 use Rattle.model.proofs.Texts.Written.{decoded, operator-decoded}
@@ -114,7 +106,7 @@ module _ {text : List ℕ} where
       (all-append (SpellsRead text) (readsOf y) (readsOf z) (expr-reads v) (expr-reads w))
 
   -- Constants are words.
-  expr-words : Bytes text → {at n : ℕ} {e : Expr} → Spells leastFactor text at e n → Words e
+  expr-words : AreBytes text → {at n : ℕ} {e : Expr} → Spells leastFactor text at e n → Words e
   expr-words b (Spells.constants {at = at} e) = rw (operator-sound text at _ (operator-decoded e) .0) (word-fits text (at + 1) b)
   expr-words b (Spells.reads e t) = tt
   expr-words b (Spells.two e u v) = (expr-words b u, expr-words b v)
@@ -213,7 +205,7 @@ legal text p e =
 abbrev Labelled : Signal → Type 0
 Labelled x = x .label < 65536
 
-module _ {text : List ℕ} (bytes : Bytes text) where
+module _ {text : List ℕ} (bytes : AreBytes text) where
   one-labelled : {at label next given : ℕ} {p q : Program} → DeclaresOne leastFactor text at label p next given q →
       label < 65536 → All Labelled (p .signals) → (given < 65536) × All Labelled (q .signals)
   one-labelled (DeclaresOne.inputs {p = p} room e) lt l = (omega arith, all-append Labelled (p .signals) (_ ∷ []) l (lt, tt))
@@ -229,7 +221,7 @@ module _ {text : List ℕ} (bytes : Bytes text) where
   declares-labelled (Declares.ends e le) lt l = l
   declares-labelled (Declares.onward d r) lt l = let h = one-labelled d lt l in declares-labelled r (h .0) (h .1)
 
-pub signal-label : (text : List ℕ) (p : Program) → parseProgram text ≡ accepted p → Bytes text → (x : ℕ) → x < count p →
+pub signal-label : (text : List ℕ) (p : Program) → parseProgram text ≡ accepted p → AreBytes text → (x : ℕ) → x < count p →
     signalAt p x .label < 65536
 signal-label text p e bytes x lt =
     all-at Labelled (p .signals) noSignal (declares-labelled bytes (declared leastFactor text p e .1) (omega arith) tt) x lt
@@ -260,7 +252,7 @@ module _ (text : List ℕ) where
   body-period x input e = let h = declaration-sound text (x .place) _ e in (h .0, h .1)
   body-period x (equation weight e) h = let g = declaration-sound text (x .place) _ (h .0) in (g .0, g .1)
 
-  body-initial : Bytes text → (x : Signal) (b : Body) → SpellsBody text x b → SFits w32 (x .initial)
+  body-initial : AreBytes text → (x : Signal) (b : Body) → SpellsBody text x b → SFits w32 (x .initial)
   body-initial bytes x input h = rw (declaration-sound text (x .place) _ h .2) (word-fits text (x .place + 2) bytes)
   body-initial bytes x (equation weight e) h =
       rw (declaration-sound text (x .place) _ (h .0) .2) (word-fits text (x .place + 2) bytes)
@@ -269,7 +261,7 @@ module _ (text : List ℕ) where
   body-depth x input h = omega arith
   body-depth x (equation weight e) h = h .3
 
-  body-words : Bytes text → (x : Signal) (b : Body) → SpellsBody text x b → BodyWords b
+  body-words : AreBytes text → (x : Signal) (b : Body) → SpellsBody text x b → BodyWords b
   body-words bytes x input h = tt
   body-words bytes x (equation weight e) h = expr-words bytes (h .2)
 
@@ -285,13 +277,13 @@ module _ {text : List ℕ} {end : ℕ} {p : Program} (l : Legal text end p) (x :
   pub signal-period : (1 ≤ signalAt p x .period) × (signalAt p x .period ≤ 240)
   signal-period = body-period text (signalAt p x) (signalAt p x .body) signal-spelled
 
-  pub signal-initial : Bytes text → SFits w32 (signalAt p x .initial)
+  pub signal-initial : AreBytes text → SFits w32 (signalAt p x .initial)
   signal-initial bytes = body-initial text bytes (signalAt p x) (signalAt p x .body) signal-spelled
 
   pub signal-depth : bodyDepth (signalAt p x .body) ≤ 16
   signal-depth = body-depth text (signalAt p x) (signalAt p x .body) signal-spelled
 
-  pub signal-words : Bytes text → BodyWords (signalAt p x .body)
+  pub signal-words : AreBytes text → BodyWords (signalAt p x .body)
   signal-words bytes = body-words text bytes (signalAt p x) (signalAt p x .body) signal-spelled
 
   pub signal-reads : All (SpellsRead text) (bodyReads (signalAt p x .body))

@@ -61,18 +61,18 @@ module _ (text : List ℕ) (at : ℕ) where
 
 -- A declaration, after those of p.
 module _ (p : Program) where
-  abbrev Fits : ℕ → Outcome (Unit {0}) → Type 0
-  Fits b o = o ≡ accepted tt → HasRoom p b
+  abbrev GivesRoom : ℕ → Outcome (Unit {0}) → Type 0
+  GivesRoom b o = o ≡ accepted tt → HasRoom p b
 
-  room-fits : (at b : ℕ) → Fits b (roomFor at p b)
+  room-fits : (at b : ℕ) → GivesRoom b (roomFor at p b)
   unfolding roomFor
   room-fits at b =
-      picked (Fits b) b 0x00 _ _ (λ h e. HasRoom.end h) (λ n.
-      chosen-all (Fits b) (isSignal b) _ _
+      picked (GivesRoom b) b 0x00 _ _ (λ h e. HasRoom.end h) (λ n.
+      chosen-all (GivesRoom b) (isSignal b) _ _
       (λ t e. HasRoom.signal (signal-is b .0 t) (ltb-true _ _ (provided-true _ 4 at e))) (λ s.
-      picked (Fits b) b 0x12 _ _ (λ h e. HasRoom.latency h (ltb-true _ _ (provided-true _ 4 at e))) (λ l.
-      picked (Fits b) b 0x14 _ _ (λ h e. HasRoom.cap h (no-limit (p .cap) (provided-true _ 5 at e))) (λ c.
-      picked (Fits b) b 0x15 _ _ (λ h e. HasRoom.tag h) (λ t e. absurd (accepted≢refused _ tt _ e refl))))))
+      picked (GivesRoom b) b 0x12 _ _ (λ h e. HasRoom.latency h (ltb-true _ _ (provided-true _ 4 at e))) (λ l.
+      picked (GivesRoom b) b 0x14 _ _ (λ h e. HasRoom.cap h (no-limit (p .cap) (provided-true _ 5 at e))) (λ c.
+      picked (GivesRoom b) b 0x15 _ _ (λ h e. HasRoom.tag h) (λ t e. absurd (accepted≢refused _ tt _ e refl))))))
 
   has-room : (at b : ℕ) → HasRoom p b → roomFor at p b ≡ accepted tt
   unfolding roomFor

@@ -186,7 +186,7 @@ module _ (text : List ℕ) (at : ℕ) where
   judged-decodes n t c two i short out all =
       declaration-whole 2 _ (λ g. short (omega arith) (λ h. absurd (omega arith))) (λ h.
       chosen-all D t _ _ (λ r. declaration-whole n c (λ g. short g (λ _. i .0 r))
-          (λ g. DeclarationDecodes.written (all g (i .0 r))))
+      (λ g. DeclarationDecodes.written (all g (i .0 r))))
       (λ f. DeclarationDecodes.outside (out h (fails i f))))
 
   declaration-picks : at < length text → D (declarationOf byte text at)
@@ -208,7 +208,7 @@ module _ (text : List ℕ) (at : ℕ) where
       (λ g r. DeclarationWritten.latency g b r)) (λ l.
       picked D byte 0x13 _ _ (λ b.
       declaration-whole (inProgram 0x13) _ (DeclarationCut.link b)
-          (λ h. DeclarationDecodes.written (DeclarationWritten.link h b)))
+      (λ h. DeclarationDecodes.written (DeclarationWritten.link h b)))
       (λ k.
       picked D byte 0x14 _ _ (λ b.
       declaration-whole (inProgram 0x14) _ (DeclarationCut.cap b) (λ h. DeclarationDecodes.written (DeclarationWritten.cap h b)))

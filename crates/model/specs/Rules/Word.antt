@@ -1,5 +1,5 @@
 -- Words: the signed 32-bit integers, as numbers of ℤ, and the operators on them.
-use Prim.Native.Nat.{ℕ, suc, _+_, _-_, _*_, _/_, _%_, _^_, min}
+use Prim.Native.Nat.{ℕ, suc, _+_, _-_, _*_, _/_, _%_, _^_, _<_, min}
 use mathlib.Core.Bool.{Bool, true, false, cond}
 use mathlib.Core.List.{List, [], _∷_}
 use lib.Dec.{eqb}
@@ -83,6 +83,10 @@ unaryWord Negate a = negWord a
 -- Values wider than a byte have the low byte first: two bytes, four bytes, a word.
 abbrev pub byteAt : List ℕ → ℕ → ℕ
 byteAt s at = getD s at 0
+
+-- The elements of a text are bytes.
+abbrev pub AreBytes : List ℕ → Type 0
+AreBytes text = (i : ℕ) → getD text i 0 < 256
 
 unfoldable pub twoAt : List ℕ → ℕ → ℕ
 twoAt s at = byteAt s at + 256 * byteAt s (at + 1)

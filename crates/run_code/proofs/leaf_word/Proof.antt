@@ -80,7 +80,7 @@ returns-2 c =
     let t = c .before in
     let s = start (t .before .before .before) in
     kept _ (c .result .given) ∙ ap (λ (x : ℕ). getD (s .args .state .now) (x + 1) (pos 0)) (t .before .wide .ensures .0) ∙
-        rw (at-load t .2)
+    rw (at-load t .2)
 
 mul-result-2 : tie.Need-mul-result-2
 mul-result-2 c = search needs
@@ -93,7 +93,7 @@ returns-3 c =
     let t = c .before in
     let s = start (t .before .before .before) in
     kept _ (c .result2 .given) ∙ ap (λ (x : ℕ). getD (s .args .samples .now) x (pos 0)) (t .before .wide .ensures .0) ∙
-        rw (at-fetch t .2)
+    rw (at-fetch t .2)
 
 pub leaf-word-spec : {M : Type 1} → statement M
 leaf-word-spec =

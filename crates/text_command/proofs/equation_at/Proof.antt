@@ -50,7 +50,7 @@ returns-3 c =
     let a = c7 .args in
     let s = now (a .text) in
     let n : isPeriod (getD s (a .at + 1) 0) ≡ true = sym (c3 .is-period .ensures) ∙
-        not-false _ (c .before .before .if2 .left) in
+    not-false _ (c .before .before .if2 .left) in
     rw (le-leb (a .at + 2) (length s) (omega arith), n, lt-leb (a .at + 8) (length s) (omega arith))
 
 add-word-at : tie.Need-add-word-at
@@ -74,8 +74,14 @@ returns-4 c =
     let a = c9 .args in
     let s = now (a .text) in
     let n : isPeriod (getD s (a .at + 1) 0) ≡ true = sym (c5 .is-period .ensures) ∙ not-false _ (c4 .if2 .left) in
-    rw (le-leb (a .at + 2) (length s) (omega arith), n, le-leb (a .at + 8) (length s) (omega arith),
-        kept _ (c .before .word-at .ok), c .before .word-at .ensures, c .two-at .ensures)
+    rw (
+      le-leb (a .at + 2) (length s) (omega arith),
+      n,
+      le-leb (a .at + 8) (length s) (omega arith),
+      kept _ (c .before .word-at .ok),
+      c .before .word-at .ensures,
+      c .two-at .ensures,
+    )
 
 pub equation-at-spec : {M : Type 1} → statement M
 equation-at-spec =

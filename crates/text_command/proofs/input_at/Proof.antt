@@ -50,7 +50,7 @@ returns-3 c =
     let a = c7 .args in
     let s = now (a .text) in
     let n : isPeriod (getD s (a .at + 1) 0) ≡ true = sym (c3 .is-period .ensures) ∙
-        not-false _ (c .before .before .if2 .left) in
+    not-false _ (c .before .before .if2 .left) in
     rw (le-leb (a .at + 2) (length s) (omega arith), n, lt-leb (a .at + 6) (length s) (omega arith))
 
 add-word-at : tie.Need-add-word-at
@@ -68,8 +68,13 @@ returns-4 c =
     let a = c8 .args in
     let s = now (a .text) in
     let n : isPeriod (getD s (a .at + 1) 0) ≡ true = sym (c4 .is-period .ensures) ∙ not-false _ (c3 .if2 .left) in
-    rw (le-leb (a .at + 2) (length s) (omega arith), n, le-leb (a .at + 6) (length s) (omega arith), kept _ (c .word-at .ok),
-        c .word-at .ensures)
+    rw (
+      le-leb (a .at + 2) (length s) (omega arith),
+      n,
+      le-leb (a .at + 6) (length s) (omega arith),
+      kept _ (c .word-at .ok),
+      c .word-at .ensures,
+    )
 
 pub input-at-spec : {M : Type 1} → statement M
 input-at-spec =

@@ -40,8 +40,11 @@ unfolding declarationOf
 returns-3 c =
     let a = c .before .before .before .before .before .before .args in
     let s = now (a .text) in
-    rw (le-leb (a .at + 2) (length s) (omega arith), le-leb (getD s (a .at + 1) 0) 1 (omega arith),
-        lt-leb (a .at + 4) (length s) (omega arith))
+    rw (
+      le-leb (a .at + 2) (length s) (omega arith),
+      le-leb (getD s (a .at + 1) 0) 1 (omega arith),
+      lt-leb (a .at + 4) (length s) (omega arith),
+    )
 
 mode-of-requires : tie.Need-mode-of-requires
 mode-of-requires c κs = search needs
@@ -57,8 +60,13 @@ unfolding declarationOf
 returns-4 c =
     let a = c .before .before .before .before .before .before .before .before .args in
     let s = now (a .text) in
-    rw (le-leb (a .at + 2) (length s) (omega arith), le-leb (getD s (a .at + 1) 0) 1 (omega arith),
-        le-leb (a .at + 4) (length s) (omega arith), c .before .mode-of .ensures, c .two-at .ensures)
+    rw (
+      le-leb (a .at + 2) (length s) (omega arith),
+      le-leb (getD s (a .at + 1) 0) 1 (omega arith),
+      le-leb (a .at + 4) (length s) (omega arith),
+      c .before .mode-of .ensures,
+      c .two-at .ensures,
+    )
 
 pub latency-at-spec : {M : Type 1} → statement M
 latency-at-spec =

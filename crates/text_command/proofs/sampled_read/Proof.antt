@@ -66,9 +66,9 @@ returns-3 c =
     let a = c10 .args in
     let s = now (a .text) in
     let n : isFactor (getD s (a .at + 3) 0) ≡ true = sym (c3 .is-period .ensures) ∙
-        not-false _ (c .before .before .if2 .left) in
+    not-false _ (c .before .before .if2 .left) in
     let i : isIndex (getD s (a .at + 2) 0) (getD s (a .at + 3) 0) ≡ false = sym (c .before .is-index .ensures) ∙
-        not-true _ (c .if3 .taken) in
+    not-true _ (c .if3 .taken) in
     rw (le-leb (a .at + 4) (length s) (omega arith), n, i)
 
 index-of-requires : tie.Need-index-of-requires
@@ -85,7 +85,7 @@ returns-4 c =
     let s = now (a .text) in
     let n : isFactor (getD s (a .at + 3) 0) ≡ true = sym (c4 .is-period .ensures) ∙ not-false _ (c3 .if2 .left) in
     let i : isIndex (getD s (a .at + 2) 0) (getD s (a .at + 3) 0) ≡ true = sym (c .before .before .is-index .ensures) ∙
-        not-false _ (c .before .if3 .left) in
+    not-false _ (c .before .if3 .left) in
     rw (le-leb (a .at + 4) (length s) (omega arith), n, i, c .index-of .ensures)
 
 pub sampled-read-spec : {M : Type 1} → statement M

@@ -53,8 +53,10 @@ loop-less : tie.Need-loop-less Inv-loop μ-loop
 loop-less c = search needs
 
 loop-again : tie.Need-loop-again Inv-loop μ-loop
-loop-again c = (omega (arith, c .before .before .loop .inv .0),
-    turn (step c) (c .before .before .loop .inv .1) (record { holds = refl; ends = refl }))
+loop-again c = (
+  omega (arith, c .before .before .loop .inv .0),
+  turn (step c) (c .before .before .loop .inv .1) (record { holds = refl; ends = refl }),
+)
 
 same-length : tie.Need-same-length Inv-loop μ-loop
 same-length c = c .before .loop .inv .1 .size

@@ -53,15 +53,20 @@ loop-again c =
     let t = now-turn (c .before .before) in
     let e = c .width-of .ensures in
     let f = c .before .length-of .ensures in
-    rw (e, f)
-    (t .inside, omega (arith, t .short),
-        omega (arith, parts-length (t .parts), t .size, c .before .before .before .before .loop .inv .2))
+    rw (e, f) (
+      t .inside,
+      omega (arith, t .short),
+      omega (arith, parts-length (t .parts), t .size, c .before .before .before .before .loop .inv .2),
+    )
 
 returns : tie.Need-returns Inv-loop μ-loop
 returns c =
-    omega (arith, c .before .loop .inv .2,
-        ap length (rewrite-ends (c .before .before .before .args .text .now) (c .before .loop .at) (c .before .loop .left)
-        (omega arith)))
+    omega (
+      arith,
+      c .before .loop .inv .2,
+      ap length (rewrite-ends (c .before .before .before .args .text .now) (c .before .loop .at) (c .before .loop .left)
+          (omega arith)),
+    )
 
 pub rewritten-length-spec : {M : Type 1} → statement M
 rewritten-length-spec =

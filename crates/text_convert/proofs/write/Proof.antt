@@ -63,7 +63,7 @@ same-length c = c .before .loop .inv .1 .size
 returns : tie.Need-returns Inv-loop μ-loop
 returns c =
     done (rewrite-ends (c .before .before .before .before .args .text .now) (c .before .loop .at) (c .before .loop .left)
-        (omega arith))
+    (omega arith))
     (c .before .loop .inv .1)
 
 pub write-spec : {M : Type 1} → statement M

@@ -111,7 +111,7 @@ module _ (t : ℕ) (c : lts.After-operator-from (known t) (given t) own.Post) wh
     step =
         parse-node least depth text at (c .before .if1 .left) ∙
         ap (λ (x : Operator). node least (λ n. parseExpr least (depth - 1) text n) text at x)
-            (sym (c .operator-from .ensures) ∙ e)
+        (sym (c .operator-from .ensures) ∙ e)
 
     inside : (Operator.EndsEarly ≡ o → ⊥) → at < length text
     inside h = operator-inside least text at (sym (c .operator-from .ensures) ∙ e) h
@@ -130,7 +130,7 @@ module _ (t : ℕ) (c : lts.After-operator-from (known t) (given t) own.Post) wh
   unfolding node
   read-inside {kind} {x} e =
       parsed-spans least depth text at (read (record { place = at; kind = kind; operands = x })) (at + readWidth kind)
-          (read-step e) .inside
+      (read-step e) .inside
 
   -- where an operand is read
   one : {l′ : List ℕ} {r : Walked} {a : Walk} →
@@ -140,7 +140,7 @@ module _ (t : ℕ) (c : lts.After-operator-from (known t) (given t) own.Post) wh
 
   more : {l l′ : List ℕ} {r : Walked} {a b : Walk} → Ahead (length text) (length l) a →
       Walks (parseExpr least (depth - 1) text (a .at)) l (a .reads) (a .code) l′ r → r ≡ Walked.Next b →
-          Ahead (length text) (length l′) b
+      Ahead (length text) (length l′) b
   more h w e = ahead least text (depth - 1) (h .left) w e
 
 too-deep-requires : (t : ℕ) → lts.Need-too-deep-requires (known t) (given t) own.Post
@@ -198,23 +198,44 @@ enum-known-operator t c = search needs
 cast-reads : (t : ℕ) → lts.Need-cast-reads (known t) (given t) own.Post
 cast-reads t c =
     let c3 = c .before .before .before in
-    omega (arith, read-inside t c3 (c .before .operator .given .1),
-    read-least (c .before .operator .given .0 .0), width-most (c .before .operator .given .0 .0),
-    room t c3 .short, room t c3 .table, room t c3 .few, room t c3 .small)
+    omega (
+      arith,
+      read-inside t c3 (c .before .operator .given .1),
+      read-least (c .before .operator .given .0 .0),
+      width-most (c .before .operator .given .0 .0),
+      room t c3 .short,
+      room t c3 .table,
+      room t c3 .few,
+      room t c3 .small,
+    )
 
 mul-reads : (t : ℕ) → lts.Need-mul-reads (known t) (given t) own.Post
 mul-reads t c =
     let c3 = c .before .before .before in
-    omega (arith, read-inside t c3 (c .before .operator .given .1),
-    read-least (c .before .operator .given .0 .0), width-most (c .before .operator .given .0 .0),
-    room t c3 .short, room t c3 .table, room t c3 .few, room t c3 .small)
+    omega (
+      arith,
+      read-inside t c3 (c .before .operator .given .1),
+      read-least (c .before .operator .given .0 .0),
+      width-most (c .before .operator .given .0 .0),
+      room t c3 .short,
+      room t c3 .table,
+      room t c3 .few,
+      room t c3 .small,
+    )
 
 slice-write-reads : (t : ℕ) → lts.Need-slice-write-reads (known t) (given t) own.Post
 slice-write-reads t c =
     let c3 = c .before .before .before in
-    omega (arith, read-inside t c3 (c .before .operator .given .1),
-    read-least (c .before .operator .given .0 .0), width-most (c .before .operator .given .0 .0),
-    room t c3 .short, room t c3 .table, room t c3 .few, room t c3 .small)
+    omega (
+      arith,
+      read-inside t c3 (c .before .operator .given .1),
+      read-least (c .before .operator .given .0 .0),
+      width-most (c .before .operator .given .0 .0),
+      room t c3 .short,
+      room t c3 .table,
+      room t c3 .few,
+      room t c3 .small,
+    )
 
 of-read-requires : (t : ℕ) → lts.Need-of-read-requires (known t) (given t) own.Post
 of-read-requires t c κs = search needs
@@ -222,16 +243,32 @@ of-read-requires t c κs = search needs
 add-moved-on-3 : (t : ℕ) → lts.Need-add-moved-on-3 (known t) (given t) own.Post
 add-moved-on-3 t c =
     let c4 = c .before .before .before .before in
-    omega (arith, read-inside t c4 (c .before .before .operator .given .1),
-    read-least (c .before .before .operator .given .0 .0), width-most (c .before .before .operator .given .0 .0),
-    room t c4 .short, room t c4 .table, room t c4 .few, room t c4 .small, c .of-read .ensures)
+    omega (
+      arith,
+      read-inside t c4 (c .before .before .operator .given .1),
+      read-least (c .before .before .operator .given .0 .0),
+      width-most (c .before .before .operator .given .0 .0),
+      room t c4 .short,
+      room t c4 .table,
+      room t c4 .few,
+      room t c4 .small,
+      c .of-read .ensures,
+    )
 
 add-moved-on-4 : (t : ℕ) → lts.Need-add-moved-on-4 (known t) (given t) own.Post
 add-moved-on-4 t c =
     let c4 = c .before .before .before .before in
-    omega (arith, read-inside t c4 (c .before .before .operator .given .1),
-    read-least (c .before .before .operator .given .0 .0), width-most (c .before .before .operator .given .0 .0),
-    room t c4 .short, room t c4 .table, room t c4 .few, room t c4 .small, c .of-read .ensures)
+    omega (
+      arith,
+      read-inside t c4 (c .before .before .operator .given .1),
+      read-least (c .before .before .operator .given .0 .0),
+      width-most (c .before .before .operator .given .0 .0),
+      room t c4 .short,
+      room t c4 .table,
+      room t c4 .few,
+      room t c4 .small,
+      c .of-read .ensures,
+    )
 
 in-code-requires-2 : (t : ℕ) → lts.Need-in-code-requires-2 (known t) (given t) own.Post
 in-code-requires-2 t c κs = search needs
@@ -240,9 +277,17 @@ add-moved-on-5 : (t : ℕ) → lts.Need-add-moved-on-5 (known t) (given t) own.P
 add-moved-on-5 t c =
     let c3 = c .before .before .before in
     let c5 = c3 .before .before in
-    omega (arith, read-inside t c5 (c3 .operator .given .1),
-    read-least (c3 .operator .given .0 .0), width-most (c3 .operator .given .0 .0),
-    room t c5 .short, room t c5 .table, room t c5 .few, room t c5 .small, c .before .of-read .ensures)
+    omega (
+      arith,
+      read-inside t c5 (c3 .operator .given .1),
+      read-least (c3 .operator .given .0 .0),
+      width-most (c3 .operator .given .0 .0),
+      room t c5 .short,
+      room t c5 .table,
+      room t c5 .few,
+      room t c5 .small,
+      c .before .of-read .ensures,
+    )
 
 moved-on-requires-2 : (t : ℕ) → lts.Need-moved-on-requires-2 (known t) (given t) own.Post
 moved-on-requires-2 t c κs = search needs
@@ -254,9 +299,11 @@ in-expression-requires-2 : (t : ℕ) → lts.Need-in-expression-requires-2 (know
 in-expression-requires-2 t c κs = search needs
 
 add-first-at : (t : ℕ) → lts.Need-add-first-at (known t) (given t) own.Post
-add-first-at t c = omega (arith,
-    inside t (c .before .before .before) _ (c .before .enum-told5 .given .1) (λ e. let z : _≡_ {A = ℕ} 0 1 = cc in omega arith),
-    room t (c .before .before .before) .short)
+add-first-at t c = omega (
+  arith,
+  inside t (c .before .before .before) _ (c .before .enum-told5 .given .1) (λ e. let z : _≡_ {A = ℕ} 0 1 = cc in omega arith),
+  room t (c .before .before .before) .short,
+)
 
 sub-read-expression : (t : ℕ) → lts.Need-sub-read-expression (known t) (given t) own.Post
 sub-read-expression t c = search needs
@@ -296,9 +343,14 @@ read-expression-requires-2 t c κs =
     let c8 = c6 .before .before in
     let c11 = c8 .before .before .before in
     let c12 = c11 .before in
-    let c15 = c12 .before .before .before in
-    (omega (arith, c12 .if1 .left,
-    c15 .pre .0), one t c11 (rw (c8 .in-expression2 .ensures) at (c6 .read-expression .ensures)) (c .before .before .first .given .1) .left)
+    let c15 = c12 .before .before .before in (
+      omega (
+        arith,
+        c12 .if1 .left,
+        c15 .pre .0,
+      ),
+      one t c11 (rw (c8 .in-expression2 .ensures) at (c6 .read-expression .ensures)) (c .before .before .first .given .1) .left,
+    )
 
 enum-known-second : (t : ℕ) → lts.Need-enum-known-second (known t) (given t) own.Post
 enum-known-second t c = search needs
@@ -344,9 +396,11 @@ in-expression-requires-3 : (t : ℕ) → lts.Need-in-expression-requires-3 (know
 in-expression-requires-3 t c κs = search needs
 
 add-operand-at : (t : ℕ) → lts.Need-add-operand-at (known t) (given t) own.Post
-add-operand-at t c = omega (arith,
-    inside t (c .before .before .before) _ (c .before .enum-told8 .given .1) (λ e. let z : _≡_ {A = ℕ} 0 1 = cc in omega arith),
-    room t (c .before .before .before) .short)
+add-operand-at t c = omega (
+  arith,
+  inside t (c .before .before .before) _ (c .before .enum-told8 .given .1) (λ e. let z : _≡_ {A = ℕ} 0 1 = cc in omega arith),
+  room t (c .before .before .before) .short,
+)
 
 sub-read-expression-3 : (t : ℕ) → lts.Need-sub-read-expression-3 (known t) (given t) own.Post
 sub-read-expression-3 t c = search needs
@@ -399,9 +453,11 @@ in-expression-requires-4 : (t : ℕ) → lts.Need-in-expression-requires-4 (know
 in-expression-requires-4 t c κs = search needs
 
 add-condition-at : (t : ℕ) → lts.Need-add-condition-at (known t) (given t) own.Post
-add-condition-at t c = omega (arith,
-    inside t (c .before .before .before) _ (c .before .enum-told10 .given .1) (λ e. let z : _≡_ {A = ℕ} 0 1 = cc in omega arith),
-    room t (c .before .before .before) .short)
+add-condition-at t c = omega (
+  arith,
+  inside t (c .before .before .before) _ (c .before .enum-told10 .given .1) (λ e. let z : _≡_ {A = ℕ} 0 1 = cc in omega arith),
+  room t (c .before .before .before) .short,
+)
 
 sub-read-expression-4 : (t : ℕ) → lts.Need-sub-read-expression-4 (known t) (given t) own.Post
 sub-read-expression-4 t c = search needs
@@ -441,9 +497,14 @@ read-expression-requires-5 t c κs =
     let c8 = c6 .before .before in
     let c11 = c8 .before .before .before in
     let c12 = c11 .before in
-    let c15 = c12 .before .before .before in
-    (omega (arith, c12 .if1 .left,
-    c15 .pre .0), one t c11 (rw (c8 .in-expression4 .ensures) at (c6 .read-expression4 .ensures)) (c .before .before .condition .given .1) .left)
+    let c15 = c12 .before .before .before in (
+      omega (
+        arith,
+        c12 .if1 .left,
+        c15 .pre .0,
+      ),
+      one t c11 (rw (c8 .in-expression4 .ensures) at (c6 .read-expression4 .ensures)) (c .before .before .condition .given .1) .left,
+    )
 
 enum-known-first-2 : (t : ℕ) → lts.Need-enum-known-first-2 (known t) (given t) own.Post
 enum-known-first-2 t c = search needs

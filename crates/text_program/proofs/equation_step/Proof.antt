@@ -50,7 +50,7 @@ add-adds c =
     let c9 = c7 .before .before in
     let c12 = c9 .before .before .before in
     let h = ahead _ _ 16 (room-after 8 (c12 .pre .1)) (rw (c9 .in-program .ensures) at (c7 .read-expression .ensures))
-        (c3 .walked .given .1) in
+    (c3 .walked .given .1) in
     omega (arith, h .left .short, h .left .small, h .inside)
 
 adds-requires : tie.Need-adds-requires

@@ -26,14 +26,14 @@ returns : tie.Need-returns
 unfolding operatorFrom
 returns c =
     let is = sym (c .before .before .before .before .before .operator-at .ensures) ∙
-        c .before .before .before .operator .given .1 in
+    c .before .before .before .operator .given .1 in
     rw (is, sym (c .before .is-allowed .ensures) ∙ not-true (c .before .is-allowed .result) (c .if1 .taken))
 
 returns-2 : tie.Need-returns-2
 unfolding operatorFrom
 returns-2 c =
     let is = sym (c .before .before .before .before .before .operator-at .ensures) ∙
-        c .before .before .before .operator .given .1 in
+    c .before .before .before .operator .given .1 in
     rw (is, sym (c .before .is-allowed .ensures) ∙ not-false (c .before .is-allowed .result) (c .if1 .left))
 
 -- What is no read is left as it is.

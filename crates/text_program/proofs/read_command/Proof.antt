@@ -63,7 +63,7 @@ module _ (c : tie.After-declaration-at) where
 
     refuses : {f : Fault} {r : Step} → r ≡ Step.Refused f →
         ((next : ℕ → ℕ → Program → Outcome Program) (label : ℕ) (p : Program) →
-            declare least next text at label p k ≡ refused f) →
+        declare least next text at label p k ≡ refused f) →
         Steps (now (start .args .reads)) r
     refuses q h = λ p label n.
         subst (Stepped least text at label p _ _ _ _) (sym q)

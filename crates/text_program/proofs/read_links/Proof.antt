@@ -15,7 +15,7 @@ use Rattle.text_program.proofs.read_links.Tie as tie
 abbrev Inv-loop : tie.InvT-loop
 Inv-loop text at next₀ count₀ next count =
     (links : List Link) × (length links ≡ count) × (count ≤ 16) ×
-        (parseLinks 16 text at [] ≡ parseLinks (16 - count) text next links)
+    (parseLinks 16 text at [] ≡ parseLinks (16 - count) text next links)
 
 abbrev μ-loop : tie.MeasureT-loop
 μ-loop text at next₀ count₀ next count = length text - next

@@ -54,7 +54,7 @@ Inv-loop least text reads₀ places₀ periods₀ weights₀ labels₀ firsts₀
     reads places periods weights labels firsts codes starts lengths signals chains capped limit at label count to =
     (length reads ≡ length reads₀) ×
     Reading least text reads (tablesOf places periods weights labels firsts codes starts lengths signals chains capped limit) at
-        label
+    label
     count to
 
 abbrev μ-loop : tie.MeasureT-loop
@@ -106,7 +106,7 @@ module _ (c : tie.After-known-told Inv-loop μ-loop) where
   added =
       subst
       (Stepped least text (top .loop .at) (top .loop .label) (reading .program) (top .loop .reads) (top .loop .count)
-          (top .loop .to)
+      (top .loop .to)
       kept)
       (c .before .step .given .1) (b .read-command .ensures (reading .program) (top .loop .label) (reading .tables .counts))
 

@@ -23,7 +23,7 @@ unfolding deepOf
 returns c =
     c .refuse-walk .ensures ∙
     sym (ap (deepOf _) (here-next _ _ _
-        (sym (c .before .enum-told .given .1) ∙ c .before .before .before .operator-here .ensures)))
+    (sym (c .before .enum-told .given .1) ∙ c .before .before .before .operator-here .ensures)))
 
 returns-2 : tie.Need-returns-2
 unfolding deepOf

@@ -25,7 +25,7 @@ returns-2 c t e =
     let i = c .before .before .before in
     subst (PutJudged t _ _ _) (sym (c .refuse2 .ensures))
     (put-twice t _ _ _ (i .if1 .left) (i .before .pre)
-        (λ z. c .before .if2 .taken (ap (λ l. getD l (i .before .args .signal) 0) (sym e) ∙ z)))
+    (λ z. c .before .if2 .taken (ap (λ l. getD l (i .before .args .signal) 0) (sym e) ∙ z)))
 
 element-copy-out-if3 : tie.Need-element-copy-out-if3
 element-copy-out-if3 c = search needs
@@ -39,14 +39,14 @@ returns-3 c t e =
     let i = r .before .before in
     subst (PutJudged t _ _ _) (sym (c .refuse3 .ensures))
     (put-late t _ _ _ (i .if1 .left) (i .before .pre) (ap (λ l. getD l (i .before .args .signal) 0) e ∙ r .if2 .left)
-        (c .before .if3 .taken))
+    (c .before .if3 .taken))
 
 returns-4 : tie.Need-returns-4
 returns-4 c t e =
     let r = c .before .before in
     let i = r .before .before in
     put-good t _ _ _ (i .if1 .left) (i .before .pre) (ap (λ l. getD l (i .before .args .signal) 0) e ∙ r .if2 .left)
-        (c .if3 .left)
+    (c .if3 .left)
 
 pub judge-put-spec : {M : Type 1} → statement M
 judge-put-spec =

@@ -200,7 +200,7 @@ returns-3 c =
     let few : count p ≤ 64 = omega arith in
     let fit : length (g .done) ≤ 64 = omega (arith, g .after .puts-are) in
     let missing = ap (allRanked _) n ∙ sym (a .all-put .ensures) ∙
-        not-true (a .all-put .result) (c .before .before .if1 .taken) in
+    not-true (a .all-put .result) (c .before .before .if1 .taken) in
     scheduled-refused p _ _ _
     (placed-missing _ p o (l .at) (slotsOf (l .order) (l .phases) (l .ranks) (l .puts)) g past few fit missing)
     (c .unplaced3 .ensures ∙ c .before .refuse .ensures ∙

@@ -50,9 +50,9 @@ returns c =
     let text = now (c6 .args .text) in
     subst (EndedAt _) (sym (c .end-at .ensures))
     (subst (λ x. EndedAt x (endedOf text (l .at) (c .before .before .schedule-command-at .result)))
-        (sym (i .3 ∙ ap (λ m. parsePuts m text (l .at) (i .0)) (one-less (i .1) (omega arith))))
+    (sym (i .3 ∙ ap (λ m. parsePuts m text (l .at) (i .0)) (one-less (i .1) (omega arith))))
     (puts-stop text (l .at) (i .1 - 1) (i .0) _ (c .before .match .keys2)
-        (sym (c .before .before .schedule-command-at .ensures))))
+    (sym (c .before .before .schedule-command-at .ensures))))
 
 in-schedule-requires : tie.Need-in-schedule-requires Inv-loop μ-loop
 in-schedule-requires c κs = search needs
@@ -71,10 +71,14 @@ loop-again c =
     let l = c5 .loop in
     let i = l .inv in
     let text = now (c7 .args .text) in
-    rw (c .in-schedule .ensures) ( _, i .1 - 1, omega arith,
+    rw (c .in-schedule .ensures) (
+      _,
+      i .1 - 1,
+      omega arith,
       i .3 ∙ ap (λ m. parsePuts m text (l .at) (i .0)) (one-less (i .1) (omega arith)) ∙
           puts-more (i .1 - 1) text (l .at) (i .0) _ _
-          (sym (c3 .schedule-command-at .ensures) ∙ c .before .enum-told .given .1), )
+          (sym (c3 .schedule-command-at .ensures) ∙ c .before .enum-told .given .1),
+    )
 
 refuse-end-requires : tie.Need-refuse-end-requires Inv-loop μ-loop
 refuse-end-requires c κs = search needs

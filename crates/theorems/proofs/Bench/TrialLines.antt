@@ -20,15 +20,15 @@ use Rattle.model.specs.Rules.Reads.{rateOf, runCycle, settled}
 use Rattle.model.specs.Rules.Schedule.{Schedule, phaseOf}
 use Rattle.model.specs.Rules.Script.{Action, alter, run, scriptOf, callsFrom, noSamples, callsOf, cyclesOf}
 use Rattle.model.specs.Rules.Trial.{signalsOf, linesFrom, startOf}
+use Rattle.model.specs.Rules.Word.{AreBytes}
 use Rattle.theorems.specs.Held.{stateBy, logBy, lentAt, Supplied, Holds}
 use Rattle.theorems.specs.Streams.{Satisfies}
 use Rattle.theorems.specs.Trials.{heldAt, wordsAfter, samplesAt, inputsOf}
 use Rattle.model.proofs.Images.Bounds.{Bounded}
-use Rattle.model.proofs.Texts.Commands.{Bytes}
 use Rattle.model.proofs.Bench.Scripts.{calls-count, lines-count}
 use Rattle.model.proofs.Images.Stretches.{image-count, table-length, table-at}
 use Rattle.model.proofs.Pairs.Verdict.{pair-accepted, pair-multiple, pair-bounded}
-use Rattle.theorems.proofs.Streams.Bytes.{list-shown, calls-hold}
+use Rattle.theorems.proofs.Streams.OnBytes.{list-shown, calls-hold}
 use Rattle.theorems.proofs.Pairs.Exact.{accepted-exactly}
 use Rattle.theorems.proofs.Streams.Lists.{logOf}
 use Rattle.theorems.proofs.Bench.Trials.{Tried}
@@ -198,7 +198,7 @@ module _ (p : Program) (s : Schedule) (h : ℕ) (acc : Feasible p s) (whole : Mu
 
 -- A trial that is accepted prints as many lines as the RUNs say, and line j has the words that the streams give after j + 1
 -- cycles, the inputs being those that the SETs supply.
-module _ (program schedule text : List ℕ) (bytes : Bytes program) (lines : List (List ℕ))
+module _ (program schedule text : List ℕ) (bytes : AreBytes program) (lines : List (List ℕ))
     (tried : Tried program schedule text lines)
   where
     abbrev p : Program

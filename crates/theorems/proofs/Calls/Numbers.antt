@@ -13,13 +13,13 @@ use Rattle.model.specs.Rules.Outcome.{accepted}
 use Rattle.model.specs.Rules.Program.{Program, Chain}
 use Rattle.model.specs.Rules.Schedule.{Schedule, Put}
 use Rattle.model.specs.Rules.Tail.{Bears}
+use Rattle.model.specs.Rules.Word.{AreBytes}
 use Rattle.theorems.specs.Conversion.{ConvertsTo, ConvertRefusedAt}
 use Rattle.theorems.specs.Exactness.{sizeOf, CompileRefusedAt, ResetRefusedAt, CycleRefusedAt}
 use Rattle.theorems.specs.Refusals.{RateFault, ChainFault, PutFault, MetFault, LoadFault, RefusedAt}
 use Rattle.theorems.specs.Stops.{StopsExpr, StopsLinks, Stops, StopsPuts}
 use Rattle.theorems.specs.WellFormed.{WellFormed}
 use Rattle.model.specs.declared.Fault.{Fault}
-use Rattle.model.proofs.Texts.Commands.{Bytes}
 use Rattle.model.proofs.Pairs.Verdict.{pair-bounded}
 use Rattle.theorems.proofs.Calls.CallsExact.{compile-exactly}
 use Rattle.theorems.proofs.Pairs.Exact.{accepted-exactly}
@@ -114,13 +114,13 @@ cycle-number (CycleRefusedAt.outside usable none) = omega arith
 cycle-number (CycleRefusedAt.unsampled usable positioned lt) = omega arith
 
 -- 24,678 bytes hold the image of every accepted pair, with its tail.
-pub size-most : (program schedule : List ℕ) → Bytes program → (q : Pair) → pairOf program schedule ≡ accepted q → sizeOf q ≤ 24678
+pub size-most : (program schedule : List ℕ) → AreBytes program → (q : Pair) → pairOf program schedule ≡ accepted q → sizeOf q ≤ 24678
 size-most program schedule bytes q e =
     let b = pair-bounded program schedule q e bytes in
     omega (arith, b .size, b .signals)
 
 -- So what compile yields is small.
-pub length-most : (program schedule buffer : List ℕ) → Bytes program → (n : ℕ) →
+pub length-most : (program schedule buffer : List ℕ) → AreBytes program → (n : ℕ) →
     compileOf program schedule buffer .answer ≡ accepted n → n ≤ 24678
 length-most program schedule buffer bytes n e =
     let d = compile-exactly program schedule buffer .done n _ .0 (e, refl) in

@@ -29,11 +29,12 @@ use Rattle.model.specs.Rules.Machine.{
 use Rattle.model.specs.Rules.Outcome.{Outcome, accepted, refused, _▷_, provided, fault}
 use Rattle.model.specs.Rules.Program.{Program, Read, Chain}
 use Rattle.model.specs.Rules.Schedule.{Schedule, Put}
+use Rattle.model.specs.Rules.Word.{AreBytes}
 use Rattle.theorems.specs.Conditions.{ReadIn, putAt}
 use Rattle.theorems.specs.Refusals.{RateFault, ChainFault, PutFault, MetFault, LoadFault, RefusedAt}
 use Rattle.theorems.specs.Stops.{StopsExpr, StopsLinks, Stops, StopsPuts}
 use Rattle.model.specs.declared.Fault.{Fault}
-use Rattle.model.proofs.Texts.Commands.{Bytes, declaration-sound, operator-sound}
+use Rattle.model.proofs.Texts.Commands.{declaration-sound, operator-sound}
 use Rattle.model.proofs.Texts.Picks.{byte-inside, signal-inside, operator-inside}
 use Rattle.model.proofs.Basics.Outcomes.{accepted≢refused, accepted-same, then-accepted}
 use Rattle.model.proofs.Texts.Puts.{put-sound, puts-end}
@@ -164,7 +165,7 @@ module _ (program schedule : List ℕ) where
       go (accepted q) e = tt
       go (refused f) e = omega (arith, refusal-small (refused-exactly program schedule f .0 e))
 
-  image-small : Bytes program → (image : List ℕ) → verdictOf program schedule ≡ accepted image → length image ≤ 65791
+  image-small : AreBytes program → (image : List ℕ) → verdictOf program schedule ≡ accepted image → length image ≤ 65791
   unfolding verdictOf
   image-small bytes image e =
       let h = then-accepted (pairOf program schedule) _ image e in
@@ -174,7 +175,7 @@ module _ (program schedule : List ℕ) where
       omega (arith, written-length (q .program) (q .schedule) (q .hypercycle), bounded .size, bounded .signals)
 
 -- A compile refuses the texts, or answers 17 with L + 4N.
-pub places-small : (program schedule buffer : List ℕ) → Bytes program → (f : Fault) →
+pub places-small : (program schedule buffer : List ℕ) → AreBytes program → (f : Fault) →
     compileOf program schedule buffer .answer ≡ refused f → f .place ≤ 65791
 unfolding compileOf verdictOf
 places-small program schedule buffer bytes f e =

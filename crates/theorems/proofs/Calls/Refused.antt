@@ -68,4 +68,4 @@ writer-keeps buffer (Writer.converts program) f e =
     parseWith 1 program ▷ λ p.
     provided (leb (length (rewrite program)) (length buffer)) 17 (length (rewrite program)) ▷ λ _.
     accepted (record { yields = length (rewrite program); leaves = rewrite program ++ drop (length (rewrite program)) buffer })) f
-        e
+    e

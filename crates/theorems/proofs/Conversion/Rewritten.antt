@@ -270,7 +270,7 @@ module _ (text new : List ℕ) where
   declaration-copied (DeclarationWritten.latency h b r) c =
       let e = c .bytes 1 (omega arith) in
       rw (← e, ← two-copied c 2 (omega arith))
-          (DeclarationWritten.latency (c .inside) (first-copied c (omega arith) ∙ b) (rw e r))
+      (DeclarationWritten.latency (c .inside) (first-copied c (omega arith) ∙ b) (rw e r))
   declaration-copied (DeclarationWritten.link h b) c =
       rw (← c .bytes 1 (omega arith)) (DeclarationWritten.link (c .inside) (first-copied c (omega arith) ∙ b))
   declaration-copied (DeclarationWritten.cap h b) c =
@@ -362,7 +362,7 @@ module _ (text new : List ℕ) where
       let n = widthOf c in
       let P = take n (drop at text) in
       let wide : length P ≡ n = length-take-le n (drop at text)
-          (omega (arith, length-drop at text, command-inside text at c w .0)) in
+      (omega (arith, length-drop at text, command-inside text at c w .0)) in
       let steps = stands-steps c w s in
       let next : Stands (at + n) (at′ + n) = subst (λ m. Stands (at + n) (at′ + m)) (ap length e ∙ wide) (steps .next) in
       let copied : Copied at at′ n =
@@ -661,7 +661,7 @@ module _ (text new : List ℕ) where
 
   chain-moves : (at label next bound : ℕ) (mode : Mode) (ls : List Link) (p q : Program) → length (p .chains) < 16 →
       DeclarationWritten text at (Declaration.Latency mode bound) → ((b : ℕ) → Stands (at + 4) b → LinksMoved ls next b) →
-          2 ≤ length ls →
+      2 ≤ length ls →
       length ls ≤ 16 → Declaring next 0 (withChain p (record { place = at; mode = mode; bound = bound; links = ls })) q →
       Declaring at label p q
   chain-moves at label next bound mode ls p q room e g low high f at′ p′ same allowed s =

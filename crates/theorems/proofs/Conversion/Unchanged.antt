@@ -62,7 +62,7 @@ module _ (text : List ℕ) where
           ap (λ d. rewriteAt text at d ++ rewriteFrom left text (at + widthOf d)) (command-decoded text at c w) ∙
           ap (λ l. l ++ rewriteFrom left text (at + n)) e ∙
           ap (λ l. take n (drop at text) ++ l)
-              (f .holds left (omega (arith, command-inside text at c w .1)) ∙ sym (drop-drop n at text)) ∙
+          (f .holds left (omega (arith, command-inside text at c w .1)) ∙ sym (drop-drop n at text)) ∙
           take-append-drop n (drop at text)
 
   kept-same : {at : ℕ} (c : Command) → CommandWritten text at c → ((bytes : List ℕ) → bytesAfter c bytes ≡ bytes) →
@@ -124,7 +124,7 @@ module _ (text : List ℕ) where
   links-same (SpellsLinks.ends e) f = f
   links-same (SpellsLinks.link {at = at} e le r) f =
       kept-same (ofDeclaration (Declaration.Link (byteAt text (at + 1)))) (DeclarationWritten.link le e) (λ bytes. refl)
-          (links-same r f)
+      (links-same r f)
 
   one-same : {at label next given : ℕ} {p q : Program} → DeclaresOne leastFactor text at label p next given q → Same next →
       Same at

@@ -37,10 +37,9 @@ use Rattle.model.specs.Rules.Reads.{rateOf, due}
 use Rattle.model.specs.Rules.Report.{exprCommands, bodyCommands, listCommands, cycleCommands}
 use Rattle.model.specs.Rules.Schedule.{Schedule}
 use Rattle.model.specs.Rules.Search.{chosen}
-use Rattle.model.specs.Rules.Word.{fourBytes, wordBytes}
+use Rattle.model.specs.Rules.Word.{fourBytes, wordBytes, AreBytes}
 use Rattle.model.specs.declared.Code.{Code}
 use Rattle.model.proofs.Images.Bounds.{Words, BodyWords, Bounded}
-use Rattle.model.proofs.Texts.Commands.{Bytes}
 use Rattle.model.proofs.Images.Runs.{
   push-at,
   load-at,
@@ -143,6 +142,6 @@ module _ (p : Program) (s : Schedule) (h : ℕ) (bounded : Bounded p s h) where
       list-count (λ x. due (rateOf p s x) c) (s .order) known
 
 -- Whatever well-formed image a cycle is lent, its count has 32 bits.
-pub count-fits : (image : List ℕ) (state : List ℤ) → Bytes image → wellFormed image ≡ true → cycleCount image state < 2 ^ 32
+pub count-fits : (image : List ℕ) (state : List ℤ) → AreBytes image → wellFormed image ≡ true → cycleCount image state < 2 ^ 32
 unfolding cycleCount
 count-fits image state bytes h = signals-fit image _ (image-short image bytes h) (lists-inside image _)

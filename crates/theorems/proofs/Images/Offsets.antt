@@ -5,7 +5,7 @@ use native.Mathlib.Omega.{arith}
 use Rattle.model.specs.Rules.Image.{codes, runLists, listsAt, codesAt, lengthOf, imageOf}
 use Rattle.model.specs.Rules.Program.{Program, count}
 use Rattle.model.specs.Rules.Schedule.{Schedule}
-use Rattle.theorems.specs.Images.{Fits, OffsetsFit}
+use Rattle.theorems.specs.Images.{OffsetFits, OffsetsFit}
 use Rattle.model.proofs.Images.Bounds.{Bounded}
 use Rattle.model.proofs.Images.Stretches.{
   parts-most,
@@ -19,7 +19,7 @@ use Rattle.model.proofs.Images.Stretches.{
 
 module _ (p : Program) (s : Schedule) (h : ℕ) (bounded : Bounded p s h) where
   fits : {given start layout : ℕ} → given ≡ start → layout ≡ start → start ≤ lengthOf p s h →
-      Fits (imageOf p s h) given layout
+      OffsetFits (imageOf p s h) given layout
   fits e f le =
       record {
         exact = e ∙ sym f;

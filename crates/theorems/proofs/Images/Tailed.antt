@@ -15,16 +15,16 @@ use Rattle.model.specs.Says.Calls.{Call, reset, cycle, callOf, logged, after, l
 use Rattle.model.specs.Rules.Machine.{statedLength, wellFormed, imagePart, lentOk, Effect, resetOf, cycleOf}
 use Rattle.model.specs.Rules.Outcome.{Outcome, accepted, _▷_, provided}
 use Rattle.model.specs.Rules.Tail.{tailIn, Bears}
+use Rattle.model.specs.Rules.Word.{AreBytes}
 use Rattle.theorems.specs.Held.{answersOf}
-use Rattle.model.proofs.Texts.Commands.{Bytes}
 use Rattle.model.proofs.Images.Tails.{part-is, tail-is, lent-ok, bears-itself, lent-formed, lent-bears}
 
 -- The bytes of the image are bytes.
-pub part-bytes : (lent : List ℕ) → Bytes lent → Bytes (imagePart lent)
+pub part-bytes : (lent : List ℕ) → AreBytes lent → AreBytes (imagePart lent)
 unfolding imagePart
 part-bytes lent bytes i = go (statedLength lent) lent bytes i
   where
-    go : (n : ℕ) (l : List ℕ) → Bytes l → (i : ℕ) → getD (take n l) i 0 < 256
+    go : (n : ℕ) (l : List ℕ) → AreBytes l → (i : ℕ) → getD (take n l) i 0 < 256
     go n l b i = cut (ltb i n) refl
       where
         cut : (t : Bool) → ltb i n ≡ t → getD (take n l) i 0 < 256

@@ -99,7 +99,7 @@ module _ (p : Program) where
         go : (a b c : Bool) → ltb (q .signal) (count p) ≡ a → isPut before (q .signal) ≡ b →
             ltb (q .phase) (signalAt p (q .signal) .period) ≡ c →
             f among (cond a (cond b (fault 12 (q .place) ∷ []) (cond c [] (fault 13 (q .place) ∷ [])))
-                (fault 12 (q .place) ∷ [])) →
+            (fault 12 (q .place) ∷ [])) →
             FaultAt all (length before) (f .number) × (f .place ≡ q .place)
         go false b c d e g (_among_.here s) =
             rw s (FaultAt.undeclared (rw here (λ k. false≢true (sym d ∙ lt-ltb _ _ k))), refl)

@@ -131,7 +131,7 @@ module _ (program schedule : List ℕ) (p : Program) (h : ℕ) (s : Schedule) (c
   -- 16.
   pub timely-judged : ((r : ℕ) (ρ : Read) → ReadIn p r ρ → Met p s r ρ) →
       Judged (λ u. (a : Chain) → a among p .chains → KeepsTime p s a) (LowestFault (ChainFault p (KeepsTime p s) 16))
-          (timely p s h)
+      (timely p s h)
   unfolding timely
   timely-judged g =
       chains-judged p (KeepsTime p s) 16 (keeps p s h) (λ a i.

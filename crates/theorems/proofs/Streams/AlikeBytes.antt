@@ -15,7 +15,7 @@ use Rattle.model.specs.Rules.Reads.{rateOf, stored}
 use Rattle.model.specs.Rules.Schedule.{Schedule}
 use Rattle.theorems.proofs.Streams.Alike.{Alike, alike-words}
 use Rattle.model.proofs.Images.Bounds.{Bounded}
-use Rattle.theorems.proofs.Streams.Bytes.{wordsOf, view, list-shown}
+use Rattle.theorems.proofs.Streams.OnBytes.{wordsOf, view, list-shown}
 use Rattle.model.proofs.Pairs.Rate.{stored-none, stored-some}
 
 ends-stored : (p : Program) (s : Schedule) → Feasible p s → (c x j : ℕ) → x < count p → EndsWith p s c x j →

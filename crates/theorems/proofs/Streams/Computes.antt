@@ -63,7 +63,7 @@ module _ (code : List ℕ) (state samples : List ℤ) where
       run-expr x (suc f) at stack fit (parts .0) ∙
       step f _ _ _ (unary-at operator (parts .1)) ∙
       ap (λ (k : ℕ). runFrom f code state samples k (unaryWord operator (value word x) ∷ stack))
-          (simp length-append (omega arith))
+      (simp length-append (omega arith))
   run-expr (choose x y z) f at stack fit h =
       let parts = choose-parts x y z h in
       ap (λ (k : ℕ). runFrom k code state samples at stack) (omega arith) ∙

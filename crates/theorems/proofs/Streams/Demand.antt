@@ -18,18 +18,18 @@ use Rattle.model.specs.Rules.Program.{Program, count}
 use Rattle.model.specs.Rules.Report.{reportOf}
 use Rattle.model.specs.Rules.Schedule.{Schedule}
 use Rattle.model.specs.Rules.Tail.{Bears}
+use Rattle.model.specs.Rules.Word.{AreBytes}
 use Rattle.theorems.specs.Held.{answersOf, stateBy, logBy, answersBy, Supplied}
 use Rattle.theorems.specs.Lists.{KeptBy}
 use Rattle.model.proofs.Images.Bounds.{Bounded}
-use Rattle.model.proofs.Texts.Commands as Texts
 use Rattle.model.proofs.Images.Formed.{image-well-formed}
 use Rattle.model.proofs.Images.Stretches.{image-count}
 use Rattle.model.proofs.Images.Tails as Tails
 use Rattle.model.proofs.Pairs.Verdict.{pair-accepted, pair-multiple, pair-bounded}
-use Rattle.theorems.proofs.Streams.Bytes as Bytes
+use Rattle.theorems.proofs.Streams.OnBytes as OnBytes
 use Rattle.theorems.proofs.Images.Tailed
 
-module _ (program schedule : List ℕ) (bytes : Texts.Bytes program) (p : Program) (s : Schedule) (h : ℕ)
+module _ (program schedule : List ℕ) (bytes : AreBytes program) (p : Program) (s : Schedule) (h : ℕ)
     (e : pairOf program schedule ≡ accepted (record { program = p; schedule = s; hypercycle = h })) where
   pub accepts : Feasible p s
   accepts = pair-accepted program schedule _ e
@@ -87,9 +87,9 @@ module _ (program schedule : List ℕ) (bytes : Texts.Bytes program) (p : Progra
         let long = lent-long old r in
         let log = log-alike old cs in
         record {
-          answered = λ counts. rw (e, answers-alike old cs, log) (Bytes.list-answered p s h accepts whole bounded old long cs);
+          answered = λ counts. rw (e, answers-alike old cs, log) (OnBytes.list-answered p s h accepts whole bounded old long cs);
           holds = λ inputs X sup sat.
               rw (log, state-alike old cs)
-              (Bytes.calls-hold p s h accepts whole bounded old long cs inputs X
+              (OnBytes.calls-hold p s h accepts whole bounded old long cs inputs X
               (subst (λ (l : List (List ℤ)). Supplied p s l inputs) log sup) sat);
         }

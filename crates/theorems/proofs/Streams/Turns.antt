@@ -93,7 +93,7 @@ module _ (p : Program) (s : Schedule) (acc : Feasible p s) (inputs X : ℕ → �
 
   module _ (t q : ℕ) (here : (x : ℕ) → x < count p → due (rateOf p s x) q ≡ due (rateOf p s x) t) (samples : ℕ → ℤ)
       (lent : (x k : ℕ) → x < count p → IsInput (signalAt p x .body) → runCycle (rateOf p s x) k ≡ t →
-          samples x ≡ inputs x k) where
+      samples x ≡ inputs x k) where
     -- What a run stores is the next element.
     run-word : (x k : ℕ) (σ : ℕ → ℤ) → x < count p → runCycle (rateOf p s x) k ≡ t → Midway t (rank (s .order) x) σ →
         next (λ ρ. σ (ρ .operands .signal)) (samples x) (signalAt p x .body) ≡ X x (suc k)

@@ -95,7 +95,7 @@ module _ {text : List ℕ} {at : ℕ} where
 
   equation-written : (period : ℕ) (initial : ℤ) (weight : ℕ) → DeclarationRanged (Declaration.Equation period initial weight) →
       Stands text at (0x11 ∷ period ∷ (wordBytes initial ++ twoBytes weight)) →
-          DeclarationWritten text at (Declaration.Equation period initial weight)
+      DeclarationWritten text at (Declaration.Equation period initial weight)
   unfolding wordBytes fourBytes twoBytes
   equation-written period initial weight r h =
       let p = byte-from 1 (omega arith) h in
@@ -127,21 +127,21 @@ module _ {text : List ℕ} {at : ℕ} where
   unfolding twoBytes
   tag-written label le h =
       rw (← two-at label le (behind (0x15 ∷ []) (twoBytes label) h))
-          (DeclarationWritten.tag (inside (omega arith) h) (byte-here h))
+      (DeclarationWritten.tag (inside (omega arith) h) (byte-here h))
 
   -- CONST, and the reads.
   constant-written : (w : ℤ) → IsWord w → Stands text at (0x20 ∷ wordBytes w) → OperatorWritten text at (Operator.Constant w)
   unfolding wordBytes fourBytes
   constant-written w f h =
       rw (← word-at w (fits w f) (behind (0x20 ∷ []) (wordBytes w) h))
-          (OperatorWritten.constant (inside (omega arith) h) (byte-here h))
+      (OperatorWritten.constant (inside (omega arith) h) (byte-here h))
 
   plain-written : (kind : Kind) (x : Sampled) → readWidth kind ≡ 2 → x .factor ≡ 1 → x .index ≡ Fixed 0 →
       Stands text at (readByte kind ∷ x .signal ∷ []) → OperatorWritten text at (Operator.Read kind x)
   plain-written kind x two n i h =
       let s = byte-from 1 (omega arith) h in
       let w : OperatorWritten text at
-          (Operator.Read kind (record { signal = byteAt text (at + 1); factor = 1; index = Fixed 0 })) =
+      (Operator.Read kind (record { signal = byteAt text (at + 1); factor = 1; index = Fixed 0 })) =
       OperatorWritten.plain kind two (inside (omega arith) h) (byte-here h) in
       let e : record { signal = byteAt text (at + 1); factor = 1; index = Fixed 0 } ≡ x =
       λ j. record { signal = s j; factor = sym n j; index = sym i j } in
@@ -149,7 +149,7 @@ module _ {text : List ℕ} {at : ℕ} where
 
   sampled-written : (kind : Kind) (x : Sampled) → readWidth kind ≡ 4 → InPeriods (x .factor) → IndexBelow (x .factor) (x .index) →
       Stands text at (readByte kind ∷ x .signal ∷ indexByte (x .index) ∷ x .factor ∷ []) →
-          OperatorWritten text at (Operator.Read kind x)
+      OperatorWritten text at (Operator.Read kind x)
   sampled-written kind x four n i h =
       let s = byte-from 1 (omega arith) h in
       let b = byte-from 2 (omega arith) h in
@@ -157,10 +157,10 @@ module _ {text : List ℕ} {at : ℕ} where
       let w : OperatorWritten text at (Operator.Read kind
       (record { signal = byteAt text (at + 1); factor = byteAt text (at + 3); index = indexOf (byteAt text (at + 2)) })) =
       OperatorWritten.sampled kind four (inside (omega arith) h) (byte-here h) (rw f n)
-          (rw (b, f) (below (x .factor) (x .index) i)) in
+      (rw (b, f) (below (x .factor) (x .index) i)) in
       let back : indexOf (byteAt text (at + 2)) ≡ x .index = ap indexOf b ∙ index-back (x .factor) (x .index) i in
       let e : record { signal = byteAt text (at + 1); factor = byteAt text (at + 3); index = indexOf (byteAt text (at + 2)) } ≡
-          x =
+      x =
       λ j. record { signal = s j; factor = f j; index = back j } in
       subst (λ y. OperatorWritten text at (Operator.Read kind y)) e w
 

@@ -99,7 +99,7 @@ module _ {least : ℕ} {text : List ℕ} where
       let q = one-below 0 d le in
       rw (q .1)
       (expr-step least text (q .0) at _ (operator-decoded e) (operator-fit text at (operator-of text at e)) ∙
-          accepted-then _ _ tt (true-provided _ 5 at t))
+      accepted-then _ _ tt (true-provided _ 5 at t))
   parse-expr d (Spells.two {at = at} {x = x} {y = y} e u v) le =
       let q = one-below _ d le in
       rw (q .1)

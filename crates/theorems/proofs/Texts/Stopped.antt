@@ -366,7 +366,7 @@ module _ (least : ℕ) (text : List ℕ) where
             Stops.trailing (as-written _ tt e) (leb-false _ _ t))) (λ u t. tt)
         declare-stops (Declaration.Input period initial) e r lt =
             onward (omega arith) (DeclaresOne.inputs (signal-room p r (inl (written-byte text at (as-written _ tt e))))
-                (as-written _ tt e))
+            (as-written _ tt e))
         declare-stops (Declaration.Equation period initial weight) e r lt =
             let room = signal-room p r (inr (written-byte text at (as-written _ tt e))) in
             refuses-then (Stops least text at label p) (parseExpr least 16 text (at + inProgram 0x11)) _
@@ -487,11 +487,11 @@ module _ (least : ℕ) (text : List ℕ) where
   commands-refused (Stops.cut {at = at} {label = label} {p = p} r c) left enough =
       let lt = declaration-cut-inside text at c in
       declared-refused left at label p _ _ (declaration-cut text at .1 (inr c)) lt (declaration-fit p text at lt r) enough
-          (λ next. refl)
+      (λ next. refl)
   commands-refused (Stops.outside {at = at} {label = label} {p = p} r o) left enough =
       let lt = declaration-outside-inside text at o in
       declared-refused left at label p _ _ (declaration-outside text at .1 o) lt (declaration-fit p text at lt r) enough
-          (λ next. refl)
+      (λ next. refl)
   commands-refused (Stops.expression {at = at} {label = label} {p = p} room w s) left enough =
       declared-refused left at label p _ _ (decoded w) (written-inside text at w)
       (fit at p w (HasRoom.signal (inr (written-byte text at w)) room)) enough (λ next.

@@ -158,7 +158,7 @@ module _ (text : List ℕ) (at : ℕ) where
       spans (inProgram 0x10) (omega arith) h (rw b) (λ m g.
       rw (← byte text m (at + 1) (omega arith), ← word text m (at + 2) (omega arith))
       (DeclarationWritten.input (long text m _ g h) (byte text m at (omega arith) ∙ b)
-          (rw (byte text m (at + 1) (omega arith)) r)))
+      (rw (byte text m (at + 1) (omega arith)) r)))
   declaration-span c (DeclarationWritten.equation h b r) =
       spans (inProgram 0x11) (omega arith) h (rw b) (λ m g.
       rw (← byte text m (at + 1) (omega arith), ← word text m (at + 2) (omega arith), ← two text m (at + 6) (omega arith))

@@ -66,9 +66,14 @@ returns-9 c =
     let c6 = c5 .before in
     let b = c6 .args .byte in
     let no = c5 .match .rest in
-    simp ( more b 0x20 (omega arith), over b 0x21 0x22 (omega arith) (omega arith),
-      over b 0x23 0x25 (omega arith) (omega arith), over b 0x30 0x36 (omega arith) (omega arith),
-      ne-eqb b 0x38 (no .0 .1), ne-eqb b 0x3A (no .1), )
+    simp (
+      more b 0x20 (omega arith),
+      over b 0x21 0x22 (omega arith) (omega arith),
+      over b 0x23 0x25 (omega arith) (omega arith),
+      over b 0x30 0x36 (omega arith) (omega arith),
+      ne-eqb b 0x38 (no .0 .1),
+      ne-eqb b 0x3A (no .1),
+    )
 
 pub expression-spec : {M : Type 1} → statement M
 expression-spec =

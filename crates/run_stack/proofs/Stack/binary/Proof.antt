@@ -31,7 +31,7 @@ returns c =
     let w : toZ w32 (ofZ w32 (c .binary .result)) ≡ binaryWord (a .operator) first (a .self .top) =
     kept (c .binary .result) (c .binary .ok) ∙ c .binary .ensures ∙
     ap₂ (binaryWord (a .operator)) (kept first (c .before .before .first .given))
-        (kept (a .self .top) (c .before .struct-told .given .0 .1)) in
+    (kept (a .self .top) (c .before .struct-told .given .0 .1)) in
     (rw w (view-two (binaryWord (a .operator)) (a .self .top) (a .self .below) (a .self .height) (search needs)), search needs)
 
 pub binary-spec : {M : Type 1} → statement M

@@ -41,8 +41,11 @@ returns c =
     let condition = getD (a .self .below) (a .self .height - 2) (pos 0) in
     let then = getD (a .self .below) (a .self .height - 2 + 1) (pos 0) in
     let w : toZ w32 (ofZ w32 (c .choose .result)) ≡ ifWord condition then (a .self .top) =
-    kept (c .choose .result) (c .choose .ok) ∙ c .choose .ensures ∙ rw ( kept condition (c3 .condition .given),
-      kept then (c .before .before .then .given), kept (a .self .top) (c .before .struct-told .given .0 .1), ) in
+    kept (c .choose .result) (c .choose .ok) ∙ c .choose .ensures ∙ rw (
+      kept condition (c3 .condition .given),
+      kept then (c .before .before .then .given),
+      kept (a .self .top) (c .before .struct-told .given .0 .1),
+    ) in
     (rw w (view-three ifWord (a .self .top) (a .self .below) (a .self .height) (search needs)), search needs)
 
 pub choose-spec : {M : Type 1} → statement M

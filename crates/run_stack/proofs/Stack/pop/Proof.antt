@@ -25,7 +25,7 @@ returns c =
     let a = c .before .before .before .before .args in
     let t : toZ w32 (ofZ w32 (a .self .top)) ≡ a .self .top = kept (a .self .top) (c .struct-told .given .0 .1) in
     let u : toZ w32 (ofZ w32 (getD (a .self .below) (a .self .height - 1) (pos 0))) ≡ getD (a .self .below) (a .self .height - 1)
-        (pos 0) = kept _ (c .before .top .given) in
+    (pos 0) = kept _ (c .before .top .given) in
     (rw (t, u) (view-pop (a .self .top) (a .self .below) (a .self .height) (search needs)), search needs)
 
 pub pop-spec : {M : Type 1} → statement M

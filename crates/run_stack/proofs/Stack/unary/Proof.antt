@@ -17,7 +17,7 @@ returns c =
     let a = c .before .before .before .args in
     let w : toZ w32 (ofZ w32 (c .unary .result)) ≡ unaryWord (a .operator) (a .self .top) =
     kept (c .unary .result) (c .unary .ok) ∙ c .unary .ensures ∙
-        ap (unaryWord (a .operator)) (kept (a .self .top) (c .before .struct-told .given .0 .1)) in
+    ap (unaryWord (a .operator)) (kept (a .self .top) (c .before .struct-told .given .0 .1)) in
     (rw w (view-one (unaryWord (a .operator)) (a .self .top) (a .self .below) (a .self .height) (search needs)), refl)
 
 pub unary-spec : {M : Type 1} → statement M

@@ -191,7 +191,7 @@ module _ (p : Program) (s : Schedule) (h : ℕ) (acc : Feasible p s) (whole : Mu
     cycle-first =
         rw cycle-is
         (getD-set-same ran 0 (pos moved) (pos 0)
-            (omega (arith, run-length (imageOf p s h) (runList p s at) samples state, ready .long)))
+        (omega (arith, run-length (imageOf p s h) (runList p s at) samples state, ready .long)))
 
     cycle-turns : wordsOf (cycleWords (imageOf p s h) state samples) ≡ turns p s (sampleOf samples) at (s .order) (wordsOf state)
     unfolding ran runList
@@ -247,7 +247,7 @@ module _ (p : Program) (s : Schedule) (h : ℕ) (acc : Feasible p s) (whole : Mu
               leaves = cycleWords (imageOf p s h) state samples;
             })) ≡
             cycled (getD (countsOf p s h) (positionOf (getD state 0 (pos 0))) 0) state (cycleWords (imageOf p s h) state samples)
-                b
+            b
         go true e = rw (lt-leb (count p) (length samples) (ltb-true (length samples) (count p) e))
         go false e = rw (le-leb (count p) (length samples) (ltb-false (length samples) (count p) e))
 
@@ -312,7 +312,7 @@ module _ (p : Program) (s : Schedule) (h : ℕ) (acc : Feasible p s) (whole : Mu
   calls-shown : {n : ℕ} {state : List ℤ} {st : State} {log log′ : List (List ℤ)} (cs : List Call) →
       Shown p h n state st log log′ →
       Shown p h n (after (imageOf p s h) state cs) (stateAfter p s h st cs) (logAfter (imageOf p s h) state log cs)
-          (logOf p log′ cs)
+      (logOf p log′ cs)
   unfolding after logAfter callOf
   calls-shown [] x = x
   calls-shown (reset ∷ cs) x = calls-shown cs (reset-shown x)
@@ -355,7 +355,7 @@ module _ (p : Program) (s : Schedule) (h : ℕ) (acc : Feasible p s) (whole : Mu
           (cycled counted state left b .answer ∷ answersOf image (cycled counted state left b .left) cs)
           (length
           (logAfter image (cycled counted state left b .left) (logged (cycle samples) (cycled counted state left b .answer) log)
-              cs))
+          cs))
       go true t same next = Answered.few (ltb-true (length samples) (count p) t) same
       go false t same next = Answered.runs (ltb-false (length samples) (count p) t) next
 
