@@ -96,7 +96,9 @@ module _ {all l : List ℕ} {to h : ℕ} {after : ℕ → ℕ} {out nexts : List
               let f : k < length (new c) = rw z at low in
               let y : at + 1 + k ≡ at + suc k = omega arith in
               rw (z, here, y) (p .due c (suc k) lc (omega (arith, ap length e)) ∙ ap (λ v. getD v (suc k) 0) e))
-              (λ ne. rw (there d ne) (p .due d k lt (omega (arith, ap length (others d lt ne))) ∙ ap (λ v. getD v k 0) (others d lt ne)));
+              (λ ne.
+              rw (there d ne)
+              (p .due d k lt (omega (arith, ap length (others d lt ne))) ∙ ap (λ v. getD v k 0) (others d lt ne)));
           rest = λ q none. same-or q (to + at)
               (λ z. rw z (getD-set-same out (to + at) x 0 entry-inside ∙ sym entry-is))
               (λ ne. getD-set-other out (to + at) q x 0 ne ∙
@@ -190,12 +192,19 @@ module _ (f : ℕ → List ℕ) (h : ℕ) (starts : List ℕ) (o : StartsOf f h 
   start-ends : (c : ℕ) → c < h → getD starts c 0 + length (f c) + after c ≡ length all
   start-ends c lt =
       let s = o .stands c lt in
-      omega (arith, s .size, ap length (s .is), length-append (s .before) (f c ++ listsAfter f h c), length-append (f c) (listsAfter f h c))
+      omega (
+        arith,
+        s .size,
+        ap length (s .is),
+        length-append (s .before) (f c ++ listsAfter f h c),
+        length-append (f c) (listsAfter f h c),
+      )
 
   start-due : (c k : ℕ) → c < h → k < length (f c) → getD all (getD starts c 0 + k) 0 ≡ getD (f c) k 0
   start-due c k lt low =
       let s = o .stands c lt in
-      rw (s .is, ← s .size) (getD-append-add (s .before) (f c ++ listsAfter f h c) k 0 ∙ List·getD-append (f c) (listsAfter f h c) 0 k low)
+      rw (s .is, ← s .size)
+      (getD-append-add (s .before) (f c ++ listsAfter f h c) k 0 ∙ List·getD-append (f c) (listsAfter f h c) 0 k low)
 
   -- Every entry is in some list.
   abbrev Covered : ℕ → Type 0

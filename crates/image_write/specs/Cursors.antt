@@ -26,8 +26,8 @@ pub record StartsOf (f : ℕ → List ℕ) (h : ℕ) (starts : List ℕ) : Type 
   pub small : length (joined (table h f)) < 65536
   pub long : length starts ≡ 241
 
--- Of `all`, which is to stand at `to` in l, the entries `left c` of each cycle c are still to be written, from `nexts[c]` on. After
--- the list of cycle c come `after c` bytes.
+-- Of `all`, which is to stand at `to` in l, the entries `left c` of each cycle c are still to be written, from `nexts[c]` on.
+-- After the list of cycle c come `after c` bytes.
 pub record Pending (all l : List ℕ) (to h : ℕ) (after : ℕ → ℕ) (left : ℕ → List ℕ) (out nexts : List ℕ) : Type 0 where
   pub size : length out ≡ length l
   pub fits : to + length all ≤ length l

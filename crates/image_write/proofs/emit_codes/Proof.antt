@@ -78,8 +78,10 @@ loop-again c =
     let w = c .before .before .before .before in
     let p =
     (rw (named w .narrow .ensures) at (c .before .before .emit-signal .ensures)) .puts (nth (g w) (x w)) (stands w)
-    (s w .pre .0 .spelled (x w) (lt w)) in
-    (omega (arith, lt w), turn (codes-next (g w) (x w) (within w)) (named w .before .before .loop .inv .1) (record { holds = p .0; ends = p .1 }))
+    (s w .pre .0 .spelled (x w) (lt w)) in (
+      omega (arith, lt w),
+      turn (codes-next (g w) (x w) (within w)) (named w .before .before .loop .inv .1) (record { holds = p .0; ends = p .1 }),
+    )
 
 same-length : tie.Need-same-length Inv-loop μ-loop
 same-length c = c .before .loop .inv .1 .size
@@ -87,7 +89,8 @@ same-length c = c .before .loop .inv .1 .size
 returns : tie.Need-returns Inv-loop μ-loop
 returns c =
     let b = c .before .before .before .before in
-    done (codes-end (signalsOf (b .args .text .now)) (c .before .loop .x) (omega (arith, b .pre .0 .count-is))) (c .before .loop .inv .1)
+    done (codes-end (signalsOf (b .args .text .now)) (c .before .loop .x) (omega (arith, b .pre .0 .count-is)))
+    (c .before .loop .inv .1)
 
 pub emit-codes-spec : {M : Type 1} → statement M
 emit-codes-spec =

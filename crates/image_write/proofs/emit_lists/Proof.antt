@@ -55,9 +55,11 @@ module _ (w : tie.After-wide Inv-loop μ-loop) where
   splits =
       subst
       (λ (y : ℕ).
-      Splits (rateAt (s .args .periods .now) (s .args .phases .now) y) x (s .args .h) (left (top .loop .i)) (left (top .loop .i + 1)))
+      Splits (rateAt (s .args .periods .now) (s .args .phases .now) y) x (s .args .h) (left (top .loop .i))
+      (left (top .loop .i + 1)))
       (sym (w .wide .ensures .0))
-      (λ c lc. list-step (s .args .periods .now) (s .args .order .now) (s .args .phases .now) (s .args .n) c (top .loop .i) lt .is)
+      (λ c lc.
+      list-step (s .args .periods .now) (s .args .order .now) (s .args .phases .now) (s .args .n) c (top .loop .i) lt .is)
 
 loop-holds : tie.Need-loop-holds Inv-loop μ-loop
 unfolding listsBy
@@ -91,10 +93,12 @@ emit-runs-requires c κs =
       s w .pre .0 .2,
       l .inv .1,
       record {
-        all = joined (listsBy (s w .args .periods .now) (s w .args .order .now) (s w .args .phases .now) (s w .args .n) (s w .args .h));
+        all =
+            joined (listsBy (s w .args .periods .now) (s w .args .order .now) (s w .args .phases .now) (s w .args .n) (s w .args .h));
         l = s w .args .out .now;
         after = λ d.
-            length (listsAfter (listBy (s w .args .periods .now) (s w .args .order .now) (s w .args .phases .now) (s w .args .n)) (s w .args .h) d);
+            length (listsAfter (listBy (s w .args .periods .now) (s w .args .order .now) (s w .args .phases .now) (s w .args .n))
+            (s w .args .h) d);
         old = left w (l .i);
         new = left w (l .i + 1);
         pending = l .inv .2;

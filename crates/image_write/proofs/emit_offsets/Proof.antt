@@ -12,7 +12,17 @@ use Rattle.image_write.specs.Cursors.{Stands}
 use Rattle.image_write.specs.Lists.{listBy, listsBy, pairs}
 use Rattle.model.proofs.Basics.Left.{Left, parts-length, starts, room, turn, done, wrote-size}
 use Rattle.image_write.proofs.Cursors.{Prefix, prefix-start, prefix-stands, prefix-next, starts-more}
-use Rattle.image_write.proofs.Joined.{joinedFrom, pairsFrom, joined-starts, joined-step, joined-ends, pairs-start, pairs-step, pairs-last, lists-most}
+use Rattle.image_write.proofs.Joined.{
+  joinedFrom,
+  pairsFrom,
+  joined-starts,
+  joined-step,
+  joined-ends,
+  pairs-start,
+  pairs-step,
+  pairs-last,
+  lists-most,
+}
 use Rattle.image_write.proofs.emit_offsets.Statement.{statement}
 use Rattle.image_write.proofs.emit_offsets.Tie as tie
 
@@ -106,7 +116,8 @@ unfolding twoBytes
 put-offset-requires c κs =
     let t = c .before .before in
     let b = start-of t in
-    room (pairs-step (f b) (h b) (b .args .start + t .loop .before) (t .loop .c) (c .before .loop-test .taken)) (t .loop .inv .3) (b .pre .3)
+    room (pairs-step (f b) (h b) (b .args .start + t .loop .before) (t .loop .c) (c .before .loop-test .taken))
+    (t .loop .inv .3) (b .pre .3)
 
 mul-widest : tie.Need-mul-widest Inv-loop μ-loop
 mul-widest c =
@@ -134,12 +145,14 @@ loop-again : tie.Need-loop-again Inv-loop μ-loop
 loop-again c =
     let b = s c in
     let l = at c .loop in
-    let e : b .args .start + l .before + length (f b (l .c)) ≡ b .args .start + (l .before + c .widest .result) = omega (arith, runs-are c) in (
+    let e : b .args .start + l .before + length (f b (l .c)) ≡ b .args .start + (l .before + c .widest .result) =
+    omega (arith, runs-are c) in (
       omega (arith, lt c),
       length-set (l .starts) (l .c) _ ∙ l .inv .1,
       further c,
       rw (← e)
-          (turn (pairs-step (f b) (h b) (b .args .start + l .before) (l .c) (lt c)) (l .inv .3) (c .before .before .before .put-offset .ensures)),
+          (turn (pairs-step (f b) (h b) (b .args .start + l .before) (l .c) (lt c)) (l .inv .3)
+          (c .before .before .before .put-offset .ensures)),
       prefix-next (f b) (h b) (l .c) (l .before) (c .widest .result) (lt c) (runs-are c) (l .inv .4),
       starts-more (f b) (h b) (l .starts) (l .c) (l .before) (omega (arith, lt c, l .inv .1, b .pre .1 .2))
           (prefix-stands (f b) (h b) (l .c) (l .before) (lt c) (l .inv .4)) (l .inv .5),
@@ -162,10 +175,12 @@ unfolding twoBytes
 put-offset-requires-2 c κs =
     let t = c .before .before in
     let b = start-of t in
-    room (pairs-last (f b) (h b) (b .args .start + t .loop .before) (t .loop .c) (omega (arith, c .before .loop-test .left))) (t .loop .inv .3) (b .pre .3)
+    room (pairs-last (f b) (h b) (b .args .start + t .loop .before) (t .loop .c) (omega (arith, c .before .loop-test .left)))
+    (t .loop .inv .3) (b .pre .3)
 
 same-length : tie.Need-same-length Inv-loop μ-loop
-same-length c = wrote-size (c .before .before .put-offset2 .ensures) ∙ c .before .before .before .before .before .loop .inv .3 .size
+same-length c =
+    wrote-size (c .before .before .put-offset2 .ensures) ∙ c .before .before .before .before .before .loop .inv .3 .size
 
 returns : tie.Need-returns Inv-loop μ-loop
 unfolding listsBy
@@ -177,14 +192,16 @@ returns c =
     let room : h b < length (l .starts) = omega (arith, l .inv .1, b .pre .1 .2) in (
       record {
         stands = λ d lt.
-            subst (Stands (f b) (h b) d) (sym (getD-set-other (l .starts) (h b) d (l .before) 0 (λ z. omega arith))) (l .inv .5 d (omega arith));
+            subst (Stands (f b) (h b) d) (sym (getD-set-other (l .starts) (h b) d (l .before) 0 (λ z. omega arith)))
+            (l .inv .5 d (omega arith));
         last =
             getD-set-same (l .starts) (h b) (l .before) 0 room ∙
             omega (arith, l .inv .2, ap length (joined-ends (f b) (h b) (l .c) le));
         small = omega (arith, few b);
         long = length-set (l .starts) (h b) _ ∙ l .inv .1;
       },
-      done refl (turn (pairs-last (f b) (h b) (b .args .start + l .before) (l .c) le) (l .inv .3) (c .before .before .put-offset2 .ensures)),
+      done refl
+          (turn (pairs-last (f b) (h b) (b .args .start + l .before) (l .c) le) (l .inv .3) (c .before .before .put-offset2 .ensures)),
     )
 
 pub emit-offsets-spec : {M : Type 1} → statement M

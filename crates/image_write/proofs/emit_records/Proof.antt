@@ -93,7 +93,8 @@ put-record-requires c κs =
       omega (
         arith,
         record-length (nth (g b) (l .x) .initial) (getD (at b) (l .x) 0),
-        room (records-next (g b) (at b) (l .x) (omega (arith, d .count-is)) (omega (arith, many b, d .count-is))) (l .inv .1) (b .pre .3),
+        room (records-next (g b) (at b) (l .x) (omega (arith, d .count-is)) (omega (arith, many b, d .count-is)))
+            (l .inv .1) (b .pre .3),
       ),
     )
 

@@ -68,8 +68,8 @@ module _ (w : tie.After-wider Inv-loop μ-loop) where
   abbrev begun : Open a (s .args .x) (s .args .h) (s .args .to) (s .args .out .now) (s .args .nexts .now)
   begun = s .pre .3
 
-  pending : Pending (begun .all) (begun .l) (s .args .to) (s .args .h) (begun .after) (mixed (begun .old) (begun .new) c) (top .loop .out)
-      (top .loop .nexts)
+  pending : Pending (begun .all) (begun .l) (s .args .to) (s .args .h) (begun .after) (mixed (begun .old) (begun .new) c)
+      (top .loop .out) (top .loop .nexts)
   pending = top .loop .inv .3 (begun .all) (begun .l) (begun .after) (begun .old) (begun .new) (begun .pending) (begun .splits)
 
   inside : s .args .to + w .wider .result < length (top .loop .out)
@@ -103,7 +103,9 @@ loop-holds c =
       c .before .wide .ensures .0,
       b .pre .2,
       rw (c .wide2 .ensures .0) (due-first r (b .pre .0)),
-      λ all l after old new p q. rw (c .wide2 .ensures .0) (pending-same (first-mixed r (b .pre .0) (b .args .x) (b .args .h) old new q) p),
+      λ all l after old new p q.
+          rw (c .wide2 .ensures .0)
+          (pending-same (first-mixed r (b .pre .0) (b .args .x) (b .args .h) old new q) p),
     )
 
 mul-wider : tie.Need-mul-wider Inv-loop μ-loop
@@ -147,8 +149,8 @@ loop-again w =
       rw (l .inv .0) (due-next (a w) (v w) (l .c) (l .inv .2)),
       λ all k after old new p q.
           pending-same (λ d ld. ap (λ (j : ℕ). mixed old new (l .c + j) d) (sym (l .inv .0)))
-          (pending-written (l .inv .3 all k after old new p q) (l .c) (s w .args .x) (lt w) (first w old new q) (others w old new q)
-          (room w) (w .wider .result) (w .wider .ensures .0)),
+          (pending-written (l .inv .3 all k after old new p q) (l .c) (s w .args .x) (lt w) (first w old new q)
+          (others w old new q) (room w) (w .wider .result) (w .wider .ensures .0)),
     )
 
 same-length : tie.Need-same-length Inv-loop μ-loop
