@@ -37,7 +37,7 @@ use Rattle.text_program.specs.declared.Tables.{Tables}
 use Rattle.check_latency.specs.Timely.{Timed, RouteOf, windowBy}
 use Rattle.check_latency.specs.declared.Route.{Route}
 use Rattle.check_latency.proofs.Following.{reads-length}
-use Rattle.check_latency.proofs.Laws.{rate-at}
+use Rattle.check_latency.proofs.Indices.{rate-at}
 
 -- A signal's rate by the tables.
 abbrev pub rateAt : List ℕ → List ℕ → ℕ → Rate

@@ -23,7 +23,7 @@ use Rattle.model.proofs.Pairs.Verdict.{links-declared, chains-linked}
 use Rattle.text_program.specs.Tables.{noChain, chainAt}
 use Rattle.text_program.specs.declared.Tables.{Tables}
 use Rattle.check_latency.specs.Timely.{Known, Joined, Along, RouteOf}
-use Rattle.check_latency.proofs.Laws.{read-signal}
+use Rattle.check_latency.proofs.Indices.{read-signal}
 
 module _ (p : Program) (s : Schedule) where
   -- Hops stay as they are where one is set behind them.

@@ -16,7 +16,7 @@ use Rattle.model.proofs.Images.Bounds.{depth-some}
 use Rattle.model.proofs.Images.Bounds.{height-some}
 use Rattle.model.proofs.Images.Runs.{commands-most}
 use Rattle.image_code.specs.Shape.{leadOf}
-use Rattle.image_code.proofs.Laws.{SpellsAll, Below, commandsOfAll, heightOfAll, opened}
+use Rattle.image_code.proofs.Operands.{SpellsAll, Below, commandsOfAll, heightOfAll, opened}
 use Rattle.model.proofs.Texts.Legal.{expr-code}
 use Rattle.image_code.proofs.Spans.{inside}
 use Rattle.image_measure.specs.Measure.{Nests, Tells, Measures, Joined, Operated}

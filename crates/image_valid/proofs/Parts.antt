@@ -12,7 +12,21 @@ use lib.Dec.{leb, ltb, eqb}
 use lib.ListN.{length, getD, take, drop, length-take, length-drop}
 use lib.Seq.{getD-take, getD-drop}
 use Rattle.model.specs.Rules.Image.{listsAt}
-use Rattle.model.specs.Rules.Machine.{stretch, hyperOf, countOf, listOffset, codeOffset, listOf, codeOf, codeOk, headOk, listsOk, entriesOk, codesOk, wellFormed}
+use Rattle.model.specs.Rules.Machine.{
+  stretch,
+  hyperOf,
+  countOf,
+  listOffset,
+  codeOffset,
+  listOf,
+  codeOf,
+  codeOk,
+  headOk,
+  listsOk,
+  entriesOk,
+  codesOk,
+  wellFormed,
+}
 use Rattle.model.specs.Rules.Search.{allBelow}
 use Rattle.model.specs.Rules.Word.{byteAt, twoAt}
 use Rattle.image_valid.proofs.All.{all-none, all-fails, all-same, all-at}

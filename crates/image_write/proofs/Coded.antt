@@ -49,7 +49,10 @@ module _ (signals : List Signal) where
   pub codes-next : (x : ℕ) → x < length signals → Parts (codesLeft x) (signalCode x (nth x .body)) (codesLeft (x + 1))
   unfolding codesLeft
   codes-next x lt =
-      record { is = ap joined (codes-step x lt) ∙ joined-cons (signalCode x (nth x .body)) (codesFrom (x + 1) (drop (x + 1) signals)) }
+      record {
+        is = ap joined (codes-step x lt) ∙
+            joined-cons (signalCode x (nth x .body)) (codesFrom (x + 1) (drop (x + 1) signals));
+      }
 
   pub codes-end : (x : ℕ) → length signals ≤ x → codesLeft x ≡ []
   unfolding codesLeft codesFrom joinFrom
@@ -85,7 +88,12 @@ start-at k m start (σ ∷ signals) zero e le = let z : m ≡ k = omega arith in
 start-at k m start (σ ∷ signals) (suc x) e le =
     let c = signalCode k (σ .body) in
     let t = codesFrom (suc k) signals in
-    omega (arith, ap length (joined-cons c t), length-append c (joined t), start-at (suc k) m (start + length c) signals x (omega arith) (omega arith))
+    omega (
+      arith,
+      ap length (joined-cons c t),
+      length-append c (joined t),
+      start-at (suc k) m (start + length c) signals x (omega arith) (omega arith),
+    )
 
 pub code-start : (start : ℕ) (signals : List Signal) (x : ℕ) → x ≤ length signals →
     getD (offsets start (codesFrom 0 signals)) x 0 + length (codesLeft signals x) ≡ start + length (joined (codesFrom 0 signals))
@@ -129,4 +137,5 @@ pub records-at : (signals : List Signal) (starts text : List ℕ) (x place : ℕ
     Parts (recordsLeft signals starts x) (wordBytes (wordAt text (place + 2)) ++ twoBytes (getD starts x 0))
     (recordsLeft signals starts (x + 1))
 records-at signals starts text x place lt few e h =
-    rw (sym (initial-word text (nth signals x) h .0 ∙ ap (λ (a : ℕ). wordAt text (a + 2)) e)) (records-next signals starts x lt few)
+    rw (sym (initial-word text (nth signals x) h .0 ∙ ap (λ (a : ℕ). wordAt text (a + 2)) e))
+    (records-next signals starts x lt few)

@@ -96,7 +96,11 @@ module _ {text : List ℕ} {t : Tables} {periods order phases : List ℕ} {p : P
   code-size =
       let n = count-is in
       rw (← signals-are)
-      (omega (arith, code-sum p (t .codes) (r .tables .codes) (t .signals) (omega arith), ap length (codes-end (p .signals) (t .signals) (omega arith))))
+      (omega (
+        arith,
+        code-sum p (t .codes) (r .tables .codes) (t .signals) (omega arith),
+        ap length (codes-end (p .signals) (t .signals) (omega arith)),
+      ))
 
   pub in-order : (j : ℕ) → j < t .signals → getD order j 0 < count p
   in-order j lt =
@@ -163,13 +167,15 @@ module _ {text : List ℕ} {t : Tables} {periods order phases : List ℕ} {p : P
     unfolding lengthOf
     length-by = ap₂ (λ (at : ℕ) cs. at + length (joined cs)) code-by codes-are
 
-    pub image-size : length (imageBy h (t .signals) (signalsOf text) (listsBy periods order phases (t .signals) h) (codesFrom 0 (signalsOf text))) ≡
+    pub image-size : length (imageBy h (t .signals) (signalsOf text) (listsBy periods order phases (t .signals) h)
+        (codesFrom 0 (signalsOf text))) ≡
         lengthOf p s h
     image-size = rw (← image-by) (image-length p s h)
 
     -- What is written from the first byte on is the image, and the rest stays.
     pub image-written : {l l′ : List ℕ} {end : ℕ} → lengthOf p s h ≤ length l →
-        Wrote l 0 (imageBy h (t .signals) (signalsOf text) (listsBy periods order phases (t .signals) h) (codesFrom 0 (signalsOf text))) l′ end →
+        Wrote l 0 (imageBy h (t .signals) (signalsOf text) (listsBy periods order phases (t .signals) h)
+        (codesFrom 0 (signalsOf text))) l′ end →
         l′ ≡ imageOf p s h ++ drop (lengthOf p s h) l
     image-written {l} le w =
         let e : 0 + length (imageOf p s h) ≡ lengthOf p s h = omega (arith, image-length p s h) in

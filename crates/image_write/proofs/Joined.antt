@@ -53,7 +53,8 @@ module _ (f : ℕ → List ℕ) (h : ℕ) where
   unfolding pairsFrom
   pairs-start offset = ap (λ l. pairs (offsets offset l)) (table-starts f h)
 
-  pub pairs-step : (offset c : ℕ) → c < h → Parts (pairsFrom offset c) (twoBytes offset) (pairsFrom (offset + length (f c)) (c + 1))
+  pub pairs-step : (offset c : ℕ) → c < h →
+      Parts (pairsFrom offset c) (twoBytes offset) (pairsFrom (offset + length (f c)) (c + 1))
   unfolding pairsFrom offsets
   pairs-step offset c lt =
       record {

@@ -24,7 +24,8 @@ one-entry : (b : Bool) (x : ℕ) → length (runOf b x) ≡ cond b 1 0
 one-entry true x = refl
 one-entry false x = refl
 
-pub run-size : (periods phases : List ℕ) (c x : ℕ) → length (runOf (isDue periods phases c x) x) ≡ cond (due (rateAt periods phases x) c) 1 0
+pub run-size : (periods phases : List ℕ) (c x : ℕ) →
+    length (runOf (isDue periods phases c x) x) ≡ cond (due (rateAt periods phases x) c) 1 0
 unfolding due
 run-size periods phases c x = one-entry (isDue periods phases c x) x
 

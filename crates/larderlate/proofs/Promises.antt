@@ -68,7 +68,16 @@ use Rattle.theorems.specs.Held.{stateBy, logBy}
 use Rattle.theorems.specs.Conditions.{_among_, ReadIn, LegalPairWith, LegalPair}
 use Rattle.theorems.specs.Conversion.{earlierFactor, Converts, ConversionKeeps}
 use Rattle.theorems.specs.Decimals.{SaysNumber, SaysWord}
-use Rattle.theorems.specs.Enums.{declarationBytes, operatorBytes, putBytes, codeBytes, DeclarationRanged, OperatorRanged, CodeRanged, BytesAt}
+use Rattle.theorems.specs.Enums.{
+  declarationBytes,
+  operatorBytes,
+  putBytes,
+  codeBytes,
+  DeclarationRanged,
+  OperatorRanged,
+  CodeRanged,
+  BytesAt,
+}
 use Rattle.theorems.specs.Examples.{ExamplesHold}
 use Rattle.theorems.specs.Exactness.{Exactly, sizeOf, Compiles, CompileRefusedAt, Resets, ResetRefusedAt, Cycles, CycleRefusedAt}
 use Rattle.theorems.specs.Lists.{

@@ -16,7 +16,18 @@ use Rattle.model.specs.declared.Mode.{Mode}
 use Rattle.model.specs.declared.Mode.the-variants.{Exists, Backward}
 use Rattle.model.proofs.Pairs.Decide.{all-true}
 use Rattle.latency_rule.specs.declared.Hop.{Hop}
-use Rattle.latency_rule.specs.Back.{noHop, entryBy, backBy, runLatencyBy, lateBy, inTimeBy, timelyBy, isPlain, allPlain, Decide}
+use Rattle.latency_rule.specs.Back.{
+  noHop,
+  entryBy,
+  backBy,
+  runLatencyBy,
+  lateBy,
+  inTimeBy,
+  timelyBy,
+  isPlain,
+  allPlain,
+  Decide,
+}
 
 -- A test with one answer.
 all-constant : (n : ℕ) (test : ℕ → Bool) (b : Bool) → ((i : ℕ) → test i ≡ b) → allBelow (suc n) test ≡ b

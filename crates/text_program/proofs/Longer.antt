@@ -10,7 +10,7 @@ use borrow.Author.Tests.{eqb-true, eqb-false, leb-true, leb-false}
 use Rattle.model.specs.Rules.Outcome.{Outcome, accepted, refused, Parsed}
 use Rattle.model.specs.Rules.Program.{Link, parseLinks}
 use Rattle.model.specs.Rules.Word.{byteAt}
-use Rattle.text_program.proofs.Laws.{links-end, links-many, links-cut, links-more}
+use Rattle.text_program.proofs.Parts.{links-end, links-many, links-cut, links-more}
 
 -- What is read from `at` on, if anything is, ends at `at` or after.
 abbrev pub Past : {A : Type 0} → ℕ → Outcome (Parsed A) → Type 0

@@ -6,7 +6,19 @@ use mathlib.Core.Path.{_≡_}
 use lib.ListN.{length, getD}
 use Rattle.model.specs.Rules.Outcome.{Outcome, accepted, refused}
 use Rattle.model.specs.Rules.Image.{signalCode}
-use Rattle.model.specs.Rules.Program.{Program, Signal, Chain, Limit, unlimited, limit, count, signalAt, bodyReads, weightOf, parseProgram}
+use Rattle.model.specs.Rules.Program.{
+  Program,
+  Signal,
+  Chain,
+  Limit,
+  unlimited,
+  limit,
+  count,
+  signalAt,
+  bodyReads,
+  weightOf,
+  parseProgram,
+}
 use Rattle.model.specs.Rules.Reads.{rank}
 use Rattle.model.specs.Rules.Schedule.{Schedule, phaseOf}
 use Rattle.model.specs.declared.Mode.the-variants.{Exists}

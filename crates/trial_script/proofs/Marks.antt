@@ -10,7 +10,20 @@ use lib.ListN.{length, getD, take, drop, set, replicate, length-take, length-app
 use lib.Seq.{getD-take, getD-drop, getD-set-same, getD-set-other}
 use Rattle.model.specs.Rules.Image.{exprCode, signalCode, imageOf}
 use Rattle.model.specs.Rules.Machine.{countOf, codeOffset, codeOf}
-use Rattle.model.specs.Rules.Program.{Program, Body, input, equation, Expr, constant, read, binary, unary, choose, count, signalAt}
+use Rattle.model.specs.Rules.Program.{
+  Program,
+  Body,
+  input,
+  equation,
+  Expr,
+  constant,
+  read,
+  binary,
+  unary,
+  choose,
+  count,
+  signalAt,
+}
 use Rattle.model.specs.Rules.Schedule.{Schedule}
 use Rattle.model.specs.Rules.Word.{byteAt}
 use Rattle.model.proofs.Images.Bounds.{Bounded}

@@ -12,7 +12,7 @@ use Rattle.model.specs.Rules.Reads.{rateOf, settledIndex, settled}
 use Rattle.check_rates.proofs.Counting.{found-none, one-spelled, one-stands}
 use Rattle.check_rates.proofs.Judging.{indexed, few-signals}
 use Rattle.read_rule.specs.Reads.{rateIn}
-use Rattle.check_latency.proofs.Laws.{rate-at, read-signal}
+use Rattle.check_latency.proofs.Indices.{rate-at, read-signal}
 use Rattle.check_latency.proofs.hop_at.Statement.{statement}
 use Rattle.check_latency.proofs.hop_at.Tie as tie
 

@@ -60,7 +60,8 @@ window-of-requires : tie.Need-window-of-requires
 window-of-requires c κs =
     let b = c .before .before .before in
     let i = b .before .before .follow in
-    let a = b .before .before .before .before .before .before .before .before .before .before in
+    let b5 = b .before .before .before .before .before in
+    let a = b5 .before .before .before .before .before in
     let t = a .pre .0 .2 in
     let d = decided _ _ _ _ _ _ _ _ _ t (a .pre .1) (i .ensures _ _ (t .joined)) in
     (t .hyper, rw (b .timing-at .ensures) (d .positive))
@@ -83,7 +84,8 @@ is-timely-requires c κs =
     let g = c .before .window-of in
     let b = c .before .before .before .before .before in
     let i = b .before .before .follow in
-    let a = b .before .before .before .before .before .before .before .before .before .before in
+    let b5 = b .before .before .before .before .before in
+    let a = b5 .before .before .before .before .before in
     let t = a .pre .0 .2 in
     let d = decided _ _ _ _ _ _ _ _ _ t (a .pre .1) (i .ensures _ _ (t .joined)) in
     let w : g .result ≡ windowBy (a .args .h) (periodAt (now (a .args .periods)) (i .result .last)) =

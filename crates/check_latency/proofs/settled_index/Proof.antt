@@ -3,7 +3,7 @@ use mathlib.Core.Path.{ap, _∙_}
 use native.Mathlib.Omega.{arith}
 use Rattle.model.specs.Rules.Search.{foundOr}
 use Rattle.read_rule.specs.Reads.{rateIn, indexFound}
-use Rattle.check_latency.proofs.Laws.{settle-byte}
+use Rattle.check_latency.proofs.Indices.{settle-byte}
 use borrow.Author.Needs.{needs}
 use Rattle.check_latency.proofs.settled_index.Statement.{statement}
 use Rattle.check_latency.proofs.settled_index.Tie as tie

@@ -10,7 +10,7 @@ use Rattle.model.specs.declared.Found.{Found}
 use Rattle.basics.specs.Judgement.{judgementOf}
 use Rattle.text_program.specs.Tables.{PeriodsOf, WeightsOf, capOf}
 use Rattle.check_load.specs.Load.{PhasesOf}
-use Rattle.check_load.proofs.Laws.{judgedAt, judged-capped, judged-uncapped}
+use Rattle.check_load.proofs.Loads.{judgedAt, judged-capped, judged-uncapped}
 use Rattle.check_load.proofs.check_load.Statement.{statement}
 use Rattle.check_load.proofs.check_load.Tie as tie
 

@@ -7,7 +7,7 @@ use borrow.Author.Tests.{lt-ltb, le-ltb}
 use lib.Dec.{ltb}
 use lib.ListN.{getD}
 use Rattle.model.specs.Rules.Search.{first, firstFrom}
-use Rattle.read_rule.proofs.Laws.{search-none, search-here, search-next}
+use Rattle.read_rule.proofs.Searches.{search-none, search-here, search-next}
 use Rattle.check_load.proofs.first_over.Statement.{statement}
 use Rattle.check_load.proofs.first_over.Tie as tie
 

@@ -6,7 +6,7 @@ use native.Mathlib.Omega.{arith}
 use denote.Ref.{now}
 use lib.ListN.{length, getD, getD-replicate}
 use Rattle.check_load.specs.Load.{loadIn, LoadsOf}
-use Rattle.check_load.proofs.Laws.{load-none, loads-more}
+use Rattle.check_load.proofs.Loads.{load-none, loads-more}
 use Rattle.check_load.proofs.loads_of.Statement.{statement}
 use Rattle.check_load.proofs.loads_of.Tie as tie
 

@@ -2,7 +2,17 @@
 use mathlib.Core.Path.{refl, _∙_}
 use borrow.Author.Needs.{needs}
 use Rattle.check_pair.specs.Steps.{ratesOf}
-use Rattle.check_pair.proofs.Laws.{few-signals, answers-then, answers-stop, answers-last, judgement-answers, judgement-fine, judgement-refused, cycles-least, cycles-refused}
+use Rattle.check_pair.proofs.Verdicts.{
+  few-signals,
+  answers-then,
+  answers-stop,
+  answers-last,
+  judgement-answers,
+  judgement-fine,
+  judgement-refused,
+  cycles-least,
+  cycles-refused,
+}
 use Rattle.check_pair.proofs.check_rates.Statement.{statement}
 use Rattle.check_pair.proofs.check_rates.Tie as tie
 

@@ -18,7 +18,15 @@ use Rattle.basics.specs.Judgement.{judgementOf}
 use Rattle.check_latency.specs.Timely.{Timed}
 use Rattle.check_pair.specs.Answers.{Arranged}
 use Rattle.check_pair.specs.Steps.{runsOf}
-use Rattle.check_pair.proofs.Laws.{few-signals, answers-then, answers-stop, answers-judgement, judgement-answers, judgement-fine, judgement-refused}
+use Rattle.check_pair.proofs.Verdicts.{
+  few-signals,
+  answers-then,
+  answers-stop,
+  answers-judgement,
+  judgement-answers,
+  judgement-fine,
+  judgement-refused,
+}
 use Rattle.check_pair.proofs.check_runs.Statement.{statement}
 use Rattle.check_pair.proofs.check_runs.Tie as tie
 

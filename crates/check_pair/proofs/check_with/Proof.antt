@@ -12,7 +12,25 @@ use Rattle.text_program.specs.declared.Tables.{Tables}
 use Rattle.text_schedule.specs.Slots.{ScheduledAs}
 use Rattle.check_pair.specs.Answers.{RatedAs, Arranged}
 use Rattle.check_pair.specs.Steps.{ratesOf, scheduleFor, stepsOf}
-use Rattle.check_pair.proofs.Laws.{answers-fine, answers-refused, answers-then, answers-stop, answers-last, judgement-answers, judgement-fine, judgement-refused, program-answers, program-read, schedule-answers, rates-passed, schedule-passed, few-signals, short-program, short-schedule, pair-steps}
+use Rattle.check_pair.proofs.Verdicts.{
+  answers-fine,
+  answers-refused,
+  answers-then,
+  answers-stop,
+  answers-last,
+  judgement-answers,
+  judgement-fine,
+  judgement-refused,
+  program-answers,
+  program-read,
+  schedule-answers,
+  rates-passed,
+  schedule-passed,
+  few-signals,
+  short-program,
+  short-schedule,
+  pair-steps,
+}
 use Rattle.check_pair.proofs.check_with.Statement.{statement}
 use Rattle.check_pair.proofs.check_with.Tie as tie
 

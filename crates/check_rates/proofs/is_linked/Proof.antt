@@ -10,7 +10,16 @@ use Rattle.model.specs.Rules.Program.{Program, parseProgram}
 use Rattle.text_program.specs.Tables.{TablesOf, chainAt}
 use Rattle.check_rates.proofs.Counting.{found-one, found-none}
 use Rattle.check_rates.proofs.Judging.{indexed, few-signals}
-use Rattle.check_rates.proofs.Linking.{LinksLeft, link-inside, link-broken, link-on, link-over, few-chains, chain-begins, chain-inside}
+use Rattle.check_rates.proofs.Linking.{
+  LinksLeft,
+  link-inside,
+  link-broken,
+  link-on,
+  link-over,
+  few-chains,
+  chain-begins,
+  chain-inside,
+}
 use Rattle.check_rates.proofs.is_linked.Statement.{statement}
 use Rattle.check_rates.proofs.is_linked.Tie as tie
 

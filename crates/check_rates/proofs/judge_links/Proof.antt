@@ -11,7 +11,17 @@ use Rattle.model.specs.Rules.Program.{Program, parseProgram}
 use Rattle.basics.specs.Judgement.{judgementOf}
 use Rattle.basics.specs.declared.Judged.the-variants as Judged
 use Rattle.text_program.specs.declared.Tables.{Tables}
-use Rattle.text_program.proofs.ByIndex.{Ahead, Before, links-in, check-starts, check-enters, check-leaves, check-ends, check-passes, check-refuses}
+use Rattle.text_program.proofs.ByIndex.{
+  Ahead,
+  Before,
+  links-in,
+  check-starts,
+  check-enters,
+  check-leaves,
+  check-ends,
+  check-passes,
+  check-refuses,
+}
 use Rattle.text_program.proofs.Rising.{linkPlaces, rising-program}
 use Rattle.check_rates.specs.Answers.{linkRates, ReadAs}
 use Rattle.check_rates.proofs.Judging.{

@@ -165,7 +165,8 @@ returns c =
     sym (ap judgementOf (check-refuses (reads-in p) (readAs p) (lowest (readRates p)) (read-there p) (reader c7) _
     (seen (ix c7) p e (reader c7) (i c7) (lt c7) (low c7) (high c7)) (c8 .loop2 .inv .2 p e t)
     (one-read (ix c7) p e _
-    (c15 .pre .0) t (reader c7) (i c7) (lt c7) (low c7) (high c7) _ (Judged.Refused _) _ (c5 .wider2 .ensures .0) (c4 .taken-at .ensures) (sym (c .enum-told2 .given .1) ∙ c .before .before .judge-read .ensures))))
+    (c15 .pre .0) t (reader c7) (i c7) (lt c7) (low c7) (high c7) _ (Judged.Refused _) _ (c5 .wider2 .ensures .0)
+    (c4 .taken-at .ensures) (sym (c .enum-told2 .given .1) ∙ c .before .before .judge-read .ensures))))
 
 add-i : tie.Need-add-i Inv-loop2 μ-loop2 Inv-loop μ-loop
 add-i c =
@@ -192,7 +193,8 @@ loop2-again c =
           subst (Ahead (reads-in p) (readAs p) (lowest (readRates p)) (reader c7)) (omega (arith, h))
           (check-passes (reads-in p) (readAs p) (lowest (readRates p)) (read-there p) (reader c7) _ (seen (ix c7) p e
           (reader c7) (i c7) (lt c7) (low c7) (high c7)) (c8 .loop2 .inv .2 p e t) (one-read (ix c7) p e _
-          (c15 .pre .0) t (reader c7) (i c7) (lt c7) (low c7) (high c7) _ Judged.Fine _ (c5 .wider2 .ensures .0) (c4 .taken-at .ensures) (sym (c .enum-told .given .1) ∙ c .before .before .judge-read .ensures))),
+          (c15 .pre .0) t (reader c7) (i c7) (lt c7) (low c7) (high c7) _ Judged.Fine _ (c5 .wider2 .ensures .0)
+          (c4 .taken-at .ensures) (sym (c .enum-told .given .1) ∙ c .before .before .judge-read .ensures))),
     )
 
 add-reader : tie.Need-add-reader Inv-loop2 μ-loop2 Inv-loop μ-loop

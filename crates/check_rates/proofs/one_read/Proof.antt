@@ -14,7 +14,18 @@ use Rattle.text_command.specs.Operator.{ReadStands}
 use Rattle.text_program.specs.Tables.{Indexed}
 use Rattle.text_program.proofs.ByIndex.{counted, in-table, read-stands, rises-at}
 use Rattle.check_rates.specs.Answers.{oneRead}
-use Rattle.check_rates.proofs.Counting.{Searched, same-search, search-starts, one-hit, one-missed, one-found, none-found, over, none-far, stands-inside}
+use Rattle.check_rates.proofs.Counting.{
+  Searched,
+  same-search,
+  search-starts,
+  one-hit,
+  one-missed,
+  one-found,
+  none-found,
+  over,
+  none-far,
+  stands-inside,
+}
 use Rattle.check_rates.proofs.one_read.Statement.{statement}
 use Rattle.check_rates.proofs.one_read.Tie as tie
 

@@ -13,7 +13,7 @@ use Rattle.image_write.proofs.Imaged.{declared}
 use Rattle.image_write.proofs.Tailed.{tail-by}
 use Rattle.image_write.specs.Prepared.{LaidOut, Ready}
 use Rattle.check_pair.specs.Answers.{Checks}
-use Rattle.check_pair.proofs.Laws.{answers-fine, answers-refused}
+use Rattle.check_pair.proofs.Verdicts.{answers-fine, answers-refused}
 use Rattle.compiler.proofs.Answers.{compile-refused, compile-short, tail-room, compile-done}
 use Rattle.compiler.proofs.compile.Statement.{statement}
 use Rattle.compiler.proofs.compile.Tie as tie

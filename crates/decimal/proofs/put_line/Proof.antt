@@ -4,7 +4,7 @@ use Rattle.decimal.proofs.Puts.{spaced-more, spaced-none, line-is, put-
 use Rattle.model.proofs.Bench.Decimals.{natural-length, decimal-length}
 use Rattle.model.specs.Rules.Decimal.{natural, decimal, spaced, lineOf}
 use Rattle.decimal.specs.Put.{Put}
-use Rattle.word.proofs.Laws.{kept}
+use Rattle.word.proofs.Locals.{kept}
 use lib.Seq.{take-all}
 use lib.ListN.{length, getD, take, length-append, length-set}
 use lib.IntN.{ℤ, pos}

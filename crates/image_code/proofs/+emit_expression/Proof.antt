@@ -13,7 +13,7 @@ use Rattle.model.specs.Rules.Command.{operatorAt}
 use Rattle.model.specs.declared.Operator.{Operator}
 use Rattle.image_code.specs.Code.{Room}
 use Rattle.image_code.specs.Shape.{leadOf}
-use Rattle.image_code.proofs.Laws.{
+use Rattle.image_code.proofs.Operands.{
   Rooms,
   rooms,
   positive,
@@ -200,7 +200,8 @@ put-operator-requires t c κs =
     omega (
       arith,
       no-rooms (rest-rooms
-          (rest-rooms (rooms-at t c14 _ (c12 .decoded3 .given .1)) (rw (c10 .in-expression2 .ensures) at (c8 .emit-expression .ensures))) (c4 .emit-expression2 .ensures)),
+          (rest-rooms (rooms-at t c14 _ (c12 .decoded3 .given .1))
+          (rw (c10 .in-expression2 .ensures) at (c8 .emit-expression .ensures))) (c4 .emit-expression2 .ensures)),
     )
 
 enum-known-decoded-4 : (t : ℕ) → lts.Need-enum-known-decoded-4 (known t) (given t) own.Post
@@ -309,7 +310,8 @@ put-operator-requires-3 t c κs =
     omega (
       arith,
       no-rooms (rest-rooms (rest-rooms (rest-rooms (rooms-at t
-          c16 _ (c14 .enum-told .given .1)) (rw (c13 .in-expression4 .ensures) at (c11 .emit-expression4 .ensures))) (c7 .emit-expression5 .ensures)) (c3 .emit-expression6 .ensures)),
+          c16 _ (c14 .enum-told .given .1)) (rw (c13 .in-expression4 .ensures) at (c11 .emit-expression4 .ensures)))
+          (c7 .emit-expression5 .ensures)) (c3 .emit-expression6 .ensures)),
     )
 
 same-length : (t : ℕ) → lts.Need-same-length (known t) (given t) own.Post
@@ -346,7 +348,10 @@ returns-3 t c =
     let c15 = c13 .before .before in
     let c17 = c15 .before .before in
     emits-last _ (is t
-    c17 _ (c15 .decoded3 .given .1)) (emits-more (rw (c13 .in-expression2 .ensures) at (c11 .emit-expression .ensures)) (emits-more (c7 .emit-expression2 .ensures) emits-none)) (rw (c3 .binary-byte .ensures) at (c .before .before .put-operator .ensures))
+    c17 _ (c15 .decoded3 .given .1))
+    (emits-more (rw (c13 .in-expression2 .ensures) at (c11 .emit-expression .ensures))
+    (emits-more (c7 .emit-expression2 .ensures) emits-none))
+    (rw (c3 .binary-byte .ensures) at (c .before .before .put-operator .ensures))
 
 same-length-4 : (t : ℕ) → lts.Need-same-length-4 (known t) (given t) own.Post
 same-length-4 t c = search needs
@@ -374,7 +379,10 @@ returns-5 t c =
     let c17 = c16 .before in
     let c19 = c17 .before .before in
     emits-last _ (is t
-    c19 _ (c17 .enum-told .given .1)) (emits-more (rw (c16 .in-expression4 .ensures) at (c14 .emit-expression4 .ensures)) (emits-more (c10 .emit-expression5 .ensures) (emits-more (c6 .emit-expression6 .ensures) emits-none))) (c .before .before .put-operator3 .ensures)
+    c19 _ (c17 .enum-told .given .1))
+    (emits-more (rw (c16 .in-expression4 .ensures) at (c14 .emit-expression4 .ensures))
+    (emits-more (c10 .emit-expression5 .ensures) (emits-more (c6 .emit-expression6 .ensures) emits-none)))
+    (c .before .before .put-operator3 .ensures)
 
 returns-6 : (t : ℕ) → lts.Need-returns-6 (known t) (given t) own.Post
 returns-6 t c = absurd (no-operator (c .before .operator-at .result) (c .match .keys6)

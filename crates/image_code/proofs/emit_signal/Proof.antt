@@ -5,7 +5,7 @@ use mathlib.Core.Path.{_≡_}
 use denote.Ref.{now}
 use lib.ListN.{length}
 use Rattle.model.specs.Rules.Word.{byteAt}
-use Rattle.image_code.proofs.Laws.{puts-length}
+use Rattle.image_code.proofs.Operands.{puts-length}
 use Rattle.image_code.proofs.Signals.{place-inside, equation-room, store-room, equation-emits, sample-room, sample-emits}
 use borrow.Author.Needs.{needs}
 use Rattle.image_code.proofs.emit_signal.Statement.{statement}

@@ -4,7 +4,7 @@ use native.Mathlib.Numerals.{add-one}
 use mathlib.Core.Path.{refl, ap, _∙_}
 use lib.ListN.{length, set, length-set}
 use lib.Seq.{sets, length-sets}
-use Rattle.image_code.proofs.Laws.{word-length}
+use Rattle.image_code.proofs.Operands.{word-length}
 use Rattle.model.specs.Rules.Word.{wordBytes}
 use Prim.Native.Nat.{ℕ, _+_}
 use lib.IntN.{ℤ}

@@ -13,7 +13,7 @@ use borrow.Fn.PlainCycle.{Measures, is as at-measure, falls, and}
 use Rattle.model.specs.Rules.Command.{operatorAt}
 use Rattle.model.specs.declared.Operator.{Operator}
 use Rattle.image_code.specs.Shape.{leadOf}
-use Rattle.image_code.proofs.Laws.{no-operator, spans}
+use Rattle.image_code.proofs.Operands.{no-operator, spans}
 use Rattle.image_measure.specs.Measure.{Nests}
 use Rattle.image_measure.proofs.Operands.{
   NestsAll,

@@ -94,7 +94,8 @@ emit-runs-requires c κs =
       l .inv .1,
       record {
         all =
-            joined (listsBy (s w .args .periods .now) (s w .args .order .now) (s w .args .phases .now) (s w .args .n) (s w .args .h));
+            joined (listsBy (s w .args .periods .now) (s w .args .order .now) (s w .args .phases .now) (s w .args .n)
+            (s w .args .h));
         l = s w .args .out .now;
         after = λ d.
             length (listsAfter (listBy (s w .args .periods .now) (s w .args .order .now) (s w .args .phases .now) (s w .args .n))

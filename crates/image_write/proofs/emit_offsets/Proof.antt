@@ -185,10 +185,12 @@ same-length c =
 returns : tie.Need-returns Inv-loop μ-loop
 unfolding listsBy
 returns c =
-    let t = c .before .before .before .before .before in
+    let c4 = c .before .before .before .before in
+    let c5 = c4 .before in
+    let t = c5 in
     let b = start-of t in
     let l = t .loop in
-    let le : h b ≤ l .c = omega (arith, c .before .before .before .before .loop-test .left) in
+    let le : h b ≤ l .c = omega (arith, c4 .loop-test .left) in
     let room : h b < length (l .starts) = omega (arith, l .inv .1, b .pre .1 .2) in (
       record {
         stands = λ d lt.
@@ -201,7 +203,8 @@ returns c =
         long = length-set (l .starts) (h b) _ ∙ l .inv .1;
       },
       done refl
-          (turn (pairs-last (f b) (h b) (b .args .start + l .before) (l .c) le) (l .inv .3) (c .before .before .put-offset2 .ensures)),
+          (turn (pairs-last (f b) (h b) (b .args .start + l .before) (l .c) le) (l .inv .3)
+          (c .before .before .put-offset2 .ensures)),
     )
 
 pub emit-offsets-spec : {M : Type 1} → statement M

@@ -9,7 +9,18 @@ use Rattle.model.specs.Rules.Image.{offsets, records}
 use Rattle.model.specs.Rules.Program.{Signal}
 use Rattle.image_write.specs.Codes.{signalsOf, codesFrom}
 use Rattle.model.proofs.Basics.Left.{Left, starts, room, turn, done}
-use Rattle.image_write.proofs.Coded.{nth, recordsLeft, records-start, records-next, records-at, records-end, initial-word, record-length, code-start, starts-many}
+use Rattle.image_write.proofs.Coded.{
+  nth,
+  recordsLeft,
+  records-start,
+  records-next,
+  records-at,
+  records-end,
+  initial-word,
+  record-length,
+  code-start,
+  starts-many,
+}
 use Rattle.image_write.proofs.emit_records.Statement.{statement}
 use Rattle.image_write.proofs.emit_records.Tie as tie
 

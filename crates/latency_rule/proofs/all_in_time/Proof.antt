@@ -7,7 +7,7 @@ use borrow.Author.Needs.{needs}
 use Rattle.model.specs.Rules.Search.{allBelow}
 use Rattle.read_rule.specs.Reads.{rateIn}
 use Rattle.latency_rule.specs.Back.{Sound, Small, lateBy, runLatencyBy}
-use Rattle.latency_rule.proofs.Laws.{all-fails, all-more}
+use Rattle.latency_rule.proofs.Hops.{all-fails, all-more}
 use Rattle.latency_rule.proofs.all_in_time.Statement.{statement}
 use Rattle.latency_rule.proofs.all_in_time.Tie as tie
 

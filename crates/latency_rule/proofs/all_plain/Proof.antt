@@ -8,7 +8,7 @@ use borrow.Author.Tests.{not-true, not-false}
 use lib.ListN.{getD}
 use Rattle.model.specs.Rules.Search.{allBelow}
 use Rattle.latency_rule.specs.Back.{noHop, isPlain, allPlain}
-use Rattle.latency_rule.proofs.Laws.{all-fails, all-more}
+use Rattle.latency_rule.proofs.Hops.{all-fails, all-more}
 use Rattle.latency_rule.proofs.all_plain.Statement.{statement}
 use Rattle.latency_rule.proofs.all_plain.Tie as tie
 

@@ -2,7 +2,7 @@
 use native.Mathlib.Omega.{arith}
 use native.Mathlib.Numerals.{add-one}
 use Rattle.latency_rule.specs.Back.{entryBy}
-use Rattle.latency_rule.proofs.Laws.{times-byte}
+use Rattle.latency_rule.proofs.Hops.{times-byte}
 use borrow.Author.Needs.{needs}
 use Rattle.latency_rule.proofs.entry_of.Statement.{statement}
 use Rattle.latency_rule.proofs.entry_of.Tie as tie

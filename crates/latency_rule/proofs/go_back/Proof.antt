@@ -3,7 +3,7 @@ use Prim.Native.Nat.{_-_, _≤_}
 use mathlib.Core.Path.{_≡_, refl, sym, _∙_}
 use native.Mathlib.Omega.{arith}
 use Rattle.latency_rule.specs.Back.{backBy, Sound, Small}
-use Rattle.latency_rule.proofs.Laws.{back-at, small-at, back-end, small-start, onward-at, small-onward}
+use Rattle.latency_rule.proofs.Hops.{back-at, small-at, back-end, small-start, onward-at, small-onward}
 use Rattle.latency_rule.proofs.go_back.Statement.{statement}
 use Rattle.latency_rule.proofs.go_back.Tie as tie
 

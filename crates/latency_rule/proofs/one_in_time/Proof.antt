@@ -6,7 +6,7 @@ use native.Mathlib.Omega.{arith}
 use borrow.Author.Needs.{needs}
 use Rattle.model.specs.Rules.Search.{first, firstFrom, isFound}
 use Rattle.read_rule.specs.Reads.{rateIn}
-use Rattle.read_rule.proofs.Laws.{search-none, search-here, search-next}
+use Rattle.read_rule.proofs.Searches.{search-none, search-here, search-next}
 use Rattle.latency_rule.specs.Back.{Sound, Small, inTimeBy, runLatencyBy}
 use Rattle.latency_rule.proofs.one_in_time.Statement.{statement}
 use Rattle.latency_rule.proofs.one_in_time.Tie as tie

@@ -9,9 +9,9 @@ use lib.ListN.{length, set, length-set}
 use Rattle.model.specs.Rules.Machine.{countOf}
 use Rattle.model.specs.Rules.Word.{wordAt}
 use mathlib.Core.List.{List}
-use Rattle.word.proofs.Laws.{kept}
+use Rattle.word.proofs.Locals.{kept}
 use Rattle.image_valid.proofs.Parts.{Head, head, formed}
-use Rattle.machine.proofs.Laws.{begun, begun-none, begun-more, begun-all}
+use Rattle.machine.proofs.Lists.{begun, begun-none, begun-more, begun-all}
 use Rattle.machine.proofs.initial_words.Statement.{statement}
 use Rattle.machine.proofs.initial_words.Tie as tie
 use mathlib.Core.List.{List}

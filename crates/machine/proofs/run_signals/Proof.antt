@@ -9,12 +9,23 @@ use lib.IntN.{ℤ}
 use lib.ListN.{length, take, drop, set, length-set, length-take, length-drop}
 use mir.Syntax.{w32}
 use mir.Val.{toZ, ofZ}
-use Rattle.model.specs.Rules.Machine.{stretch, countOf, codeOffset, headOk, codeOf, codeOk, runCode, runSignals, countCode, countSignals}
+use Rattle.model.specs.Rules.Machine.{
+  stretch,
+  countOf,
+  codeOffset,
+  headOk,
+  codeOf,
+  codeOk,
+  runCode,
+  runSignals,
+  countCode,
+  countSignals,
+}
 use Rattle.model.specs.Rules.Word.{byteAt}
 use Rattle.model.proofs.Images.Counts.{signals-fit}
-use Rattle.word.proofs.Laws.{kept}
+use Rattle.word.proofs.Locals.{kept}
 use Rattle.image_valid.proofs.Parts.{CodePart, codes, formed}
-use Rattle.machine.proofs.Laws.{signals-next, signals-done, counts-next, counts-done}
+use Rattle.machine.proofs.Lists.{signals-next, signals-done, counts-next, counts-done}
 use Rattle.machine.proofs.run_signals.Statement.{statement}
 use Rattle.machine.proofs.run_signals.Tie as tie
 

@@ -3,7 +3,7 @@ use mathlib.Core.Path.{sym}
 use native.Mathlib.Omega.{arith}
 use borrow.Author.Needs.{needs}
 use Rattle.model.specs.Rules.Search.{first}
-use Rattle.read_rule.proofs.Laws.{search-one, search-from}
+use Rattle.read_rule.proofs.Searches.{search-one, search-from}
 use Rattle.read_rule.proofs.candidates_of.Statement.{statement}
 use Rattle.read_rule.proofs.candidates_of.Tie as tie
 

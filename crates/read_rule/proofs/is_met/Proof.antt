@@ -13,7 +13,7 @@ use Rattle.model.specs.declared.Found.the-variants.{At}
 use Rattle.read_rule.specs.Lines.{lineOf, numberAt, meetsAt, Paced}
 use Rattle.read_rule.specs.Reads.{rateIn, indexBy, metBy}
 use Rattle.read_rule.specs.declared.Line.{Line}
-use Rattle.read_rule.proofs.Laws.{search-below, found-holds}
+use Rattle.read_rule.proofs.Searches.{search-below, found-holds}
 use Rattle.read_rule.proofs.Lines.{found-is, index-line, share-is}
 use Rattle.read_rule.proofs.is_met.Statement.{statement}
 use Rattle.read_rule.proofs.is_met.Tie as tie

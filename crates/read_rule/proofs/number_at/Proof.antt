@@ -1,7 +1,7 @@
 -- `read_rule::number_at` meets its contract. Assumes nothing.
 use native.Mathlib.Omega.{arith}
 use borrow.Author.Needs.{needs}
-use Rattle.read_rule.proofs.Laws.{small-product}
+use Rattle.read_rule.proofs.Searches.{small-product}
 use Rattle.read_rule.proofs.number_at.Statement.{statement}
 use Rattle.read_rule.proofs.number_at.Tie as tie
 

@@ -4,7 +4,7 @@ use mathlib.Core.Path.{_≡_, refl, sym, _∙_}
 use native.Mathlib.Omega.{arith}
 use Rattle.model.specs.Rules.Search.{firstFrom}
 use Rattle.read_rule.specs.Lines.{SmallLine, meetsAt}
-use Rattle.read_rule.proofs.Laws.{search-none, search-here, search-next}
+use Rattle.read_rule.proofs.Searches.{search-none, search-here, search-next}
 use Rattle.read_rule.proofs.settle.Statement.{statement}
 use Rattle.read_rule.proofs.settle.Tie as tie
 

@@ -10,8 +10,8 @@ use Rattle.model.specs.Rules.Machine.{codeAt}
 use Rattle.model.specs.Rules.Word.{byteAt, wordAt}
 use Rattle.model.specs.declared.Code.the-variants as Code
 use Rattle.model.proofs.Basics.Tests.{by}
-use Rattle.word.proofs.Laws.{kept}
-use Rattle.run_code.proofs.Laws.{within, push-leaf, load-leaf, fetch-leaf}
+use Rattle.word.proofs.Locals.{kept}
+use Rattle.run_code.proofs.Commands.{within, push-leaf, load-leaf, fetch-leaf}
 use borrow.Author.Needs.{needs}
 use Rattle.run_code.proofs.leaf_word.Statement.{statement}
 use Rattle.run_code.proofs.leaf_word.Tie as tie

@@ -14,8 +14,26 @@ use Rattle.model.specs.declared.Code.the-variants as Code
 use Rattle.model.specs.declared.Unary.the-variants.{Negate}
 use Rattle.model.proofs.Images.Counts.{code-most}
 use Rattle.run_stack.specs.View.{view}
-use Rattle.word.proofs.Laws.{kept}
-use Rattle.run_code.proofs.Laws.{Goes, Command, Leaf, leaf, leaf-some, moved, shifted, more, store, negate, choose, combine, ended, last, negated, chosen, combined}
+use Rattle.word.proofs.Locals.{kept}
+use Rattle.run_code.proofs.Commands.{
+  Goes,
+  Command,
+  Leaf,
+  leaf,
+  leaf-some,
+  moved,
+  shifted,
+  more,
+  store,
+  negate,
+  choose,
+  combine,
+  ended,
+  last,
+  negated,
+  chosen,
+  combined,
+}
 use Rattle.run_code.proofs.run_code.Statement.{statement}
 use Rattle.run_code.proofs.run_code.Tie as tie
 

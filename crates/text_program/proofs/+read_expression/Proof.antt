@@ -20,7 +20,7 @@ use Rattle.text_program.specs.Walks.{Room, Walks}
 use Rattle.text_program.specs.declared.Walk.{Walk}
 use Rattle.text_program.specs.declared.Walked.{Walked}
 use Rattle.text_program.specs.declared.Walked.the-variants as Walked
-use Rattle.text_program.proofs.Laws.{width-most}
+use Rattle.text_program.proofs.Parts.{width-most}
 use Rattle.text_program.proofs.Operators.{parse-node, operator-inside, read-allowed}
 use Rattle.text_program.proofs.Walks.{
   walks-refused,
@@ -370,7 +370,9 @@ returns-3 t c =
     let c13 = c11 .before .before in
     let c14 = c13 .before in
     let c16 = c14 .before .before in
-    rw (step t c16 _ (c14 .enum-told5 .given .1)) (go-on _ _ (rw (c13 .in-expression2 .ensures) at (c11 .read-expression .ensures)) (c7 .first .given .1) (λ x m. stop _ _ (c4 .read-expression2 .ensures) (c .enum-told7 .given .1)))
+    rw (step t c16 _ (c14 .enum-told5 .given .1))
+    (go-on _ _ (rw (c13 .in-expression2 .ensures) at (c11 .read-expression .ensures)) (c7 .first .given .1)
+    (λ x m. stop _ _ (c4 .read-expression2 .ensures) (c .enum-told7 .given .1)))
 
 in-code-requires-3 : (t : ℕ) → lts.Need-in-code-requires-3 (known t) (given t) own.Post
 in-code-requires-3 t c κs = search needs
@@ -384,7 +386,8 @@ add-moved-on-6 t c =
     let c16 = c14 .before .before in
     let c19 = c16 .before .before .before in
     let h = more t
-    c19 (one t c19 (rw (c16 .in-expression2 .ensures) at (c14 .read-expression .ensures)) (c10 .first .given .1)) (c7 .read-expression2 .ensures) (c3 .second .given .1) in omega (arith, h .left .short, h .left .small, h .inside)
+    c19 (one t c19 (rw (c16 .in-expression2 .ensures) at (c14 .read-expression .ensures)) (c10 .first .given .1))
+    (c7 .read-expression2 .ensures) (c3 .second .given .1) in omega (arith, h .left .short, h .left .small, h .inside)
 
 moved-on-requires-3 : (t : ℕ) → lts.Need-moved-on-requires-3 (known t) (given t) own.Post
 moved-on-requires-3 t c κs = search needs
@@ -503,7 +506,8 @@ read-expression-requires-5 t c κs =
         c12 .if1 .left,
         c15 .pre .0,
       ),
-      one t c11 (rw (c8 .in-expression4 .ensures) at (c6 .read-expression4 .ensures)) (c .before .before .condition .given .1) .left,
+      one t c11 (rw (c8 .in-expression4 .ensures) at (c6 .read-expression4 .ensures))
+          (c .before .before .condition .given .1) .left,
     )
 
 enum-known-first-2 : (t : ℕ) → lts.Need-enum-known-first-2 (known t) (given t) own.Post
@@ -524,7 +528,9 @@ returns-6 t c =
     let c13 = c11 .before .before in
     let c14 = c13 .before in
     let c16 = c14 .before .before in
-    rw (step t c16 _ (c14 .enum-told10 .given .1)) (go-on _ _ (rw (c13 .in-expression4 .ensures) at (c11 .read-expression4 .ensures)) (c7 .condition .given .1) (λ x m. stop _ _ (c4 .read-expression5 .ensures) (c .enum-told12 .given .1)))
+    rw (step t c16 _ (c14 .enum-told10 .given .1))
+    (go-on _ _ (rw (c13 .in-expression4 .ensures) at (c11 .read-expression4 .ensures)) (c7 .condition .given .1)
+    (λ x m. stop _ _ (c4 .read-expression5 .ensures) (c .enum-told12 .given .1)))
 
 sub-read-expression-6 : (t : ℕ) → lts.Need-sub-read-expression-6 (known t) (given t) own.Post
 sub-read-expression-6 t c = search needs
@@ -537,8 +543,11 @@ read-expression-requires-6 t c κs =
     let c15 = c13 .before .before in
     let c18 = c15 .before .before .before in
     let c19 = c18 .before in
-    let c22 = c19 .before .before .before in
-    (omega (arith, c19 .if1 .left, c22 .pre .0), more t c18 (one t c18 (rw (c15 .in-expression4 .ensures) at (c13 .read-expression4 .ensures)) (c9 .condition .given .1)) (c6 .read-expression5 .ensures) (c .before .before .first2 .given .1) .left)
+    let c22 = c19 .before .before .before in (
+      omega (arith, c19 .if1 .left, c22 .pre .0),
+      more t c18 (one t c18 (rw (c15 .in-expression4 .ensures) at (c13 .read-expression4 .ensures)) (c9 .condition .given .1))
+          (c6 .read-expression5 .ensures) (c .before .before .first2 .given .1) .left,
+    )
 
 enum-known-second-2 : (t : ℕ) → lts.Need-enum-known-second-2 (known t) (given t) own.Post
 enum-known-second-2 t c = search needs
@@ -560,7 +569,10 @@ returns-7 t c =
     let c20 = c18 .before .before in
     let c21 = c20 .before in
     let c23 = c21 .before .before in
-    rw (step t c23 _ (c21 .enum-told10 .given .1)) (go-on _ _ (rw (c20 .in-expression4 .ensures) at (c18 .read-expression4 .ensures)) (c14 .condition .given .1) (λ x m. go-on _ _ (c11 .read-expression5 .ensures) (c7 .first2 .given .1) (λ y n. stop _ _ (c4 .read-expression6 .ensures) (c .enum-told13 .given .1))))
+    rw (step t c23 _ (c21 .enum-told10 .given .1))
+    (go-on _ _ (rw (c20 .in-expression4 .ensures) at (c18 .read-expression4 .ensures)) (c14 .condition .given .1)
+    (λ x m. go-on _ _ (c11 .read-expression5 .ensures) (c7 .first2 .given .1)
+    (λ y n. stop _ _ (c4 .read-expression6 .ensures) (c .enum-told13 .given .1))))
 
 in-code-requires-5 : (t : ℕ) → lts.Need-in-code-requires-5 (known t) (given t) own.Post
 in-code-requires-5 t c κs = search needs
@@ -576,7 +588,9 @@ add-moved-on-8 t c =
     let c23 = c21 .before .before in
     let c26 = c23 .before .before .before in
     let h = more t
-    c26 (more t c26 (one t c26 (rw (c23 .in-expression4 .ensures) at (c21 .read-expression4 .ensures)) (c17 .condition .given .1)) (c14 .read-expression5 .ensures) (c10 .first2 .given .1)) (c7 .read-expression6 .ensures) (c3 .second2 .given .1) in omega (arith, h .left .short, h .left .small, h .inside)
+    c26 (more t c26 (one t c26 (rw (c23 .in-expression4 .ensures) at (c21 .read-expression4 .ensures)) (c17 .condition .given .1))
+    (c14 .read-expression5 .ensures) (c10 .first2 .given .1)) (c7 .read-expression6 .ensures) (c3 .second2 .given .1) in
+    omega (arith, h .left .short, h .left .small, h .inside)
 
 moved-on-requires-5 : (t : ℕ) → lts.Need-moved-on-requires-5 (known t) (given t) own.Post
 moved-on-requires-5 t c κs = search needs
@@ -624,7 +638,10 @@ returns-13 t c =
     let c17 = c15 .before .before in
     let c18 = c17 .before in
     let c20 = c18 .before .before in
-    rw (step t c20 _ (c18 .enum-told5 .given .1)) (go-on _ _ (rw (c17 .in-expression2 .ensures) at (c15 .read-expression .ensures)) (c11 .first .given .1) (λ x m. go-on _ _ (c8 .read-expression2 .ensures) (c4 .second .given .1) (λ y n. walks-two x m y n _ (rw (c .before .before .in-code3 .ensures) at (c .moved-on3 .ensures)))))
+    rw (step t c20 _ (c18 .enum-told5 .given .1))
+    (go-on _ _ (rw (c17 .in-expression2 .ensures) at (c15 .read-expression .ensures)) (c11 .first .given .1)
+    (λ x m. go-on _ _ (c8 .read-expression2 .ensures) (c4 .second .given .1)
+    (λ y n. walks-two x m y n _ (rw (c .before .before .in-code3 .ensures) at (c .moved-on3 .ensures)))))
 
 same-length-9 : (t : ℕ) → lts.Need-same-length-9 (known t) (given t) own.Post
 same-length-9 t c = search needs
@@ -637,7 +654,9 @@ returns-14 t c =
     let c10 = c8 .before .before in
     let c11 = c10 .before in
     let c13 = c11 .before .before in
-    rw (step t c13 _ (c11 .enum-told8 .given .1)) (go-on _ _ (rw (c10 .in-expression3 .ensures) at (c8 .read-expression3 .ensures)) (c4 .operand .given .1) (λ x m. walks-one x m _ (rw (c .before .before .in-code4 .ensures) at (c .moved-on4 .ensures))))
+    rw (step t c13 _ (c11 .enum-told8 .given .1))
+    (go-on _ _ (rw (c10 .in-expression3 .ensures) at (c8 .read-expression3 .ensures)) (c4 .operand .given .1)
+    (λ x m. walks-one x m _ (rw (c .before .before .in-code4 .ensures) at (c .moved-on4 .ensures))))
 
 same-length-10 : (t : ℕ) → lts.Need-same-length-10 (known t) (given t) own.Post
 same-length-10 t c =
@@ -659,7 +678,11 @@ returns-15 t c =
     let c24 = c22 .before .before in
     let c25 = c24 .before in
     let c27 = c25 .before .before in
-    rw (step t c27 _ (c25 .enum-told10 .given .1)) (go-on _ _ (rw (c24 .in-expression4 .ensures) at (c22 .read-expression4 .ensures)) (c18 .condition .given .1) (λ x m. go-on _ _ (c15 .read-expression5 .ensures) (c11 .first2 .given .1) (λ y n. go-on _ _ (c8 .read-expression6 .ensures) (c4 .second2 .given .1) (λ z k. walks-three x m y n z k (rw (c .before .before .in-code5 .ensures) at (c .moved-on5 .ensures))))))
+    rw (step t c27 _ (c25 .enum-told10 .given .1))
+    (go-on _ _ (rw (c24 .in-expression4 .ensures) at (c22 .read-expression4 .ensures)) (c18 .condition .given .1)
+    (λ x m. go-on _ _ (c15 .read-expression5 .ensures) (c11 .first2 .given .1)
+    (λ y n. go-on _ _ (c8 .read-expression6 .ensures) (c4 .second2 .given .1)
+    (λ z k. walks-three x m y n z k (rw (c .before .before .in-code5 .ensures) at (c .moved-on5 .ensures))))))
 
 pub +read-expression-spec : {M : Type 1} → statement M
 +read-expression-spec =

@@ -5,7 +5,7 @@ use Prim.Native.Nat.{_+_}
 use denote.Ref.{now}
 use Rattle.model.specs.Rules.Program.{parseLinks}
 use Rattle.text_program.specs.Results.{linksOf}
-use Rattle.text_program.proofs.Laws.{chain-short, chain-next, chain-refused}
+use Rattle.text_program.proofs.Parts.{chain-short, chain-next, chain-refused}
 use borrow.Author.Needs.{needs}
 use Rattle.text_program.proofs.chain_step.Statement.{statement}
 use Rattle.text_program.proofs.chain_step.Tie as tie

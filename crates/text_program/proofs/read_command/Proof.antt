@@ -14,7 +14,7 @@ use Rattle.model.specs.declared.Fault.{Fault}
 use Rattle.text_program.specs.Steps.{Counts, Stepped}
 use Rattle.text_program.specs.declared.Step.{Step}
 use Rattle.text_program.specs.declared.Step.the-variants as Step
-use Rattle.text_program.proofs.Laws.{here-next, here-refused, declaration-inside}
+use Rattle.text_program.proofs.Parts.{here-next, here-refused, declaration-inside}
 use Rattle.text_program.proofs.Steps.{
   step-stopped,
   step-refused,

@@ -8,7 +8,16 @@ use denote.Ref.{now}
 use native.Mathlib.Omega.{arith}
 use borrow.Author.Needs.{needs}
 use Rattle.model.specs.Rules.Program.{Link, parseLinks}
-use Rattle.text_program.proofs.Laws.{linkAt, link-missing, link-there, links-end, links-past, links-many, links-cut, links-more}
+use Rattle.text_program.proofs.Parts.{
+  linkAt,
+  link-missing,
+  link-there,
+  links-end,
+  links-past,
+  links-many,
+  links-cut,
+  links-more,
+}
 use Rattle.text_program.proofs.read_links.Statement.{statement}
 use Rattle.text_program.proofs.read_links.Tie as tie
 

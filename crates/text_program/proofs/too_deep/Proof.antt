@@ -1,7 +1,7 @@
 -- `text_program::too_deep` meets its contract. Assumes nothing.
 use mathlib.Core.Path.{sym, ap, _∙_}
 use Rattle.text_program.specs.Walks.{deepOf}
-use Rattle.text_program.proofs.Laws.{here-next, here-refused}
+use Rattle.text_program.proofs.Parts.{here-next, here-refused}
 use borrow.Author.Needs.{needs}
 use Rattle.text_program.proofs.too_deep.Statement.{statement}
 use Rattle.text_program.proofs.too_deep.Tie as tie

@@ -114,7 +114,8 @@ cycle-number (CycleRefusedAt.outside usable none) = omega arith
 cycle-number (CycleRefusedAt.unsampled usable positioned lt) = omega arith
 
 -- 24,678 bytes hold the image of every accepted pair, with its tail.
-pub size-most : (program schedule : List ℕ) → AreBytes program → (q : Pair) → pairOf program schedule ≡ accepted q → sizeOf q ≤ 24678
+pub size-most : (program schedule : List ℕ) → AreBytes program → (q : Pair) → pairOf program schedule ≡ accepted q →
+    sizeOf q ≤ 24678
 size-most program schedule bytes q e =
     let b = pair-bounded program schedule q e bytes in
     omega (arith, b .size, b .signals)

@@ -6,8 +6,8 @@ use lib.ListN.{getD}
 use mir.Syntax.{w32}
 use mir.Val.{toZ, ofZ}
 use Rattle.model.specs.Rules.Word.{ifWord}
-use Rattle.word.proofs.Laws.{kept}
-use Rattle.run_stack.proofs.Laws.{view-three}
+use Rattle.word.proofs.Locals.{kept}
+use Rattle.run_stack.proofs.Words.{view-three}
 use borrow.Author.Needs.{needs}
 use Rattle.run_stack.proofs.Stack.choose.Statement.{statement}
 use Rattle.run_stack.proofs.Stack.choose.Tie as tie

@@ -5,8 +5,8 @@ use lib.IntN.{pos}
 use lib.ListN.{getD}
 use mir.Syntax.{w32}
 use mir.Val.{toZ, ofZ}
-use Rattle.word.proofs.Laws.{kept}
-use Rattle.run_stack.proofs.Laws.{view-pop}
+use Rattle.word.proofs.Locals.{kept}
+use Rattle.run_stack.proofs.Words.{view-pop}
 use borrow.Author.Needs.{needs}
 use Rattle.run_stack.proofs.Stack.pop.Statement.{statement}
 use Rattle.run_stack.proofs.Stack.pop.Tie as tie

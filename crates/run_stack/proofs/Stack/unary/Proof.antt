@@ -3,8 +3,8 @@ use mathlib.Core.Path.{_≡_, refl, ap, _∙_}
 use mir.Syntax.{w32}
 use mir.Val.{toZ, ofZ}
 use Rattle.model.specs.Rules.Word.{unaryWord}
-use Rattle.word.proofs.Laws.{kept}
-use Rattle.run_stack.proofs.Laws.{view-one}
+use Rattle.word.proofs.Locals.{kept}
+use Rattle.run_stack.proofs.Words.{view-one}
 use borrow.Author.Needs.{needs}
 use Rattle.run_stack.proofs.Stack.unary.Statement.{statement}
 use Rattle.run_stack.proofs.Stack.unary.Tie as tie

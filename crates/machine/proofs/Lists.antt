@@ -14,10 +14,20 @@ use lib.Seq.{drop-cons, set-at, append-snoc}
 use lib.Signed.{mag, ltZ}
 use mir.Syntax.{w32}
 use mir.Val.{toZ, ofZ}
-use Rattle.model.specs.Rules.Machine.{countOf, codeOf, runCode, runSignals, countCode, countSignals, resetWords, isPosition, positionOf}
+use Rattle.model.specs.Rules.Machine.{
+  countOf,
+  codeOf,
+  runCode,
+  runSignals,
+  countCode,
+  countSignals,
+  resetWords,
+  isPosition,
+  positionOf,
+}
 use Rattle.model.specs.Rules.Search.{table, tableFrom}
 use Rattle.model.specs.Rules.Word.{byteAt, wordAt}
-use Rattle.word.proofs.Laws.{kept}
+use Rattle.word.proofs.Locals.{kept}
 
 module _ (image list : List ℕ) (i : ℕ) (samples state : List ℤ) where
   pub signals-next : i < length list

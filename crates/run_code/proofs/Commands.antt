@@ -9,7 +9,20 @@ use borrow.Author.Tests.{ltb-true, ltb-false, leb-true, eqb-true, eqb-false, ne-
 use lib.Dec.{leb, ltb, eqb}
 use lib.IntN.{ℤ, pos}
 use lib.ListN.{length, getD}
-use Rattle.model.specs.Rules.Machine.{operatorCode, codeAt, wholeCode, commandOk, codeOkFrom, runCommand, runFrom, countCommand, countFrom, onOne, onTwo, onThree}
+use Rattle.model.specs.Rules.Machine.{
+  operatorCode,
+  codeAt,
+  wholeCode,
+  commandOk,
+  codeOkFrom,
+  runCommand,
+  runFrom,
+  countCommand,
+  countFrom,
+  onOne,
+  onTwo,
+  onThree,
+}
 use Rattle.model.specs.Rules.Word.{byteAt, wordAt, binaryWord, unaryWord, ifWord}
 use Rattle.run_code.specs.Leaf.{leafWord, leafOk, leafLength}
 use Rattle.model.specs.declared.Binary.{Binary}
