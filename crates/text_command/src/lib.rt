@@ -258,11 +258,14 @@ fn binary_of(byte: u8) -> Binary
     }
 }
 
-// The operator of a byte, with its operands. What acts alike is one arm, so that its callers can take it in.
-fn operator_of(byte: u8, text: &[u8], at: usize) -> Operator
-    requires { ⌜ at < length (now text) ⌝ }
-    ensures { λ r. ⌜ r ≡ operatorOf byte (now (text .entry)) at ⌝ }
+// The operator at an offset of an expression, with its operands. What acts alike is one arm, and its callers take it in.
+pub fn operator_at(text: &[u8], at: usize) -> Operator
+    ensures { λ r. ⌜ r ≡ operatorAt (now (text .entry)) at ⌝ }
 {
+    if text.len() <= at {
+        return Operator::EndsEarly;
+    }
+    let byte = text[at];
     match byte {
         0x20 => constant_at(text, at),
         0x21 | 0x22 => plain_read(kind_of(byte), text, at),
@@ -272,16 +275,6 @@ fn operator_of(byte: u8, text: &[u8], at: usize) -> Operator
         0x3A => Operator::If,
         _ => Operator::Unknown,
     }
-}
-
-// The operator at an offset of an expression, with its operands.
-pub fn operator_at(text: &[u8], at: usize) -> Operator
-    ensures { λ r. ⌜ r ≡ operatorAt (now (text .entry)) at ⌝ }
-{
-    if text.len() <= at {
-        return Operator::EndsEarly;
-    }
-    operator_of(text[at], text, at)
 }
 
 // What stands at an offset of the schedule text.
