@@ -160,7 +160,7 @@ uint64_t larderlate_convert(const uint8_t *program, size_t program_length,
 /* Four programs on one board. The caller keeps the record of LARDERLATE_BOARD_RECORD numbers and lends it to each call as the last one
  * left it: for each place its flags (1 loaded, 2 due), start and length of its stretch of the images, and the count of the turns that
  * took it since its load, held at 2^32 - 1, in place order; then the place last taken. Any numbers are a record. A refused call
- * and an idle turn leave it as it was.
+ * and an idle turn leave it as it was; any other call sets numbers of its own place alone, and a turn the place last taken.
  *
  * `images` is the buffer that the places' images lie in. The state has 260 words, 65 for each place in place order, the samples of a
  * turn are 256 words, 64 for each; more may be lent, and those beyond stay. */

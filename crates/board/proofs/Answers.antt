@@ -2,11 +2,11 @@
 use Prim.Native.Nat.{ℕ}
 use mathlib.Core.Bool.{true, false}
 use mathlib.Core.List.{List, []}
-use mathlib.Core.Path.{_≡_, sym, ap, _∙_}
+use mathlib.Core.Path.{_≡_}
 use lib.Dec.{leb, ltb}
 use lib.IntN.{ℤ}
 use lib.ListN.{length}
-use Rattle.model.specs.Rules.Outcome.{Outcome, accepted, refused, _▷_, provided}
+use Rattle.model.specs.Rules.Outcome.{accepted, refused, _▷_, provided}
 use Rattle.model.specs.declared.Fault.{Fault}
 use Rattle.model.specs.declared.Found.{Found}
 use Rattle.board.specs.Board.{
@@ -34,15 +34,6 @@ numbered n = record { number = n; place = 0 }
 
 abbrev pub boardDone : {A : Type 0} → A → Board → List ℤ → BoardEffect A
 boardDone a b state = record { answer = accepted a; board = b; left = state }
-
--- what a call hands back, once its definition is known
-pub gives : {A : Type 0} {e r : BoardEffect A} {a : Outcome A} {b : Board} {s : List ℤ} → e ≡ r → a ≡ r .answer → b ≡ r .board →
-    s ≡ r .left →
-    (a ≡ e .answer) × ((b ≡ e .board) × (s ≡ e .left))
-gives {A} q x y z = (
-  x ∙ sym (ap (λ (e : BoardEffect A). e .answer) q),
-  (y ∙ sym (ap (λ (e : BoardEffect A). e .board) q), z ∙ sym (ap (λ (e : BoardEffect A). e .left) q)),
-)
 
 module _ (b : Board) (images : List ℕ) (state : List ℤ) (k start size : ℕ) where
   pub load-place : ltb k 4 ≡ false → loadOf b images state k start size ≡ boardRefusal (numbered 26) b state

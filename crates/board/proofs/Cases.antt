@@ -3,7 +3,6 @@ use Prim.Native.Nat.{ℕ, _<_}
 use mathlib.Core.Bool.{Bool, true, false}
 use mathlib.Core.List.{List, []}
 use mathlib.Core.Path.{_≡_, refl, sym, ap, _∙_}
-use native.Mathlib.Omega.{arith}
 use borrow.Author.Tests.{ltb-true}
 use lib.Dec.{leb, ltb}
 use lib.IntN.{ℤ}
@@ -44,8 +43,6 @@ use Rattle.board.proofs.Answers.{
   turn-samples,
   turn-done,
 }
-use Rattle.board.proofs.Due.{next-below}
-use Rattle.board.proofs.Stretch.{never}
 
 abbrev pub callAnswer : BoardEffect ℕ → Outcome ℕ
 callAnswer c = c .answer
@@ -124,14 +121,7 @@ turn-case s samples = words (leb 260 (length (s .state))) refl
     words true p = lent p (leb 256 (length samples)) refl
     words false p = turn-stays _ (turn-state (s .board) (s .images) (s .state) samples p)
 
--- A place that is taken is one of the four.
-pub took-below : (s : Scene) (samples : List ℤ) (k : ℕ) (o : Outcome ℕ) → turnIn s samples ≡ accepted (took k o) → k < 4
-took-below s samples k o h = go (turn-case s samples)
-  where
-    answered : {c : BoardEffect Yield} → turnBy s samples ≡ c → c .answer ≡ accepted (took k o)
-    answered e = sym (ap turnAnswer e) ∙ h
-
-    go : TurnCase s samples → k < 4
-    go (turn-stays f e) = absurd (never (took k o) f (sym (answered e)))
-    go (turn-idles n e) = let q = answered e in let z : _≡_ {A = ℕ} 0 1 = cc in absurd (omega arith)
-    go (turn-takes j n w v e) = let q = answered e in let place : j ≡ k = cc in omega (arith, next-below (s .board) j n)
+-- A turn that has come to an effect answers what that answers.
+pub answered : (s : Scene) (samples : List ℤ) {y : Yield} {c : BoardEffect Yield} → turnIn s samples ≡ accepted y →
+    turnBy s samples ≡ c → c .answer ≡ accepted y
+answered s samples h e = sym (ap turnAnswer e) ∙ h

@@ -7,7 +7,7 @@ use native.Mathlib.Omega.{arith}
 use Rattle.model.specs.Rules.Search.{first}
 use Rattle.model.specs.declared.Found.{Found}
 use Rattle.model.specs.declared.Found.the-variants.{At, Nowhere}
-use Rattle.model.proofs.Decide.{is-first}
+use Rattle.model.proofs.Pairs.Decide.{is-first}
 use Rattle.board.specs.Board.{placeAfter, dueAfter, placeFound, nextDue}
 use Rattle.board.specs.declared.Board.{Board}
 
@@ -47,10 +47,6 @@ module _ (b : Board) where
       go : (f : Found) → placeFound b f ≡ At k → k < 4
       go (At i) h = let q : placeAfter b i ≡ k = cc in omega arith
       go Nowhere h = let z : _≡_ {A = ℕ} 0 1 = cc in absurd (omega arith)
-
--- The code takes the remainder first.
-pub place-after : (b : Board) (i : ℕ) → (b .last % 4 + 1 + i) % 4 ≡ placeAfter b i
-place-after b i = omega arith
 
 -- The place found is the i-th after the last, and none before it is due.
 pub record NextAt (b : Board) (k : ℕ) : Type 0 where

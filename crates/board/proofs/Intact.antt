@@ -61,6 +61,7 @@ use Rattle.board.proofs.Cases.{
   callAnswer,
   turnAnswer,
   runBy,
+  answered,
 }
 use Rattle.board.proofs.Due.{next-below}
 use Rattle.board.proofs.Stretch.{
@@ -159,14 +160,11 @@ module _ (k : ℕ) (lt : k < 4) (s : Scene) (x : Intact k s) where
   turn-runs : (samples : List ℤ) (f : Fault) → turnIn s samples ≡ accepted (took k (refused f)) → ⊥
   turn-runs samples f h = go (turn-case s samples)
     where
-      answered : {c : BoardEffect Yield} → turnBy s samples ≡ c → c .answer ≡ accepted (took k (refused f))
-      answered e = sym (ap turnAnswer e) ∙ h
-
       go : TurnCase s samples → ⊥
-      go (turn-stays g e) = never (took k (refused f)) g (sym (answered e))
-      go (turn-idles n e) = let q = answered e in let z : _≡_ {A = ℕ} 0 1 = cc in omega arith
+      go (turn-stays g e) = never (took k (refused f)) g (sym (answered s samples h e))
+      go (turn-idles n e) = let q = answered s samples h e in let z : _≡_ {A = ℕ} 0 1 = cc in omega arith
       go (turn-takes j n w v e) =
-          let q = answered e in
+          let q = answered s samples h e in
           let place : j ≡ k = cc in
           let fails : runBy s samples j .answer ≡ refused f = cc in
           let room = leb-true 260 (length (s .state)) w in
@@ -205,23 +203,6 @@ unfolding Throughout
 intact-runs k lt s x [] free = tt
 intact-runs k lt s x (e ∷ es) free =
     (event-runs k lt s x e, intact-runs k lt (afterEvent s e) (event-intact k lt s x e (free .0)) es (free .1))
-
--- Which refusals a turn can report of a run.
-pub took-fault : (s : Scene) (samples : List ℤ) (k : ℕ) (f : Fault) → turnIn s samples ≡ accepted (took k (refused f)) →
-    RunFault f
-took-fault s samples k f h = go (turn-case s samples)
-  where
-    answered : {c : BoardEffect Yield} → turnBy s samples ≡ c → c .answer ≡ accepted (took k (refused f))
-    answered e = sym (ap turnAnswer e) ∙ h
-
-    go : TurnCase s samples → RunFault f
-    go (turn-stays g e) = absurd (never (took k (refused f)) g (sym (answered e)))
-    go (turn-idles n e) = let q = answered e in let z : _≡_ {A = ℕ} 0 1 = cc in absurd (omega arith)
-    go (turn-takes j n w v e) =
-        let q = answered e in
-        let fails : runBy s samples j .answer ≡ refused f = cc in
-        run-fault (s .board) (s .images) (s .state) samples j (next-below (s .board) j n) (leb-true 260 (length (s .state)) w)
-        (leb-true 256 (length samples) v) f fails
 
 -- What a load that is not refused leaves of its place.
 pub record LoadedPlace (s : Scene) (k start size : ℕ) : Type 0 where

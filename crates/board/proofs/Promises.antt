@@ -4,6 +4,7 @@ use Prim.Native.Nat.{ℕ, _+_, _≤_, _<_}
 use mathlib.Core.List.{List, [], _∷_}
 use mathlib.Core.Path.{_≡_, refl, sym, ap, _∙_}
 use native.Mathlib.Omega.{arith}
+use borrow.Author.Tests.{leb-true}
 use lib.IntN.{ℤ}
 use lib.ListN.{length}
 use Rattle.model.specs.Says.Calls as Calls
@@ -55,11 +56,15 @@ use Rattle.board.proofs.Cases.{
   turn-case,
   callAnswer,
   turnAnswer,
+  runBy,
+  answered,
 }
 use Rattle.board.proofs.Counts.{count-from}
-use Rattle.board.proofs.Intact.{load-leaves-place, intact-runs, took-fault}
+use Rattle.board.proofs.Intact.{load-leaves-place, intact-runs, run-fault}
+use Rattle.board.proofs.Due.{next-below}
 use Rattle.board.proofs.Others.{event-elsewhere}
 use Rattle.board.proofs.Round.{due-taken, mark-due}
+use Rattle.board.proofs.Stretch.{never}
 
 -- A place that was marked and is not loaded again is taken by the fourth turn after its mark at the latest, turns refused 21 or
 -- 23 left out, whichever places the other events load and mark and whatever is changed from outside.
@@ -113,7 +118,16 @@ place-cycles s k start size n four a es free =
 -- A run is refused by 27, 20 or 22 alone ..
 pub run-faults : (s : Scene) (samples : List ℤ) (k : ℕ) (f : Fault) → turnIn s samples ≡ accepted (took k (refused f)) →
     RunFault f
-run-faults = took-fault
+run-faults s samples k f h = go (turn-case s samples)
+  where
+    go : TurnCase s samples → RunFault f
+    go (turn-stays g e) = absurd (never (took k (refused f)) g (sym (answered s samples h e)))
+    go (turn-idles n e) = let q = answered s samples h e in let z : _≡_ {A = ℕ} 0 1 = cc in absurd (omega arith)
+    go (turn-takes j n w v e) =
+        let q = answered s samples h e in
+        let fails : runBy s samples j .answer ≡ refused f = cc in
+        run-fault (s .board) (s .images) (s .state) samples j (next-below (s .board) j n) (leb-true 260 (length (s .state)) w)
+        (leb-true 256 (length samples) v) f fails
 
 -- .. and by none of them while nobody outside has changed the place's stretch or words since it was loaded.
 pub runs-unless-changed : (s : Scene) (k start size n : ℕ) → length (s .board .places) ≡ 4 →

@@ -28,9 +28,9 @@ use Rattle.model.specs.Rules.Machine.{
 }
 use Rattle.model.specs.Rules.Outcome.{Outcome, accepted, refused, fault}
 use Rattle.model.specs.declared.Fault.{Fault}
-use Rattle.model.proofs.Bytes.{cycle-length}
-use Rattle.model.proofs.Stretches.{table-length}
-use Rattle.model.proofs.Tails.{lent-formed}
+use Rattle.model.proofs.Images.Cycles.{cycle-length}
+use Rattle.model.proofs.Images.Stretches.{table-length}
+use Rattle.model.proofs.Images.Tails.{lent-formed}
 use Rattle.image_valid.proofs.Parts.{head, formed}
 use Rattle.image_valid.specs.Lends.{Lends}
 use Rattle.machine.specs.Runnable.{Runnable}

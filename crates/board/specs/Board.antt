@@ -6,15 +6,13 @@ use mathlib.Core.List.{List, [], _∷_, _++_}
 use lib.Dec.{leb, ltb}
 use lib.IntN.{ℤ}
 use lib.ListN.{length, getD, take, drop, set}
-use Rattle.model.specs.Rules.Machine.{Effect, stretch, resetOf, cycleOf, cycledOf}
+use Rattle.model.specs.Rules.Machine.{Effect, stretch, resetOf, cycleOf}
 use Rattle.model.specs.Rules.Outcome.{Outcome, accepted, refused, refuse, _▷_, provided}
 use Rattle.model.specs.Rules.Search.{first}
 use Rattle.model.specs.declared.Found.{Found}
 use Rattle.model.specs.declared.Found.the-variants.{At, Nowhere}
 use Rattle.board.specs.declared.Board.{Board}
 use Rattle.board.specs.declared.Place.{Place}
-use Rattle.board.specs.declared.Turned.{Turned}
-use Rattle.board.specs.declared.Turned.the-variants as Turned
 
 -- A place that was never loaded.
 abbrev pub vacant : Place
@@ -130,16 +128,12 @@ pub data Yield : Type 0 where
   idle : Yield
   took : ℕ → Outcome ℕ → Yield
 
--- What the answer of a turn stands for.
-abbrev pub turnedOf : Turned → Outcome Yield
-turnedOf Turned.Idle = accepted idle
-turnedOf (Turned.Took k run) = accepted (took k (cycledOf run))
-turnedOf (Turned.Refused f) = refused f
-
 -- The run of a place: one cycle of its image, words and samples.
+abbrev pub runIn : List ℕ → ℕ → ℕ → List ℤ → List ℤ → ℕ → Effect ℤ
+runIn images start size state samples k = cycleIn images start size (placeWords k state) (placeSamples k samples)
+
 unfoldable pub runOf : Board → List ℕ → List ℤ → List ℤ → ℕ → Effect ℤ
-runOf b images state samples k =
-    cycleIn images (placeAt b k .start) (placeAt b k .size) (placeWords k state) (placeSamples k samples)
+runOf b images state samples k = runIn images (placeAt b k .start) (placeAt b k .size) state samples k
 
 -- A turn runs the next due place and clears its mark; a run that is refused does the same and leaves the state.
 unfoldable pub turnWith : Board → List ℕ → List ℤ → List ℤ → Found → BoardJob Yield

@@ -1,8 +1,7 @@
-// Four programs on one board. The record goes in by value and comes back; each place has a stretch of the lent images, its own
-// 65 of 260 lent words and 64 of 256 lent samples, in place order. A refused call changes nothing, the record included.
+// Four programs on one board: what its record stands for, and the work on one place. Each place has a stretch of the lent images, its
+// own 65 of 260 lent words and 64 of 256 lent samples, in place order. The calls are in crate `board_words`.
 use model::Cycled;
 use model::Fault;
-use model::Found;
 use model::Ran;
 ghost use mathlib.Core.Path.{_≡_};
 ghost use Prim.Native.Nat.{_+_, _≤_, _<_};
@@ -10,31 +9,31 @@ ghost use lib.Dec.{leb};
 ghost use lib.ListN.{length};
 ghost use Rattle.model.specs.Rules.Machine.{ranOf, cycledOf};
 ghost use Rattle.model.specs.Rules.Outcome.{refuse};
-ghost use Rattle.board.specs.Board.{countUp, takenPlace, withDue, withWords, nextDue, newBoard};
-ghost use Rattle.board.specs.Board.{loadedAt, markedAt, takenAt, resetIn, cycleIn, runOf, loadOf, markPlaceOf, turnOf, turnedOf};
+ghost use Rattle.board.specs.Board.{countUp, placeWords, withWords};
+ghost use Rattle.board.specs.Board.{resetIn, cycleIn, runIn};
 
-const PLACES: usize = 4;
+pub const PLACES: usize = 4;
 
 const PLACE_WORDS: usize = 65;
 
 const PLACE_SAMPLES: usize = 64;
 
-const WORDS: usize = 260;
+pub const WORDS: usize = 260;
 
-const SAMPLES: usize = 256;
+pub const SAMPLES: usize = 256;
 
 const COUNT_MAX: u32 = 4294967295;
 
 // The numbers of the refusals.
-const SHORT_STATE: u8 = 21;
+pub const SHORT_STATE: u8 = 21;
 
-const FEW_SAMPLES: u8 = 23;
+pub const FEW_SAMPLES: u8 = 23;
 
-const NO_PLACE: u8 = 26;
+pub const NO_PLACE: u8 = 26;
 
 const OUTSIDE: u8 = 27;
 
-const NOT_LOADED: u8 = 28;
+pub const NOT_LOADED: u8 = 28;
 
 // A place: whether it is loaded and due, its stretch of the images, and the number of turns that took it since its load.
 pub struct Place {
@@ -45,32 +44,14 @@ pub struct Place {
     pub count: u32,
 }
 
-// The record: the places, and the one last taken.
+// What a record stands for: the places, and the one last taken. No call builds one.
 pub struct Board {
     pub places: [Place; 4],
     pub last: usize,
 }
 
-// What a turn answers: nothing was due; the place taken and what its run answers; or the refusal of the turn.
-pub enum Turned {
-    Idle,
-    Took(usize, Cycled),
-    Refused(Fault),
-}
-
-// What a load or a mark answers, and the record after it.
-pub struct AfterCall {
-    pub answer: Ran,
-    pub board: Board,
-}
-
-// What a turn answers, and the record after it.
-pub struct AfterTurn {
-    pub answer: Turned,
-    pub board: Board,
-}
-
-fn refused(number: u8) -> Ran
+// The refusal of a call.
+pub fn refused(number: u8) -> Ran
     ensures { λ r. ⌜ ranOf r ≡ refuse number 0 ⌝ }
 {
     Ran::Refused(Fault { number, place: 0 })
@@ -82,125 +63,11 @@ fn stopped(number: u8) -> Cycled
     Cycled::Refused(Fault { number, place: 0 })
 }
 
-fn denied(number: u8) -> Turned
-    ensures { λ r. ⌜ turnedOf r ≡ refuse number 0 ⌝ }
-{
-    Turned::Refused(Fault { number, place: 0 })
-}
-
-// The record with nothing loaded or due.
-pub fn new_board() -> Board
-    ensures { λ r. ⌜ r ≡ newBoard ⌝ }
-{
-    let vacant = Place {
-        loaded: false,
-        due: false,
-        start: 0,
-        size: 0,
-        count: 0,
-    };
-    Board {
-        places: [vacant; 4],
-        last: 3,
-    }
-}
-
 // One turn more, held at the maximum.
-fn count_up(n: u32) -> u32
+pub fn count_up(n: u32) -> u32
     ensures { λ r. ⌜ r ≡ countUp n ⌝ }
 {
     if n < COUNT_MAX { n + 1 } else { n }
-}
-
-// A place with its due mark set or cleared.
-fn with_due(p: Place, due: bool) -> Place
-    ensures { λ r. ⌜ r ≡ withDue due p ⌝ }
-{
-    Place {
-        loaded: p.loaded,
-        due,
-        start: p.start,
-        size: p.size,
-        count: p.count,
-    }
-}
-
-// A place once a turn has taken it.
-fn taken_place(p: Place) -> Place
-    ensures { λ r. ⌜ r ≡ takenPlace p ⌝ }
-{
-    Place {
-        loaded: p.loaded,
-        due: false,
-        start: p.start,
-        size: p.size,
-        count: count_up(p.count),
-    }
-}
-
-// The record once a place is loaded with a stretch.
-fn with_load(board: Board, place: usize, start: usize, size: usize) -> Board
-    requires { ⌜ place < 4 ⌝ }
-    ensures { λ r. ⌜ r ≡ loadedAt board place start size ⌝ }
-{
-    let mut places = board.places;
-    places[place] = Place {
-        loaded: true,
-        due: false,
-        start,
-        size,
-        count: 0,
-    };
-    Board {
-        places: places,
-        last: board.last,
-    }
-}
-
-// The record once a place is due.
-fn with_mark(board: Board, place: usize) -> Board
-    requires { ⌜ place < 4 ⌝ }
-    ensures { λ r. ⌜ r ≡ markedAt board place ⌝ }
-{
-    let mut places = board.places;
-    let p = places[place];
-    places[place] = with_due(p, true);
-    Board {
-        places: places,
-        last: board.last,
-    }
-}
-
-// The record once a turn has taken a place.
-fn with_turn(board: Board, place: usize) -> Board
-    requires { ⌜ place < 4 ⌝ }
-    ensures { λ r. ⌜ r ≡ takenAt board place ⌝ }
-{
-    let mut places = board.places;
-    let p = places[place];
-    places[place] = taken_place(p);
-    Board {
-        places: places,
-        last: place,
-    }
-}
-
-// The next due place in cyclic order after the one last taken.
-fn next_due(board: Board) -> Found
-    ensures { λ r. ⌜ r ≡ nextDue board ⌝ }
-{
-    let places = board.places;
-    let last = board.last % PLACES;
-    let mut i: usize = 0;
-    while i < PLACES {
-        let place = (last + 1 + i) % PLACES;
-        let p = places[place];
-        if p.due {
-            return Found::At(place);
-        }
-        i = i + 1;
-    }
-    Found::Nowhere
 }
 
 // Whether a stretch lies in a buffer of this length.
@@ -249,124 +116,39 @@ fn cycle_place(
     Cycled::Commands(total)
 }
 
+// Resets a place's own words.
+pub fn load_place(images: &[u8], start: usize, size: usize, state: &mut [i32], place: usize) -> Ran
+    requires { ⌜ (place < 4) × (260 ≤ length (now state)) ⌝ }
+    ensures answer { λ r. ⌜ ranOf r ≡ resetIn (now (images .entry)) start size (placeWords place (now (state .entry))) .answer ⌝ }
+    ensures left { λ _. ⌜ now (state .exit) ≡ withWords place (now (state .entry)) (resetIn (now (images .entry)) start size (placeWords place (now (state .entry))) .left) ⌝ }
+{
+    let from = PLACE_WORDS * place;
+    let to = from + PLACE_WORDS;
+    reset_place(images, start, size, &mut state[from..to])
+}
+
 // Runs one cycle of a place on its own words and samples.
-fn run_place(
-    board: Board,
+pub fn run_place(
     images: &[u8],
+    start: usize,
+    size: usize,
     state: &mut [i32],
     samples: &[i32],
     place: usize,
 ) -> Cycled
     requires { ⌜ (place < 4) × (260 ≤ length (now state)) × (256 ≤ length (now samples)) ⌝ }
-    ensures answer { λ r. ⌜ cycledOf r ≡ runOf board (now (images .entry)) (now (state .entry)) (now (samples .entry)) place .answer ⌝ }
-    ensures left { λ _. ⌜ now (state .exit) ≡ withWords place (now (state .entry)) (runOf board (now (images .entry)) (now (state .entry)) (now (samples .entry)) place .left) ⌝ }
+    ensures answer { λ r. ⌜ cycledOf r ≡ runIn (now (images .entry)) start size (now (state .entry)) (now (samples .entry)) place .answer ⌝ }
+    ensures left { λ _. ⌜ now (state .exit) ≡ withWords place (now (state .entry)) (runIn (now (images .entry)) start size (now (state .entry)) (now (samples .entry)) place .left) ⌝ }
 {
-    let places = board.places;
-    let p = places[place];
     let from = PLACE_WORDS * place;
     let to = from + PLACE_WORDS;
     let first = PLACE_SAMPLES * place;
     let end = first + PLACE_SAMPLES;
     cycle_place(
         images,
-        p.start,
-        p.size,
+        start,
+        size,
         &mut state[from..to],
         &samples[first..end],
     )
-}
-
-// Loads a place: resets it, and clears its due mark.
-pub fn load(
-    board: Board,
-    images: &[u8],
-    state: &mut [i32],
-    place: usize,
-    start: usize,
-    size: usize,
-) -> AfterCall
-    ensures answer { λ r. ⌜ ranOf (r .answer) ≡ loadOf board (now (images .entry)) (now (state .entry)) place start size .answer ⌝ }
-    ensures record { λ r. ⌜ r .board ≡ loadOf board (now (images .entry)) (now (state .entry)) place start size .board ⌝ }
-    ensures left { λ _. ⌜ now (state .exit) ≡ loadOf board (now (images .entry)) (now (state .entry)) place start size .left ⌝ }
-{
-    if PLACES <= place {
-        return AfterCall {
-            answer: refused(NO_PLACE),
-            board,
-        };
-    }
-    if state.len() < WORDS {
-        return AfterCall {
-            answer: refused(SHORT_STATE),
-            board,
-        };
-    }
-    let from = PLACE_WORDS * place;
-    let to = from + PLACE_WORDS;
-    let ran = reset_place(images, start, size, &mut state[from..to]);
-    let Ran::Done = ran else {
-        return AfterCall { answer: ran, board };
-    };
-    AfterCall {
-        answer: ran,
-        board: with_load(board, place, start, size),
-    }
-}
-
-// Marks a loaded place due.
-pub fn mark(board: Board, place: usize) -> AfterCall
-    ensures answer { λ r. ⌜ ranOf (r .answer) ≡ markPlaceOf board place .answer ⌝ }
-    ensures record { λ r. ⌜ r .board ≡ markPlaceOf board place .board ⌝ }
-{
-    if PLACES <= place {
-        return AfterCall {
-            answer: refused(NO_PLACE),
-            board,
-        };
-    }
-    let places = board.places;
-    let p = places[place];
-    if !p.loaded {
-        return AfterCall {
-            answer: refused(NOT_LOADED),
-            board,
-        };
-    }
-    AfterCall {
-        answer: Ran::Done,
-        board: with_mark(board, place),
-    }
-}
-
-// Runs the next due place, if there is one, and clears its mark.
-pub fn turn(board: Board, images: &[u8], state: &mut [i32], samples: &[i32]) -> AfterTurn
-    ensures answer { λ r. ⌜ turnedOf (r .answer) ≡ turnOf board (now (images .entry)) (now (state .entry)) (now (samples .entry)) .answer ⌝ }
-    ensures record { λ r. ⌜ r .board ≡ turnOf board (now (images .entry)) (now (state .entry)) (now (samples .entry)) .board ⌝ }
-    ensures left { λ _. ⌜ now (state .exit) ≡ turnOf board (now (images .entry)) (now (state .entry)) (now (samples .entry)) .left ⌝ }
-{
-    if state.len() < WORDS {
-        return AfterTurn {
-            answer: denied(SHORT_STATE),
-            board,
-        };
-    }
-    if samples.len() < SAMPLES {
-        return AfterTurn {
-            answer: denied(FEW_SAMPLES),
-            board,
-        };
-    }
-    let found = next_due(board);
-    let Found::At(place) = found else {
-        return AfterTurn {
-            answer: Turned::Idle,
-            board,
-        };
-    };
-    let taken = with_turn(board, place);
-    let run = run_place(board, images, &mut state[..], samples, place);
-    AfterTurn {
-        answer: Turned::Took(place, run),
-        board: taken,
-    }
 }

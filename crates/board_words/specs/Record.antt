@@ -1,21 +1,26 @@
 -- The board's record as an array of 17 numbers, and a turn's outcome as three, for a C caller.
-use Prim.Native.Nat.{ℕ, _/_, _%_}
-use mathlib.Core.Bool.{cond}
+use Prim.Native.Nat.{ℕ, _+_, _-_, _*_, _/_, _%_}
+use mathlib.Core.Bool.{Bool}
 use mathlib.Core.List.{List, [], _∷_}
 use lib.Dec.{eqb}
-use lib.ListN.{getD}
+use lib.ListN.{getD, set}
 use Rattle.model.specs.Rules.Outcome.{Outcome, accepted, refused}
-use Rattle.board.specs.Board.{placeAt, BoardEffect, Yield, idle, took}
+use Rattle.model.specs.Rules.Search.{firstFrom}
+use Rattle.model.specs.declared.Found.{Found}
+use Rattle.board.specs.Board.{countUp, placeAt, Yield, idle, took}
 use Rattle.board.specs.declared.Board.{Board}
 use Rattle.board.specs.declared.Place.{Place}
 
 -- The flags of a place: 1 loaded, 2 due.
-abbrev pub flagsOf : Place → ℕ
-flagsOf p = cond (p .due) (cond (p .loaded) 3 2) (cond (p .loaded) 1 0)
+abbrev pub loadedIn : ℕ → Bool
+loadedIn flags = eqb (flags % 2) 1
+
+abbrev pub dueIn : ℕ → Bool
+dueIn flags = eqb (flags / 2 % 2) 1
 
 abbrev pub placeFrom : ℕ → ℕ → ℕ → ℕ → Place
 placeFrom flags start size count =
-    record { loaded = eqb (flags % 2) 1; due = eqb (flags / 2 % 2) 1; start = start; size = size; count = count % 4294967296 }
+    record { loaded = loadedIn flags; due = dueIn flags; start = start; size = size; count = count % 4294967296 }
 
 -- Flags, start, size and count of each place in place order; then the place last taken. Any numbers are a record.
 unfoldable pub boardOf : List ℕ → Board
@@ -29,29 +34,41 @@ boardOf w =
       last = getD w 16 0;
     }
 
-abbrev pub packedPlace : Place → List ℕ → List ℕ
-packedPlace p rest = flagsOf p ∷ (p .start ∷ (p .size ∷ (p .count ∷ rest)))
+-- The array of a new record.
+abbrev pub newWords : List ℕ
+newWords =
+    0 ∷ (0 ∷ (0 ∷ (0 ∷ (0 ∷ (0 ∷ (0 ∷ (0 ∷ (0 ∷ (0 ∷ (0 ∷ (0 ∷ (0 ∷ (0 ∷ (0 ∷ (0 ∷ (3 ∷ []))))))))))))))))
 
-unfoldable pub packed : Board → List ℕ
-packed b =
-    packedPlace (placeAt b 0)
-    (packedPlace (placeAt b 1) (packedPlace (placeAt b 2) (packedPlace (placeAt b 3) (b .last ∷ []))))
+-- The first due place from one on.
+abbrev pub firstDue : Board → ℕ → Found
+firstDue b from = firstFrom from (4 - from) (λ k. placeAt b k .due)
+
+-- The array once a place is loaded with a stretch; once it is due; once a turn has taken it. The numbers of other places stay.
+unfoldable pub loadedWords : List ℕ → ℕ → ℕ → ℕ → List ℕ
+loadedWords w k start size = set (set (set (set w (4 * k) 1) (4 * k + 1) start) (4 * k + 2) size) (4 * k + 3) 0
+
+abbrev pub markedWords : List ℕ → ℕ → List ℕ
+markedWords w k = set w (4 * k) 3
+
+abbrev pub countIn : ℕ → ℕ
+countIn count = countUp (count % 4294967296)
+
+unfoldable pub takenWords : List ℕ → ℕ → List ℕ
+takenWords w k = set (set (set w (4 * k) (getD w (4 * k) 0 % 2)) (4 * k + 3) (countIn (getD w (4 * k + 3) 0))) 16 k
 
 -- The array after a call: a refused call and an idle turn leave it as it was.
-abbrev pub callKeeps : List ℕ → Board → Outcome ℕ → List ℕ
-callKeeps w b (accepted n) = packed b
-callKeeps w b (refused f) = w
+abbrev pub loadRecord : List ℕ → ℕ → ℕ → ℕ → Outcome ℕ → List ℕ
+loadRecord w k start size (accepted n) = loadedWords w k start size
+loadRecord w k start size (refused f) = w
 
-abbrev pub callRecord : List ℕ → BoardEffect ℕ → List ℕ
-callRecord w c = callKeeps w (c .board) (c .answer)
+abbrev pub markRecord : List ℕ → ℕ → Outcome ℕ → List ℕ
+markRecord w k (accepted n) = markedWords w k
+markRecord w k (refused f) = w
 
-abbrev pub turnKeeps : List ℕ → Board → Outcome Yield → List ℕ
-turnKeeps w b (accepted idle) = w
-turnKeeps w b (accepted (took k o)) = packed b
-turnKeeps w b (refused f) = w
-
-abbrev pub turnRecord : List ℕ → BoardEffect Yield → List ℕ
-turnRecord w c = turnKeeps w (c .board) (c .answer)
+abbrev pub turnRecord : List ℕ → Outcome Yield → List ℕ
+turnRecord w (accepted idle) = w
+turnRecord w (accepted (took k o)) = takenWords w k
+turnRecord w (refused f) = w
 
 -- Of what a turn answers: done, or the refusal.
 abbrev pub turnDone : Outcome Yield → Outcome ℕ

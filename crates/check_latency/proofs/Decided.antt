@@ -15,36 +15,37 @@ use Rattle.latency_rule.specs.Hops.{HopsOf}
 use Rattle.latency_rule.specs.declared.Hop.{Hop}
 use Rattle.latency_rule.proofs.Chain.{timely-is, small-is}
 use Rattle.model.specs.Says.Feasible.{All}
-use Rattle.model.specs.Rules.Command.{commandAt}
+use Rattle.model.specs.Rules.Command.{declarationAt}
 use Rattle.model.specs.Rules.Latency.{readsBack, backwards, source, fromOf, windowOf, keepsFrom, keeps}
 use Rattle.model.specs.Rules.Program.{Program, Read, count, signalAt}
 use Rattle.model.specs.Rules.Rates.{isLinked}
 use Rattle.model.specs.Rules.Reads.{Rate, rateOf, runCycle}
 use Rattle.model.specs.Rules.Schedule.{Schedule, phaseOf}
-use Rattle.model.specs.declared.Command.{Command}
-use Rattle.model.specs.declared.Command.the-variants as Command
+use Rattle.model.specs.declared.Declaration.{Declaration}
+use Rattle.model.specs.declared.Declaration.the-variants as Declaration
 use Rattle.model.specs.declared.Mode.{Mode}
-use Rattle.model.proofs.All.{all-at}
-use Rattle.model.proofs.Command.{enum}
-use Rattle.model.proofs.Decide.{met-settled}
-use Rattle.model.proofs.Legal.{legal, SpellsChain}
-use Rattle.model.proofs.Links.{LinkedBack, linked-backwards, declared-backwards, chain-met}
-use Rattle.model.proofs.Verdict.{links-declared, chains-linked}
-use Rattle.model.proofs.Window.{ChainMet, source-count}
+use Rattle.model.proofs.Basics.All.{all-at}
+use Rattle.model.proofs.Declaration.{enum}
+use Rattle.model.proofs.Pairs.Decide.{met-settled}
+use Rattle.model.proofs.Texts.Legal.{legal, SpellsChain}
+use Rattle.model.proofs.Pairs.Links.{LinkedBack, linked-backwards, declared-backwards, chain-met}
+use Rattle.model.proofs.Pairs.Verdict.{links-declared, chains-linked}
+use Rattle.model.proofs.Pairs.Links.{ChainMet, source-count}
 use Rattle.check_rates.specs.Answers.{periodAt}
 use Rattle.text_program.specs.Tables.{noChain, chainAt}
 use Rattle.text_program.specs.declared.Tables.{Tables}
 use Rattle.check_latency.specs.Timely.{Timed, RouteOf, windowBy}
 use Rattle.check_latency.specs.declared.Route.{Route}
 use Rattle.check_latency.proofs.Following.{reads-length}
-use Rattle.check_latency.proofs.Laws.{rate-at}
+use Rattle.check_latency.proofs.Indices.{rate-at}
 
 -- A signal's rate by the tables.
 abbrev pub rateAt : List ℕ → List ℕ → ℕ → Rate
 rateAt periods phases x = record { period = periodAt periods x; phase = periodAt phases x }
 
 -- What the call of latency_rule::is_timely asks, and what it then answers.
-pub record Decided (text : List ℕ) (tables : Tables) (periods phases : List ℕ) (h : ℕ) (p : Program) (s : Schedule) (chain : ℕ) (route : Route) : Type 0 where
+pub record Decided (text : List ℕ) (tables : Tables) (periods phases : List ℕ) (h : ℕ) (p : Program) (s : Schedule) (chain : ℕ)
+    (route : Route) : Type 0 where
   pub positive : 0 < periodAt periods (route .last)
   pub few : route .count ≤ 15
   pub sound : Sound (route .hops) (route .count)
@@ -60,7 +61,8 @@ pub record Decided (text : List ℕ) (tables : Tables) (periods phases : List �
 sound-is : (p : Program) (s : Schedule) (hops : List Hop) (r : ℕ) (ρs : List Read) → ChainMet p s r ρs → HopsOf p s hops r ρs →
     Sound hops (length ρs)
 sound-is p s hops r [] ch h j lt = absurd (omega arith)
-sound-is p s hops r (ρ ∷ ρs) ch h j lt = go (eqb j (length ρs)) refl (λ l. sound-is p s hops (ρ .operands .signal) ρs (ch .1) (h .1) j l)
+sound-is p s hops r (ρ ∷ ρs) ch h j lt =
+    go (eqb j (length ρs)) refl (λ l. sound-is p s hops (ρ .operands .signal) ρs (ch .1) (h .1) j l)
   where
     go : (b : Bool) → eqb j (length ρs) ≡ b → (j < length ρs → getD hops j noHop .index < getD hops j noHop .factor) →
         getD hops j noHop .index < getD hops j noHop .factor
@@ -77,20 +79,23 @@ early n h q f i ln lh lf li =
 -- Where the command of a chain stands.
 pub chain-command : (text : List ℕ) (tables : Tables) (periods phases : List ℕ) (h : ℕ) (p : Program) (s : Schedule) (chain : ℕ) →
     Timed text tables periods phases h p s → chain < tables .chains →
-    commandAt text (getD (tables .starts) chain 0) ≡ Command.Latency (chainAt p chain .mode) (chainAt p chain .bound)
+    declarationAt text (getD (tables .starts) chain 0) ≡ Declaration.Latency (chainAt p chain .mode) (chainAt p chain .bound)
 chain-command text tables periods phases h p s chain t lt =
     let k = t .joined .known in
     let l : chain < length (p .chains) = omega (arith, k .tables-are .counts .chains-are) in
-    rw (k .tables-are .starts chain l) (all-at (SpellsChain text) (p .chains) noChain (legal text p (k .parsed) .1 .chains) chain l .command)
+    rw (k .tables-are .starts chain l)
+    (all-at (SpellsChain text) (p .chains) noChain (legal text p (k .parsed) .1 .chains) chain l .command)
 
 -- The commands other than LAT.
 abbrev others : List ℕ
-others = 0 ∷ 1 ∷ 2 ∷ 3 ∷ 4 ∷ 5 ∷ 7 ∷ 8 ∷ 9 ∷ 10 ∷ 11 ∷ 12 ∷ 13 ∷ 14 ∷ []
+others = 0 ∷ 1 ∷ 2 ∷ 3 ∷ 4 ∷ 5 ∷ 7 ∷ 8 ∷ 9 ∷ []
 
-pub missed : (c : Command) {mode : Mode} {bound : ℕ} → c ≡ Command.Latency mode bound → OneOf others (tagOf (sum enum) c) → ⊥
+pub missed : (c : Declaration) {mode : Mode} {bound : ℕ} → c ≡ Declaration.Latency mode bound →
+    OneOf others (tagOf (sum enum) c) → ⊥
 missed c e k = miss others 6 tt (subst (λ y. OneOf others (tagOf (sum enum) y)) e k)
 
-pub decided : (text : List ℕ) (tables : Tables) (periods phases : List ℕ) (h : ℕ) (p : Program) (s : Schedule) (chain : ℕ) (route : Route) →
+pub decided : (text : List ℕ) (tables : Tables) (periods phases : List ℕ) (h : ℕ) (p : Program) (s : Schedule) (chain : ℕ)
+    (route : Route) →
     Timed text tables periods phases h p s → chain < tables .chains → RouteOf p s route (backwards (chainAt p chain)) →
     Decided text tables periods phases h p s chain route
 unfolding keeps fromOf windowOf
@@ -113,16 +118,19 @@ decided text tables periods phases h p s chain route t lt (ws, whole, few, along
     ap (rateAt periods phases) (sym (along .ends)) ∙ rate-at (j .known) (source p s r ρs) a in
     let period : periodAt periods r ≡ signalAt p r .period = ap (λ x. x .period) last in
     record {
-      positive = rw period (le-trans (omega arith) (t .accepted .phases r (d .0)));
+      positive = rw period (le-trans (omega arith) (t .accepted .ordered .phases r (d .0)));
       few = few;
       sound = subst (Sound (route .hops)) n (sound-is p s (route .hops) r ρs ch (along .hops-are));
       small = λ i li.
           rw period
           (subst (λ m. Small (route .hops) m (route .count * (h / signalAt p r .period) + i)) n
-          (small-is p s (t .accepted) (route .hops) r (route .count * (h / signalAt p r .period) + i) ρs (d .0) ch (along .hops-are)
-          (early (route .count) h (signalAt p r .period) (phaseOf s r) i few (t .hyper) (t .accepted .phases r (d .0)) (rw period at li))));
+          (small-is p s (t .accepted) (route .hops) r (route .count * (h / signalAt p r .period) + i) ρs (d .0) ch
+          (along .hops-are)
+          (early (route .count) h (signalAt p r .period) (phaseOf s r) i few (t .hyper) (t .accepted .ordered .phases r (d .0))
+          (rw period at li))));
       same = sym (ap (keepsFrom p s h (chainAt p chain)) whole ∙
-          timely-is p s (chainAt p chain .mode) (chainAt p chain .bound) (length ρs * (h / signalAt p r .period)) (h / signalAt p r .period) (route .hops) r ρs (along .hops-are) ∙
+          timely-is p s (chainAt p chain .mode) (chainAt p chain .bound) (length ρs * (h / signalAt p r .period))
+          (h / signalAt p r .period) (route .hops) r ρs (along .hops-are) ∙
           (λ i.
           timelyBy (chainAt p chain .mode) (chainAt p chain .bound) (route .hops) (n i) (sym last i) (sym first i)
           (n i * windowBy h (sym period i)) (windowBy h (sym period i))));

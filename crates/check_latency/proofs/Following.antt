@@ -11,27 +11,29 @@ use Rattle.latency_rule.specs.Back.{noHop}
 use Rattle.latency_rule.specs.Hops.{hopOf, HopsOf}
 use Rattle.latency_rule.specs.declared.Hop.{Hop}
 use Rattle.model.specs.Says.Feasible.{All}
-use Rattle.model.specs.Rules.Latency.{readOf, readsBack, backwards, source}
+use Rattle.model.specs.Rules.Latency.{readAmong, readsBack, backwards, source}
 use Rattle.model.specs.Rules.Program.{Program, Link, Read, count, signalAt, bodyReads}
 use Rattle.model.specs.Rules.Rates.{countReads, isLinked}
 use Rattle.model.specs.Rules.Schedule.{Schedule}
 use Rattle.model.specs.Rules.Word.{byteAt}
-use Rattle.model.proofs.All.{all-at}
-use Rattle.model.proofs.Legal.{legal, SpellsChain}
+use Rattle.model.proofs.Basics.All.{all-at}
+use Rattle.model.proofs.Texts.Legal.{legal, SpellsChain}
 use Rattle.model.specs.Says.Grammar.{SpellsLinks}
-use Rattle.model.proofs.Verdict.{links-declared, chains-linked}
+use Rattle.model.proofs.Pairs.Verdict.{links-declared, chains-linked}
 use Rattle.text_program.specs.Tables.{noChain, chainAt}
 use Rattle.text_program.specs.declared.Tables.{Tables}
 use Rattle.check_latency.specs.Timely.{Known, Joined, Along, RouteOf}
-use Rattle.check_latency.proofs.Laws.{read-signal}
+use Rattle.check_latency.proofs.Indices.{read-signal}
 
 module _ (p : Program) (s : Schedule) where
   -- Hops stay as they are where one is set behind them.
   hops-kept : (hops : List Hop) (i : ℕ) (hop : Hop) (r : ℕ) (ρs : List Read) → length ρs ≤ i → HopsOf p s hops r ρs →
       HopsOf p s (set hops i hop) r ρs
   hops-kept hops i hop r [] le h = tt
-  hops-kept hops i hop r (ρ ∷ ρs) le h =
-      (getD-set-other hops i (length ρs) hop noHop (λ e. omega arith) ∙ h .0, hops-kept hops i hop (ρ .operands .signal) ρs (omega arith) (h .1))
+  hops-kept hops i hop r (ρ ∷ ρs) le h = (
+    getD-set-other hops i (length ρs) hop noHop (λ e. omega arith) ∙ h .0,
+    hops-kept hops i hop (ρ .operands .signal) ρs (omega arith) (h .1),
+  )
 
 pub reads-length : (p : Program) (r : ℕ) (ws : List ℕ) → length (readsBack p r ws) ≡ length ws
 unfolding readsBack
@@ -39,7 +41,8 @@ reads-length p r [] = refl
 reads-length p r (w ∷ ws) = ap suc (reads-length p w ws)
 
 -- The LINKs from `at` on, the first of them `last`, after those that the hops go back over.
-pub record Following (text : List ℕ) (p : Program) (s : Schedule) (back : List ℕ) (source at left last n : ℕ) (hops : List Hop) : Type 0 where
+pub record Following (text : List ℕ) (p : Program) (s : Schedule) (back : List ℕ) (source at left last n : ℕ) (hops : List Hop) :
+    Type 0 where
   pub ws : List ℕ
   pub links : List Link
   pub end : ℕ
@@ -55,23 +58,25 @@ pub record Following (text : List ℕ) (p : Program) (s : Schedule) (back : List
   pub room : n + left ≤ 16
 
 -- The next link.
-pub record Next (text : List ℕ) (p : Program) (s : Schedule) (back : List ℕ) (source at left last n : ℕ) (hops : List Hop) : Type 0 where
+pub record Next (text : List ℕ) (p : Program) (s : Schedule) (back : List ℕ) (source at left last n : ℕ) (hops : List Hop) : Type
+    0 where
   pub inside : at + 4 ≤ length text
   pub read : last < count p
   pub reader : byteAt text (at + 2 + 1) < count p
   pub room : n < 15
   pub once : countReads last (bodyReads (signalAt p (byteAt text (at + 2 + 1)) .body)) ≡ 1
-  pub on : (hop : Hop) → hop ≡ hopOf p s (byteAt text (at + 2 + 1)) (readOf last (bodyReads (signalAt p (byteAt text (at + 2 + 1)) .body))) →
+  pub on : (hop : Hop) → hop ≡ hopOf p s (byteAt text (at + 2 + 1))
+      (readAmong last (bodyReads (signalAt p (byteAt text (at + 2 + 1)) .body))) →
       Following text p s back source (at + 2) (left - 1) (byteAt text (at + 2 + 1)) (n + 1) (set hops n hop)
 
 module _ (text : List ℕ) (p : Program) (s : Schedule) (back : List ℕ) (source₀ at left last n : ℕ) (hops : List Hop) where
   along-on : (ws : List ℕ) (r : ℕ) → countReads last (bodyReads (signalAt p r .body)) ≡ 1 → n < 15 → length hops ≡ 15 →
       Along p s (record { hops = hops; count = n; source = source₀; last = last }) ws →
-      (hop : Hop) → hop ≡ hopOf p s r (readOf last (bodyReads (signalAt p r .body))) →
+      (hop : Hop) → hop ≡ hopOf p s r (readAmong last (bodyReads (signalAt p r .body))) →
       Along p s (record { hops = set hops n hop; count = n + 1; source = source₀; last = r }) (last ∷ ws)
   unfolding readsBack source
   along-on ws r once lt space a hop e =
-      let ρ = readOf last (bodyReads (signalAt p r .body)) in
+      let ρ = readAmong last (bodyReads (signalAt p r .body)) in
       let ρs = readsBack p last ws in
       let same : ρ .operands .signal ≡ last = read-signal last (bodyReads (signalAt p r .body)) (omega (arith, once)) in
       let here : length ρs ≡ n = reads-length p last ws ∙ a .many in
@@ -89,7 +94,8 @@ module _ (text : List ℕ) (p : Program) (s : Schedule) (back : List ℕ) (sourc
   unfolding isLinked
   next-link f lt = go (f .links) (f .end) (f .spelled) (f .linked) (f .declared) (f .many) (f .whole)
     where
-      go : (links : List Link) (end : ℕ) → SpellsLinks text at links end → isLinked p links ≡ true → All (λ l. l .signal < count p) links →
+      go : (links : List Link) (end : ℕ) → SpellsLinks text at links end → isLinked p links ≡ true →
+          All (λ l. l .signal < count p) links →
           length links ≡ left → back ≡ reverseAux (map (λ l. l .signal) links) (f .ws) →
           Next text p s back source₀ at left last n hops
       go links end (SpellsLinks.ends e) k d m w = absurd (omega arith)
@@ -97,7 +103,8 @@ module _ (text : List ℕ) (p : Program) (s : Schedule) (back : List ℕ) (sourc
       go links end (SpellsLinks.link e le (SpellsLinks.link {ls = ls} g lg r)) k d m w =
           let b = and-eq-true-iff _ (isLinked p (record { place = at + 2; signal = byteAt text (at + 2 + 1) } ∷ ls)) .0 k in
           let once : countReads last (bodyReads (signalAt p (byteAt text (at + 2 + 1)) .body)) ≡ 1 =
-          ap (λ x. countReads x (bodyReads (signalAt p (byteAt text (at + 2 + 1)) .body))) (sym (f .here)) ∙ eqb-true _ _ (b .0) in
+          ap (λ x. countReads x (bodyReads (signalAt p (byteAt text (at + 2 + 1)) .body))) (sym (f .here)) ∙
+          eqb-true _ _ (b .0) in
           record {
             inside = omega arith;
             read = subst (λ x. x < count p) (f .here) (d .0);
@@ -138,7 +145,8 @@ pub record Begun (text : List ℕ) (tables : Tables) (p : Program) (s : Schedule
   pub inside : getD (tables .starts) chain 0 + 6 ≤ length text
   pub start : (hops : List Hop) → length hops ≡ 15 →
       let at : ℕ = getD (tables .starts) chain 0 + 4 in
-      Following text p s (backwards (chainAt p chain)) (byteAt text (at + 1)) at (getD (tables .lengths) chain 0) (byteAt text (at + 1)) 0 hops
+      Following text p s (backwards (chainAt p chain)) (byteAt text (at + 1)) at (getD (tables .lengths) chain 0)
+      (byteAt text (at + 1)) 0 hops
 
 pub begun : (text : List ℕ) (tables : Tables) (periods phases : List ℕ) (p : Program) (s : Schedule) (chain : ℕ) →
     Joined text tables periods phases p s → chain < tables .chains → Begun text tables p s chain
@@ -149,7 +157,8 @@ begun text tables periods phases p s chain j lt =
     let d = all-at (λ c. All (λ l. l .signal < count p) (c .links)) (p .chains) noChain (links-declared p (j .rated)) chain l in
     let k = all-at (λ c. isLinked p (c .links) ≡ true) (p .chains) noChain (chains-linked p (j .links)) chain l in
     record {
-      inside = rw (j .known .tables-are .starts chain l) (go (chainAt p chain .place) (chainAt p chain .links) (c .end) (c .links) (c .several));
+      inside = rw (j .known .tables-are .starts chain l)
+          (go (chainAt p chain .place) (chainAt p chain .links) (c .end) (c .links) (c .several));
       start = λ hops space.
           rw (j .known .tables-are .starts chain l, j .known .tables-are .lengths chain l)
           record {

@@ -13,8 +13,8 @@ use Rattle.model.specs.Rules.Schedule.{Schedule, phaseOf}
 use Rattle.model.specs.declared.Found.{Found}
 use Rattle.model.specs.declared.Found.the-variants.{At, Nowhere}
 use Rattle.text_program.specs.Tables.{PeriodsOf, TablesOf}
-use Rattle.text_program.specs.declared.Judged.{Judged}
-use Rattle.text_program.specs.declared.Judged.the-variants as Judged
+use Rattle.basics.specs.declared.Judged.{Judged}
+use Rattle.basics.specs.declared.Judged.the-variants as Judged
 use Rattle.text_program.specs.declared.Tables.{Tables}
 use Rattle.check_latency.specs.declared.Route.{Route}
 

@@ -1,26 +1,26 @@
 // The hops of a chain, each by the one read of the link before.
+use basics::Judged;
 use latency_rule::Hop;
-use model::Command;
+use model::Declaration;
 use model::Fault;
 use model::Found;
 use model::Index;
 use model::Kind;
 use model::Sampled;
-use text_program::Judged;
-use text_program::Tables;
 use read_rule::Timing;
+use text_program::Tables;
 ghost use mathlib.Core.Path.{_≡_};
 ghost use Prim.Native.Nat.{ℕ, _*_, _≤_, _<_};
-ghost use Rattle.model.specs.Rules.Latency.{readOf, backwards, keeps, timely};
+ghost use Rattle.model.specs.Rules.Latency.{readAmong, backwards, keeps, timely};
 ghost use Rattle.model.specs.Rules.Program.{Program, count, signalAt, bodyReads};
 ghost use Rattle.model.specs.Rules.Rates.{countReads};
-ghost use Rattle.model.specs.Rules.Reads.{indexOf};
+ghost use Rattle.model.specs.Rules.Reads.{settledIndex};
 ghost use Rattle.model.specs.Rules.Schedule.{Schedule};
 ghost use Rattle.model.specs.Rules.Search.{foundOr};
 ghost use Rattle.latency_rule.specs.Back.{noHop};
 ghost use Rattle.latency_rule.specs.Hops.{hopOf};
 ghost use Rattle.check_rates.specs.Answers.{periodAt, TabledAs};
-ghost use Rattle.text_program.specs.Results.{judgementOf};
+ghost use Rattle.basics.specs.Judgement.{judgementOf};
 ghost use Rattle.text_program.specs.Tables.{chainAt};
 ghost use Rattle.read_rule.specs.Reads.{rateIn};
 ghost use Rattle.check_latency.specs.Timely.{ByteFound, Known, Joined, Joinable, Timed, Judgeable, RouteOf, windowBy};
@@ -38,7 +38,7 @@ fn index_found(found: Found) -> u8
 
 // The index of a read: its own, or the one settled.
 fn settled_index(kind: Kind, sampled: Sampled, w: Timing, r: Timing) -> u8
-    ensures { λ i. ⌜ i ≡ indexOf kind (rateIn w) (rateIn r) (sampled .factor) (sampled .index) ⌝ }
+    ensures { λ i. ⌜ i ≡ settledIndex kind (rateIn w) (rateIn r) (sampled .factor) (sampled .index) ⌝ }
 {
     let index = sampled.index;
     match index {
@@ -90,7 +90,7 @@ pub fn hop_at(
     r: u8,
 ) -> Hop
     requires { ⌜ TabledAs (now text) (now reads) tables ⌝ }
-    ensures { λ h. ⌜ ((p : Program) (s : Schedule) → Known (now (text .entry)) tables (now (periods .entry)) (now (phases .entry)) p s → w < count p → r < count p → countReads w (bodyReads (signalAt p r .body)) ≡ 1 → h ≡ hopOf p s r (readOf w (bodyReads (signalAt p r .body)))) ⌝ }
+    ensures { λ h. ⌜ ((p : Program) (s : Schedule) → Known (now (text .entry)) tables (now (periods .entry)) (now (phases .entry)) p s → w < count p → r < count p → countReads w (bodyReads (signalAt p r .body)) ≡ 1 → h ≡ hopOf p s r (readAmong w (bodyReads (signalAt p r .body)))) ⌝ }
 {
     let firsts = tables.firsts;
     let found = check_rates::one_read(text, reads, &firsts, tables.signals, w, r);
@@ -178,9 +178,9 @@ fn keeps_time(
     ensures { λ r. ⌜ ((p : Program) (s : Schedule) → Timed (now (text .entry)) tables (now (periods .entry)) (now (phases .entry)) h p s → r ≡ keeps p s h (chainAt p chain)) ⌝ }
 {
     let starts = tables.starts;
-    let command = text_command::command_at(text, starts[chain]);
-    let Command::Latency(mode, bound) = command else {
-        return true;
+    let declaration = text_command::declaration_at(text, starts[chain]);
+    let Declaration::Latency(mode, bound) = declaration else {
+        return false;
     };
     let route = follow(text, reads, tables, periods, phases, chain);
     let last = timing_at(periods, phases, route.last as usize);

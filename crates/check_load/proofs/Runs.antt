@@ -10,8 +10,8 @@ use borrow.Author.Tests.{eq-eqb, ne-eqb}
 use lib.ListN.{length, getD, set}
 use lib.Seq.{getD-set-same, getD-set-other}
 use Rattle.model.specs.Rules.Reads.{Rate, runCycle, due}
-use Rattle.model.proofs.Rate.{stored-is}
-use Rattle.model.proofs.Turns.{due-run}
+use Rattle.model.proofs.Pairs.Rate.{stored-is}
+use Rattle.model.proofs.Pairs.Rate.{due-run}
 
 -- What a signal of weight w adds to the load of cycle c.
 abbrev added : Rate → ℕ → ℕ → ℕ
@@ -37,7 +37,7 @@ module _ (a : Rate) (v : a .phase < a .period) where
       rw (← n) (run-is-due (suc (t / a .period)))
 
   -- Nothing is due before the first run, nor between two runs.
-  due-before : (c : ℕ) → c < a .phase → due a c ≡ false
+  pub due-before : (c : ℕ) → c < a .phase → due a c ≡ false
   unfolding due
   due-before c h =
       let l : c < a .period = omega arith in
@@ -52,7 +52,8 @@ module _ (a : Rate) (v : a .phase < a .period) where
           let j : ℕ = suc (t / a .period) in
           let r = due-run a t e in
           let q = due-run a c d in
-          let same = sym (stored-is a (suc t) j (omega arith) (omega arith)) ∙ stored-is a (suc t) (c / a .period) (omega arith) (omega arith) in
+          let same = sym (stored-is a (suc t) j (omega arith) (omega arith)) ∙
+          stored-is a (suc t) (c / a .period) (omega arith) (omega arith) in
           absurd (omega (arith, ap (runCycle a) same))
 
   module _ (w : ℕ) (old : List ℕ) where
@@ -69,7 +70,8 @@ module _ (a : Rate) (v : a .phase < a .period) where
             go : Dec (c < t) → Dec (t < c) → getD (set new t (getD new t 0 + w)) c 0 ≡ getD old c 0 + added a w c
             go (yes l) m = getD-set-other new t c _ 0 (λ z. omega arith) ∙ h .0 c l
             go (no l) (yes m) =
-                getD-set-other new t c _ 0 (λ z. omega arith) ∙ h .1 c (omega arith) ∙ rw (due-between t c e m g) (sym (add-zero _))
+                getD-set-other new t c _ 0 (λ z. omega arith) ∙ h .1 c (omega arith) ∙
+                rw (due-between t c e m g) (sym (add-zero _))
             go (no l) (no m) =
                 let z : c ≡ t = omega arith in
                 rw (z, e) (getD-set-same new t _ 0 lt ∙ ap (_+ w) (h .1 t (omega arith)))

@@ -1,7 +1,6 @@
 // Load: in no cycle of the hypercycle does the summed weight of the signals run exceed CAP (15).
-use model::Fault;
+use basics::Judged;
 use model::Found;
-use text_program::Judged;
 ghost use mathlib.Core.Path.{_≡_};
 ghost use Prim.Native.Nat.{ℕ, _*_, _≤_, _<_};
 ghost use lib.Dec.{ltb};
@@ -10,7 +9,7 @@ ghost use Rattle.model.specs.Rules.Load.{loaded};
 ghost use Rattle.model.specs.Rules.Program.{Program, count};
 ghost use Rattle.model.specs.Rules.Schedule.{Schedule};
 ghost use Rattle.model.specs.Rules.Search.{first};
-ghost use Rattle.text_program.specs.Results.{judgementOf};
+ghost use Rattle.basics.specs.Judgement.{judgementOf};
 ghost use Rattle.text_program.specs.Tables.{PeriodsOf, WeightsOf, capOf};
 ghost use Rattle.check_load.specs.Load.{LoadsOf, Raised, PhasesOf};
 
@@ -49,15 +48,6 @@ fn loads_of(
     loads
 }
 
-fn refuse(cycle: usize) -> Judged
-    ensures { λ r. ⌜ r ≡ Judged.Refused (record { number = 15; place = cycle }) ⌝ }
-{
-    Judged::Refused(Fault {
-        number: 15,
-        place: cycle,
-    })
-}
-
 // The lowest cycle below the hypercycle whose load is over the limit.
 fn first_over(loads: &[u32; 240], limit: u32, hypercycle: usize) -> Found
     requires { ⌜ hypercycle ≤ 240 ⌝ }
@@ -93,7 +83,7 @@ pub fn check_load(
     let loads = loads_of(signals, periods, phases, weights, hypercycle);
     let over = first_over(&loads, limit, hypercycle);
     match over {
-        Found::At(cycle) => refuse(cycle),
+        Found::At(cycle) => basics::refuse(15, cycle),
         Found::Nowhere => Judged::Fine,
     }
 }

@@ -9,8 +9,8 @@ use Rattle.model.specs.Rules.Rates.{declaredAndRated, hypercycle, linked}
 use Rattle.model.specs.Rules.Schedule.{Schedule, Put, placed}
 use Rattle.text_program.specs.Prepared.{Prepared}
 use Rattle.text_program.specs.Tables.{TablesOf, SlotsOf}
-use Rattle.text_program.specs.declared.Judged.{Judged}
-use Rattle.text_program.specs.declared.Judged.the-variants as Judged
+use Rattle.basics.specs.declared.Judged.{Judged}
+use Rattle.basics.specs.declared.Judged.the-variants as Judged
 use Rattle.text_program.specs.declared.Tables.{Tables}
 use Rattle.text_schedule.specs.declared.Slots.{Slots}
 use Rattle.check_pair.specs.declared.Checked.{Checked}

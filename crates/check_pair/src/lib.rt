@@ -1,7 +1,7 @@
 // The checks of a pair in the stated order.
-use model::Fault;
+use basics::Judged;
 use check_rates::Cycles;
-use text_program::Judged;
+use model::Fault;
 use text_program::Tables;
 use text_schedule::Ended;
 use text_schedule::Placing;
@@ -15,30 +15,21 @@ ghost use Rattle.model.specs.Rules.Program.{Program, parseProgram, count};
 ghost use Rattle.model.specs.Rules.Schedule.{Schedule};
 ghost use Rattle.model.specs.declared.Fault.{Fault};
 ghost use Rattle.check_rates.specs.Answers.{TabledAs};
-ghost use Rattle.text_program.specs.Results.{judgementOf};
+ghost use Rattle.basics.specs.Judgement.{judgementOf};
 ghost use Rattle.text_program.specs.Tables.{TablesOf, PeriodsOf};
 ghost use Rattle.text_schedule.specs.Slots.{ScheduledAs};
 ghost use Rattle.check_pair.specs.Answers.{RatedAs, Arranged, Arrangement, CheckedAs, Spacious};
 ghost use Rattle.check_pair.specs.Steps.{ratesOf, scheduleFor, runsOf};
-
-fn refuse(number: u8, place: usize) -> Judged
-    ensures { λ r. ⌜ r ≡ Judged.Refused (record { number = number; place = place }) ⌝ }
-{
-    Judged::Refused(Fault {
-        number: number,
-        place: place,
-    })
-}
 
 // 1 where either text is too long.
 pub fn check_lengths(program: &[u8], schedule: &[u8]) -> Judged
     ensures { λ r. ⌜ r ≡ judgementOf (shortEnough (now (program .entry)) (now (schedule .entry))) ⌝ }
 {
     if 8192 < program.len() {
-        return refuse(1, 0);
+        return basics::refuse(1, 0);
     }
     if 193 < schedule.len() {
-        return refuse(1, 0);
+        return basics::refuse(1, 0);
     }
     Judged::Fine
 }
@@ -90,15 +81,6 @@ fn check_rates(text: &[u8], reads: &[u16], tables: Tables) -> Rated
     }
 }
 
-fn unplaced(judged: Judged) -> Placing
-    ensures { λ r. ⌜ r .judged ≡ judged ⌝ }
-{
-    Placing {
-        judged: judged,
-        slots: Slots::new(),
-    }
-}
-
 fn judged_end(ended: Ended) -> Judged
     ensures { λ r. ⌜ ((f : Fault) → ended ≡ Ended.Refused f → r ≡ Judged.Refused f) ⌝ }
 {
@@ -118,7 +100,7 @@ fn check_schedule(schedule: &[u8], signals: usize, periods: &[u8; 64]) -> Placin
 {
     let ended = text_schedule::read_schedule(schedule);
     let Ended::At(end) = ended else {
-        return unplaced(judged_end(ended));
+        return text_schedule::unplaced(judged_end(ended));
     };
     text_schedule::place_signals(schedule, end, signals, periods)
 }

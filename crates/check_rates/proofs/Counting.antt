@@ -10,17 +10,17 @@ use borrow.Author.Tests.{eq-eqb, ne-eqb, eqb-true}
 use lib.Dec.{eqb}
 use lib.ListN.{length, getD, drop, drop-of-length-le, List·getD-eq-default}
 use lib.Seq.{drop-cons, drop-length}
-use Rattle.model.specs.Rules.Command.{commandAt}
+use Rattle.model.specs.Rules.Command.{operatorAt}
 use Rattle.model.specs.Rules.Outcome.{accepted}
 use Rattle.model.specs.Rules.Program.{Program, Read, noSignal, count, signalAt, bodyReads, parseProgram}
-use Rattle.model.specs.Rules.Latency.{readOf}
+use Rattle.model.specs.Rules.Latency.{readAmong}
 use Rattle.model.specs.Rules.Rates.{countReads}
-use Rattle.model.specs.declared.Command.the-variants as Command
+use Rattle.model.specs.declared.Operator.the-variants as Operator
 use Rattle.model.specs.declared.Found.the-variants.{At, Nowhere}
 use Rattle.model.specs.declared.Kind.{Kind}
 use Rattle.model.specs.declared.Sampled.{Sampled}
-use Rattle.model.proofs.Legal.{SpellsRead, legal, signal-reads}
-use Rattle.model.proofs.Links.{read-of}
+use Rattle.model.proofs.Texts.Legal.{SpellsRead, legal, signal-reads}
+use Rattle.model.proofs.Pairs.Links.{read-of}
 use Rattle.text_command.specs.Operator.{ReadStands}
 use Rattle.text_command.proofs.Shape.{Shape, read-shape}
 use Rattle.text_program.specs.Tables.{Indexed}
@@ -28,7 +28,7 @@ use Rattle.check_rates.specs.Answers.{oneRead}
 use Rattle.text_program.proofs.ByIndex.{noRead, readAt, all-seen, seen, place-is, spells}
 
 -- The signal of a read stands in its second byte.
-pub signal-byte : (text : List ℕ) (at : ℕ) (kind : Kind) (x : Sampled) → commandAt text at ≡ Command.Read kind x →
+pub signal-byte : (text : List ℕ) (at : ℕ) (kind : Kind) (x : Sampled) → operatorAt text at ≡ Operator.Read kind x →
     (x .signal ≡ getD text (at + 1) 0) × (at + 2 ≤ length text)
 signal-byte text at kind x e = (go (decLt (getD text at 0) 0x23), h .inside)
   where
@@ -45,10 +45,11 @@ stands-inside {text} {at} s = signal-byte text at (s .kind) (s .operands) (s .is
 -- A search among the reads: those from the m-th on are left, `many` before them are reads of w, the last of these at `found`.
 pub record Searched (w : ℕ) (ρs : List Read) (m many found : ℕ) : Type 0 where
   pub counts : many + countReads w (drop m ρs) ≡ countReads w ρs
-  pub none : many ≡ 0 → readOf w ρs ≡ readOf w (drop m ρs)
-  pub one : many ≡ 1 → readOf w ρs .place ≡ found
+  pub none : many ≡ 0 → readAmong w ρs ≡ readAmong w (drop m ρs)
+  pub one : many ≡ 1 → readAmong w ρs .place ≡ found
 
-pub same-search : {w m k f : ℕ} {ρs : List Read} (many found : ℕ) → many ≡ k → found ≡ f → Searched w ρs m k f → Searched w ρs m many found
+pub same-search : {w m k f : ℕ} {ρs : List Read} (many found : ℕ) → many ≡ k → found ≡ f → Searched w ρs m k f →
+    Searched w ρs m many found
 same-search many found a b s = rw (a, b) s
 
 module _ (w : ℕ) (ρs : List Read) where
@@ -68,10 +69,11 @@ module _ (w : ℕ) (ρs : List Read) where
     count-on b t =
         ap (countReads w) (drop-cons ρs m noRead l) ∙ ap (λ (c : Bool). cond c 1 0 + countReads w (drop (suc m) ρs)) t
 
-    read-on : (b : Bool) → eqb (here .operands .signal) w ≡ b → readOf w (drop m ρs) ≡ cond b here (readOf w (drop (suc m) ρs))
-    unfolding readOf
+    read-on : (b : Bool) → eqb (here .operands .signal) w ≡ b →
+        readAmong w (drop m ρs) ≡ cond b here (readAmong w (drop (suc m) ρs))
+    unfolding readAmong
     read-on b t =
-        ap (readOf w) (drop-cons ρs m noRead l) ∙ ap (λ (c : Bool). cond c here (readOf w (drop (suc m) ρs))) t
+        ap (readAmong w) (drop-cons ρs m noRead l) ∙ ap (λ (c : Bool). cond c here (readAmong w (drop (suc m) ρs))) t
 
     module _ {many found : ℕ} (s : Searched w ρs m many found) where
       search-hits : (at : ℕ) → here .place ≡ at → here .operands .signal ≡ w → Searched w ρs (suc m) (many + 1) at
@@ -115,7 +117,8 @@ unfolding countReads oneRead
 none-far p w x le = rw (List·getD-eq-default (p .signals) noSignal le)
 
 -- The search by the index in the table, where the first entry has a name.
-module _ {text reads firsts : List ℕ} {n : ℕ} (ix : Indexed text reads firsts n) (p : Program) (e : parseProgram text ≡ accepted p)
+module _ {text reads firsts : List ℕ} {n : ℕ} (ix : Indexed text reads firsts n) (p : Program)
+    (e : parseProgram text ≡ accepted p)
     (w x i : ℕ) (lt : x < n) (first : ℕ) (start : first ≡ getD firsts x 0) (low : first ≤ i) where
   abbrev ρs : List Read
   ρs = bodyReads (signalAt p x .body)
@@ -152,11 +155,11 @@ module _ {text reads firsts : List ℕ} {n : ℕ} (ix : Indexed text reads first
 
 -- What the answer says of the reads.
 module _ (w : ℕ) (ρs : List Read) where
-  pub found-one : (at : ℕ) → oneRead w ρs ≡ At at → (eqb (countReads w ρs) 1 ≡ true) × (readOf w ρs .place ≡ at)
+  pub found-one : (at : ℕ) → oneRead w ρs ≡ At at → (eqb (countReads w ρs) 1 ≡ true) × (readAmong w ρs .place ≡ at)
   unfolding oneRead
   found-one at e = go (eqb (countReads w ρs) 1) e
     where
-      go : (b : Bool) → cond b (At (readOf w ρs .place)) Nowhere ≡ At at → (b ≡ true) × (readOf w ρs .place ≡ at)
+      go : (b : Bool) → cond b (At (readAmong w ρs .place)) Nowhere ≡ At at → (b ≡ true) × (readAmong w ρs .place ≡ at)
       go true h = (refl, cc)
       go false h = let z : _≡_ {A = ℕ} 0 1 = cc in absurd (omega arith)
 
@@ -164,7 +167,7 @@ module _ (w : ℕ) (ρs : List Read) where
   unfolding oneRead
   found-none e = go (eqb (countReads w ρs) 1) e
     where
-      go : (b : Bool) → cond b (At (readOf w ρs .place)) Nowhere ≡ Nowhere → b ≡ false
+      go : (b : Bool) → cond b (At (readAmong w ρs .place)) Nowhere ≡ Nowhere → b ≡ false
       go true h = let z : _≡_ {A = ℕ} 0 1 = cc in absurd (omega arith)
       go false h = refl
 
@@ -172,7 +175,7 @@ module _ (w : ℕ) (ρs : List Read) where
 module _ (text : List ℕ) (p : Program) (e : parseProgram text ≡ accepted p) (w x at : ℕ)
     (one : oneRead w (bodyReads (signalAt p x .body)) ≡ At at) where
   abbrev only : Read
-  only = readOf w (bodyReads (signalAt p x .body))
+  only = readAmong w (bodyReads (signalAt p x .body))
 
   declared : x < count p
   declared = go (decLt x (count p))
@@ -184,12 +187,12 @@ module _ (text : List ℕ) (p : Program) (e : parseProgram text ≡ accepted p) 
           let z : _≡_ {A = ℕ} 0 1 = cc in
           absurd (omega arith)
 
-  pub one-spelled : commandAt text at ≡ Command.Read (only .kind) (only .operands)
+  pub one-spelled : operatorAt text at ≡ Operator.Read (only .kind) (only .operands)
   one-spelled =
       let ρs = bodyReads (signalAt p x .body) in
       let f = found-one w ρs at one in
       let many : 1 ≤ countReads w ρs = omega (arith, eqb-true (countReads w ρs) 1 (f .0)) in
-      subst (λ (m : ℕ). commandAt text m ≡ Command.Read (only .kind) (only .operands)) (f .1)
+      subst (λ (m : ℕ). operatorAt text m ≡ Operator.Read (only .kind) (only .operands)) (f .1)
       (read-of (SpellsRead text) w ρs (signal-reads (legal text p e .1) x declared) many .0)
 
   pub one-stands : ReadStands text at

@@ -10,8 +10,8 @@ use Rattle.model.specs.Says.Feasible.{All}
 use Rattle.model.specs.Rules.Outcome.{refused, lowest}
 use Rattle.model.specs.Rules.Search.{joinFrom}
 use Rattle.model.specs.declared.Fault.{Fault}
-use Rattle.model.proofs.All.{all-append, all-at, all-map}
-use Rattle.model.proofs.Outcomes.{lowest-sorted}
+use Rattle.model.proofs.Basics.All.{all-append, all-at, all-map}
+use Rattle.model.proofs.Basics.Outcomes.{lowest-sorted}
 
 -- The lists that f gives for the elements, joined.
 unfoldable pub each : {A B : Type 0} → (A → List B) → List A → List B

@@ -16,17 +16,17 @@ use Rattle.model.specs.Says.Grammar.{SpellsLinks}
 use Rattle.model.specs.Rules.Search.{joinFrom}
 use Rattle.model.specs.Rules.Word.{byteAt}
 use Rattle.model.specs.declared.Fault.{Fault}
-use Rattle.model.proofs.All.{all-at}
-use Rattle.model.proofs.Commands.{command-sound}
-use Rattle.model.proofs.Legal.{SpellsChain, legal}
-use Rattle.model.proofs.Outcomes.{accepted-same}
+use Rattle.model.proofs.Basics.All.{all-at}
+use Rattle.model.proofs.Texts.Commands.{declaration-sound}
+use Rattle.model.proofs.Texts.Legal.{SpellsChain, legal}
+use Rattle.model.proofs.Basics.Outcomes.{accepted-same}
 use Rattle.text_command.specs.Operator.{ReadTaken}
 use Rattle.text_command.specs.declared.Taken.{Taken}
-use Rattle.text_program.specs.Results.{judgementOf}
+use Rattle.basics.specs.Judgement.{judgementOf}
 use Rattle.text_program.specs.Tables.{noChain, chainAt, TablesOf, PeriodsOf, Indexed}
 use Rattle.text_program.specs.declared.Tables.{Tables}
-use Rattle.text_program.specs.declared.Judged.{Judged}
-use Rattle.text_program.specs.declared.Judged.the-variants as Judged
+use Rattle.basics.specs.declared.Judged.{Judged}
+use Rattle.basics.specs.declared.Judged.the-variants as Judged
 use Rattle.text_program.proofs.ByIndex.{noRead, noLink, readAt, AtItem, reads-in, links-in, faultsOf, counted, place-is, taken-is}
 use Rattle.check_rates.specs.Answers.{rateJudged, periodAt, readJudged, readRates, linkRates, lowerOf, ReadAs, TabledAs}
 use Rattle.check_rates.proofs.Joined.{join-same}
@@ -53,7 +53,8 @@ module _ (p : Program) where
   unfolding linkFaults
   link-there r l = either-there (l .place) (ltb (l .signal) (count p)) true
 
-  pub all-rates : lowest (readRates p) ≡ lowest (joinFrom 0 (λ r σ. joinFrom 0 (λ i ρ. readAs r ρ) (bodyReads (σ .body))) (p .signals))
+  pub all-rates : lowest (readRates p) ≡ lowest
+      (joinFrom 0 (λ r σ. joinFrom 0 (λ i ρ. readAs r ρ) (bodyReads (σ .body))) (p .signals))
   all-rates =
       let f : ℕ → Signal → List Fault = λ s x. joinFrom 0 (λ i ρ. readFaults p x ρ) (bodyReads (x .body)) in
       let g : ℕ → Signal → List Fault = λ s x. joinFrom 0 (λ i ρ. readFaults p (signalAt p s) ρ) (bodyReads (x .body)) in
@@ -90,7 +91,8 @@ module _ (p : Program) where
 
         go : (b : Bool) → ltb (ρ .operands .signal) (count p) ≡ b →
             cond b
-            (cond (periodRule (ρ .kind) (signalAt p (ρ .operands .signal) .period) (signalAt p x .period) (ρ .operands .factor)) []
+            (cond (periodRule (ρ .kind) (signalAt p (ρ .operands .signal) .period) (signalAt p x .period) (ρ .operands .factor))
+            []
             (fault 8 (ρ .place) ∷ []))
             (fault 7 (ρ .place) ∷ []) ≡
             faultsOf
@@ -103,7 +105,8 @@ module _ (p : Program) where
         go false e = refl
 
 -- One read of the table.
-module _ {text reads firsts : List ℕ} {n : ℕ} (ix : Indexed text reads firsts n) (p : Program) (e : parseProgram text ≡ accepted p)
+module _ {text reads firsts : List ℕ} {n : ℕ} (ix : Indexed text reads firsts n) (p : Program)
+    (e : parseProgram text ≡ accepted p)
     (periods : List ℕ) (few : n ≤ 64) (table : PeriodsOf p periods) (x i : ℕ) (lt : x < n) (low : getD firsts x 0 ≤ i)
     (high : i < getD firsts (x + 1) 0) where
   abbrev ρ : Read
@@ -127,14 +130,17 @@ abbrev orLower : Outcome (Unit {0}) → Outcome (Unit {0}) → Outcome (Unit {0}
 orLower (accepted a) o = o
 orLower (refused f) o = lower f o
 
-lower-again : (f g h : Fault) (a b c : Bool) → ltb (h .place) (g .place) ≡ a → ltb (g .place) (f .place) ≡ b → ltb (h .place) (f .place) ≡ c →
+lower-again : (f g h : Fault) (a b c : Bool) → ltb (h .place) (g .place) ≡ a → ltb (g .place) (f .place) ≡ b →
+    ltb (h .place) (f .place) ≡ c →
     cond (ltb (cond a h g .place) (f .place)) (cond a h g) f ≡ cond (ltb (h .place) (cond b g f .place)) h (cond b g f)
 lower-again f g h true true c p q r =
-    let k : h .place < f .place = omega (arith, ltb-true (h .place) (g .place) p, ltb-true (g .place) (f .place) q) in rw (lt-ltb (h .place) (f .place) k, p)
+    let k : h .place < f .place = omega (arith, ltb-true (h .place) (g .place) p, ltb-true (g .place) (f .place) q) in
+    rw (lt-ltb (h .place) (f .place) k, p)
 lower-again f g h true false c p q r = refl
 lower-again f g h false true c p q r = rw (q, p)
 lower-again f g h false false c p q r =
-    let k : f .place ≤ h .place = omega (arith, ltb-false (h .place) (g .place) p, ltb-false (g .place) (f .place) q) in rw (q, le-ltb (h .place) (f .place) k)
+    let k : f .place ≤ h .place = omega (arith, ltb-false (h .place) (g .place) p, ltb-false (g .place) (f .place) q) in
+    rw (q, le-ltb (h .place) (f .place) k)
 
 lowest-append : (xs ys : List Fault) → lowest (xs ++ ys) ≡ orLower (lowest xs) (lowest ys)
 unfolding lowest
@@ -146,7 +152,8 @@ lowest-append (f ∷ xs) ys = ap (lower f) (lowest-append xs ys) ∙ go (lowest 
     go (refused g) (accepted b) = refl
     go (refused g) (refused h) = ap refused (lower-again f g h _ _ _ refl refl refl)
 
-pub both-rates : (p : Program) → lowerOf (judgementOf (lowest (readRates p))) (judgementOf (lowest (linkRates p))) ≡ judgementOf (declaredAndRated p)
+pub both-rates : (p : Program) →
+    lowerOf (judgementOf (lowest (readRates p))) (judgementOf (lowest (linkRates p))) ≡ judgementOf (declaredAndRated p)
 unfolding declaredAndRated judgementOf lowerOf
 both-rates p = sym (ap judgementOf (lowest-append (readRates p) (linkRates p)) ∙ go (lowest (readRates p)) (lowest (linkRates p)))
   where
@@ -158,7 +165,8 @@ both-rates p = sym (ap judgementOf (lowest-append (readRates p) (linkRates p)) �
 -- The LINKs of a chain, by its table.
 module _ {text : List ℕ} where
   link-at : {at n : ℕ} {ls : List Link} → SpellsLinks text at ls n → (j : ℕ) → j < length ls →
-      (getD ls j noLink .place ≡ at + 2 * j) × (getD ls j noLink .signal ≡ byteAt text (at + 2 * j + 1)) × (at + 2 * j + 2 ≤ length text)
+      (getD ls j noLink .place ≡ at + 2 * j) × (getD ls j noLink .signal ≡ byteAt text (at + 2 * j + 1)) ×
+      (at + 2 * j + 2 ≤ length text)
   link-at (SpellsLinks.ends e) j lt = absurd (omega arith)
   link-at (SpellsLinks.link {at = at} e le r) zero lt =
       let z : at + 1 ≡ at + 2 * 0 + 1 = omega arith in (omega arith, ap (λ (k : ℕ). getD text k 0) z, omega arith)
@@ -188,7 +196,7 @@ module _ (text : List ℕ) (t : Tables) (h : ReadAs text t) (p : Program) (e : p
     length-is = tables .lengths x (omega (arith, chains-are))
 
     pub chain-inside : getD (t .starts) x 0 + 4 ≤ length text
-    chain-inside = omega (arith, start-is, command-sound text (chainAt p x .place) _ (chain-stands .command))
+    chain-inside = omega (arith, start-is, declaration-sound text (chainAt p x .place) _ (chain-stands .command))
 
     module _ (i : ℕ) (li : i < getD (t .lengths) x 0) where
       pub link-seen : i < length (chainAt p x .links)

@@ -10,9 +10,9 @@ use Rattle.model.specs.Rules.Outcome.{accepted}
 use Rattle.model.specs.Rules.Program.{Link, Program, signalAt, parseProgram, bodyReads}
 use Rattle.model.specs.Rules.Rates.{countReads, isLinked}
 use Rattle.model.specs.Rules.Word.{byteAt}
-use Rattle.model.proofs.All.{all-at}
-use Rattle.model.proofs.Commands.{command-sound}
-use Rattle.model.proofs.Legal.{legal, SpellsChain}
+use Rattle.model.proofs.Basics.All.{all-at}
+use Rattle.model.proofs.Texts.Commands.{declaration-sound}
+use Rattle.model.proofs.Texts.Legal.{legal, SpellsChain}
 use Rattle.model.specs.Says.Grammar.{SpellsLinks}
 use Rattle.text_program.specs.Tables.{noChain, chainAt, TablesOf}
 use Rattle.text_program.specs.declared.Tables.{Tables}
@@ -89,7 +89,7 @@ pub chain-start : (text : List ℕ) (p : Program) → parseProgram text ≡ acce
     LinksLeft text p (chainAt p j .links) (chainAt p j .place + 4) (length (chainAt p j .links))
 chain-start text p q j lt =
     let c = all-at (SpellsChain text) (p .chains) noChain (legal text p q .1 .chains) j lt in (
-      command-sound text _ _ (c .command),
+      declaration-sound text _ _ (c .command),
       record { links = chainAt p j .links; end = c .end; spelled = c .links; many = refl; judged = refl },
     )
 

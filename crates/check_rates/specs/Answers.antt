@@ -6,7 +6,7 @@ use mathlib.Core.Path.{_≡_}
 use lib.Dec.{ltb, eqb}
 use lib.ListN.{getD}
 use Rattle.model.specs.Rules.Outcome.{Outcome, accepted, refused, fault}
-use Rattle.model.specs.Rules.Latency.{readOf}
+use Rattle.model.specs.Rules.Latency.{readAmong}
 use Rattle.model.specs.Rules.Program.{Program, Read, bodyReads, parseProgram}
 use Rattle.model.specs.Rules.Rates.{periodRule, readFaults, linkFaults, countReads}
 use Rattle.model.specs.Rules.Search.{joinFrom}
@@ -14,12 +14,13 @@ use Rattle.model.specs.declared.Fault.{Fault}
 use Rattle.model.specs.declared.Found.{Found}
 use Rattle.model.specs.declared.Found.the-variants.{At, Nowhere}
 use Rattle.model.specs.declared.Kind.{Kind}
+use Rattle.model.specs.declared.Kind.the-variants.{Now, Last, When, LastWhen, Current}
 use Rattle.model.specs.declared.Sampled.{Sampled}
 use Rattle.check_rates.specs.declared.Cycles.{Cycles}
 use Rattle.check_rates.specs.declared.Cycles.the-variants as Cycles
 use Rattle.text_program.specs.Tables.{ReadsOf, TablesOf}
-use Rattle.text_program.specs.declared.Judged.{Judged}
-use Rattle.text_program.specs.declared.Judged.the-variants as Judged
+use Rattle.basics.specs.declared.Judged.{Judged}
+use Rattle.basics.specs.declared.Judged.the-variants as Judged
 use Rattle.text_program.specs.declared.Tables.{Tables}
 
 -- The hypercycle, or its refusal.
@@ -36,6 +37,22 @@ rateJudged false kept at = Judged.Refused (fault 7 at)
 -- The period of signal s in a table of 64.
 unfoldable pub periodAt : List ℕ → ℕ → ℕ
 periodAt periods s = cond (ltb s 64) (getD periods s 0) 0
+
+-- The factor of a read: NOW and LAST are by 1.
+abbrev pub factorOf : Kind → ℕ → ℕ
+factorOf Now n = 1
+factorOf Last n = 1
+factorOf When n = n
+factorOf LastWhen n = n
+factorOf Current n = n
+
+-- Whether the signal read has the longer period.
+abbrev pub isCurrent : Kind → Bool
+isCurrent Now = false
+isCurrent Last = false
+isCurrent When = false
+isCurrent LastWhen = false
+isCurrent Current = true
 
 -- A read, by the number of signals and their periods.
 unfoldable pub readJudged : ℕ → List ℕ → ℕ → ℕ → Kind → Sampled → Judged
@@ -58,7 +75,7 @@ lowerOf (Judged.Refused f) (Judged.Refused g) = Judged.Refused (cond (ltb (g .pl
 
 -- Where the one read of w among these reads stands.
 unfoldable pub oneRead : ℕ → List Read → Found
-oneRead w ρs = cond (eqb (countReads w ρs) 1) (At (readOf w ρs .place)) Nowhere
+oneRead w ρs = cond (eqb (countReads w ρs) 1) (At (readAmong w ρs .place)) Nowhere
 
 -- The tables are those of the program that the text is.
 abbrev pub ReadAs : List ℕ → Tables → Type 0

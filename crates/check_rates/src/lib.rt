@@ -1,10 +1,11 @@
 // The checks of rates and links: refusals 7 to 10.
+use basics::Judged;
 use model::Fault;
 use model::Found;
 use model::Kind;
 use model::Sampled;
-use text_program::Judged;
 use text_program::Tables;
+ghost use mathlib.Core.Bool.{cond};
 ghost use mathlib.Core.Path.{_≡_};
 ghost use Prim.Native.Nat.{_%_, _≤_, _<_};
 ghost use lib.Dec.{eqb};
@@ -13,8 +14,8 @@ ghost use Rattle.model.specs.Rules.Outcome.{accepted, lowest};
 ghost use Rattle.model.specs.Rules.Program.{Program, signalAt, parseProgram, bodyReads};
 ghost use Rattle.model.specs.Rules.Rates.{periodRule, declaredAndRated, isMultiple, hypercycle, isLinked, linked};
 ghost use Rattle.text_program.specs.Tables.{TablesOf, PeriodsOf, Indexed, chainAt};
-ghost use Rattle.check_rates.specs.Answers.{cyclesOf, periodAt, rateJudged, readJudged, readRates, linkRates, lowerOf, oneRead, ReadAs, TabledAs};
-ghost use Rattle.text_program.specs.Results.{judgementOf};
+ghost use Rattle.check_rates.specs.Answers.{cyclesOf, periodAt, factorOf, isCurrent, rateJudged, readJudged, readRates, linkRates, lowerOf, oneRead, ReadAs, TabledAs};
+ghost use Rattle.basics.specs.Judgement.{judgementOf};
 
 // The period of a signal by the table; 0 past its end.
 pub fn period_at(periods: &[u8; 64], signal: usize) -> u8
@@ -23,37 +24,48 @@ pub fn period_at(periods: &[u8; 64], signal: usize) -> u8
     if signal < 64 { periods[signal] } else { 0 }
 }
 
-// A byte as a number.
-fn wide(byte: u8) -> usize
-    ensures { λ r. ⌜ (r ≡ byte) × (r < 256) ⌝ }
+// The factor of a read: NOW and LAST are by 1.
+fn factor_of(kind: Kind, n: u8) -> u8
+    ensures { λ r. ⌜ r ≡ factorOf kind n ⌝ }
 {
-    byte as usize
-}
-
-// The period rule of a read with factor n: w is the period of the signal read, r the reader's.
-fn period_rule(kind: Kind, w: u8, r: u8, n: u8) -> bool
-    ensures { λ x. ⌜ x ≡ periodRule kind w r n ⌝ }
-{
-    let read = wide(w);
-    let reader = wide(r);
-    let factor = wide(n);
     match kind {
-        Kind::Now => reader == read,
-        Kind::Last => reader == read,
-        Kind::When => reader == factor * read,
-        Kind::LastWhen => reader == factor * read,
-        Kind::Current => read == factor * reader,
+        Kind::Now => 1,
+        Kind::Last => 1,
+        Kind::When => n,
+        Kind::LastWhen => n,
+        Kind::Current => n,
     }
 }
 
-// The refusal of a number at a place.
-fn refuse(number: u8, place: usize) -> Judged
-    ensures { λ r. ⌜ r ≡ Judged.Refused (record { number = number; place = place }) ⌝ }
+// Whether the signal read has the longer period.
+fn is_current(kind: Kind) -> bool
+    ensures { λ r. ⌜ r ≡ isCurrent kind ⌝ }
 {
-    Judged::Refused(Fault {
-        number: number,
-        place: place,
-    })
+    match kind {
+        Kind::Now => false,
+        Kind::Last => false,
+        Kind::When => false,
+        Kind::LastWhen => false,
+        Kind::Current => true,
+    }
+}
+
+fn either(first: bool, a: u8, b: u8) -> u8
+    ensures { λ r. ⌜ r ≡ cond first a b ⌝ }
+{
+    if first { a } else { b }
+}
+
+// The period rule of a read with factor n: w is the period of the signal read, r the reader's. One product for the five kinds: a
+// branch on the kind would be guessed wrong at every other read.
+fn period_rule(kind: Kind, w: u8, r: u8, n: u8) -> bool
+    ensures { λ x. ⌜ x ≡ periodRule kind w r n ⌝ }
+{
+    let factor = basics::wide(factor_of(kind, n));
+    let current = is_current(kind);
+    let longer = basics::wide(either(current, w, r));
+    let shorter = basics::wide(either(current, r, w));
+    longer == factor * shorter
 }
 
 // 7 at a read or LINK of a signal that is not declared, then 8 at a read that breaks its period rule.
@@ -61,10 +73,10 @@ fn judge_rate(declared: bool, kept: bool, place: usize) -> Judged
     ensures { λ r. ⌜ r ≡ rateJudged declared kept place ⌝ }
 {
     if !declared {
-        return refuse(7, place);
+        return basics::refuse(7, place);
     }
     if !kept {
-        return refuse(8, place);
+        return basics::refuse(8, place);
     }
     Judged::Fine
 }
@@ -79,18 +91,11 @@ fn judge_read(
 ) -> Judged
     ensures { λ r. ⌜ r ≡ readJudged count (now (periods .entry)) at reader kind operands ⌝ }
 {
-    let signal = wide(operands.signal);
+    let signal = basics::wide(operands.signal);
     let w = period_at(periods, signal);
     let r = period_at(periods, reader);
     let kept = period_rule(kind, w, r, operands.factor);
     judge_rate(signal < count, kept, at)
-}
-
-// An entry of a table as a number.
-fn wider(x: u16) -> usize
-    ensures { λ r. ⌜ (r ≡ x) × (r < 65536) ⌝ }
-{
-    x as usize
 }
 
 // The first read of an undeclared signal (7) or with a broken period rule (8), over the reads by their index in the table.
@@ -107,9 +112,9 @@ fn judge_reads(
     let mut reader: usize = 0;
     let mut i: usize = 0;
     while reader < count {
-        let end = wider(firsts[reader + 1]);
+        let end = basics::wider(firsts[reader + 1]);
         while i < end {
-            let at = wider(reads[i]);
+            let at = basics::wider(reads[i]);
             let taken = text_command::taken_at(text, at);
             let kind = taken.kind;
             let operands = taken.operands;
@@ -140,7 +145,7 @@ fn judge_links(text: &[u8], tables: Tables) -> Judged
         let mut i: usize = 0;
         while i < links {
             let at = first + width::in_program(0x13) * i;
-            let signal = wide(text[at + 1]);
+            let signal = basics::wide(text[at + 1]);
             let judged = judge_rate(signal < count, true, at);
             let Judged::Fine = judged else {
                 return judged;
@@ -192,7 +197,7 @@ pub fn declared_and_rated(text: &[u8], reads: &[u16], tables: Tables) -> Judged
 fn divides(period: u8, h: usize) -> bool
     ensures { λ r. ⌜ r ≡ eqb (h % period) 0 ⌝ }
 {
-    let d = wide(period);
+    let d = basics::wide(period);
     if d == 0 {
         return h == 0;
     }
@@ -246,17 +251,17 @@ pub fn one_read(
     requires { ⌜ (count ≤ 64) × Indexed (now text) (now reads) (now firsts) count ⌝ }
     ensures { λ r. ⌜ ((p : Program) → parseProgram (now (text .entry)) ≡ accepted p → r ≡ oneRead before (bodyReads (signalAt p signal .body))) ⌝ }
 {
-    let index = wide(signal);
+    let index = basics::wide(signal);
     if count <= index {
         return Found::Nowhere;
     }
-    let first = wider(firsts[index]);
-    let end = wider(firsts[index + 1]);
+    let first = basics::wider(firsts[index]);
+    let end = basics::wider(firsts[index + 1]);
     let mut i = first;
     let mut many: usize = 0;
     let mut found: usize = 0;
     while i < end {
-        let at = wider(reads[i]);
+        let at = basics::wider(reads[i]);
         if text[at + 1] == before {
             many = many + 1;
             found = at;
@@ -302,7 +307,7 @@ pub fn linked(text: &[u8], reads: &[u16], tables: Tables) -> Judged
     let mut chain: usize = 0;
     while chain < tables.chains {
         if !is_linked(text, reads, tables, chain) {
-            return refuse(10, starts[chain]);
+            return basics::refuse(10, starts[chain]);
         }
         chain = chain + 1;
     }

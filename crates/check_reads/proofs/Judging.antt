@@ -14,16 +14,17 @@ use Rattle.model.specs.Rules.Reads.{rateOf, isMet, met}
 use Rattle.model.specs.Rules.Schedule.{Schedule}
 use Rattle.model.specs.Rules.Search.{joinFrom}
 use Rattle.model.specs.declared.Fault.{Fault}
-use Rattle.model.proofs.All.{all-at}
-use Rattle.model.proofs.Verdict.{Rated, reads-rated}
+use Rattle.model.proofs.Basics.All.{all-at}
+use Rattle.model.proofs.Texts.Legal.{SpellsRead, legal, read-sound, signal-reads}
+use Rattle.model.proofs.Pairs.Verdict.{Rated, reads-rated}
 use Rattle.text_command.specs.Operator.{ReadTaken}
 use Rattle.text_command.specs.declared.Taken.{Taken}
 use Rattle.text_program.specs.Tables.{PeriodsOf, SlotsOf, Indexed}
-use Rattle.text_program.specs.declared.Judged.{Judged}
-use Rattle.text_program.specs.declared.Judged.the-variants as Judged
+use Rattle.basics.specs.declared.Judged.{Judged}
+use Rattle.basics.specs.declared.Judged.the-variants as Judged
 use Rattle.text_program.proofs.ByIndex.{noRead, readAt, faultsOf, counted, seen, place-is, taken-is}
 use Rattle.read_rule.specs.Reads.{metBy}
-use Rattle.check_reads.specs.Met.{rateAt, isMetAt, readMet}
+use Rattle.check_reads.specs.Met.{Below, PacedAt, rateAt, isMetAt, readMet}
 
 module _ (p : Program) (s : Schedule) where
   abbrev pub unmet : ℕ → Read → List Fault
@@ -57,27 +58,51 @@ module _ (p : Program) (s : Schedule) where
     judged-met r ρ lr lw =
         rw (lt-ltb (ρ .operands .signal) (count p) lw, lt-ltb r (count p) lr, ← (met-is r ρ lr lw)) (go (isMet p s r ρ))
       where
-        go : (b : Bool) → cond b [] (fault 14 (ρ .place) ∷ []) ≡ faultsOf (cond b Judged.Fine (Judged.Refused (fault 14 (ρ .place))))
+        go : (b : Bool) → cond b [] (fault 14 (ρ .place) ∷ []) ≡ faultsOf
+            (cond b Judged.Fine (Judged.Refused (fault 14 (ρ .place))))
         go true = refl
         go false = refl
 
 -- One read of the table.
-module _ {text reads firsts : List ℕ} {n : ℕ} (ix : Indexed text reads firsts n) (p : Program) (e : parseProgram text ≡ accepted p)
+module _ {text reads firsts : List ℕ} {n : ℕ} (ix : Indexed text reads firsts n) (p : Program)
+    (e : parseProgram text ≡ accepted p)
     (s : Schedule) (order periods phases ranks : List ℕ) (rated : declaredAndRated p ≡ accepted tt) (table : PeriodsOf p periods)
-    (slots : SlotsOf p s order phases ranks) (x i : ℕ) (lt : x < n) (low : getD firsts x 0 ≤ i) (high : i < getD firsts (x + 1) 0) where
+    (slots : SlotsOf p s order phases ranks) (below : Below periods phases n) (x i : ℕ) (lt : x < n) (low : getD firsts x 0 ≤ i)
+    (high : i < getD firsts (x + 1) 0) where
   abbrev ρ : Read
   ρ = readAt p x (i - getD firsts x 0)
 
+  reader-count : x < count p
+  reader-count = omega (arith, counted ix p e)
+
+  rated-read : Rated p x ρ
+  rated-read =
+      all-at (Rated p x) (bodyReads (signalAt p x .body)) noRead (reads-rated p rated x reader-count) (i - getD firsts x 0)
+      (seen ix p e x i lt low high)
+
   declared : ρ .operands .signal < count p
-  declared =
-      all-at (Rated p x) (bodyReads (signalAt p x .body)) noRead (reads-rated p rated x (omega (arith, counted ix p e)))
-      (i - getD firsts x 0) (seen ix p e x i lt low high) .0
+  declared = rated-read .0
+
+  paced : PacedAt periods phases x (ρ .kind) (ρ .operands)
+  paced =
+      let l = legal text p e in
+      let spelled =
+      all-at (SpellsRead text) (bodyReads (signalAt p x .body)) noRead (signal-reads (l .1) x reader-count)
+      (i - getD firsts x 0) (seen ix p e x i lt low high) in
+      record {
+        rule = rw (table (ρ .operands .signal) declared, table x reader-count) (rated-read .1);
+        positive = read-sound text ρ spelled .positive;
+        read-below = below (ρ .operands .signal) (omega (arith, counted ix p e, declared));
+        reader-below = below x lt;
+      }
 
   pub one-read : (r : Taken) (j : Judged) (at : ℕ) → at ≡ getD reads i 0 → ReadTaken text at r →
-      j ≡ readMet periods phases ranks n at x (r .kind) (r .operands) → unmet p s x ρ ≡ faultsOf j
+      (PacedAt periods phases x (r .kind) (r .operands) → j ≡ readMet periods phases ranks n at x (r .kind) (r .operands)) →
+      unmet p s x ρ ≡ faultsOf j
   one-read r j at z h q =
       let t = taken-is ix p e x i lt low high r (subst (λ (k : ℕ). ReadTaken text k r) z h) in
-      judged-met p s order periods phases ranks table slots x ρ (omega (arith, counted ix p e)) declared ∙
-      ap faultsOf (sym (q ∙ ap (λ (y : Taken). readMet periods phases ranks n at x (y .kind) (y .operands)) t ∙
+      judged-met p s order periods phases ranks table slots x ρ reader-count declared ∙
+      ap faultsOf (sym (q (subst (λ (y : Taken). PacedAt periods phases x (y .kind) (y .operands)) (sym t) paced) ∙
+      ap (λ (y : Taken). readMet periods phases ranks n at x (y .kind) (y .operands)) t ∙
       ap (λ (k : ℕ). readMet periods phases ranks n k x (ρ .kind) (ρ .operands)) (z ∙ place-is ix p e x i lt low high) ∙
       ap (λ (k : ℕ). readMet periods phases ranks k (ρ .place) x (ρ .kind) (ρ .operands)) (sym (counted ix p e))))

@@ -12,18 +12,27 @@ use Rattle.model.specs.Rules.Reads.{Rate, met}
 use Rattle.model.specs.Rules.Schedule.{Schedule}
 use Rattle.model.specs.declared.Kind.{Kind}
 use Rattle.model.specs.declared.Sampled.{Sampled}
-use Rattle.text_program.specs.Results.{judgementOf}
+use Rattle.basics.specs.Judgement.{judgementOf}
 use Rattle.text_program.specs.Tables.{PeriodsOf, SlotsOf}
-use Rattle.text_program.specs.declared.Judged.{Judged}
-use Rattle.text_program.specs.declared.Judged.the-variants as Judged
+use Rattle.basics.specs.declared.Judged.{Judged}
+use Rattle.basics.specs.declared.Judged.the-variants as Judged
+use Rattle.read_rule.specs.Lines.{Paced}
 use Rattle.read_rule.specs.Reads.{metBy}
+use Rattle.read_rule.specs.declared.Timing.{Timing}
 
--- The first n periods are positive.
-abbrev pub Positive : List ℕ → ℕ → Type 0
-Positive periods n = (x : ℕ) → x < n → 0 < getD periods x 0
+-- The first n phases are below their periods.
+abbrev pub Below : List ℕ → List ℕ → ℕ → Type 0
+Below periods phases n = (x : ℕ) → x < n → getD phases x 0 < getD periods x 0
 
 abbrev pub rateAt : List ℕ → List ℕ → ℕ → Rate
 rateAt periods phases x = record { period = getD periods x 0; phase = getD phases x 0 }
+
+abbrev pub timingAt : List ℕ → List ℕ → ℕ → Timing
+timingAt periods phases x = record { period = getD periods x 0; phase = getD phases x 0 }
+
+-- A read in the equation of r keeps its period rule, and the phases are below the periods.
+abbrev pub PacedAt : List ℕ → List ℕ → ℕ → Kind → Sampled → Type 0
+PacedAt periods phases r kind x = Paced kind x (timingAt periods phases (x .signal)) (timingAt periods phases r)
 
 -- A read of signal w in the equation of r is met.
 abbrev pub isMetAt : List ℕ → List ℕ → List ℕ → ℕ → Kind → Sampled → Bool

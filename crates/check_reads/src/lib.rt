@@ -1,24 +1,14 @@
 // Whether every read is met (14): over the reads by their index, with the operands that stand at their offsets.
-use model::Fault;
+use basics::Judged;
 use model::Kind;
 use model::Sampled;
-use text_program::Judged;
 use read_rule::Timing;
 ghost use mathlib.Core.Path.{_≡_};
 ghost use Prim.Native.Nat.{_≤_, _<_};
 ghost use Rattle.model.specs.Rules.Outcome.{accepted};
 ghost use Rattle.model.specs.Rules.Program.{Program, parseProgram};
 ghost use Rattle.text_program.specs.Tables.{Indexed};
-ghost use Rattle.check_reads.specs.Met.{Positive, readMet, ReadsMet};
-
-fn refuse(place: usize) -> Judged
-    ensures { λ r. ⌜ r ≡ Judged.Refused (record { number = 14; place = place }) ⌝ }
-{
-    Judged::Refused(Fault {
-        number: 14,
-        place: place,
-    })
-}
+ghost use Rattle.check_reads.specs.Met.{Below, PacedAt, readMet, ReadsMet};
 
 // One read in the equation of `reader`.
 fn judge_read(
@@ -31,8 +21,8 @@ fn judge_read(
     kind: Kind,
     operands: Sampled,
 ) -> Judged
-    requires { ⌜ (signals ≤ 64) × Positive (now periods) signals ⌝ }
-    ensures { λ r. ⌜ r ≡ readMet (now (periods .entry)) (now (phases .entry)) (now (ranks .entry)) signals at reader kind operands ⌝ }
+    requires { ⌜ signals ≤ 64 ⌝ }
+    ensures { λ r. ⌜ (PacedAt (now (periods .entry)) (now (phases .entry)) reader kind operands → r ≡ readMet (now (periods .entry)) (now (phases .entry)) (now (ranks .entry)) signals at reader kind operands) ⌝ }
 {
     let read = operands.signal as usize;
     if signals <= read {
@@ -53,13 +43,7 @@ fn judge_read(
     if read_rule::is_met(kind, operands, w, r, before) {
         return Judged::Fine;
     }
-    refuse(at)
-}
-
-fn wider(x: u16) -> usize
-    ensures { λ r. ⌜ (r ≡ x) × (r < 65536) ⌝ }
-{
-    x as usize
+    basics::refuse(14, at)
 }
 
 // 14 at the lowest read offset: over the reads of each signal by their index in the table.
@@ -72,15 +56,15 @@ pub fn check_reads(
     phases: &[u8; 64],
     ranks: &[u8; 64],
 ) -> Judged
-    requires { ⌜ (signals ≤ 64) × Positive (now periods) signals × Indexed (now text) (now reads) (now firsts) signals ⌝ }
+    requires { ⌜ (signals ≤ 64) × Below (now periods) (now phases) signals × Indexed (now text) (now reads) (now firsts) signals ⌝ }
     ensures { λ r. ⌜ ((p : Program) → parseProgram (now (text .entry)) ≡ accepted p → ReadsMet p (now (periods .entry)) (now (phases .entry)) (now (ranks .entry)) r) ⌝ }
 {
     let mut reader: usize = 0;
     let mut i: usize = 0;
     while reader < signals {
-        let end = wider(firsts[reader + 1]);
+        let end = basics::wider(firsts[reader + 1]);
         while i < end {
-            let at = wider(reads[i]);
+            let at = basics::wider(reads[i]);
             let taken = text_command::taken_at(text, at);
             let kind = taken.kind;
             let operands = taken.operands;

@@ -10,8 +10,8 @@ use Rattle.model.specs.Rules.Compile.{Pair, pairOf, verdictOf, compileOf}
 use Rattle.model.specs.Rules.Image.{lengthOf, imageOf, tailOf, writtenOf, writtenLength}
 use Rattle.model.specs.Rules.Outcome.{accepted, refused, refuse, _▷_, provided}
 use Rattle.model.specs.declared.Fault.{Fault}
-use Rattle.model.proofs.Stretches.{image-length}
-use Rattle.model.proofs.Tails.{tail-length, written-length}
+use Rattle.model.proofs.Images.Stretches.{image-length}
+use Rattle.model.proofs.Images.Tails.{tail-length, written-length}
 
 module _ (program schedule buffer : List ℕ) where
   pub compile-refused : (f : Fault) → pairOf program schedule ≡ refused f →

@@ -1,7 +1,8 @@
 // The compiler: a program and a schedule to an image with its tail, or the first refusal.
+use basics::Judged;
 use model::Compiled;
 use model::Fault;
-use text_program::Judged;
+use text_program::Tables;
 use text_schedule::Slots;
 ghost use mathlib.Core.Path.{_≡_};
 ghost use Rattle.model.specs.Rules.Compile.{compiledOf, compileOf};
@@ -32,7 +33,7 @@ pub fn compile(program: &[u8], schedule: &[u8], image: &mut [u8]) -> Compiled
     let Judged::Fine = judged else {
         return refused(judged);
     };
-    let tables = checked.tables;
+    let tables: Tables = checked.tables;
     let periods = tables.periods;
     let slots: Slots = checked.slots;
     let order = slots.order;

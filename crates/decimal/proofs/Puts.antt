@@ -15,8 +15,8 @@ use mir.Syntax.{w32}
 use mir.Val.{toZ, ofZ}
 use Rattle.model.specs.Rules.Decimal.{natural, decimal, spaced, lineOf}
 use Rattle.model.specs.Rules.Word.{bitsOf}
-use Rattle.model.proofs.Stretches.{sets-append}
-use Rattle.word.proofs.Laws.{kept}
+use Rattle.model.proofs.Images.Stretches.{sets-append}
+use Rattle.word.proofs.Locals.{kept}
 use Rattle.decimal.specs.Put.{Put}
 
 -- A negative word, and one that is not.

@@ -1,4 +1,4 @@
 -- Laws of writing code.
-pub mod Laws
+pub mod Operands
 pub mod Signals
 pub mod Spans

@@ -1,25 +1,24 @@
--- A signal's command and its body. Assumes nothing.
-use Prim.Native.Nat.{ℕ, _+_, _≤_}
+-- A signal's declaration and its body. Assumes nothing.
+use Prim.Native.Nat.{ℕ, _+_, _≤_, _<_}
 use mathlib.Core.List.{List, [], _∷_, _++_}
 use mathlib.Core.Path.{_≡_, refl, sym, ap, subst, _∙_}
 use native.Mathlib.Omega.{arith}
-use types.Run.{OneOf, miss}
-use denote.Enum.Declared.{tagOf, declared}
-use lib.IntN.{ℤ}
 use lib.ListN.{length, length-append}
-use Rattle.model.specs.Rules.Command.{commandAt}
+use Rattle.model.specs.Rules.Command.{declarationAt}
 use Rattle.model.specs.Rules.Image.{exprCode, signalCode}
 use Rattle.model.specs.Rules.Program.{leastFactor, Expr, Signal, Body, input, equation}
-use Rattle.model.specs.declared.Command.{Command}
-use Rattle.model.specs.declared.Command.the-variants as Command
+use Rattle.model.specs.Rules.Word.{byteAt}
 use Rattle.model.specs.Says.Grammar.{depth}
-use Rattle.model.proofs.Command.{enum}
-use Rattle.model.proofs.Legal.{SpellsBody, SpellsSignal}
+use Rattle.model.specs.Says.Written.{DeclarationWhole}
+use Rattle.model.specs.declared.Declaration.{Declaration}
+use Rattle.model.proofs.Texts.Commands.{byteOf, declaration-sound, written-byte}
+use Rattle.model.proofs.Texts.Written.{as-written}
+use Rattle.model.proofs.Texts.Legal.{SpellsBody, SpellsSignal}
 use Rattle.model.specs.Says.Grammar.{Spells}
 use Rattle.image_code.specs.Code.{Puts, Room, Emits, SignalRoom, EmitsSignal}
-use Rattle.image_code.proofs.Laws.{puts-length, join}
+use Rattle.image_code.proofs.Operands.{puts-length, join}
 
--- A signal whose command is EQ has an equation.
+-- A signal whose byte is that of EQ has an equation.
 pub record Equated (text : List ℕ) (place : ℕ) (σ : Signal) : Type 0 where
   pub weight : ℕ
   pub expr : Expr
@@ -28,19 +27,16 @@ pub record Equated (text : List ℕ) (place : ℕ) (σ : Signal) : Type 0 where
   pub deep : depth expr ≤ 16
   pub body : σ .body ≡ equation weight expr
 
-abbrev notEquation : List ℕ
-notEquation = 0 ∷ 1 ∷ 2 ∷ 3 ∷ 4 ∷ 6 ∷ 7 ∷ 8 ∷ 9 ∷ 10 ∷ 11 ∷ 12 ∷ 13 ∷ 14 ∷ []
-
 module _ (text : List ℕ) (place : ℕ) (σ : Signal) (at : σ .place ≡ place) (h : SpellsSignal text σ) where
-  pub equated : {period weight : ℕ} {initial : ℤ} → commandAt text place ≡ Command.Equation period initial weight →
-      Equated text place σ
-  equated {period} {weight} {initial} q = go (σ .body) refl h
+  byte : {c : Declaration} → DeclarationWhole c → declarationAt text (σ .place) ≡ c →
+      byteAt text place ≡ byteOf c
+  byte w e = ap (byteAt text) (sym at) ∙ written-byte text (σ .place) (as-written _ w e)
+
+  pub equated : byteAt text place ≡ 0x11 → Equated text place σ
+  equated q = go (σ .body) refl h
     where
       go : (b : Body) → σ .body ≡ b → SpellsBody text σ b → Equated text place σ
-      go input e g =
-          let f : commandAt text place ≡ Command.Input (σ .period) (σ .initial) = ap (commandAt text) (sym at) ∙ g in
-          let z : _≡_ {A = ℕ} 0 1 = cc in
-          absurd (omega arith)
+      go input e g = absurd (omega (arith, byte tt g))
       go (equation w x) e g =
           record {
             weight = w;
@@ -51,14 +47,21 @@ module _ (text : List ℕ) (place : ℕ) (σ : Signal) (at : σ .place ≡ place
             body = e;
           }
 
-  -- And one whose command is not is an input.
-  pub sampled : (c : Command) → commandAt text place ≡ c → OneOf notEquation (tagOf (declared enum) c) → σ .body ≡ input
-  sampled c q k = go (σ .body) refl h
+  -- And one whose byte is another is an input.
+  pub sampled : ¬ (byteAt text place ≡ 0x11) → σ .body ≡ input
+  sampled q = go (σ .body) refl h
     where
       go : (b : Body) → σ .body ≡ b → SpellsBody text σ b → σ .body ≡ input
       go input e g = e
-      go (equation w x) e g =
-          absurd (miss notEquation 5 tt (subst (λ (d : Command). OneOf notEquation (tagOf (declared enum) d)) (sym q ∙ ap (commandAt text) (sym at) ∙ g .0) k))
+      go (equation w x) e g = absurd (q (byte tt (g .0)))
+
+  -- Its declaration lies within the text.
+  pub place-inside : (place < length text) × (byteAt text place ≡ 0x11 → place + 8 ≤ length text)
+  place-inside = go (σ .body) h
+    where
+      go : (b : Body) → SpellsBody text σ b → (place < length text) × (byteAt text place ≡ 0x11 → place + 8 ≤ length text)
+      go input g = let s = declaration-sound text _ _ g .3 in (omega (arith, s, at), λ q. absurd (omega (arith, byte tt g)))
+      go (equation w x) g = let s = declaration-sound text _ _ (g .0) .3 in (omega (arith, s, at), λ q. omega (arith, s, at))
 
 pub equation-code : {text : List ℕ} {place : ℕ} {σ : Signal} (q : Equated text place σ) (x : ℕ) →
     signalCode x (σ .body) ≡ exprCode (q .expr) ++ (0x5F ∷ x ∷ [])
@@ -69,8 +72,7 @@ pub equation-length : {text : List ℕ} {place : ℕ} {σ : Signal} (q : Equated
 equation-length q x = ap length (equation-code q x) ∙ length-append (exprCode (q .expr)) (0x5F ∷ x ∷ [])
 
 -- Writing the code of a signal with an equation.
-module _ {text : List ℕ} {place x to : ℕ} {period weight : ℕ} {initial : ℤ}
-    (c : commandAt text place ≡ Command.Equation period initial weight) where
+module _ {text : List ℕ} {place x to : ℕ} (c : byteAt text place ≡ 0x11) where
   pub equation-room : {n : ℕ} → SignalRoom text place x n to → Room 16 text (place + 8) n to
   equation-room r =
       let q = equated text place (r .here .signal) (r .here .stands) (r .here .spelled) c in
@@ -100,11 +102,10 @@ module _ {text : List ℕ} {place x to : ℕ} {period weight : ℕ} {initial : �
       }
 
 -- And of an input.
-module _ {text : List ℕ} {place x to : ℕ} (c : Command) (e : commandAt text place ≡ c)
-    (k : OneOf notEquation (tagOf (declared enum) c)) where
+module _ {text : List ℕ} {place x to : ℕ} (c : ¬ (byteAt text place ≡ 0x11)) where
   pub sample-room : {n : ℕ} → SignalRoom text place x n to → to + 4 ≤ n
   sample-room r =
-      let q = sampled text place (r .here .signal) (r .here .stands) (r .here .spelled) c e k in
+      let q = sampled text place (r .here .signal) (r .here .stands) (r .here .spelled) c in
       omega (arith, r .fits, ap (λ (b : Body). length (signalCode x b)) q)
 
   pub sample-emits : {l l₁ l₂ : List ℕ} {m n₁ e₁ m₂ n₂ e₂ : ℕ} → Puts l to (0x52 ∷ x ∷ []) m l₁ n₁ e₁ →
@@ -112,7 +113,7 @@ module _ {text : List ℕ} {place x to : ℕ} (c : Command) (e : commandAt text 
   sample-emits p r =
       record {
         puts = λ σ at h.
-            let q = ap (signalCode x) (sampled text place σ at h c e k) in
+            let q = ap (signalCode x) (sampled text place σ at h c) in
             let g = join p r in
             (rw q (g .holds), rw q (g .ends));
       }

@@ -7,7 +7,7 @@ use lib.Seq.{sets}
 use Rattle.model.specs.Rules.Image.{exprCode, signalCode}
 use Rattle.model.specs.Rules.Program.{leastFactor, Expr, Signal}
 use Rattle.model.specs.Says.Grammar.{depth}
-use Rattle.model.proofs.Legal.{SpellsSignal}
+use Rattle.model.proofs.Texts.Legal.{SpellsSignal}
 use Rattle.model.specs.Says.Grammar.{Spells}
 
 -- l′ is l with the bytes from `to` up to `end`; the text goes on at `next`.

@@ -1,11 +1,12 @@
 // The code of a signal: operands first, operator after.
 use model::Binary;
-use model::Command;
+use model::Operator;
+use model::Unary;
 ghost use mathlib.Core.Path.{_≡_};
 ghost use mathlib.Core.List.{[], _∷_};
 ghost use Prim.Native.Nat.{_+_, _≤_, _<_};
 ghost use lib.ListN.{length};
-ghost use Rattle.model.specs.Rules.Image.{binaryByte};
+ghost use Rattle.model.specs.Rules.Image.{binaryByte, unaryByte};
 ghost use Rattle.model.specs.Rules.Width.{inCode};
 ghost use Rattle.model.specs.Rules.Word.{wordBytes};
 ghost use Rattle.image_code.specs.Code.{Puts, Room, Emits, SignalRoom, EmitsSignal};
@@ -28,6 +29,15 @@ fn binary_byte(operator: Binary) -> u8
         Binary::Same => 0x34,
         Binary::Min => 0x35,
         Binary::Max => 0x36,
+    }
+}
+
+// The byte of an operator with one operand.
+fn unary_byte(operator: Unary) -> u8
+    ensures { λ r. ⌜ r ≡ unaryByte operator ⌝ }
+{
+    match operator {
+        Unary::Negate => 0x38,
     }
 }
 
@@ -76,22 +86,22 @@ pub fn emit_expression(text: &[u8], at: usize, depth: usize, out: &mut [u8], to:
     requires { ⌜ Room depth (now text) at (length (now out)) to ⌝ }
     ensures { λ r. ⌜ Emits (now (text .entry)) at (now (out .entry)) to (now (out .exit)) (r .next) (r .end) ⌝ }
 {
-    let command = text_command::operator_at(text, at);
-    match command {
-        Command::Constant(w) => put_push(out, to, w, at + width::in_expression(0x20)),
-        Command::Read(kind, operands) => put_access(
+    let decoded = text_command::operator_at(text, at);
+    match decoded {
+        Operator::Constant(w) => put_push(out, to, w, at + width::in_expression(0x20)),
+        Operator::Read(kind, operands) => put_access(
             out,
             to,
             0x51,
             operands.signal,
             at + width::of_read(kind),
         ),
-        Command::Binary(operator) => {
+        Operator::Binary(operator) => {
             let first = emit_expression(text, at + width::in_expression(0x30), depth - 1, out, to);
             let second = emit_expression(text, first.next, depth - 1, out, first.end);
             put_operator(out, second, binary_byte(operator))
         }
-        Command::Negate => {
+        Operator::Unary(operator) => {
             let operand = emit_expression(
                 text,
                 at + width::in_expression(0x38),
@@ -99,9 +109,9 @@ pub fn emit_expression(text: &[u8], at: usize, depth: usize, out: &mut [u8], to:
                 out,
                 to,
             );
-            put_operator(out, operand, 0x38)
+            put_operator(out, operand, unary_byte(operator))
         }
-        Command::If => {
+        Operator::If => {
             let condition = emit_expression(
                 text,
                 at + width::in_expression(0x3A),
@@ -122,17 +132,12 @@ pub fn emit_signal(text: &[u8], place: usize, x: u8, out: &mut [u8], to: usize) 
     requires { ⌜ SignalRoom (now text) place x (length (now out)) to ⌝ }
     ensures { λ r. ⌜ EmitsSignal (now (text .entry)) place x (now (out .entry)) to (now (out .exit)) r ⌝ }
 {
-    let command = text_command::command_at(text, place);
-    match command {
-        Command::Equation(_, _, _) => {
-            let value = emit_expression(text, place + width::in_program(0x11), 16, out, to);
-            let code = put_access(out, value.end, 0x5F, x, place);
-            code.end
-        }
-        _ => {
-            let sample = put_access(out, to, 0x52, x, place);
-            let code = put_access(out, sample.end, 0x5F, x, place);
-            code.end
-        }
+    if text[place] == 0x11 {
+        let value = emit_expression(text, place + width::in_program(0x11), 16, out, to);
+        let code = put_access(out, value.end, 0x5F, x, place);
+        return code.end;
     }
+    let sample = put_access(out, to, 0x52, x, place);
+    let code = put_access(out, sample.end, 0x5F, x, place);
+    code.end
 }

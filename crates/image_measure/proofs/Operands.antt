@@ -6,18 +6,18 @@ use mathlib.Core.Path.{_≡_, refl, sym, subst, _∙_}
 use native.Mathlib.Omega.{arith}
 use lib.ListN.{length}
 use Rattle.model.specs.Says.Feasible.{All}
-use Rattle.model.specs.Rules.Command.{commandAt}
+use Rattle.model.specs.Rules.Command.{operatorAt}
 use Rattle.model.specs.Says.Grammar.{depth, Spells}
 use Rattle.model.specs.Rules.Image.{exprCode}
-use Rattle.model.specs.Rules.Program.{Expr, constant, read, binary, negate, choose}
+use Rattle.model.specs.Rules.Program.{Expr, constant, read, binary, unary, choose}
 use Rattle.model.specs.Rules.Report.{exprCommands, exprHeight}
-use Rattle.model.specs.declared.Command.{Command}
-use Rattle.model.proofs.Bounds.{depth-some}
-use Rattle.model.proofs.Heights.{height-some}
-use Rattle.model.proofs.Runs.{commands-most}
+use Rattle.model.specs.declared.Operator.{Operator}
+use Rattle.model.proofs.Images.Bounds.{depth-some}
+use Rattle.model.proofs.Images.Bounds.{height-some}
+use Rattle.model.proofs.Images.Runs.{commands-most}
 use Rattle.image_code.specs.Shape.{leadOf}
-use Rattle.image_code.proofs.Laws.{SpellsAll, Below, commandsOfAll, heightOfAll, opened}
-use Rattle.model.proofs.Legal.{expr-code}
+use Rattle.image_code.proofs.Operands.{SpellsAll, Below, commandsOfAll, heightOfAll, opened}
+use Rattle.model.proofs.Texts.Legal.{expr-code}
 use Rattle.image_code.proofs.Spans.{inside}
 use Rattle.image_measure.specs.Measure.{Nests, Tells, Measures, Joined, Operated}
 use Rattle.image_measure.specs.declared.Measure.{Measure}
@@ -30,7 +30,7 @@ pub record NestsAll (d : ℕ) (text : List ℕ) (at k : ℕ) : Type 0 where
   pub deep : All (Below d) exprs
   pub count : length exprs ≡ k
 
-module _ {d : ℕ} {text : List ℕ} {at : ℕ} (c : Command) (q : commandAt text at ≡ c) (r : Nests d text at) where
+module _ {d : ℕ} {text : List ℕ} {at : ℕ} (c : Operator) (q : operatorAt text at ≡ c) (r : Nests d text at) where
   pub positive : 0 < d
   positive = omega (arith, depth-some (r .expr), r .deep)
 
@@ -80,7 +80,7 @@ height-most : (e : Expr) → exprHeight e ≤ exprCommands e
 height-most (constant w) = omega arith
 height-most (read ρ) = omega arith
 height-most (binary operator x y) = omega (arith, height-most x, height-most y, height-some x)
-height-most (negate x) = omega (arith, height-most x)
+height-most (unary operator x) = omega (arith, height-most x)
 height-most (choose x y z) = omega (arith, height-most x, height-most y, height-most z, height-some x, height-some y)
 
 pub record Small (text : List ℕ) (at : ℕ) (m : Measure) : Type 0 where
@@ -137,7 +137,7 @@ module _ {text : List ℕ} {at : ℕ} where
           )
 
   -- The operator after its operands.
-  pub measures-last : {m r : Measure} (c : Command) → commandAt text at ≡ c → 0 < leadOf c .arity →
+  pub measures-last : {m r : Measure} (c : Operator) → operatorAt text at ≡ c → 0 < leadOf c .arity →
       MeasuresAll text (at + leadOf c .width) (leadOf c .arity) m → Operated m r → Measures text at r
   measures-last c q lt ws p =
       record {
@@ -152,7 +152,8 @@ module _ {text : List ℕ} {at : ℕ} where
       }
 
   -- A leaf.
-  pub measures-leaf : {m : Measure} (c : Command) → commandAt text at ≡ c → leadOf c .arity ≡ 0 → m .next ≡ at + leadOf c .width →
+  pub measures-leaf : {m : Measure} (c : Operator) → operatorAt text at ≡ c → leadOf c .arity ≡ 0 →
+      m .next ≡ at + leadOf c .width →
       m .commands ≡ 1 → m .height ≡ 1 → Measures text at m
   unfolding commandsOfAll heightOfAll
   measures-leaf {m} c q z goes one low =

@@ -1,6 +1,6 @@
 // The work of a signal by the text of its equation: the commands of its code and the words that they put on the stack. No code
 // is written.
-use model::Command;
+use model::Operator;
 ghost use mathlib.Core.Path.{_≡_};
 ghost use Prim.Native.Nat.{_≤_, max};
 ghost use lib.ListN.{length};
@@ -53,9 +53,9 @@ fn measure_expression(text: &[u8], at: usize, depth: usize) -> Measure
     requires { ⌜ Nests depth (now text) at × (length (now text) ≤ 8192) ⌝ }
     ensures { λ r. ⌜ Measures (now (text .entry)) at r ⌝ }
 {
-    let command = text_command::operator_at(text, at);
-    match command {
-        Command::Constant(_) => {
+    let decoded = text_command::operator_at(text, at);
+    match decoded {
+        Operator::Constant(_) => {
             let next = at + width::in_expression(0x20);
             Measure {
                 next: next,
@@ -63,7 +63,7 @@ fn measure_expression(text: &[u8], at: usize, depth: usize) -> Measure
                 height: 1,
             }
         }
-        Command::Read(kind, _) => {
+        Operator::Read(kind, _) => {
             let next = at + width::of_read(kind);
             Measure {
                 next: next,
@@ -71,17 +71,17 @@ fn measure_expression(text: &[u8], at: usize, depth: usize) -> Measure
                 height: 1,
             }
         }
-        Command::Binary(_) => {
+        Operator::Binary(_) => {
             let first = measure_expression(text, at + width::in_expression(0x30), depth - 1);
             let second = measure_expression(text, first.next, depth - 1);
             let operands = joined(first, second);
             operated(operands)
         }
-        Command::Negate => {
+        Operator::Unary(_) => {
             let operand = measure_expression(text, at + width::in_expression(0x38), depth - 1);
             operated(operand)
         }
-        Command::If => {
+        Operator::If => {
             let condition = measure_expression(text, at + width::in_expression(0x3A), depth - 1);
             let first = measure_expression(text, condition.next, depth - 1);
             let second = measure_expression(text, first.next, depth - 1);
@@ -108,20 +108,17 @@ pub fn measure_signal(text: &[u8], place: usize) -> Work
     requires { ⌜ SignalStands (now text) place × (length (now text) ≤ 8192) ⌝ }
     ensures { λ r. ⌜ WorkOf (now (text .entry)) place r ⌝ }
 {
-    let command = text_command::command_at(text, place);
-    match command {
-        Command::Equation(_, _, _) => {
-            let value = measure_expression(text, place + width::in_program(0x11), 16);
-            let total = value.commands + 1;
-            let commands = total as u16;
-            Work {
-                commands: commands,
-                height: value.height,
-            }
-        }
-        _ => Work {
-            commands: 2,
-            height: 1,
-        },
+    if text[place] == 0x11 {
+        let value = measure_expression(text, place + width::in_program(0x11), 16);
+        let total = value.commands + 1;
+        let commands = total as u16;
+        return Work {
+            commands: commands,
+            height: value.height,
+        };
+    }
+    Work {
+        commands: 2,
+        height: 1,
     }
 }

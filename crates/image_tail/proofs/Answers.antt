@@ -9,7 +9,7 @@ use lib.Seq.{take-all}
 use Rattle.model.specs.Rules.Machine.{statedLength, wellFormed, imagePart}
 use Rattle.model.specs.Rules.Outcome.{Outcome, accepted, refuse, _▷_, provided}
 use Rattle.model.specs.Rules.Tail.{tailIn, numberIn, stretchIn, ReadsTail}
-use Rattle.model.proofs.Tails.{lent-formed, lent-bears, stated-length}
+use Rattle.model.proofs.Images.Tails.{lent-formed, lent-bears, stated-length}
 use Rattle.image_valid.specs.Lends.{Lends}
 
 reads : {lent tail : List ℕ} {number : ℕ} {o : Outcome (List ℕ)} → tailIn lent ≡ o → number ≡ numberIn o → tail ≡ stretchIn o →

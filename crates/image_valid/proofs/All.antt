@@ -9,7 +9,7 @@ use native.Mathlib.Omega.{arith}
 use borrow.Author.Tests.{ltb-true, lt-ltb}
 use lib.Dec.{ltb}
 use Rattle.model.specs.Rules.Search.{allBelow}
-use Rattle.model.proofs.Tests.{never, by, both}
+use Rattle.model.proofs.Basics.Tests.{never, by, both}
 
 pub second-fails : (a b : Bool) → b ≡ false → (a && b) ≡ false
 second-fails true b h = h

@@ -9,9 +9,9 @@ use lib.Dec.{eqb}
 use lib.ListN.{length, take, length-take}
 use Rattle.model.specs.Rules.Image.{withTail}
 use Rattle.model.specs.Rules.Machine.{countOf, statedLength, headOk, wellFormed, imagePart, lengthOk, lentOk}
-use Rattle.model.proofs.Tails.{headed, lent-formed}
+use Rattle.model.proofs.Images.Tails.{headed, lent-formed}
 use Rattle.image_valid.specs.Lends.{Lends}
-use Rattle.model.proofs.Tests.{never, by}
+use Rattle.model.proofs.Basics.Tests.{never, by}
 use Rattle.image_valid.proofs.Parts.{without-head}
 
 empty-formed : wellFormed [] ≡ false

@@ -12,11 +12,25 @@ use lib.Dec.{leb, ltb, eqb}
 use lib.ListN.{length, getD, take, drop, length-take, length-drop}
 use lib.Seq.{getD-take, getD-drop}
 use Rattle.model.specs.Rules.Image.{listsAt}
-use Rattle.model.specs.Rules.Machine.{stretch, hyperOf, countOf, listOffset, codeOffset, listOf, codeOf, codeOk, headOk, listsOk, entriesOk, codesOk, wellFormed}
+use Rattle.model.specs.Rules.Machine.{
+  stretch,
+  hyperOf,
+  countOf,
+  listOffset,
+  codeOffset,
+  listOf,
+  codeOf,
+  codeOk,
+  headOk,
+  listsOk,
+  entriesOk,
+  codesOk,
+  wellFormed,
+}
 use Rattle.model.specs.Rules.Search.{allBelow}
 use Rattle.model.specs.Rules.Word.{byteAt, twoAt}
 use Rattle.image_valid.proofs.All.{all-none, all-fails, all-same, all-at}
-use Rattle.model.proofs.Tests.{never, by, both}
+use Rattle.model.proofs.Basics.Tests.{never, by, both}
 
 pub record Head (image : List ℕ) : Type 0 where
   pub four : 4 ≤ length image
@@ -28,8 +42,10 @@ pub record Head (image : List ℕ) : Type 0 where
 pub head : (image : List ℕ) → headOk image ≡ true → Head image
 unfolding headOk
 head image h =
-    let f = both (leb 4 (length image) && eqb (twoAt image 2) (length image) && leb 1 (hyperOf image) && leb (hyperOf image) 240 && leb (countOf image) 64) _ h in
-    let e = both (leb 4 (length image) && eqb (twoAt image 2) (length image) && leb 1 (hyperOf image) && leb (hyperOf image) 240) _ (f .0) in
+    let f = both (leb 4 (length image) && eqb (twoAt image 2) (length image) && leb 1 (hyperOf image) && leb (hyperOf image) 240
+    && leb (countOf image) 64) _ h in
+    let e = both (leb 4 (length image) && eqb (twoAt image 2) (length image) && leb 1 (hyperOf image) && leb (hyperOf image) 240)
+    _ (f .0) in
     let d = both (leb 4 (length image) && eqb (twoAt image 2) (length image) && leb 1 (hyperOf image)) _ (e .0) in
     let c = both (leb 4 (length image) && eqb (twoAt image 2) (length image)) _ (d .0) in
     let a = both (leb 4 (length image)) _ (c .0) in
@@ -42,8 +58,11 @@ head image h =
     }
 
 -- a sequence that does not fall below h
+abbrev Rises : (ℕ → ℕ) → ℕ → Type 0
+Rises f h = (c : ℕ) → c < h → f c ≤ f (c + 1)
+
 module _ (f : ℕ → ℕ) where
-  rises : (h : ℕ) → ((c : ℕ) → c < h → f c ≤ f (c + 1)) → (c : ℕ) → c ≤ h → f c ≤ f h
+  rises : (h : ℕ) → Rises f h → (c : ℕ) → c ≤ h → f c ≤ f h
   rises zero r zero l = le-refl (f 0)
   rises zero r (suc c) l = let z : ⊥ = omega (arith, l) in absurd z
   rises (suc h) r c l =
@@ -53,7 +72,7 @@ module _ (f : ℕ → ℕ) where
 
 pub record Lists (image : List ℕ) : Type 0 where
   pub start : listOffset image 0 ≡ listsAt (countOf image) (hyperOf image)
-  pub rising : (c : ℕ) → c < hyperOf image → listOffset image c ≤ listOffset image (c + 1)
+  pub rising : Rises (listOffset image) (hyperOf image)
   pub last : listOffset image (hyperOf image) ≡ codeOffset image 0
   pub end : codeOffset image 0 ≤ length image
 
@@ -61,7 +80,8 @@ pub lists : (image : List ℕ) → listsOk image ≡ true → Lists image
 unfolding listsOk
 lists image h =
     let up : Bool = allBelow (hyperOf image) (λ c. leb (listOffset image c) (listOffset image (c + 1))) in
-    let c = both (eqb (listOffset image 0) (listsAt (countOf image) (hyperOf image)) && up && eqb (listOffset image (hyperOf image)) (codeOffset image 0)) _ h in
+    let c = both (eqb (listOffset image 0) (listsAt (countOf image) (hyperOf image)) && up && eqb
+    (listOffset image (hyperOf image)) (codeOffset image 0)) _ h in
     let b = both (eqb (listOffset image 0) (listsAt (countOf image) (hyperOf image)) && up) _ (c .0) in
     let a = both (eqb (listOffset image 0) (listsAt (countOf image) (hyperOf image))) up (b .0) in
     record {
@@ -86,7 +106,8 @@ module _ (image : List ℕ) (l : Lists image) where
   room = le-trans (from-start 0 (omega arith)) (to-code 0 (omega arith))
 
   -- the entries of a list
-  pub entries : entriesOk image ≡ true → (c : ℕ) → c < hyperOf image → (k : ℕ) → k < length (listOf image c) → byteAt (listOf image c) k < countOf image
+  pub entries : entriesOk image ≡ true → (c : ℕ) → c < hyperOf image → (k : ℕ) → k < length (listOf image c) →
+      byteAt (listOf image c) k < countOf image
   unfolding entriesOk listOf
   entries e c h k m =
       let a = listOffset image c in
@@ -95,7 +116,8 @@ module _ (image : List ℕ) (l : Lists image) where
       let low = from-start c (omega arith) in
       let high = to-code (c + 1) (omega arith) in
       let in-list : k < b - a = omega (arith, simp (length-take, length-drop) at m) in
-      let here : byteAt image (s + (a - s + k)) < countOf image = ltb-true _ _ (all-at (codeOffset image 0 - s) _ e (a - s + k) (omega arith)) in
+      let here : byteAt image (s + (a - s + k)) < countOf image =
+      ltb-true _ _ (all-at (codeOffset image 0 - s) _ e (a - s + k) (omega arith)) in
       let same : s + (a - s + k) ≡ a + k = omega arith in
       rw (getD-take (b - a) (drop a image) k 0 in-list, getD-drop a image k 0) (rw same at here)
 
@@ -107,7 +129,8 @@ stretch-at : (image : List ℕ) (from to k : ℕ) → k < to - from → byteAt (
 stretch-at image from to k h = getD-take (to - from) (drop from image) k 0 h ∙ getD-drop from image k 0
 
 -- the test of the entries, on the stretch of all lists
-pub entries-by : (image : List ℕ) → Lists image → (n from to : ℕ) → n ≡ countOf image → from ≡ listsAt (countOf image) (hyperOf image) → to ≡ codeOffset image 0
+pub entries-by : (image : List ℕ) → Lists image → (n from to : ℕ) → n ≡ countOf image →
+    from ≡ listsAt (countOf image) (hyperOf image) → to ≡ codeOffset image 0
     → allBelow (length (stretch image from to)) (λ i. ltb (byteAt (stretch image from to) i) n) ≡ entriesOk image
 unfolding entriesOk
 entries-by image l n from to p q r =
@@ -128,7 +151,8 @@ entries-none image l z =
     (λ t. let none : e - s ≡ 0 = omega (arith, eqb-true s e t) in
     t ∙ sym (ap (λ (k : ℕ). allBelow k (λ i. ltb (byteAt image (s + i)) (countOf image))) none ∙ all-none _))
     (λ t. let some : 0 < e - s = omega (arith, eqb-false s e t) in
-    t ∙ sym (all-fails (e - s) (λ i. ltb (byteAt image (s + i)) (countOf image)) 0 some (ap (ltb (byteAt image (s + 0))) z ∙ le-ltb (byteAt image (s + 0)) 0 (omega arith))))
+    t ∙ sym (all-fails (e - s) (λ i. ltb (byteAt image (s + i)) (countOf image)) 0 some
+    (ap (ltb (byteAt image (s + 0))) z ∙ le-ltb (byteAt image (s + 0)) 0 (omega arith))))
 
 -- the code of signal x
 pub record CodePart (image : List ℕ) (x : ℕ) : Type 0 where
@@ -156,8 +180,10 @@ unfolding wellFormed
 formed image h = go (headOk image) (listsOk image) refl refl h
   where
     go : (a b : Bool) → headOk image ≡ a → listsOk image ≡ b
-        → elim a [ true ↦ elim b [ true ↦ entriesOk image && codesOk image | false ↦ false ] | false ↦ false ] ≡ true → Formed image
-    go true true p q t = let e = both (entriesOk image) (codesOk image) t in record { good = p; listed = q; entered = e .0; coded = e .1 }
+        → elim a [ true ↦ elim b [ true ↦ entriesOk image && codesOk image | false ↦ false ] | false ↦ false ] ≡ true →
+        Formed image
+    go true true p q t = let e = both (entriesOk image) (codesOk image) t in
+        record { good = p; listed = q; entered = e .0; coded = e .1 }
     go true false p q t = never t
     go false b p q t = never t
 

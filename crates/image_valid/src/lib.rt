@@ -10,12 +10,6 @@ ghost use Rattle.image_valid.specs.Lends.{Lends};
 ghost use Rattle.model.specs.Rules.Search.{allBelow};
 ghost use Rattle.model.specs.Rules.Word.{byteAt, twoAt};
 
-fn wide(byte: u8) -> usize
-    ensures { λ r. ⌜ (r ≡ byte) × (r < 256) ⌝ }
-{
-    byte as usize
-}
-
 fn offset_at(image: &[u8], at: usize) -> usize
     requires { ⌜ at + 2 ≤ length (now image) ⌝ }
     ensures { λ r. ⌜ r ≡ twoAt (now (image .entry)) at ⌝ }
@@ -61,8 +55,8 @@ fn head_ok(image: &[u8]) -> bool
     if stated_length(image) != image.len() {
         return false;
     }
-    let h = wide(image[0]);
-    let n = wide(image[1]);
+    let h = basics::wide(image[0]);
+    let n = basics::wide(image[1]);
     if h < 1 {
         return false;
     }
@@ -120,7 +114,7 @@ fn entries_ok(image: &[u8], n: u8, h: usize) -> bool
     requires { ⌜ (headOk (now image) ≡ true) × (listsOk (now image) ≡ true) × (n ≡ countOf (now image)) × (h ≡ hyperOf (now image)) ⌝ }
     ensures { λ r. ⌜ r ≡ entriesOk (now (image .entry)) ⌝ }
 {
-    let count = wide(n);
+    let count = basics::wide(n);
     let start = 4 + 6 * count + 2 * (h + 1);
     let end = code_offset(image, count, 0);
     if n == 0 {
@@ -135,11 +129,11 @@ fn codes_ok(image: &[u8], n: u8) -> bool
     ensures { λ r. ⌜ r ≡ codesOk (now (image .entry)) ⌝ }
 {
     let table = image_valid_code::shapes();
-    let count = wide(n);
+    let count = basics::wide(n);
     let mut from = code_offset(image, count, 0);
     let mut x: u8 = 0;
     while x < n {
-        let to = code_offset(image, count, wide(x) + 1);
+        let to = code_offset(image, count, basics::wide(x) + 1);
         if to < from {
             return false;
         }
@@ -162,9 +156,9 @@ pub fn well_formed(image: &[u8]) -> bool
     if !head_ok(image) {
         return false;
     }
-    let h = wide(image[0]);
+    let h = basics::wide(image[0]);
     let n = image[1];
-    if !lists_ok(image, wide(n), h) {
+    if !lists_ok(image, basics::wide(n), h) {
         return false;
     }
     if !entries_ok(image, n, h) {
@@ -181,7 +175,7 @@ fn image_length(lent: &[u8]) -> usize
         return 0;
     }
     let length = stated_length(lent);
-    let n = wide(lent[1]);
+    let n = basics::wide(lent[1]);
     if lent.len() == length {
         return length;
     }

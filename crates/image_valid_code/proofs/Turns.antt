@@ -12,7 +12,7 @@ use Rattle.model.specs.Rules.Machine.{operatorCode, wholeCode, codeAt, commandO
 use Rattle.model.specs.Rules.Word.{byteAt, wordAt}
 use Rattle.model.specs.declared.Code.{Code}
 use Rattle.model.specs.declared.Code.the-variants as Code
-use Rattle.model.proofs.Tests.{by}
+use Rattle.model.proofs.Basics.Tests.{by}
 use Rattle.image_valid_code.specs.Shape.{shapeOf, lengthOf, afterOf, lastOf}
 
 -- the command whose byte is b
@@ -112,7 +112,8 @@ module _ (left : ℕ) (code : List ℕ) (at n own h : ℕ) (two : at + 1 < lengt
   Turn judged len r = judged ≡ cond (ltb 32 r) false (codeOkFrom left code n own (at + len) r)
 
   -- a command that pushes a word, allowed or not
-  leaf : (allowed : Bool) (len r : ℕ) → r ≡ cond allowed (h + 1) 33 → Turn (allowed && ltb h 32 && codeOkFrom left code n own (at + len) (h + 1)) len r
+  leaf : (allowed : Bool) (len r : ℕ) → r ≡ cond allowed (h + 1) 33 →
+      Turn (allowed && ltb h 32 && codeOkFrom left code n own (at + len) (h + 1)) len r
   leaf false len r e = rw e refl
   leaf true len r e =
       by (ltb h 32)
@@ -205,10 +206,12 @@ module _ (left : ℕ) (code : List ℕ) (at n own h : ℕ) (two : at + 1 < lengt
   unfolding Goes after-of shapeOf lengthOf afterOf operatorCode commandOk
   op-3A _ = operated 3 (after-of 0x3A) (h - 2) (omega arith) (omega arith) (rw (lt-leb n (0 * x) nothing) refl)
 
-  pub goes : (b : ℕ) → (shapeOf b ≡ 0 → ⊥) → Turn (step (commandOf b code at) left code at n own h) (lengthOf b) (afterOf (shapeOf b) b x h n own)
+  pub goes : (b : ℕ) → (shapeOf b ≡ 0 → ⊥) →
+      Turn (step (commandOf b code at) left code at n own h) (lengthOf b) (afterOf (shapeOf b) b x h n own)
   unfolding Goes after-of shapeOf
   goes b =
-      by-byte b Goes push-goes load-goes fetch-goes (λ no. absurd (no refl)) (op-30, op-31, op-32, op-33, op-34, op-35, op-36) op-38 op-3A
+      by-byte b Goes push-goes load-goes fetch-goes (λ no. absurd (no refl)) (op-30, op-31, op-32, op-33, op-34, op-35, op-36)
+      op-38 op-3A
       (λ o no. absurd (no (no-shape o)))
 
   -- the turn is the last one
@@ -222,7 +225,8 @@ module _ (left : ℕ) (code : List ℕ) (at n own h : ℕ) (two : at + 1 < lengt
   unfolding Stops lastOf commandOk
   store-stops _ = rw whole
 
-  pub stops : (b : ℕ) → shapeOf b ≡ 0 → step (commandOf b code at) left code at n own h ≡ (lastOf b x own h && eqb (at + 2) (length code))
+  pub stops : (b : ℕ) → shapeOf b ≡ 0 →
+      step (commandOf b code at) left code at n own h ≡ (lastOf b x own h && eqb (at + 2) (length code))
   unfolding Stops shapeOf lastOf commandOk
   stops b =
       by-byte b Stops more more more store-stops (more, more, more, more, more, more, more) more more
@@ -249,8 +253,10 @@ module _ (left : ℕ) (code : List ℕ) (at n own h : ℕ) (few : length code �
   fails : (b : ℕ) → step (commandOf b code at) left code at n own h ≡ false
   unfolding Fails operatorCode commandOk
   fails b =
-      by-byte b Fails (rw (cut 5 (omega arith)) refl) (rw (cut 2 (omega arith)) refl) (rw (cut 2 (omega arith)) refl) (rw (cut 2 (omega arith)) refl)
-      (ends 2 (h - 1), ends 2 (h - 1), ends 2 (h - 1), ends 2 (h - 1), ends 2 (h - 1), ends 2 (h - 1), ends 2 (h - 1)) (ends 1 h) (ends 3 (h - 2))
+      by-byte b Fails (rw (cut 5 (omega arith)) refl) (rw (cut 2 (omega arith)) refl) (rw (cut 2 (omega arith)) refl)
+      (rw (cut 2 (omega arith)) refl)
+      (ends 2 (h - 1), ends 2 (h - 1), ends 2 (h - 1), ends 2 (h - 1), ends 2 (h - 1), ends 2 (h - 1), ends 2 (h - 1)) (ends 1 h)
+      (ends 3 (h - 2))
       (λ o. rw (no-command code at o))
 
 pub short : (left : ℕ) (code : List ℕ) (at n own h : ℕ) → length code ≤ at + 1 → codeOkFrom left code n own at h ≡ false
@@ -259,7 +265,8 @@ short zero code at n own h p = refl
 short (suc left) code at n own h p =
     by (leb (length code) at)
     (λ t. past (suc left) code at n own h (leb-true _ _ t))
-    (λ t. turn (suc left) code at n own h (leb-false _ _ t) (omega arith) ∙ fails (suc left - 1) code at n own h p (byteAt code at))
+    (λ t. turn (suc left) code at n own h (leb-false _ _ t) (omega arith) ∙
+    fails (suc left - 1) code at n own h p (byteAt code at))
 
 Small : ℕ → Type 0
 Small b = shapeOf b ≤ 9

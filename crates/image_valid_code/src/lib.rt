@@ -4,12 +4,6 @@ ghost use Prim.Native.Nat.{_<_, _≤_};
 ghost use Rattle.image_valid_code.specs.Shape.{shapeOf, Shapes, lengthOf, afterOf, lastOf};
 ghost use Rattle.model.specs.Rules.Machine.{codeOk};
 
-fn wide(byte: u8) -> usize
-    ensures { λ r. ⌜ (r ≡ byte) × (r < 256) ⌝ }
-{
-    byte as usize
-}
-
 // 0: no command, or STORE; else 1 and the words that it takes off the stack, and 8 more for LOAD.
 pub fn shapes() -> [u8; 256]
     ensures { λ r. ⌜ Shapes r ⌝ }
@@ -34,8 +28,8 @@ fn shape(table: &[u8; 256], byte: u8) -> usize
     requires { ⌜ Shapes (now table) ⌝ }
     ensures { λ r. ⌜ r ≡ shapeOf byte ⌝ }
 {
-    let i = wide(byte);
-    wide(table[i])
+    let i = basics::wide(byte);
+    basics::wide(table[i])
 }
 
 // The bytes of a command that is not STORE. The operators are as wide as ADD.
@@ -60,7 +54,7 @@ fn after(shape: usize, byte: u8, x: u8, h: usize, n: u8, own: u8) -> usize
     if h + 1 < takes {
         return 33;
     }
-    if wide(n) <= shape / 8 * wide(x) {
+    if basics::wide(n) <= shape / 8 * basics::wide(x) {
         return 33;
     }
     if byte == 0x52 {

@@ -11,12 +11,12 @@ use Rattle.model.specs.Rules.Image.{signalCode, joined, offsets, records}
 use Rattle.model.specs.Rules.Program.{Program, Signal, Body, input, equation, noSignal, count}
 use Rattle.model.specs.Rules.Search.{joinFrom}
 use Rattle.model.specs.Rules.Word.{twoBytes, fourBytes, wordAt, wordBytes}
-use Rattle.model.proofs.Commands.{command-sound}
-use Rattle.model.proofs.Legal.{SpellsBody, SpellsSignal}
+use Rattle.model.proofs.Texts.Commands.{declaration-sound}
+use Rattle.model.proofs.Texts.Legal.{SpellsBody, SpellsSignal}
 use Rattle.text_program.specs.Tables.{Sums, codeIn}
 use Rattle.image_write.specs.Codes.{codesFrom, CodesAt}
-use Rattle.model.proofs.Stretches.{joined-cons}
-use Rattle.model.proofs.Left.{Parts, parts-length}
+use Rattle.model.proofs.Images.Stretches.{joined-cons}
+use Rattle.model.proofs.Basics.Left.{Parts, parts-length}
 
 dropped : {A : Type 0} (l : List A) (x : ℕ) (d : A) → x < length l → drop x l ≡ getD l x d ∷ drop (x + 1) l
 dropped l x d lt = drop-cons l x d lt ∙ ap (λ (k : ℕ). getD l x d ∷ drop k l) (sym (add-one x))
@@ -49,7 +49,10 @@ module _ (signals : List Signal) where
   pub codes-next : (x : ℕ) → x < length signals → Parts (codesLeft x) (signalCode x (nth x .body)) (codesLeft (x + 1))
   unfolding codesLeft
   codes-next x lt =
-      record { is = ap joined (codes-step x lt) ∙ joined-cons (signalCode x (nth x .body)) (codesFrom (x + 1) (drop (x + 1) signals)) }
+      record {
+        is = ap joined (codes-step x lt) ∙
+            joined-cons (signalCode x (nth x .body)) (codesFrom (x + 1) (drop (x + 1) signals));
+      }
 
   pub codes-end : (x : ℕ) → length signals ≤ x → codesLeft x ≡ []
   unfolding codesLeft codesFrom joinFrom
@@ -85,7 +88,12 @@ start-at k m start (σ ∷ signals) zero e le = let z : m ≡ k = omega arith in
 start-at k m start (σ ∷ signals) (suc x) e le =
     let c = signalCode k (σ .body) in
     let t = codesFrom (suc k) signals in
-    omega (arith, ap length (joined-cons c t), length-append c (joined t), start-at (suc k) m (start + length c) signals x (omega arith) (omega arith))
+    omega (
+      arith,
+      ap length (joined-cons c t),
+      length-append c (joined t),
+      start-at (suc k) m (start + length c) signals x (omega arith) (omega arith),
+    )
 
 pub code-start : (start : ℕ) (signals : List Signal) (x : ℕ) → x ≤ length signals →
     getD (offsets start (codesFrom 0 signals)) x 0 + length (codesLeft signals x) ≡ start + length (joined (codesFrom 0 signals))
@@ -116,8 +124,8 @@ pub initial-word : (text : List ℕ) (σ : Signal) → SpellsSignal text σ →
 initial-word text σ h = go (σ .body) h
   where
     go : (b : Body) → SpellsBody text σ b → (σ .initial ≡ wordAt text (σ .place + 2)) × (σ .place + 6 ≤ length text)
-    go input e = let f = command-sound text (σ .place) _ e in (f .2, f .3)
-    go (equation weight x) e = let f = command-sound text (σ .place) _ (e .0) in (f .2, omega (arith, f .3))
+    go input e = let f = declaration-sound text (σ .place) _ e in (f .2, f .3)
+    go (equation weight x) e = let f = declaration-sound text (σ .place) _ (e .0) in (f .2, omega (arith, f .3))
 
 pub record-length : (w : ℤ) (o : ℕ) → length (wordBytes w ++ twoBytes o) ≡ 6
 unfolding wordBytes fourBytes twoBytes
@@ -129,4 +137,5 @@ pub records-at : (signals : List Signal) (starts text : List ℕ) (x place : ℕ
     Parts (recordsLeft signals starts x) (wordBytes (wordAt text (place + 2)) ++ twoBytes (getD starts x 0))
     (recordsLeft signals starts (x + 1))
 records-at signals starts text x place lt few e h =
-    rw (sym (initial-word text (nth signals x) h .0 ∙ ap (λ (a : ℕ). wordAt text (a + 2)) e)) (records-next signals starts x lt few)
+    rw (sym (initial-word text (nth signals x) h .0 ∙ ap (λ (a : ℕ). wordAt text (a + 2)) e))
+    (records-next signals starts x lt few)

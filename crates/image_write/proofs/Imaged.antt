@@ -13,15 +13,15 @@ use Rattle.model.specs.Rules.Reads.{rateOf, due}
 use Rattle.model.specs.Rules.Schedule.{Schedule}
 use Rattle.model.specs.Rules.Search.{table, chosen}
 use Rattle.model.specs.Rules.Word.{twoBytes}
-use Rattle.model.proofs.Legal.{legal, signal-spelled, signal-period}
-use Rattle.model.proofs.Stretches.{table-length, table-at, image-length}
+use Rattle.model.proofs.Texts.Legal.{legal, signal-spelled, signal-period}
+use Rattle.model.proofs.Images.Stretches.{table-length, table-at, image-length}
 use Rattle.text_program.specs.declared.Tables.{Tables}
 use Rattle.image_write.specs.Codes.{signalsIn, signalsOf, codesFrom, Declared, CodesAt}
 use Rattle.image_write.specs.Lists.{isDue, listBy, listsBy, pairs, Timed, Phased}
 use Rattle.text_program.specs.Prepared.{Prepared}
 use Rattle.model.specs.Rules.Writing.{Wrote}
 use Rattle.image_write.proofs.Coded.{code-sum, codes-by, codes-end}
-use Rattle.model.proofs.Left.{Parts}
+use Rattle.model.proofs.Basics.Left.{Parts}
 use Rattle.image_write.proofs.Listed.{table-same}
 
 -- Where the code starts, and where it ends.
@@ -96,13 +96,17 @@ module _ {text : List ℕ} {t : Tables} {periods order phases : List ℕ} {p : P
   code-size =
       let n = count-is in
       rw (← signals-are)
-      (omega (arith, code-sum p (t .codes) (r .tables .codes) (t .signals) (omega arith), ap length (codes-end (p .signals) (t .signals) (omega arith))))
+      (omega (
+        arith,
+        code-sum p (t .codes) (r .tables .codes) (t .signals) (omega arith),
+        ap length (codes-end (p .signals) (t .signals) (omega arith)),
+      ))
 
   pub in-order : (j : ℕ) → j < t .signals → getD order j 0 < count p
   in-order j lt =
       let e = r .slots .all-put in
       let n = count-is in
-      rw (r .slots .order-is j (omega arith)) (r .only j (omega arith))
+      rw (r .slots .order-is j (omega arith)) (r .ordered .only j (omega arith))
 
   pub timed : Timed periods order (t .signals)
   timed =
@@ -119,7 +123,7 @@ module _ {text : List ℕ} {t : Tables} {periods order phases : List ℕ} {p : P
   pub phased : Phased periods order phases (t .signals)
   phased j lt =
       let x = getD order j 0 in
-      rw (r .periods-are x (in-order j lt), r .slots .phases-are x (in-order j lt)) (r .phased x (in-order j lt))
+      rw (r .periods-are x (in-order j lt), r .slots .phases-are x (in-order j lt)) (r .ordered .phases x (in-order j lt))
 
   order-is : s .order ≡ table (t .signals) (λ j. getD order j 0)
   order-is =
@@ -134,8 +138,8 @@ module _ {text : List ℕ} {t : Tables} {periods order phases : List ℕ} {p : P
   list-is c =
       chosen-same (λ x. due (rateOf p s x) c) (isDue periods phases c) (s .order)
       (λ j lt.
-      ap₂ (λ a b. eqb (c % a) b) (sym (r .periods-are (getD (s .order) j 0) (r .only j lt)))
-      (sym (r .slots .phases-are (getD (s .order) j 0) (r .only j lt)))) ∙
+      ap₂ (λ a b. eqb (c % a) b) (sym (r .periods-are (getD (s .order) j 0) (r .ordered .only j lt)))
+      (sym (r .slots .phases-are (getD (s .order) j 0) (r .ordered .only j lt)))) ∙
       ap (chosen (isDue periods phases c)) order-is
 
   module _ (h : ℕ) where
@@ -163,13 +167,15 @@ module _ {text : List ℕ} {t : Tables} {periods order phases : List ℕ} {p : P
     unfolding lengthOf
     length-by = ap₂ (λ (at : ℕ) cs. at + length (joined cs)) code-by codes-are
 
-    pub image-size : length (imageBy h (t .signals) (signalsOf text) (listsBy periods order phases (t .signals) h) (codesFrom 0 (signalsOf text))) ≡
+    pub image-size : length (imageBy h (t .signals) (signalsOf text) (listsBy periods order phases (t .signals) h)
+        (codesFrom 0 (signalsOf text))) ≡
         lengthOf p s h
     image-size = rw (← image-by) (image-length p s h)
 
     -- What is written from the first byte on is the image, and the rest stays.
     pub image-written : {l l′ : List ℕ} {end : ℕ} → lengthOf p s h ≤ length l →
-        Wrote l 0 (imageBy h (t .signals) (signalsOf text) (listsBy periods order phases (t .signals) h) (codesFrom 0 (signalsOf text))) l′ end →
+        Wrote l 0 (imageBy h (t .signals) (signalsOf text) (listsBy periods order phases (t .signals) h)
+        (codesFrom 0 (signalsOf text))) l′ end →
         l′ ≡ imageOf p s h ++ drop (lengthOf p s h) l
     image-written {l} le w =
         let e : 0 + length (imageOf p s h) ≡ lengthOf p s h = omega (arith, image-length p s h) in

@@ -1,17 +1,16 @@
 -- Lists of a table joined, and their offsets, list by list. Assumes nothing.
 use Prim.Native.Nat.{ℕ, zero, suc, _+_, _-_, _*_, _≤_, _<_}
-use mathlib.Core.Bool.{Bool, true, false, cond}
 use mathlib.Core.List.{List, [], _∷_, _++_}
 use mathlib.Core.Path.{_≡_, refl, ap, _∙_}
 use native.Mathlib.Omega.{arith}
 use lib.ListN.{length, getD, length-append}
 use Rattle.model.specs.Rules.Image.{joined, offsets}
-use Rattle.model.specs.Rules.Search.{table, tableFrom, chosen, joinFrom}
+use Rattle.model.specs.Rules.Search.{table, tableFrom, joinFrom}
 use Rattle.model.specs.Rules.Word.{twoBytes}
-use Rattle.model.proofs.Stretches.{table-length}
 use Rattle.image_write.specs.Lists.{isDue, listBy, listsBy, pairs}
-use Rattle.model.proofs.Left.{Parts}
-use Rattle.model.proofs.Stretches.{joined-cons}
+use Rattle.model.proofs.Images.Stretches.{table-length, joined-cons}
+use Rattle.model.proofs.Basics.Left.{Parts}
+use Rattle.model.proofs.Basics.All.{chosen-length}
 use Rattle.image_write.proofs.Listed.{table-starts, table-step, table-ends}
 
 -- Where the number is not looked at, it does not matter where the count starts.
@@ -24,19 +23,10 @@ pub pairs-cons : (o : ℕ) (os : List ℕ) → pairs (o ∷ os) ≡ twoBytes o +
 unfolding joinFrom
 pairs-cons o os = ap (λ l. twoBytes o ++ l) (join-any twoBytes 1 0 os)
 
-chosen-most : (test : ℕ → Bool) (xs : List ℕ) → length (chosen test xs) ≤ length xs
-unfolding chosen
-chosen-most test [] = omega arith
-chosen-most test (x ∷ xs) = go (test x) (chosen-most test xs)
-  where
-    go : (b : Bool) → length (chosen test xs) ≤ length xs → length (cond b (x ∷ chosen test xs) (chosen test xs)) ≤ suc (length xs)
-    go true le = omega arith
-    go false le = omega arith
-
 list-most : (periods order phases : List ℕ) (n c : ℕ) → length (listBy periods order phases n c) ≤ n
 unfolding listBy
 list-most periods order phases n c =
-    omega (arith, chosen-most (isDue periods phases c) (table n (λ j. getD order j 0)), table-length n (λ j. getD order j 0))
+    omega (arith, chosen-length (isDue periods phases c) (table n (λ j. getD order j 0)), table-length n (λ j. getD order j 0))
 
 -- What is left of the lists and of their offsets from cycle c on.
 module _ (f : ℕ → List ℕ) (h : ℕ) where
@@ -63,7 +53,8 @@ module _ (f : ℕ → List ℕ) (h : ℕ) where
   unfolding pairsFrom
   pairs-start offset = ap (λ l. pairs (offsets offset l)) (table-starts f h)
 
-  pub pairs-step : (offset c : ℕ) → c < h → Parts (pairsFrom offset c) (twoBytes offset) (pairsFrom (offset + length (f c)) (c + 1))
+  pub pairs-step : (offset c : ℕ) → c < h →
+      Parts (pairsFrom offset c) (twoBytes offset) (pairsFrom (offset + length (f c)) (c + 1))
   unfolding pairsFrom offsets
   pairs-step offset c lt =
       record {

@@ -1,19 +1,15 @@
 -- Run lists, entry by entry. Assumes nothing.
 use Prim.Native.Nat.{ℕ, zero, suc, _+_, _-_, _≤_, _<_}
-use mathlib.Core.Bool.{Bool, true, false, false≢true, cond}
+use mathlib.Core.Bool.{Bool, true, false, cond}
 use mathlib.Core.List.{List, [], _∷_, _++_}
 use mathlib.Core.Path.{_≡_, refl, sym, ap, ap₂, _∙_}
-use native.Mathlib.Decide.{decLt}
 use native.Mathlib.Numerals.{add-one}
 use native.Mathlib.Omega.{arith}
 use lib.ListN.{length, getD}
-use borrow.Author.Tests.{eq-eqb, ne-eqb, eqb-true, eqb-false}
-use lib.Dec.{eqb}
-use Rattle.check_load.proofs.Runs.{due-first, due-next, due-between}
-use Rattle.model.specs.Rules.Reads.{Rate, due}
+use Rattle.model.specs.Rules.Reads.{due}
 use Rattle.model.specs.Rules.Search.{table, tableFrom, chosen}
-use Rattle.model.proofs.Left.{Parts}
-use Rattle.image_write.specs.Lists.{rateAt, isDue, runOf, listBy, NextRun}
+use Rattle.model.proofs.Basics.Left.{Parts}
+use Rattle.image_write.specs.Lists.{rateAt, isDue, runOf, listBy}
 
 chosen-step : (test : ℕ → Bool) (x : ℕ) (xs : List ℕ) → chosen test (x ∷ xs) ≡ runOf (test x) x ++ chosen test xs
 unfolding chosen
@@ -28,7 +24,8 @@ one-entry : (b : Bool) (x : ℕ) → length (runOf b x) ≡ cond b 1 0
 one-entry true x = refl
 one-entry false x = refl
 
-pub run-size : (periods phases : List ℕ) (c x : ℕ) → length (runOf (isDue periods phases c x) x) ≡ cond (due (rateAt periods phases x) c) 1 0
+pub run-size : (periods phases : List ℕ) (c x : ℕ) →
+    length (runOf (isDue periods phases c x) x) ≡ cond (due (rateAt periods phases x) c) 1 0
 unfolding due
 run-size periods phases c x = one-entry (isDue periods phases c x) x
 
@@ -81,47 +78,3 @@ module _ (periods order phases : List ℕ) (n c : ℕ) where
   pub list-ends : (i : ℕ) → n ≤ i → listFrom periods order phases n c i ≡ []
   unfolding listFrom chosen
   list-ends i le = ap (chosen (isDue periods phases c)) (table-ends (λ j. getD order j 0) n i le)
-
--- The next run from a cycle on tells whether the signal is due in it, and where the next run after it is.
-module _ (a : Rate) (c t : ℕ) (r : NextRun a c t) where
-  next-due : due a c ≡ eqb t c
-  next-due = go (decLt c t)
-    where
-      out : c < t → (b : Bool) → due a c ≡ b → b ≡ false
-      out l false d = refl
-      out l true d = absurd (false≢true (sym (due-between a (r .phased) c t d l (r .soon)) ∙ r .runs))
-
-      go : Dec (c < t) → due a c ≡ eqb t c
-      go (yes l) = out l (due a c) refl ∙ sym (ne-eqb t c (λ e. omega arith))
-      go (no n) = let e : t ≡ c = omega (arith, r .from) in ap (due a) (sym e) ∙ r .runs ∙ sym (eq-eqb t c e)
-
-pub due-is : (periods phases : List ℕ) (c x t : ℕ) → NextRun (rateAt periods phases x) c t → eqb t c ≡ isDue periods phases c x
-unfolding due
-due-is periods phases c x t r = sym (next-due (rateAt periods phases x) c t r)
-
-pub next-run : (a : Rate) (c t : ℕ) → NextRun a c t → NextRun a (c + 1) (t + cond (eqb t c) (a .period) 0)
-next-run a c t r = go (eqb t c) refl
-  where
-    go : (b : Bool) → eqb t c ≡ b → NextRun a (c + 1) (t + cond b (a .period) 0)
-    go true e =
-        let z = eqb-true t c e in
-        record {
-          phased = r .phased;
-          from = omega (arith, z, r .phased);
-          soon = omega (arith, z);
-          runs = due-next a (r .phased) t (r .runs);
-        }
-    go false e =
-        let z = eqb-false t c e in
-        let l : c < t = omega (arith, r .from, z) in
-        let same : t + 0 ≡ t = omega arith in
-        record {
-          phased = r .phased;
-          from = omega arith;
-          soon = omega (arith, r .soon);
-          runs = ap (due a) same ∙ r .runs;
-        }
-
-pub first-run : (a : Rate) (t : ℕ) → a .phase < a .period → t ≡ a .phase → NextRun a 0 t
-first-run a t v e =
-    record { phased = v; from = omega arith; soon = omega arith; runs = ap (due a) e ∙ due-first a v }

@@ -1,5 +1,6 @@
 -- What the emitter writes, by the tables that it is given.
 pub mod Codes
+pub mod Cursors
 pub mod Lists
 pub mod Prepared
 pub mod Tail

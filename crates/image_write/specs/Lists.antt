@@ -1,11 +1,11 @@
 -- Run lists by tables: periods and phases by signal, and the signals in PUT order.
-use Prim.Native.Nat.{ℕ, zero, _+_, _%_, _≤_, _<_}
-use mathlib.Core.Bool.{Bool, true, cond}
+use Prim.Native.Nat.{ℕ, zero, _%_, _≤_, _<_}
+use mathlib.Core.Bool.{Bool, cond}
 use mathlib.Core.List.{List, [], _∷_}
 use lib.Dec.{eqb}
 use mathlib.Core.Path.{_≡_}
 use lib.ListN.{length, getD}
-use Rattle.model.specs.Rules.Reads.{Rate, due}
+use Rattle.model.specs.Rules.Reads.{Rate}
 use Rattle.model.specs.Rules.Search.{table, chosen, joinFrom}
 use Rattle.model.specs.Rules.Word.{twoBytes}
 
@@ -44,15 +44,3 @@ Phased periods order phases n = (j : ℕ) → j < n → getD phases (getD order 
 -- A table has the length of each run list.
 pub record RunsCounted (periods order phases : List ℕ) (n h : ℕ) (counts : List ℕ) : Type 0 where
   pub counted : (c : ℕ) → c < h → getD counts c 0 ≡ length (listBy periods order phases n c)
-
--- t is the cycle of the next run from cycle c on.
-pub record NextRun (a : Rate) (c t : ℕ) : Type 0 where
-  pub phased : a .phase < a .period
-  pub from : c ≤ t
-  pub soon : t < c + a .period
-  pub runs : due a t ≡ true
-
--- A table has it for each of the first n signals in PUT order.
-pub record Runs (periods order phases : List ℕ) (n c : ℕ) (nexts : List ℕ) : Type 0 where
-  pub timed : Timed periods order n
-  pub next : (j : ℕ) → j < n → NextRun (rateAt periods phases (getD order j 0)) c (getD nexts j 0)

@@ -1,6 +1,5 @@
 // The image of an accepted pair and its tail: their layout, and their parts one after another.
 use text_program::Tables;
-ghost use mathlib.Core.Bool.{cond};
 ghost use mathlib.Core.Path.{_≡_};
 ghost use mathlib.Core.List.{List, _∷_, _++_};
 ghost use Prim.Native.Nat.{ℕ, _+_, _≤_, _<_};
@@ -13,30 +12,12 @@ ghost use Rattle.model.specs.Rules.Schedule.{Schedule};
 ghost use Rattle.model.specs.Rules.Width.{inProgram};
 ghost use Rattle.model.specs.Rules.Word.{twoBytes, wordAt, wordBytes};
 ghost use Rattle.image_write.specs.Codes.{signalsOf, codesFrom, Declared, CodesAt};
-ghost use Rattle.image_write.specs.Lists.{rateAt, runOf, listBy, listsBy, pairs, Timed, Phased, RunsCounted, Runs};
+ghost use Rattle.image_write.specs.Cursors.{StartsOf, Open, Adds};
+ghost use Rattle.image_write.specs.Lists.{rateAt, listBy, listsBy, pairs, Timed, Phased, RunsCounted};
 ghost use Rattle.text_program.specs.Prepared.{Prepared};
 ghost use Rattle.image_write.specs.Prepared.{LaidOut, Tabled, Fits};
 ghost use Rattle.image_write.specs.Tail.{tailBy};
 ghost use Rattle.model.specs.Rules.Writing.{Wrote};
-
-fn wide(byte: u8) -> usize
-    ensures { λ r. ⌜ (r ≡ byte) × (r < 256) ⌝ }
-{
-    byte as usize
-}
-
-fn lengthened(byte: u8) -> u16
-    ensures { λ r. ⌜ r ≡ byte ⌝ }
-{
-    byte as u16
-}
-
-// An entry of a table as a number.
-fn wider(x: u16) -> usize
-    ensures { λ r. ⌜ (r ≡ x) × (r < 65536) ⌝ }
-{
-    x as usize
-}
 
 fn widest(x: u32) -> usize
     ensures { λ r. ⌜ r ≡ x ⌝ }
@@ -49,18 +30,6 @@ fn narrow(x: usize) -> u8
     ensures { λ r. ⌜ r ≡ x ⌝ }
 {
     x as u8
-}
-
-// Writes a run of signal x where it is due. Says where the list goes on.
-fn put_run(due: bool, x: u8, out: &mut [u8], to: usize) -> usize
-    requires { ⌜ to + length (runOf due x) ≤ length (now out) ⌝ }
-    ensures { λ r. ⌜ Wrote (now (out .entry)) to (runOf due x) (now (out .exit)) r ⌝ }
-{
-    if due {
-        out[to] = x;
-        return to + 1;
-    }
-    to
 }
 
 // How many signals run in each of h cycles: a step for each run of each signal.
@@ -77,64 +46,11 @@ fn count_runs(
     let mut counts: [u32; 240] = [0; 240];
     let mut i: usize = 0;
     while i < n {
-        let x = wide(order[i]);
+        let x = basics::wide(order[i]);
         check_load::add_runs(&mut counts, periods[x], phases[x], 1, h);
         i = i + 1;
     }
     counts
-}
-
-// The cycle of the first run of each signal, in PUT order.
-fn first_runs(order: &[u8; 64], phases: &[u8; 64], n: usize) -> [u16; 64]
-    requires { ⌜ (n ≤ 64) × ((j : ℕ) → j < n → getD (now order) j 0 < 64) ⌝ }
-    ensures { λ r. ⌜ ((j : ℕ) → j < n → getD r j 0 ≡ getD (now (phases .entry)) (getD (now (order .entry)) j 0) 0) ⌝ }
-{
-    let mut nexts: [u16; 64] = [0; 64];
-    let mut i: usize = 0;
-    while i < n {
-        let x = wide(order[i]);
-        nexts[i] = lengthened(phases[x]);
-        i = i + 1;
-    }
-    nexts
-}
-
-// The cycle of the next run of a signal after cycle c: a period later where it runs in c.
-fn run_after(due: bool, next: u16, period: u8) -> u16
-    requires { ⌜ next < 240 + period ⌝ }
-    ensures { λ r. ⌜ r ≡ next + cond due period 0 ⌝ }
-{
-    if due {
-        return next + (period as u16);
-    }
-    next
-}
-
-// Writes the run list of cycle c, in PUT order; `nexts` has the next run of each signal from c on, and then from c + 1 on.
-fn emit_list(
-    periods: &[u8; 64],
-    order: &[u8; 64],
-    nexts: &mut [u16; 64],
-    n: usize,
-    c: usize,
-    out: &mut [u8],
-    to: usize,
-) -> usize
-    requires { ⌜ (length (now nexts) ≡ 64) × (c < 240) × ((phases : List ℕ) × Runs (now periods) (now order) phases n c (now nexts) × (to + length (listBy (now periods) (now order) phases n c) ≤ length (now out))) ⌝ }
-    ensures { λ r. ⌜ (length (now (nexts .exit)) ≡ 64) × ((phases : List ℕ) → Runs (now (periods .entry)) (now (order .entry)) phases n c (now (nexts .entry)) → Runs (now (periods .entry)) (now (order .entry)) phases n (c + 1) (now (nexts .exit)) × Wrote (now (out .entry)) to (listBy (now (periods .entry)) (now (order .entry)) phases n c) (now (out .exit)) r) ⌝ }
-{
-    let mut end = to;
-    let mut i: usize = 0;
-    while i < n {
-        let x = order[i];
-        let next = nexts[i];
-        let due = wider(next) == c;
-        end = put_run(due, x, out, end);
-        let period = periods[wide(x)];
-        nexts[i] = run_after(due, next, period);
-        i = i + 1;
-    }
-    end
 }
 
 // In how many of h cycles signal x runs: as many elements are stored before cycle h.
@@ -142,9 +58,9 @@ fn run_count(periods: &[u8; 64], phases: &[u8; 64], x: u8, h: usize) -> usize
     requires { ⌜ (x < 64) × (getD (now phases) x 0 < getD (now periods) x 0) × (h ≤ 240) ⌝ }
     ensures { λ r. ⌜ r ≡ stored (rateAt (now (periods .entry)) (now (phases .entry)) x) h ⌝ }
 {
-    let signal = wide(x);
-    let period = wide(periods[signal]);
-    let phase = wide(phases[signal]);
+    let signal = basics::wide(x);
+    let period = basics::wide(periods[signal]);
+    let phase = basics::wide(phases[signal]);
     (h + period - (phase + 1)) / period
 }
 
@@ -169,27 +85,52 @@ fn lists_length(
     total
 }
 
-// Writes the run lists of h cycles, stepping each signal from run to run.
+// Adds signal x to the list of each cycle in which it runs, stepping from run to run; `nexts` has where each list goes on.
+fn emit_runs(
+    nexts: &mut [u16; 241],
+    x: u8,
+    period: u8,
+    phase: u8,
+    h: usize,
+    out: &mut [u8],
+    to: usize,
+)
+    requires { ⌜ (phase < period) × (h ≤ 240) × (length (now nexts) ≡ 241) × Open (record { period = period; phase = phase }) x h to (now out) (now nexts) ⌝ }
+    ensures { λ _. ⌜ (length (now (nexts .exit)) ≡ 241) × Adds (record { period = period; phase = phase }) x h to (now (out .entry)) (now (nexts .entry)) (now (out .exit)) (now (nexts .exit)) ⌝ }
+{
+    let step = basics::wide(period);
+    let mut c = basics::wide(phase);
+    while c < h {
+        let at = basics::wider(nexts[c]);
+        out[to + at] = x;
+        nexts[c] = (at + 1) as u16;
+        c = c + step;
+    }
+}
+
+// Writes the run lists of h cycles, which start where `nexts` says: the signals in PUT order, each at its runs.
 fn emit_lists(
     periods: &[u8; 64],
     order: &[u8; 64],
     phases: &[u8; 64],
     n: usize,
     h: usize,
+    nexts: &mut [u16; 241],
     out: &mut [u8],
     to: usize,
 ) -> usize
-    requires { ⌜ (Timed (now periods) (now order) n × Phased (now periods) (now order) (now phases) n × (h ≤ 240)) × (to + length (joined (listsBy (now periods) (now order) (now phases) n h)) ≤ length (now out)) ⌝ }
+    requires { ⌜ (Timed (now periods) (now order) n × Phased (now periods) (now order) (now phases) n × (h ≤ 240)) × StartsOf (listBy (now periods) (now order) (now phases) n) h (now nexts) × (to + length (joined (listsBy (now periods) (now order) (now phases) n h)) ≤ length (now out)) ⌝ }
     ensures { λ r. ⌜ Wrote (now (out .entry)) to (joined (listsBy (now (periods .entry)) (now (order .entry)) (now (phases .entry)) n h)) (now (out .exit)) r ⌝ }
 {
-    let mut nexts = first_runs(order, phases, n);
-    let mut end = to;
-    let mut c: usize = 0;
-    while c < h {
-        end = emit_list(periods, order, &mut nexts, n, c, out, end);
-        c = c + 1;
+    let mut i: usize = 0;
+    while i < n {
+        let x = order[i];
+        let signal = basics::wide(x);
+        emit_runs(nexts, x, periods[signal], phases[signal], h, out, to);
+        i = i + 1;
     }
-    end
+    let size = basics::wider(nexts[h]);
+    to + size
 }
 
 // Writes an offset.
@@ -201,7 +142,8 @@ fn put_offset(out: &mut [u8], to: usize, offset: usize) -> usize
     to + 2
 }
 
-// Writes where the run lists start, the first at `start`, and last where they end.
+// Writes where the run lists start, the first at `start`, and last where they end. `starts` gets the same, counted from the first
+// list on.
 fn emit_offsets(
     periods: &[u8; 64],
     order: &[u8; 64],
@@ -209,27 +151,30 @@ fn emit_offsets(
     n: usize,
     h: usize,
     start: usize,
+    starts: &mut [u16; 241],
     out: &mut [u8],
     to: usize,
 ) -> usize
-    requires { ⌜ (Timed (now periods) (now order) n × Phased (now periods) (now order) (now phases) n × (h ≤ 240)) × (start + length (joined (listsBy (now periods) (now order) (now phases) n h)) ≤ length (now out)) × (to + length (pairs (offsets start (listsBy (now periods) (now order) (now phases) n h))) ≤ length (now out)) ⌝ }
-    ensures { λ r. ⌜ Wrote (now (out .entry)) to (pairs (offsets start (listsBy (now (periods .entry)) (now (order .entry)) (now (phases .entry)) n h))) (now (out .exit)) r ⌝ }
+    requires { ⌜ (length (now starts) ≡ 241) × (Timed (now periods) (now order) n × Phased (now periods) (now order) (now phases) n × (h ≤ 240)) × (start + length (joined (listsBy (now periods) (now order) (now phases) n h)) ≤ length (now out)) × (to + length (pairs (offsets start (listsBy (now periods) (now order) (now phases) n h))) ≤ length (now out)) ⌝ }
+    ensures { λ r. ⌜ StartsOf (listBy (now (periods .entry)) (now (order .entry)) (now (phases .entry)) n) h (now (starts .exit)) × Wrote (now (out .entry)) to (pairs (offsets start (listsBy (now (periods .entry)) (now (order .entry)) (now (phases .entry)) n h))) (now (out .exit)) r ⌝ }
 {
     let counts = count_runs(periods, order, phases, n, h);
-    let mut offset = start;
+    let mut before: usize = 0;
     let mut end = to;
     let mut c: usize = 0;
     while c < h {
-        end = put_offset(out, end, offset);
+        starts[c] = before as u16;
+        end = put_offset(out, end, start + before);
         let runs = widest(counts[c]);
-        offset = offset + runs;
+        before = before + runs;
         c = c + 1;
     }
-    put_offset(out, end, offset)
+    starts[h] = before as u16;
+    put_offset(out, end, start + before)
 }
 
 // Writes the code of n signals.
-fn emit_codes(text: &[u8], places: &[usize; 64], n: usize, out: &mut [u8], to: usize) -> usize
+fn emit_codes(text: &[u8], places: &[u16; 64], n: usize, out: &mut [u8], to: usize) -> usize
     requires { ⌜ Declared (now text) (now places) n × (to + length (joined (codesFrom 0 (signalsOf (now text)))) ≤ length (now out)) ⌝ }
     ensures { λ r. ⌜ Wrote (now (out .entry)) to (joined (codesFrom 0 (signalsOf (now (text .entry))))) (now (out .exit)) r ⌝ }
 {
@@ -237,7 +182,8 @@ fn emit_codes(text: &[u8], places: &[usize; 64], n: usize, out: &mut [u8], to: u
     let mut x: usize = 0;
     while x < n {
         let signal = narrow(x);
-        end = image_code::emit_signal(text, places[x], signal, out, end);
+        let place = basics::wider(places[x]);
+        end = image_code::emit_signal(text, place, signal, out, end);
         x = x + 1;
     }
     end
@@ -257,7 +203,7 @@ fn put_record(text: &[u8], place: usize, offset: usize, out: &mut [u8], to: usiz
 // Writes the records of n signals, whose code starts at `codes` after `start`.
 fn emit_records(
     text: &[u8],
-    places: &[usize; 64],
+    places: &[u16; 64],
     n: usize,
     codes: &[u16; 65],
     start: usize,
@@ -270,8 +216,9 @@ fn emit_records(
     let mut end = to;
     let mut x: usize = 0;
     while x < n {
-        let code = wider(codes[x]);
-        end = put_record(text, places[x], start + code, out, end);
+        let code = basics::wider(codes[x]);
+        let place = basics::wider(places[x]);
+        end = put_record(text, place, start + code, out, end);
         x = x + 1;
     }
     end
@@ -311,7 +258,7 @@ pub fn lay_out(
     let lists = 4 + 6 * n + 2 * (h + 1);
     let runs = lists_length(periods, order, phases, n, h);
     let code = lists + runs;
-    let size = wider(codes[n]);
+    let size = basics::wider(codes[n]);
     let end = code + size;
     let written = end + 4 * n;
     Layout {
@@ -341,8 +288,19 @@ pub fn emit(
     let code_starts = tables.codes;
     let records = put_head(h, n, layout.end, out);
     let offsets = emit_records(text, &places, n, &code_starts, layout.code, out, records);
-    let lists = emit_offsets(periods, order, phases, n, h, layout.lists, out, offsets);
-    let codes = emit_lists(periods, order, phases, n, h, out, lists);
+    let mut nexts: [u16; 241] = [0; 241];
+    let lists = emit_offsets(
+        periods,
+        order,
+        phases,
+        n,
+        h,
+        layout.lists,
+        &mut nexts,
+        out,
+        offsets,
+    );
+    let codes = emit_lists(periods, order, phases, n, h, &mut nexts, out, lists);
     emit_codes(text, &places, n, out, codes);
 }
 
@@ -351,7 +309,7 @@ fn put_entry(label: u16, period: u8, phase: u8, out: &mut [u8], to: usize) -> us
     requires { ⌜ to + 4 ≤ length (now out) ⌝ }
     ensures { λ r. ⌜ Wrote (now (out .entry)) to (tailEntry label period phase) (now (out .exit)) r ⌝ }
 {
-    let number = wider(label);
+    let number = basics::wider(label);
     let at = put_offset(out, to, number);
     out[at] = period;
     out[at + 1] = phase;

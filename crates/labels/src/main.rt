@@ -20,10 +20,6 @@ fn read_file(i: usize, space: &mut [u8]) -> usize
     got
 }
 
-fn wide(byte: u8) -> usize {
-    byte as usize
-}
-
 fn print_number(n: usize, after: &[u8]) {
     io::print_decimal(STDOUT_FILENO, n as u64);
     io::write_all(STDOUT_FILENO, after);
@@ -35,8 +31,8 @@ fn print_entry(tail: &[u8], x: usize, at: usize)
 {
     print_number(x, b" ");
     print_number(word::two_at(tail, at) as usize, b" ");
-    print_number(wide(tail[at + 2]), b" ");
-    print_number(wide(tail[at + 3]), b"\n");
+    print_number(basics::wide(tail[at + 2]), b" ");
+    print_number(basics::wide(tail[at + 3]), b"\n");
 }
 
 fn print_tail(tail: &[u8]) {
@@ -52,7 +48,7 @@ fn list(image: &[u8]) {
     let mut number: u8 = 0;
     let tail = larderlate::tail(image, &mut number);
     if number != 0 {
-        print_number(wide(number), b"\n");
+        print_number(basics::wide(number), b"\n");
         return;
     }
     print_tail(tail);

@@ -1,28 +1,48 @@
--- Demand 3 for each place of a board. What the board's calls promise besides is in crate `board`. Assumes nothing.
+-- Demand 3 for each place of a board, and that one number tells the answers of its calls. What they promise besides is in crate
+-- `board`. Assumes nothing.
 use Prim.Native.Nat.{ℕ, _+_}
 use mathlib.Core.List.{List, _∷_}
-use mathlib.Core.Path.{_≡_, subst}
+use mathlib.Core.Path.{_≡_, subst, refl, sym}
+use mathlib.Core.Bool.{Bool, true, false, cond}
+use native.Mathlib.Omega.{arith}
 use lib.IntN.{ℤ}
 use lib.ListN.{length}
-use Rattle.model.specs.Says.Calls.{stateBy, logBy, Supplied, Holds}
+use lib.Dec.{leb, ltb}
 use Rattle.model.specs.Rules.Compile.{pairOf}
 use Rattle.model.specs.Rules.Image.{imageOf}
-use Rattle.model.specs.Says.Lists.{KeptBy}
-use Rattle.model.specs.Rules.Machine.{stretch}
-use Rattle.model.specs.Rules.Outcome.{accepted}
+use Rattle.model.specs.Rules.Machine.{stretch, resetOf}
+use Rattle.model.specs.Rules.Outcome.{accepted, Outcome, refused, refuse}
 use Rattle.model.specs.Rules.Program.{Program}
 use Rattle.model.specs.Rules.Reads.{settled}
 use Rattle.model.specs.Rules.Schedule.{Schedule}
-use Rattle.model.specs.Says.Streams.{Satisfies}
 use Rattle.model.specs.Rules.Tail.{Bears}
-use Rattle.model.proofs.Commands as Texts
-use Rattle.board.specs.Board.{placeWords}
+use Rattle.model.specs.Rules.Word.{AreBytes}
+use Rattle.theorems.specs.Held.{stateBy, logBy, Supplied, Holds}
+use Rattle.theorems.specs.Lists.{KeptBy}
+use Rattle.theorems.specs.Streams.{Satisfies}
+use Rattle.board.specs.Board.{placeWords, placeAt, nextDue, onStretch, resetIn, BoardEffect, Yield, loadOf, markPlaceOf, turnOf}
 use Rattle.board.specs.Events.{Event, load, Scene, loadBy, afterEvent, afterEvents, Throughout, Untouched, ownCycles}
+use Rattle.board_words.specs.Record.{turnDone}
+use Rattle.larderlate.specs.Code.{Codable}
+use Rattle.board.specs.declared.Board.{Board}
 use Rattle.board.proofs.Promises.{place-alone, place-cycles}
-use Rattle.larderlate.proofs.Promises.{calls-hold}
+use Rattle.larderlate.proofs.Promises.{calls-hold, reset-codable}
+use Rattle.board.proofs.Answers.{
+  load-place,
+  load-state,
+  load-refused,
+  load-done,
+  mark-place,
+  mark-loaded,
+  mark-done,
+  turn-state,
+  turn-samples,
+  turn-done,
+}
 
 -- A place whose stretch keeps demand 3 by itself (`KeptBy`), with c the number of turns that ran it since its load: word 0 is the
--- remainder of c by H, signal x its element floor((c − 1 − p)/P), or its initial word if c ≤ p, of every stream that satisfies the
+-- remainder of c by H, signal x its element floor((c − 1 − p)/P), or its initial word if c ≤ p, of every stream that satisfies
+-- the
 -- equations with the samples that these turns were lent for the place; words beyond N are as before the load.
 place-kept : (program schedule : List ℕ) (p : Program) (q : Schedule) (h : ℕ) (s : Scene) (k start size n : ℕ) →
     length (s .board .places) ≡ 4 → loadBy s k start size .answer ≡ accepted n → (es : List Event) →
@@ -43,7 +63,7 @@ place-kept program schedule p q h s k start size n four a es free inputs X kept 
 
 -- So it is where the stretch holds the image of an accepted pair, with a tail or without, and it and the place's words are not
 -- changed from outside.
-module _ (program schedule : List ℕ) (bytes : Texts.Bytes program) (p : Program) (q : Schedule) (h : ℕ)
+module _ (program schedule : List ℕ) (bytes : AreBytes program) (p : Program) (q : Schedule) (h : ℕ)
     (e : pairOf program schedule ≡ accepted (record { program = p; schedule = q; hypercycle = h })) where
   pub place-streams : (s : Scene) (k start size n : ℕ) → length (s .board .places) ≡ 4 →
       loadBy s k start size .answer ≡ accepted n → (tail : List ℕ) →
@@ -58,3 +78,63 @@ module _ (program schedule : List ℕ) (bytes : Texts.Bytes program) (p : Progra
       place-kept program schedule p q h s k start size n four a es free inputs X
       (calls-hold program schedule bytes p q h e tail (stretch (s .images) start (start + size)) bears (placeWords k (s .state))
       (place-cycles s k start size n four a es free .0) (ownCycles k (afterEvent s (load k start size)) es))
+
+-- One number tells the answers of a board's calls too: they yield 0, or refuse with a number above 0 at place 0.
+-- A call that has come to an effect.
+comes : {c d : BoardEffect ℕ} → c ≡ d → Codable (d .answer) → Codable (c .answer)
+comes e h = subst (λ (x : BoardEffect ℕ). Codable (x .answer)) (sym e) h
+
+turn-comes : {c d : BoardEffect Yield} → c ≡ d → Codable (turnDone (d .answer)) → Codable (turnDone (c .answer))
+turn-comes e h = subst (λ (x : BoardEffect Yield). Codable (turnDone (x .answer))) (sym e) h
+
+module _ (b : Board) (images : List ℕ) (state : List ℤ) (k start size : ℕ) where
+  reset-in : Codable (resetIn images start size (placeWords k state) .answer)
+  unfolding onStretch
+  reset-in = go (leb (start + size) (length images))
+    where
+      go : (t : Bool) →
+          Codable (cond t (resetOf (stretch images start (start + size)) (placeWords k state))
+          (record { answer = refuse 27 0; left = placeWords k state }) .answer)
+      go true = reset-codable (stretch images start (start + size)) (placeWords k state)
+      go false = (omega arith, omega arith)
+
+  pub load-codable : Codable (loadOf b images state k start size .answer)
+  load-codable = place (ltb k 4) refl
+    where
+      ran : ltb k 4 ≡ true → leb 260 (length state) ≡ true → (o : Outcome ℕ) →
+          resetIn images start size (placeWords k state) .answer ≡ o → Codable o →
+          Codable (loadOf b images state k start size .answer)
+      ran p q (accepted n) e c = comes (load-done b images state k start size p q n e) c
+      ran p q (refused f) e c = comes (load-refused b images state k start size p q f e) c
+
+      words : ltb k 4 ≡ true → (t : Bool) → leb 260 (length state) ≡ t → Codable (loadOf b images state k start size .answer)
+      words p true q = ran p q (resetIn images start size (placeWords k state) .answer) refl reset-in
+      words p false q = comes (load-state b images state k start size p q) (omega arith, omega arith)
+
+      place : (t : Bool) → ltb k 4 ≡ t → Codable (loadOf b images state k start size .answer)
+      place true p = words p (leb 260 (length state)) refl
+      place false p = comes (load-place b images state k start size p) (omega arith, omega arith)
+
+pub mark-codable : (b : Board) (k : ℕ) → Codable (markPlaceOf b k .answer)
+mark-codable b k = place (ltb k 4) refl
+  where
+    loaded : ltb k 4 ≡ true → (t : Bool) → placeAt b k .loaded ≡ t → Codable (markPlaceOf b k .answer)
+    loaded p true q = comes (mark-done b k p q) (omega arith)
+    loaded p false q = comes (mark-loaded b k p q) (omega arith, omega arith)
+
+    place : (t : Bool) → ltb k 4 ≡ t → Codable (markPlaceOf b k .answer)
+    place true p = loaded p (placeAt b k .loaded) refl
+    place false p = comes (mark-place b k p) (omega arith, omega arith)
+
+pub turn-codable : (b : Board) (images : List ℕ) (state samples : List ℤ) →
+    Codable (turnDone (turnOf b images state samples .answer))
+turn-codable b images state samples = words (leb 260 (length state)) refl
+  where
+    lent : leb 260 (length state) ≡ true → (t : Bool) → leb 256 (length samples) ≡ t →
+        Codable (turnDone (turnOf b images state samples .answer))
+    lent p true q = turn-comes (turn-done b images state samples p q (nextDue b) refl) (omega arith)
+    lent p false q = turn-comes (turn-samples b images state samples p q) (omega arith, omega arith)
+
+    words : (t : Bool) → leb 260 (length state) ≡ t → Codable (turnDone (turnOf b images state samples .answer))
+    words true p = lent p (leb 256 (length samples)) refl
+    words false p = turn-comes (turn-state b images state samples p) (omega arith, omega arith)

@@ -2,5 +2,3 @@
 pub mod TailCode
 pub mod Promises
 pub mod BoardPromises
-pub mod BoardCodes
-pub mod BoardCalls

@@ -1,9 +1,10 @@
 -- What the calls promise together: the buyer's three demands. The contracts in src/lib.rt say that each call answers and leaves
--- what compileOf, resetOf and cycleOf say; here is what these say. Each proof is a few lines over the laws of the model.
+-- what compileOf, resetOf and cycleOf say; here is what these say. Each proof is a few lines over the theorems and the laws of
+-- the model.
 -- Assumes nothing.
-use Prim.Native.Nat.{ℕ, suc, _+_, _*_, _%_, _^_, _≤_, _<_}
+use Prim.Native.Nat.{ℕ, suc, _+_, _*_, _^_, _≤_, _<_}
 use mathlib.Core.Bool.{Bool, true, false}
-use mathlib.Core.List.{List, [], _∷_, _++_, map}
+use mathlib.Core.List.{List, [], _∷_}
 use mathlib.Core.Logic.{_↔_, _⊎_}
 use mathlib.Core.Path.{_≡_, refl, sym, ap, ap₂, subst, subst₂, _∙_}
 use native.Mathlib.Nat.{mod-eq-of-lt}
@@ -13,52 +14,49 @@ use lib.Dec.{leb, ltb}
 use lib.IntN.{ℤ, pos}
 use lib.ListN.{length, getD, take, drop}
 use Rattle.model.specs.Says.Feasible.{SettlesAt, Feasible}
-use Rattle.model.specs.Says.Calls.{Call, callOf, stateBy, logBy}
-use Rattle.model.specs.Rules.Command.{commandAt}
+use Rattle.model.specs.Says.Calls.{Call, callOf}
+use Rattle.model.specs.Rules.Command.{declarationAt, operatorAt}
 use Rattle.model.specs.Rules.Compile.{Pair, pairOf, verdictOf, compileOf}
-use Rattle.model.specs.Says.Conditions.{_among_, ReadIn, LegalPairWith, LegalPair}
-use Rattle.model.specs.Says.Conversion.{earlierFactor, ConvertsExactly, ConversionKeeps}
-use Rattle.model.specs.Rules.Decimal.{natural, decimal, lineOf, SaysNumber, SaysWord}
-use Rattle.model.specs.Says.Enums.{Ranged, CodeRanged, BytesAt, commandBytes, putBytes, codeBytes}
-use Rattle.model.specs.Says.Exactness.{
-  Exactly,
-  sizeOf,
-  Compiles,
-  CompileRefusedAt,
-  Resets,
-  ResetRefusedAt,
-  Cycles,
-  CycleRefusedAt,
-}
-use Rattle.model.specs.Says.Height.{Within}
+use Rattle.model.specs.Rules.Decimal.{natural, decimal}
 use Rattle.model.specs.Rules.Image.{lengthOf, imageOf, tailOf, writtenOf, writtenLength}
 use Rattle.model.specs.Rules.Latency.{readsBack, backwards, back, source, latencyOf}
-use Rattle.model.specs.Says.Lists.{Kept, KeptBy, Memory, afterReset, Lent, owns, leftAll, ownAnswers, ownLog, OthersRefused, AsWithout}
-use Rattle.model.specs.Says.Lists.{SettleAlike, Agree, EndsWith}
-use Rattle.model.specs.Rules.Machine.{effect, isPosition, hyperOf, countOf, statedLength, listOf, codeOf, countSignals}
-use Rattle.model.specs.Rules.Machine.{wellFormed, imagePart, lentOk, cycleWords, cycleCount, resetOf, cycleOf, codeAt}
+use Rattle.model.specs.Rules.Machine.{
+  effect,
+  isPosition,
+  hyperOf,
+  countOf,
+  statedLength,
+  wellFormed,
+  imagePart,
+  lentOk,
+  cycleWords,
+  cycleCount,
+  resetOf,
+  cycleOf,
+  codeAt,
+}
 use Rattle.model.specs.Rules.Outcome.{Outcome, accepted, refused, refuse, fault, _▷_, provided}
-use Rattle.model.specs.Rules.Program.{Program, Chain, Read, count, signalAt, parseWith, parseProgram}
+use Rattle.model.specs.Rules.Program.{Program, Chain, Read, count, parseWith, parseProgram}
 use Rattle.model.specs.Rules.Rates.{hypercycle}
 use Rattle.model.specs.Rules.Reads.{rateOf, runCycle, settled}
-use Rattle.model.specs.Rules.Report.{highest, countsOf, toldOf, reportOf}
-use Rattle.model.specs.Says.Reach.{WidthsListed}
-use Rattle.model.specs.Says.Refusals.{RefusedAt}
+use Rattle.model.specs.Rules.Report.{highest, toldOf, reportOf}
 use Rattle.model.specs.Rules.Rewrite.{rewrite, convertOf}
-use Rattle.model.specs.Rules.Schedule.{Schedule, phaseOf, scheduleCommandAt}
-use Rattle.model.specs.Rules.Script.{Action, scriptOf, noSamples, callsFrom, cyclesOf}
-use Rattle.model.specs.Says.Streams.{Satisfies}
-use Rattle.model.specs.Rules.Tail.{tailIn, Bears, Tells}
-use Rattle.model.specs.Rules.Trial.{trialOf, wordsAfter, inputsOf}
-use Rattle.model.specs.Says.TrialRefusals.{LegalScript, TrialRefusedAt}
-use Rattle.model.specs.Says.WellFormed.{WellFormed}
-use Rattle.model.specs.Rules.Word.{byteAt, NearestResults}
+use Rattle.model.specs.Rules.Schedule.{Schedule, scheduleCommandAt}
+use Rattle.model.specs.Rules.Script.{Action, noSamples, callsFrom, cyclesOf}
+use Rattle.model.specs.Rules.Tail.{tailIn, Bears}
+use Rattle.model.specs.Rules.Trial.{trialOf}
+use Rattle.model.specs.Rules.Word.{byteAt, AreBytes}
 use Rattle.model.specs.Says.Written.{
-  Written,
-  Cut,
-  Outside,
-  NoCommandByte,
-  Whole,
+  DeclarationWritten,
+  DeclarationCut,
+  DeclarationOutside,
+  DeclarationByte,
+  DeclarationWhole,
+  OperatorWritten,
+  OperatorCut,
+  OperatorOutside,
+  OperatorByte,
+  OperatorWhole,
   PutWritten,
   PutCut,
   NoPutByte,
@@ -66,57 +64,110 @@ use Rattle.model.specs.Says.Written.{
   CodeWritten,
   CodeWhole,
 }
+use Rattle.theorems.specs.Held.{stateBy, logBy}
+use Rattle.theorems.specs.Conditions.{_among_, ReadIn, LegalPairWith, LegalPair}
+use Rattle.theorems.specs.Conversion.{earlierFactor, Converts, ConversionKeeps}
+use Rattle.theorems.specs.Decimals.{SaysNumber, SaysWord}
+use Rattle.theorems.specs.Enums.{
+  declarationBytes,
+  operatorBytes,
+  putBytes,
+  codeBytes,
+  DeclarationRanged,
+  OperatorRanged,
+  CodeRanged,
+  BytesAt,
+}
+use Rattle.theorems.specs.Examples.{ExamplesHold}
+use Rattle.theorems.specs.Exactness.{Exactly, sizeOf, Compiles, CompileRefusedAt, Resets, ResetRefusedAt, Cycles, CycleRefusedAt}
+use Rattle.theorems.specs.Lists.{
+  Kept,
+  KeptBy,
+  Memory,
+  afterReset,
+  Lent,
+  Writer,
+  owns,
+  leftAll,
+  ownAnswers,
+  ownLog,
+  OthersRefused,
+  AsWithout,
+  SettleAlike,
+  Agree,
+  EndsWith,
+}
+use Rattle.theorems.specs.Reach.{WidthsListed}
+use Rattle.theorems.specs.Refusals.{RefusedAt}
+use Rattle.theorems.specs.Streams.{Satisfies}
+use Rattle.theorems.specs.Trials.{inputsOf, TrialLines}
+use Rattle.theorems.specs.TrialRefusals.{LegalScript, TrialRefusedAt}
+use Rattle.theorems.specs.WellFormed.{WellFormed}
+use Rattle.theorems.specs.Nearest.{NearestResults}
+use Rattle.theorems.specs.Images.{TailExactly, ReportsExactly, OneImage, Reports}
+use Rattle.larderlate.specs.Code.{codeNumber, Codable, lengthIn, lengthOfTail}
 use Rattle.model.specs.declared.Code.{Code}
-use Rattle.model.specs.declared.Command.{Command}
-use Rattle.model.specs.declared.Command.the-variants as Command
+use Rattle.model.specs.declared.Declaration.{Declaration}
+use Rattle.model.specs.declared.Declaration.the-variants as Declaration
+use Rattle.model.specs.declared.Operator.{Operator}
+use Rattle.model.specs.declared.Operator.the-variants as Operator
 use Rattle.model.specs.declared.Fault.{Fault}
 use Rattle.model.specs.declared.Found.the-variants.{At}
 use Rattle.model.specs.declared.ScheduleCommand.{ScheduleCommand}
 use Rattle.model.specs.declared.ScheduleCommand.the-variants as ScheduleCommand
 use Rattle.model.specs.declared.Sizes.{Sizes}
-use Rattle.model.proofs.Among as Among
-use Rattle.model.proofs.Bounds.{Bounded}
-use Rattle.model.proofs.CallsExact as CallsExact
-use Rattle.model.proofs.Commands as Texts
-use Rattle.model.proofs.Counts.{cycle-count, counts-length, counts-at, counts-past, count-fits}
-use Rattle.model.proofs.Conversions as Conversions
-use Rattle.model.proofs.Decimals as Decimals
-use Rattle.model.proofs.Demand as Demand
-use Rattle.model.proofs.Enums as Enums
-use Rattle.model.proofs.Exact as Exact
-use Rattle.model.proofs.Examples as Examples
-use Rattle.model.proofs.FormedExactly as FormedExactly
-use Rattle.model.proofs.Heights.{stack-least, stack-31}
-use Rattle.model.proofs.Latency as Latency
-use Rattle.model.proofs.Legal.{signal-label}
-use Rattle.model.proofs.Nearest as Nearest
-use Rattle.model.proofs.Numbers as Numbers
-use Rattle.model.proofs.Outcomes.{accepted≢refused}
-use Rattle.model.proofs.Offsets.{OffsetsFit, offsets-fit}
-use Rattle.model.proofs.Places.{refusal-small, places-small, places-zero}
-use Rattle.model.proofs.Refused as Refused
-use Rattle.model.proofs.Scripts.{script-actions}
-use Rattle.model.proofs.Settled as Settled
-use Rattle.model.proofs.Stretches.{image-length, length-bytes}
-use Rattle.model.proofs.Tails as Tails
-use Rattle.model.proofs.Tails.{lent-formed, part-bytes, tail-length, tail-tells, written-bears, written-length}
-use Rattle.model.proofs.TrialLines.{tried-count, tried-line}
-use Rattle.model.proofs.Trials.{linesOf, Tried, trial-refused, trial-accepts}
-use Rattle.model.proofs.Unique as Unique
-use Rattle.model.proofs.Widths as Widths
-use Rattle.model.proofs.Written as Commands
-use Rattle.larderlate.specs.Code.{codeNumber, Codable, lengthIn, lengthOfTail}
-use Rattle.model.proofs.Verdict.{pair-passed, pair-accepted, pair-multiple, pair-bounded}
+use Rattle.model.proofs.Images.Bounds.{Bounded}
+use Rattle.model.proofs.Images.Counts.{counts-length, counts-at, counts-past}
+use Rattle.model.proofs.Texts.Legal.{signal-label}
+use Rattle.model.proofs.Basics.Outcomes.{accepted≢refused}
+use Rattle.model.proofs.Images.Stretches.{image-length, length-bytes}
+use Rattle.model.proofs.Images.Tails as Tails
+use Rattle.model.proofs.Images.Tails.{lent-formed, tail-length, tail-tells, written-bears, written-length}
+use Rattle.model.proofs.Texts.Written as Commands
+use Rattle.model.proofs.Pairs.Verdict.{pair-passed, pair-accepted, pair-multiple, pair-bounded}
+use Rattle.theorems.proofs.Calls.Among as Among
+use Rattle.theorems.proofs.Calls.CallsExact as CallsExact
+use Rattle.theorems.proofs.Images.Counted.{cycle-count, count-fits}
+use Rattle.theorems.proofs.Conversion.Conversions as Conversions
+use Rattle.theorems.proofs.Conversion.Converted as Converted
+use Rattle.theorems.proofs.Conversion.Rewritten as Rewritten
+use Rattle.theorems.proofs.Conversion.Unchanged as Unchanged
+use Rattle.theorems.proofs.Texts.Parses as Parses
+use Rattle.theorems.proofs.Bench.Decimals as Decimals
+use Rattle.theorems.proofs.Streams.Alike.{open-alike, alike-satisfy}
+use Rattle.theorems.proofs.Streams.AlikeBytes.{entry-alike}
+use Rattle.theorems.proofs.Streams.Demand as Demand
+use Rattle.theorems.proofs.Texts.Enums as Enums
+use Rattle.theorems.proofs.Pairs.Exact as Exact
+use Rattle.theorems.proofs.Examples as Examples
+use Rattle.theorems.proofs.Images.FormedExactly as FormedExactly
+use Rattle.theorems.proofs.Images.Heights.{stack-least, stack-31}
+use Rattle.theorems.proofs.Pairs.Latency as Latency
+use Rattle.theorems.proofs.Nearest as Nearest
+use Rattle.theorems.proofs.Calls.Numbers as Numbers
+use Rattle.theorems.proofs.Images.Offsets.{offsets-fit}
+use Rattle.theorems.proofs.Calls.Places.{refusal-small, places-small, places-zero}
+use Rattle.theorems.proofs.Calls.Refused as Refused
+use Rattle.theorems.proofs.Bench.Scripts.{script-actions}
+use Rattle.theorems.proofs.Pairs.Settled as Settled
+use Rattle.theorems.proofs.Images.Tailed
+use Rattle.theorems.proofs.Images.Tailed.{part-bytes}
+use Rattle.theorems.proofs.Bench.TrialLines.{tried-count, tried-line}
+use Rattle.theorems.proofs.Bench.Trials.{linesOf, Tried, trial-refused, trial-accepts}
+use Rattle.theorems.proofs.Streams.Unique as Unique
+use Rattle.theorems.proofs.Texts.Widths as Widths
 
 -- Demand 1, total. That every call ends, whatever it is lent, is in the contracts: none has a `requires`. A refused call
 -- changes nothing.
 pub compile-keeps : (program schedule buffer : List ℕ) (f : Fault) →
     compileOf program schedule buffer .answer ≡ refused f → compileOf program schedule buffer .left ≡ buffer
-compile-keeps = Refused.compile-keeps
+compile-keeps program schedule buffer f e = Refused.writer-keeps buffer (Writer.compiles program schedule) f e
 
 pub call-keeps : (lent : List ℕ) (state : List ℤ) (c : Call) (f : Fault) → callOf lent state c .answer ≡ refused f →
     callOf lent state c .left ≡ state
-call-keeps = Refused.call-keeps
+unfolding callOf
+call-keeps lent state Call.reset f e = Refused.reset-keeps lent state f e
+call-keeps lent state (Call.cycle samples) f e = Refused.cycle-keeps lent state samples f e
 
 -- Demand 2, exact. A pair is accepted exactly if it is legal by the paper; each refusal comes under its stated condition, in
 -- the stated order, and under no other.
@@ -124,8 +175,8 @@ pub accepted-exactly : (program schedule : List ℕ) (q : Pair) →
     (pairOf program schedule ≡ accepted q) ↔ LegalPair program schedule q
 accepted-exactly = Exact.accepted-exactly
 
-pub refused-exactly : (program schedule : List ℕ) (n x : ℕ) →
-    (pairOf program schedule ≡ refused (fault n x)) ↔ RefusedAt program schedule n x
+pub refused-exactly : (program schedule : List ℕ) (f : Fault) →
+    (pairOf program schedule ≡ refused f) ↔ RefusedAt program schedule f
 refused-exactly = Exact.refused-exactly
 
 -- Request c. In an accepted pair let r be the last link of a chain and ws the links before it, the nearest first. If one goes
@@ -149,45 +200,13 @@ small-code : (f : Fault) → f .place ≤ 65791 → codeNumber (refused f) ≡ f
 small-code f le = ap (λ n. f .number * 4294967296 + n) (mod-eq-of-lt (omega arith))
 
 -- Every refusal has a place below 2^32, so that number × 2^32 + place, the answer of a C call, tells both.
-pub compile-code : (program schedule buffer : List ℕ) → Texts.Bytes program → (f : Fault) →
+pub compile-code : (program schedule buffer : List ℕ) → AreBytes program → (f : Fault) →
     compileOf program schedule buffer .answer ≡ refused f → codeNumber (refused f) ≡ f .number * 4294967296 + f .place
 compile-code program schedule buffer bytes f e = small-code f (places-small program schedule buffer bytes f e)
 
 pub call-code : (lent : List ℕ) (state : List ℤ) (c : Call) (f : Fault) → callOf lent state c .answer ≡ refused f →
     codeNumber (refused f) ≡ f .number * 4294967296 + f .place
 call-code lent state c f e = small-code f (omega (arith, places-zero lent state c f e))
-
--- One image: compile writes it and after it its tail, four bytes a signal, answers the length of both and keeps the bytes past
--- that wherever there is space, and else answers 17 with that length. The image is well formed and at most 65,535 bytes long,
--- bytes 2-3 hold its own length L, all its offsets fit two bytes, and the working stack never passes 31. The tail tells the
--- label, period and phase of each signal.
-pub record OneImage (program schedule : List ℕ) (p : Program) (s : Schedule) (h : ℕ) (image tail : List ℕ) : Type 0 where
-  pub verdict : verdictOf program schedule ≡ accepted (image ++ tail)
-  pub bound : length image ≤ 65535
-  pub formed : wellFormed image ≡ true
-  pub stated : statedLength image ≡ length image
-  pub bears : Bears image tail (image ++ tail)
-  pub four : length tail ≡ 4 * count p
-  pub tells : (x : ℕ) → x < count p → Tells tail x (signalAt p x) (phaseOf s x)
-  pub offsets : OffsetsFit p s h
-  pub stack : (x : ℕ) → x < count p → Within 31 (codeOf image x) 0 0
-  pub written : (buffer : List ℕ) → length image + 4 * count p ≤ length buffer →
-      compileOf program schedule buffer ≡
-      record {
-        answer = accepted (length image + 4 * count p);
-        left = image ++ tail ++ drop (length image + 4 * count p) buffer;
-      }
-  pub space : (buffer : List ℕ) → length buffer < length image + 4 * count p →
-      compileOf program schedule buffer ≡ record { answer = refuse 17 (length image + 4 * count p); left = buffer }
-
--- Request a. A report refuses exactly as the pair is refused, and then leaves the counts as they were. Otherwise the L and
--- the L + 4N that it tells are the lengths of the pair's image and of what compile writes.
-pub record ReportsExactly (program schedule counts : List ℕ) : Type 0 where
-  pub refuses : (f : Fault) → (reportOf program schedule counts .answer ≡ refused f) ↔ (pairOf program schedule ≡ refused f)
-  pub tells : (sizes : Sizes) → reportOf program schedule counts .answer ≡ accepted sizes →
-      (q : Pair) × (pairOf program schedule ≡ accepted q) ×
-      (sizes .length ≡ length (imageOf (q .program) (q .schedule) (q .hypercycle))) ×
-      (sizes .written ≡ length (writtenOf (q .program) (q .schedule) (q .hypercycle)))
 
 pub report-exactly : (program schedule counts : List ℕ) → ReportsExactly program schedule counts
 unfolding reportOf
@@ -217,7 +236,7 @@ report-exactly program schedule counts =
     tells (refused g) sizes e = let z : _≡_ {A = ℕ} 0 1 = cc in absurd (omega arith)
 
 -- Its places are small, too.
-pub report-code : (program schedule counts : List ℕ) → Texts.Bytes program → (f : Fault) →
+pub report-code : (program schedule counts : List ℕ) → AreBytes program → (f : Fault) →
     reportOf program schedule counts .answer ≡ refused f → codeNumber (refused f) ≡ f .number * 4294967296 + f .place
 unfolding compileOf verdictOf _▷_
 report-code program schedule counts bytes f e =
@@ -232,22 +251,8 @@ report-keeps program schedule counts f = go (pairOf program schedule)
     go (accepted q) e = let z : _≡_ {A = ℕ} 0 1 = cc in absurd (omega arith)
     go (refused g) e = refl
 
--- Of an accepted pair it tells L, the length of its image, and L + 4N, that with its tail; the least number of words that the code
--- of every signal keeps within on the image's bytes; and 240 counts, those of the hypercycle being the commands that the image's
--- lists run and the others 0.
-pub record Reports (program schedule : List ℕ) (p : Program) (s : Schedule) (h : ℕ) (image : List ℕ) : Type 0 where
-  pub told : (counts : List ℕ) → reportOf program schedule counts ≡
-      record {
-        answer = accepted (record { length = length image; written = length image + 4 * count p; stack = highest (p .signals) });
-        left = countsOf p s h;
-      }
-  pub stack : (m : ℕ) → ((x : ℕ) → x < count p → Within m (codeOf image x) 0 0) ↔ (highest (p .signals) ≤ m)
-  pub size : length (countsOf p s h) ≡ 240
-  pub counted : (c : ℕ) → c < h → getD (countsOf p s h) c 0 ≡ countSignals image (listOf image c)
-  pub past : (c : ℕ) → h ≤ c → c < 240 → getD (countsOf p s h) c 0 ≡ 0
-
 -- Whatever a cycle is lent, its count has 32 bits.
-pub count-small : (lent : List ℕ) (state samples : List ℤ) → Texts.Bytes lent → (n : ℕ) →
+pub count-small : (lent : List ℕ) (state samples : List ℤ) → AreBytes lent → (n : ℕ) →
     cycleOf lent state samples .answer ≡ accepted n → n < 2 ^ 32
 unfolding cycleOf _▷_ provided
 count-small lent state samples bytes n e =
@@ -275,21 +280,18 @@ count-small lent state samples bytes n e =
 -- they are. The tail's reader then returns the bytes after the image, and refuses all else by 20.
 pub lent-exactly : (lent : List ℕ) →
     (lentOk lent ≡ true) ↔ ((image : List ℕ) × (tail : List ℕ) × (wellFormed image ≡ true) × Bears image tail lent)
-lent-exactly = Tails.lent-exactly
-
-pub record TailExactly (lent : List ℕ) : Type 0 where
-  pub returns : (tail : List ℕ) →
-      (tailIn lent ≡ accepted tail) ↔ ((image : List ℕ) × (wellFormed image ≡ true) × Bears image tail lent)
-  pub refuses : (tailIn lent ≡ refuse 20 0) ↔ ((image tail : List ℕ) → wellFormed image ≡ true → Bears image tail lent → ⊥)
-  pub alone : (f : Fault) → tailIn lent ≡ refused f → f ≡ fault 20 0
+lent-exactly lent = (
+  λ h. (imagePart lent, drop (statedLength lent) lent, lent-formed lent h, Tails.lent-bears lent h),
+  λ (i, t, f, b). Tails.lent-ok f b,
+)
 
 pub tail-exactly : (lent : List ℕ) → TailExactly lent
 unfolding tailIn _▷_ provided
 tail-exactly lent =
     record {
-      returns = Tails.tail-exactly lent;
+      returns = Tailed.tail-exactly lent;
       refuses = (
-        λ e image tail f b. accepted≢refused _ tail (fault 20 0) (Tails.tail-exactly lent tail .1 (image, f, b)) e,
+        λ e image tail f b. accepted≢refused _ tail (fault 20 0) (Tailed.tail-exactly lent tail .1 (image, f, b)) e,
         refuses (lentOk lent) refl,
       );
       alone = λ f e. alone (lentOk lent) f e;
@@ -310,17 +312,22 @@ tail-exactly lent =
 pub tail-alike : (image tail tail′ lent lent′ : List ℕ) → wellFormed image ≡ true → Bears image tail lent →
     Bears image tail′ lent′ → (state : List ℤ) (c : Call) → callOf lent state c ≡ callOf lent′ state c
 tail-alike image tail tail′ lent lent′ formed b b′ state c =
-    Tails.call-alike formed b state c ∙ sym (Tails.call-alike formed b′ state c)
+    Tailed.call-alike formed b state c ∙ sym (Tailed.call-alike formed b′ state c)
 
 -- Request b. Each of the four lists of widths is that of its decoder: over all 256 bytes, a byte has a width exactly if it is
 -- known in its kind of text, and a command that is read whole reaches exactly as far as its width.
 pub widths-listed : WidthsListed
 widths-listed = Widths.widths-listed
 
--- A command is decoded exactly where its bytes are written, each case of the enum with its byte and its operands: in a program
--- text, in a schedule text and in an image's code.
-pub command-written : (text : List ℕ) (at : ℕ) (c : Command) → ((commandAt text at ≡ c) × Whole c) ↔ Written text at c
-command-written = Commands.command-written
+-- A command is decoded exactly where its bytes are written, each case of its enum with its byte and its operands: a declaration
+-- and an operator of a program text, a command of a schedule text and of an image's code.
+pub declaration-written : (text : List ℕ) (at : ℕ) (c : Declaration) →
+    ((declarationAt text at ≡ c) × DeclarationWhole c) ↔ DeclarationWritten text at c
+declaration-written = Commands.declaration-written
+
+pub operator-written : (text : List ℕ) (at : ℕ) (c : Operator) →
+    ((operatorAt text at ≡ c) × OperatorWhole c) ↔ OperatorWritten text at c
+operator-written = Commands.operator-written
 
 pub put-written : (text : List ℕ) (at : ℕ) (c : ScheduleCommand) →
     ((scheduleCommandAt text at ≡ c) × PutWhole c) ↔ PutWritten text at c
@@ -330,26 +337,44 @@ pub code-written : (code : List ℕ) (at : ℕ) (c : Code) → ((codeAt code at 
 code-written = Commands.code-written
 
 -- Each case of an enum has the paper's byte and values: where these bytes stand, the command is written.
-pub command-bytes : (text : List ℕ) (at : ℕ) (c : Command) → Ranged c → BytesAt text at (commandBytes c) → Written text at c
-command-bytes = Enums.command-bytes
+pub declaration-bytes : (text : List ℕ) (at : ℕ) (c : Declaration) → DeclarationRanged c → BytesAt text at (declarationBytes c) →
+    DeclarationWritten text at c
+declaration-bytes text at c r b = Enums.declaration-stands c r (Enums.stands b)
+
+pub operator-bytes : (text : List ℕ) (at : ℕ) (c : Operator) → OperatorRanged c → BytesAt text at (operatorBytes c) →
+    OperatorWritten text at c
+operator-bytes text at c r b = Enums.operator-stands c r (Enums.stands b)
 
 pub put-bytes : (text : List ℕ) (at : ℕ) (c : ScheduleCommand) → PutWhole c → BytesAt text at (putBytes c) → PutWritten text at c
-put-bytes = Enums.put-bytes
+put-bytes text at c r b = Enums.put-stands c r (Enums.stands b)
 
 pub code-bytes : (code : List ℕ) (at : ℕ) (c : Code) → CodeRanged c → BytesAt code at (codeBytes c) → CodeWritten code at c
-code-bytes = Enums.code-bytes
+code-bytes code at c r b = Enums.code-stands c r (Enums.stands b)
 
 -- It is decoded as one that ends early exactly if no byte is left or it is cut, as one out of range exactly if an operand is
 -- outside its range, and as unknown exactly if its byte is no command.
-pub command-cut : (text : List ℕ) (at : ℕ) → (commandAt text at ≡ Command.EndsEarly) ↔ ((length text ≤ at) ⊎ Cut text at)
-command-cut = Commands.command-cut
+pub declaration-cut : (text : List ℕ) (at : ℕ) →
+    (declarationAt text at ≡ Declaration.EndsEarly) ↔ ((length text ≤ at) ⊎ DeclarationCut text at)
+declaration-cut = Commands.declaration-cut
 
-pub command-outside : (text : List ℕ) (at : ℕ) → (commandAt text at ≡ Command.OutOfRange) ↔ Outside text at
-command-outside = Commands.command-outside
+pub declaration-outside : (text : List ℕ) (at : ℕ) → (declarationAt text at ≡ Declaration.OutOfRange) ↔ DeclarationOutside text at
+declaration-outside = Commands.declaration-outside
 
-pub command-unknown : (text : List ℕ) (at : ℕ) →
-    (commandAt text at ≡ Command.Unknown) ↔ ((at < length text) × NoCommandByte (byteAt text at))
-command-unknown = Commands.command-unknown
+pub declaration-unknown : (text : List ℕ) (at : ℕ) →
+    (declarationAt text at ≡ Declaration.Unknown) ↔
+    ((at < length text) × ¬ DeclarationByte (byteAt text at) × ¬ (byteAt text at ≡ 0x13))
+declaration-unknown = Commands.declaration-unknown
+
+pub operator-cut : (text : List ℕ) (at : ℕ) →
+    (operatorAt text at ≡ Operator.EndsEarly) ↔ ((length text ≤ at) ⊎ OperatorCut text at)
+operator-cut = Commands.operator-cut
+
+pub operator-outside : (text : List ℕ) (at : ℕ) → (operatorAt text at ≡ Operator.OutOfRange) ↔ OperatorOutside text at
+operator-outside = Commands.operator-outside
+
+pub operator-unknown : (text : List ℕ) (at : ℕ) →
+    (operatorAt text at ≡ Operator.Unknown) ↔ ((at < length text) × ¬ OperatorByte (byteAt text at))
+operator-unknown = Commands.operator-unknown
 
 pub put-cut : (text : List ℕ) (at : ℕ) →
     (scheduleCommandAt text at ≡ ScheduleCommand.EndsEarly) ↔ ((length text ≤ at) ⊎ PutCut text at)
@@ -369,8 +394,14 @@ pub settled-exactly : (program schedule : List ℕ) (q : Pair) → pairOf progra
     SettlesAt (ρ .kind) (rateOf p s (x .signal)) (rateOf p s r) (x .factor) (x .index) i ↔ (i ≡ settled p s r ρ)
 settled-exactly program schedule q e = Settled.settled-exactly program schedule q (accepted-exactly program schedule q .0 e)
 
+-- Demand 3, right for ever: calls in between that are lent something else and are refused change nothing and are no part of a
+-- list of calls.
+pub others-nothing : (size : ℕ) (m : Memory) (log : List (List ℤ)) (ls : List Lent) → OthersRefused size m ls →
+    AsWithout size m log ls
+others-nothing = Among.others-nothing
+
 -- An accepted pair.
-module _ (program schedule : List ℕ) (bytes : Texts.Bytes program) (p : Program) (s : Schedule) (h : ℕ)
+module _ (program schedule : List ℕ) (bytes : AreBytes program) (p : Program) (s : Schedule) (h : ℕ)
     (e : pairOf program schedule ≡ accepted (record { program = p; schedule = s; hypercycle = h })) where
   accepts : Feasible p s
   accepts = pair-accepted program schedule _ e
@@ -409,11 +440,11 @@ module _ (program schedule : List ℕ) (bytes : Texts.Bytes program) (p : Progra
         told = λ counts. rw (e, image-length p s h);
         stack = stack-least p s h bounded;
         size = counts-length p s h (bounded .hyper);
-        counted = λ c lt. counts-at p s h c lt ∙ sym (cycle-count p s h bounded (accepts .only) c lt);
+        counted = λ c lt. counts-at p s h c lt ∙ sym (cycle-count p s h bounded (accepts .ordered .only) c lt);
         past = counts-past p s h;
       }
 
-  -- Demand 3, right for ever. For any input elements there are streams that satisfy all equations of the program, each open
+  -- Demand 3. For any input elements there are streams that satisfy all equations of the program, each open
   -- read at its settled index ..
   pub streams-exist : (inputs : ℕ → ℕ → ℤ) → (X : ℕ → ℕ → ℤ) × Satisfies p (settled p s) inputs X
   streams-exist inputs = (Unique.streams p s accepts inputs, Unique.streams-satisfy p s accepts inputs)
@@ -439,21 +470,18 @@ module _ (program schedule : List ℕ) (bytes : Texts.Bytes program) (p : Progra
       let m = afterReset size buffer old in
       OthersRefused size m ls →
       Kept program schedule p s h old (owns ls) (ownAnswers size m ls) (ownLog size m [] ls) (leftAll size m ls .state)
-  calls-among = Demand.calls-among program schedule bytes p s h e
-
--- Such calls change nothing and are no part of the list.
-pub others-nothing : (size : ℕ) (m : Memory) (log : List (List ℤ)) (ls : List Lent) → OthersRefused size m ls →
-    AsWithout size m log ls
-others-nothing = Among.others-nothing
+  calls-among size buffer tail bears old r ls others =
+      let a = others-nothing size (afterReset size buffer old) [] ls others in
+      rw (a .answers, a .logs, a .state) (calls-hold tail (take size buffer) bears old r (owns ls))
 
 -- Two accepted schedules of one program that settle alike: each open read has the same index under both.
-module _ (program schedule schedule′ : List ℕ) (bytes : Texts.Bytes program) (p : Program) (s s′ : Schedule) (h : ℕ)
+module _ (program schedule schedule′ : List ℕ) (bytes : AreBytes program) (p : Program) (s s′ : Schedule) (h : ℕ)
     (e : pairOf program schedule ≡ accepted (record { program = p; schedule = s; hypercycle = h }))
     (e′ : pairOf program schedule′ ≡ accepted (record { program = p; schedule = s′; hypercycle = h }))
     (alike : SettleAlike p s s′) where
   -- They have the same streams.
   pub alike-streams : (inputs X : ℕ → ℕ → ℤ) → Satisfies p (settled p s) inputs X → Satisfies p (settled p s′) inputs X
-  alike-streams = Demand.alike-streams program schedule schedule′ bytes p s s′ h e e′ alike
+  alike-streams = alike-satisfy p s s′ (open-alike p s s′ alike)
 
   -- A list of calls on the image of each, lent with a tail or without, with input elements that agree wherever both lists supply
   -- them: if both end holding one element of signal x, element −1 included, it is the same word.
@@ -462,7 +490,19 @@ module _ (program schedule schedule′ : List ℕ) (bytes : Texts.Bytes program)
       (cs cs′ : List Call) → Agree p s s′ (logBy lent old cs) (logBy lent′ old′ cs′) → (x j : ℕ) → x < count p →
       EndsWith p s (length (logBy lent old cs)) x j → EndsWith p s′ (length (logBy lent′ old′ cs′)) x j →
       getD (stateBy lent old cs) (suc x) (pos 0) ≡ getD (stateBy lent′ old′ cs′) (suc x) (pos 0)
-  alike-words = Demand.alike-words program schedule schedule′ bytes p s s′ h e e′ alike
+  alike-words tail tail′ lent lent′ b b′ old old′ r r′ cs cs′ agree x j lt ends ends′ =
+      let log = Demand.log-alike program schedule bytes p s h e b old cs in
+      let log′ = Demand.log-alike program schedule′ bytes p s′ h e′ b′ old′ cs′ in
+      rw (
+        Demand.state-alike program schedule bytes p s h e b old cs,
+        Demand.state-alike program schedule′ bytes p s′ h e′ b′ old′ cs′,
+      )
+      (entry-alike p s s′ h (pair-accepted program schedule _ e) (pair-accepted program schedule′ _ e′)
+      (pair-multiple program schedule _ e) (pair-bounded program schedule _ e bytes) (pair-bounded program schedule′ _ e′ bytes)
+      (open-alike p s s′ alike) old old′ (Demand.lent-long program schedule bytes p s h e b old r)
+      (Demand.lent-long program schedule′ bytes p s′ h e′ b′ old′ r′) cs cs′ (subst₂ (Agree p s s′) log log′ agree) x j lt
+      (subst (λ (l : List (List ℤ)). EndsWith p s (length l) x j) log ends)
+      (subst (λ (l : List (List ℤ)). EndsWith p s′ (length l) x j) log′ ends′))
 
 -- Two pairs of one program text are of one program, and have one hypercycle.
 pub same-program : (program schedule schedule′ : List ℕ) (q q′ : Pair) → pairOf program schedule ≡ accepted q →
@@ -480,50 +520,58 @@ nearest-word = Nearest.nearest-word
 
 -- Request e. A bench trial is refused with each number at its place exactly under its condition, in the stated order: the pair's
 -- 1 to 16, then 24 and 25 of the script.
-pub trial-refused-exactly : (program schedule text : List ℕ) (n x : ℕ) →
-    (trialOf program schedule text ≡ refused (fault n x)) ↔ TrialRefusedAt program schedule text n x
+pub trial-refused-exactly : (program schedule text : List ℕ) (f : Fault) →
+    (trialOf program schedule text ≡ refused f) ↔ TrialRefusedAt program schedule text f
 trial-refused-exactly = trial-refused
 
--- Of a legal pair and a legal script with these commands: as many lines as the sum of the RUNs, and line j is the decimal form of
--- j and of the words that the streams give after j + 1 cycles, the inputs being those that the SETs supply.
-pub record TrialLines (program schedule text : List ℕ) (q : Pair) (actions : List Action) : Type 0 where
-  pub lines : List (List ℕ)
-  pub prints : trialOf program schedule text ≡ accepted lines
-  pub number : length lines ≡ cyclesOf actions
-  pub line : (X : ℕ → ℕ → ℤ) →
-      Satisfies (q .program) (settled (q .program) (q .schedule))
-      (inputsOf (q .program) (q .schedule) (callsFrom noSamples actions)) X →
-      (j : ℕ) → j < length lines → getD lines j [] ≡ lineOf j (wordsAfter (q .program) (q .schedule) X (suc j))
-
-pub trial-lines : (program schedule text : List ℕ) → Texts.Bytes program → (q : Pair) (actions : List Action) →
+pub trial-lines : (program schedule text : List ℕ) → AreBytes program → (q : Pair) (actions : List Action) →
     LegalPair program schedule q → LegalScript (q .program) text actions → TrialLines program schedule text q actions
 trial-lines program schedule text bytes q actions legal script =
     let p = q .program in
     let s = q .schedule in
     let same = script-actions text (script .spells) in
     let lines = linesOf q text in
-    let tried : Tried program schedule text lines = record { pair = q; legal = legal; script = rw same script; lines-are = refl } in
+    let tried : Tried program schedule text lines =
+    record { pair = q; legal = legal; script = rw same script; lines-are = refl } in
     record {
       lines = lines;
       prints = trial-accepts program schedule text legal script;
       number = tried-count program schedule text bytes lines tried ∙ ap cyclesOf same;
       line = λ X sat j lt. tried-line program schedule text bytes lines tried X
-          (subst (λ (acts : List Action). Satisfies p (settled p s) (inputsOf p s (callsFrom noSamples acts)) X) (sym same) sat) j lt;
+          (subst (λ (acts : List Action). Satisfies p (settled p s) (inputsOf p s (callsFrom noSamples acts)) X) (sym same) sat) j
+          lt;
     }
 
 -- Request g. A conversion is done, or refused with each number at its place, exactly under its condition.
-pub convert-exactly : (program buffer : List ℕ) → ConvertsExactly program buffer (convertOf program buffer)
+pub convert-exactly : (program buffer : List ℕ) → Converts program buffer
 convert-exactly = Conversions.convert-exactly
 
--- With every schedule that the old program was legal with by the earlier rule, the converted one is accepted with the same schedule
+-- With every schedule that the old program was legal with by the earlier rule, the converted one is accepted with the same
+-- schedule
 -- and hypercycle, and has the same streams and the same image.
-pub convert-keeps : (old schedule : List ℕ) (u : Pair) → LegalPairWith earlierFactor old schedule u → ConversionKeeps old schedule u
-convert-keeps = Conversions.convert-keeps
+pub convert-keeps : (old schedule : List ℕ) (u : Pair) → LegalPairWith earlierFactor old schedule u →
+    ConversionKeeps old schedule u
+convert-keeps old schedule u l =
+    let w = Rewritten.rewrite-legal old (u .program) (l .places .rates .legal) in
+    let c = Converted.renamed-common (w .renamed) (u .schedule) in
+    let q : Pair = record { program = w .program; schedule = u .schedule; hypercycle = u .hypercycle } in
+    record {
+      program = w .program;
+      accepts =
+          accepted-exactly (rewrite old) schedule q .1
+          (Converted.renamed-legal old (rewrite old) schedule u (w .program) l
+          (omega (arith, w .short, l .places .rates .short .0)) (w .legal) (w .renamed));
+      streams = c .streams;
+      image = sym (c .image (u .hypercycle));
+    }
 
 -- What is converted is read by the rule of today, and converting it again changes nothing.
 pub convert-new : (old : List ℕ) (p : Program) → parseWith earlierFactor old ≡ accepted p →
     (q : Program) × (parseProgram (rewrite old) ≡ accepted q) × (rewrite (rewrite old) ≡ rewrite old)
-convert-new = Conversions.convert-new
+convert-new old p e =
+    let l = Parses.with-legal earlierFactor old p .0 e in
+    let w = Rewritten.rewrite-legal old p l in
+    (w .program, Parses.with-legal _ (rewrite old) (w .program) .1 (w .legal), Unchanged.rewrite-twice old p l)
 
 -- A decimal by its value: digits, the fewest, that read back give the number; a word's have one minus sign before them exactly if
 -- it is negative.
@@ -534,7 +582,7 @@ pub decimal-says : (z : ℤ) → SaysWord z (decimal z)
 decimal-says = Decimals.decimal-says
 
 -- The paper's examples marked m: one table, which the definitions answer by computation.
-pub examples : map (λ c. Examples.answerTo (c .question)) Examples.cases ≡ map (λ c. c .answer) Examples.cases
+pub examples : ExamplesHold
 examples = Examples.examples
 
 -- The calls exact. Well formed is what the paper's sentence says, point by point: the test passes exactly these images.
@@ -559,7 +607,7 @@ pub cycle-exactly : (lent : List ℕ) (state samples : List ℤ) →
 cycle-exactly = CallsExact.cycle-exactly
 
 -- 24,678 bytes, the header's LARDERLATE_IMAGE_BYTES, hold what compile writes for every accepted pair.
-pub image-bytes : (program schedule : List ℕ) → Texts.Bytes program → (q : Pair) → pairOf program schedule ≡ accepted q →
+pub image-bytes : (program schedule : List ℕ) → AreBytes program → (q : Pair) → pairOf program schedule ≡ accepted q →
     (buffer : List ℕ) → 24678 ≤ length buffer → compileOf program schedule buffer .answer ≡ accepted (sizeOf q)
 image-bytes program schedule bytes q e buffer le =
     compile-exactly program schedule buffer .done (sizeOf q) _ .1
@@ -584,18 +632,18 @@ code-tells (refused f) (refused g) c d e =
     ap₂ (λ (n x : ℕ). refused (fault n x)) number place
 
 -- .. since lengths and places are below 2^32 and the numbers of refusals above 0, in every call.
-pub compile-codable : (program schedule buffer : List ℕ) → Texts.Bytes program →
+pub compile-codable : (program schedule buffer : List ℕ) → AreBytes program →
     Codable (compileOf program schedule buffer .answer)
 compile-codable program schedule buffer bytes = go (compileOf program schedule buffer .answer) refl
   where
     go : (o : Outcome ℕ) → compileOf program schedule buffer .answer ≡ o → Codable o
     go (accepted n) e = omega (arith, Numbers.length-most program schedule buffer bytes n e)
     go (refused f) e = (
-      Numbers.compile-number (compile-exactly program schedule buffer .refuses (f .number) (f .place) _ .0 (e, refl) .0),
+      Numbers.compile-number (compile-exactly program schedule buffer .refuses f _ .0 (e, refl) .0),
       omega (arith, places-small program schedule buffer bytes f e),
     )
 
-pub report-codable : (program schedule counts : List ℕ) → Texts.Bytes program →
+pub report-codable : (program schedule counts : List ℕ) → AreBytes program →
     Codable (lengthIn (reportOf program schedule counts .answer))
 report-codable program schedule counts bytes = go (reportOf program schedule counts .answer) refl
   where
@@ -607,7 +655,7 @@ report-codable program schedule counts bytes = go (reportOf program schedule cou
         omega (arith, t .2, image-length (q .program) (q .schedule) (q .hypercycle), b .size)
     go (refused f) e =
         let r = report-exactly program schedule counts .refuses f .0 e in
-        let at = refused-exactly program schedule (f .number) (f .place) .0 r in
+        let at = refused-exactly program schedule f .0 r in
         (Numbers.pair-number at, omega (arith, refusal-small at))
 
 pub reset-codable : (lent : List ℕ) (state : List ℤ) → Codable (resetOf lent state .answer)
@@ -617,11 +665,11 @@ reset-codable lent state = go (resetOf lent state .answer) refl
     go : (o : Outcome ℕ) → resetOf lent state .answer ≡ o → Codable o
     go (accepted n) e = omega (arith, reset-exactly lent state .done n _ .0 (e, refl) .is)
     go (refused f) e = (
-      Numbers.reset-number (reset-exactly lent state .refuses (f .number) (f .place) _ .0 (e, refl) .0),
+      Numbers.reset-number (reset-exactly lent state .refuses f _ .0 (e, refl) .0),
       omega (arith, places-zero lent state Call.reset f e),
     )
 
-pub call-codable : (lent : List ℕ) (state : List ℤ) (c : Call) → Texts.Bytes lent → Codable (callOf lent state c .answer)
+pub call-codable : (lent : List ℕ) (state : List ℤ) (c : Call) → AreBytes lent → Codable (callOf lent state c .answer)
 unfolding callOf
 call-codable lent state Call.reset bytes = reset-codable lent state
 call-codable lent state (Call.cycle samples) bytes = go (cycleOf lent state samples .answer) refl
@@ -629,7 +677,7 @@ call-codable lent state (Call.cycle samples) bytes = go (cycleOf lent state samp
     go : (o : Outcome ℕ) → cycleOf lent state samples .answer ≡ o → Codable o
     go (accepted n) e = count-small lent state samples bytes n e
     go (refused f) e = (
-      Numbers.cycle-number (cycle-exactly lent state samples .refuses (f .number) (f .place) _ .0 (e, refl) .0),
+      Numbers.cycle-number (cycle-exactly lent state samples .refuses f _ .0 (e, refl) .0),
       omega (arith, places-zero lent state (Call.cycle samples) f e),
     )
 
@@ -648,5 +696,5 @@ convert-codable program buffer = go (convertOf program buffer .answer) refl
     go : (o : Outcome ℕ) → convertOf program buffer .answer ≡ o → Codable o
     go (accepted n) e = omega (arith, Numbers.convert-most (convert-exactly program buffer .done n .0 e))
     go (refused f) e =
-        let r = convert-exactly program buffer .refused-at (f .number) (f .place) .0 e in
+        let r = convert-exactly program buffer .refused-at f .0 e in
         (Numbers.convert-number r, omega (arith, Numbers.convert-place r))

@@ -8,7 +8,7 @@ use lib.ListN.{length, drop, length-append}
 use Rattle.model.specs.Rules.Machine.{statedLength, imagePart, lentOk}
 use Rattle.model.specs.Rules.Outcome.{accepted, refused, refuse, fault, _▷_, provided}
 use Rattle.model.specs.Rules.Tail.{tailIn, numberIn, stretchIn, ReadsTail}
-use Rattle.model.proofs.Tails.{lent-formed, lent-bears, stated-length}
+use Rattle.model.proofs.Images.Tails.{lent-formed, lent-bears, stated-length}
 
 module _ {lent tail : List ℕ} {number : ℕ} (r : ReadsTail lent number tail) where
   yields : lentOk lent ≡ true → tailIn lent ≡ accepted (drop (statedLength lent) lent)

@@ -1,6 +1,5 @@
 // Larderlate: compile, report, reset, cycle, tail and convert; for C the calls of a board too. Each call takes any bytes and words, and
 // its answer and what it leaves are the definition's. What they promise together is in proofs/Promises.antt and in crate `board`.
-use board::Turned;
 use model::Compiled;
 use model::Cycled;
 use model::Fault;
@@ -13,8 +12,8 @@ ghost use Rattle.model.specs.Rules.Outcome.{refused};
 ghost use Rattle.model.specs.Rules.Report.{reportedOf, reportOf};
 ghost use Rattle.model.specs.Rules.Rewrite.{convertOf};
 ghost use Rattle.model.specs.Rules.Tail.{tailIn, ReadsTail};
-ghost use Rattle.board.specs.Board.{newBoard, loadOf, markPlaceOf, turnOf};
-ghost use Rattle.board_words.specs.Record.{boardOf, packed, callRecord, turnRecord, turnDone, outcomeIn};
+ghost use Rattle.board.specs.Board.{loadOf, markPlaceOf, turnOf};
+ghost use Rattle.board_words.specs.Record.{boardOf, newWords, loadRecord, markRecord, turnRecord, turnDone, outcomeIn};
 ghost use Rattle.larderlate.specs.Code.{codeNumber, lengthIn, writtenIn, stackIn, lengthOfTail, startIn};
 
 // Writes the image of an accepted program and schedule and its tail to the start of `image`, and yields how many bytes these are.
@@ -203,10 +202,9 @@ pub extern "C" fn larderlate_convert(program: &[u8], result: &mut [u8]) -> u64
 // turn leave it as it was.
 #[no_mangle]
 pub extern "C" fn larderlate_board_new(words: &mut [usize; 17])
-    ensures { λ _. ⌜ now (words .exit) ≡ packed newBoard ⌝ }
+    ensures { λ _. ⌜ now (words .exit) ≡ newWords ⌝ }
 {
-    let board = board::new_board();
-    *words = board_words::pack(board);
+    *words = board_words::new_record();
 }
 
 #[no_mangle]
@@ -219,41 +217,20 @@ pub extern "C" fn larderlate_board_load(
     size: usize,
 ) -> u64
     ensures answer { λ r. ⌜ r ≡ codeNumber (loadOf (boardOf (now (words .entry))) (now (images .entry)) (now (state .entry)) place start size .answer) ⌝ }
-    ensures kept { λ _. ⌜ now (words .exit) ≡ callRecord (now (words .entry)) (loadOf (boardOf (now (words .entry))) (now (images .entry)) (now (state .entry)) place start size) ⌝ }
+    ensures kept { λ _. ⌜ now (words .exit) ≡ loadRecord (now (words .entry)) place start size (loadOf (boardOf (now (words .entry))) (now (images .entry)) (now (state .entry)) place start size .answer) ⌝ }
     ensures left { λ _. ⌜ now (state .exit) ≡ loadOf (boardOf (now (words .entry))) (now (images .entry)) (now (state .entry)) place start size .left ⌝ }
 {
-    let old = *words;
-    let after = board::load(
-        board_words::unpack(old),
-        images,
-        &mut state[..],
-        place,
-        start,
-        size,
-    );
-    let ran = after.answer;
-    let Ran::Done = ran else {
-        return code_of_ran(ran);
-    };
-    let board = after.board;
-    *words = board_words::pack(board);
-    0
+    let ran = board_words::load(words, images, &mut state[..], place, start, size);
+    code_of_ran(ran)
 }
 
 #[no_mangle]
 pub extern "C" fn larderlate_board_mark(words: &mut [usize; 17], place: usize) -> u64
     ensures answer { λ r. ⌜ r ≡ codeNumber (markPlaceOf (boardOf (now (words .entry))) place .answer) ⌝ }
-    ensures kept { λ _. ⌜ now (words .exit) ≡ callRecord (now (words .entry)) (markPlaceOf (boardOf (now (words .entry))) place) ⌝ }
+    ensures kept { λ _. ⌜ now (words .exit) ≡ markRecord (now (words .entry)) place (markPlaceOf (boardOf (now (words .entry))) place .answer) ⌝ }
 {
-    let old = *words;
-    let after = board::mark(board_words::unpack(old), place);
-    let ran = after.answer;
-    let Ran::Done = ran else {
-        return code_of_ran(ran);
-    };
-    let board = after.board;
-    *words = board_words::pack(board);
-    0
+    let ran = board_words::mark(words, place);
+    code_of_ran(ran)
 }
 
 #[no_mangle]
@@ -265,24 +242,10 @@ pub extern "C" fn larderlate_board_turn(
     outcome: &mut [u32; 3],
 ) -> u64
     ensures answer { λ r. ⌜ r ≡ codeNumber (turnDone (turnOf (boardOf (now (words .entry))) (now (images .entry)) (now (state .entry)) (now (samples .entry)) .answer)) ⌝ }
-    ensures kept { λ _. ⌜ now (words .exit) ≡ turnRecord (now (words .entry)) (turnOf (boardOf (now (words .entry))) (now (images .entry)) (now (state .entry)) (now (samples .entry))) ⌝ }
+    ensures kept { λ _. ⌜ now (words .exit) ≡ turnRecord (now (words .entry)) (turnOf (boardOf (now (words .entry))) (now (images .entry)) (now (state .entry)) (now (samples .entry)) .answer) ⌝ }
     ensures left { λ _. ⌜ now (state .exit) ≡ turnOf (boardOf (now (words .entry))) (now (images .entry)) (now (state .entry)) (now (samples .entry)) .left ⌝ }
     ensures told { λ _. ⌜ now (outcome .exit) ≡ outcomeIn (now (outcome .entry)) (turnOf (boardOf (now (words .entry))) (now (images .entry)) (now (state .entry)) (now (samples .entry)) .answer) ⌝ }
 {
-    let old = *words;
-    let after = board::turn(board_words::unpack(old), images, &mut state[..], samples);
-    let turned = after.answer;
-    match turned {
-        Turned::Idle => {
-            *outcome = [0, 0, 0];
-            0
-        }
-        Turned::Took(place, run) => {
-            let board = after.board;
-            *words = board_words::pack(board);
-            *outcome = board_words::outcome(place, run);
-            0
-        }
-        Turned::Refused(fault) => code_of_fault(fault),
-    }
+    let ran = board_words::turn(words, images, &mut state[..], samples, outcome);
+    code_of_ran(ran)
 }

@@ -16,9 +16,9 @@ use Rattle.model.specs.declared.Found.{Found}
 use Rattle.model.specs.declared.Found.the-variants.{At, Nowhere}
 use Rattle.model.specs.declared.Mode.{Mode}
 use Rattle.model.specs.declared.Mode.the-variants.{Exists, Backward}
-use Rattle.model.proofs.Rate.{stored-high, bit}
-use Rattle.model.proofs.Unique.{used-is}
-use Rattle.model.proofs.Window.{ChainMet}
+use Rattle.model.proofs.Pairs.Rate.{stored-high, bit}
+use Rattle.model.proofs.Pairs.Links.{used-is}
+use Rattle.model.proofs.Pairs.Links.{ChainMet}
 use Rattle.latency_rule.specs.declared.Hop.{Hop}
 use Rattle.latency_rule.specs.Hops.{HopsOf}
 use Rattle.latency_rule.specs.Back.{
@@ -88,11 +88,11 @@ module _ (p : Program) (s : Schedule) where
     used-before r k m ρ lt met u =
         let w = ρ .operands .signal in
         let t : ℕ = runCycle (rateOf p s r) k + bit (before s w r) in
-        let g = stored-high (rateOf p s w) t (acc .phases w (met .declared)) in
+        let g = stored-high (rateOf p s w) t (acc .ordered .phases w (met .declared)) in
         omega (arith, one (before s w r), rw (used-is p s acc r ρ k lt met ∙ u) at g)
 
     run-low : (x k : ℕ) → x < count p → k ≤ runCycle (rateOf p s x) k
-    run-low x k lt = go (signalAt p x .period) (acc .phases x lt)
+    run-low x k lt = go (signalAt p x .period) (acc .ordered .phases x lt)
       where
         go : (q : ℕ) → phaseOf s x < q → k ≤ k * q + phaseOf s x
         go zero h = absurd (omega arith)

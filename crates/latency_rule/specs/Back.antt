@@ -10,7 +10,8 @@ use Rattle.model.specs.Rules.Reads.{Rate, uses}
 use Rattle.model.specs.Rules.Search.{first, isFound, allBelow}
 use Rattle.model.specs.declared.Found.{Found}
 use Rattle.model.specs.declared.Found.the-variants.{At, Nowhere}
-use Rattle.model.specs.declared.Kind.the-variants.{Now}
+use Rattle.model.specs.declared.Kind.{Kind}
+use Rattle.model.specs.declared.Kind.the-variants.{Now, Last, When, LastWhen, Current}
 use Rattle.model.specs.declared.Mode.{Mode}
 use Rattle.model.specs.declared.Mode.the-variants.{Exists, Backward}
 use Rattle.latency_rule.specs.declared.Hop.{Hop}
@@ -66,3 +67,20 @@ timelyBy Backward bound hops n last source from window =
     allBelow window (λ i. not (lateBy bound (runLatencyBy hops n last source (from + i))))
 timelyBy Exists bound hops n last source from window =
     isFound (first window (λ i. inTimeBy bound (runLatencyBy hops n last source (from + i))))
+
+-- Whether a read is of an equal period.
+abbrev pub isPlain : Kind → Bool
+isPlain Now = true
+isPlain Last = true
+isPlain When = false
+isPlain LastWhen = false
+isPlain Current = false
+
+abbrev pub allPlain : List Hop → ℕ → Bool
+allPlain hops n = allBelow n (λ j. isPlain (getD hops j noHop .kind))
+
+-- The first `runs` runs of the window decide it.
+pub record Decide (hops : List Hop) (n : ℕ) (last source : Rate) (from window runs : ℕ) : Type 0 where
+  pub within : runs ≤ window
+  pub alike : (mode : Mode) (bound : ℕ) →
+      timelyBy mode bound hops n last source from runs ≡ timelyBy mode bound hops n last source from window

@@ -10,7 +10,7 @@ ghost use lib.ListN.{getD};
 ghost use Rattle.model.specs.Rules.Search.{first, isFound, allBelow};
 ghost use Rattle.model.specs.Rules.Reads.{runCycle};
 ghost use Rattle.read_rule.specs.Reads.{rateIn};
-ghost use Rattle.latency_rule.specs.Back.{entryBy, backBy, Sound, Small, SmallFound, runLatencyBy, lateBy, inTimeBy, timelyBy};
+ghost use Rattle.latency_rule.specs.Back.{entryBy, backBy, Sound, Small, SmallFound, runLatencyBy, lateBy, inTimeBy, timelyBy, isPlain, allPlain, Decide};
 
 // One read on the way back: its kind, its factor and its settled index.
 pub struct Hop {
@@ -152,6 +152,63 @@ fn one_in_time(
     false
 }
 
+// Whether a read is of an equal period.
+fn is_plain(kind: Kind) -> bool
+    ensures { λ r. ⌜ r ≡ isPlain kind ⌝ }
+{
+    match kind {
+        Kind::Now => true,
+        Kind::Last => true,
+        Kind::When => false,
+        Kind::LastWhen => false,
+        Kind::Current => false,
+    }
+}
+
+fn all_plain(hops: [Hop; 15], count: usize) -> bool
+    requires { ⌜ count ≤ 15 ⌝ }
+    ensures { λ r. ⌜ r ≡ allPlain hops count ⌝ }
+{
+    let mut i: usize = 0;
+    while i < count {
+        let hop = hops[i];
+        let kind = hop.kind;
+        if !is_plain(kind) {
+            return false;
+        }
+        i = i + 1;
+    }
+    true
+}
+
+// How many runs of the window decide: one where all periods on the way are equal, since every run that counts then goes back
+// alike.
+fn deciding_runs(
+    hops: [Hop; 15],
+    count: usize,
+    last: Timing,
+    source: Timing,
+    from: usize,
+    window: usize,
+) -> usize
+    requires { ⌜ count ≤ 15 ⌝ }
+    ensures { λ r. ⌜ Decide hops count (rateIn last) (rateIn source) from window r ⌝ }
+{
+    if window < 2 {
+        return window;
+    }
+    if from < count {
+        return window;
+    }
+    if last.period != source.period {
+        return window;
+    }
+    if !all_plain(hops, count) {
+        return window;
+    }
+    1
+}
+
 // Whether the runs of the window from run `from` on keep the bound. (Links × runs in the window.)
 pub fn is_timely(
     mode: Mode,
@@ -166,8 +223,9 @@ pub fn is_timely(
     requires { ⌜ (count ≤ 15) × Sound hops count × ((i : ℕ) → i < window → Small hops count (from + i)) × (from + window ≤ 1000000) ⌝ }
     ensures { λ r. ⌜ r ≡ timelyBy mode bound hops count (rateIn last) (rateIn source) from window ⌝ }
 {
+    let runs = deciding_runs(hops, count, last, source, from, window);
     match mode {
-        Mode::Exists => one_in_time(bound, hops, count, last, source, from, window),
-        Mode::Backward => all_in_time(bound, hops, count, last, source, from, window),
+        Mode::Exists => one_in_time(bound, hops, count, last, source, from, runs),
+        Mode::Backward => all_in_time(bound, hops, count, last, source, from, runs),
     }
 }

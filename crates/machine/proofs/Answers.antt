@@ -6,9 +6,21 @@ use Prim.Native.Nat.{ℕ}
 use lib.Dec.{leb, ltb}
 use lib.IntN.{ℤ, pos}
 use lib.ListN.{length, getD}
-use Rattle.model.specs.Rules.Machine.{hyperOf, countOf, wellFormed, isPosition, resetWords, cycleWords, cycleCount, Effect, effect, resetOf, cycleOf}
+use Rattle.model.specs.Rules.Machine.{
+  hyperOf,
+  countOf,
+  wellFormed,
+  isPosition,
+  resetWords,
+  cycleWords,
+  cycleCount,
+  Effect,
+  effect,
+  resetOf,
+  cycleOf,
+}
 use Rattle.model.specs.Rules.Outcome.{Outcome, accepted, refuse, _▷_, provided}
-use Rattle.model.proofs.Tails.{part-is, lent-ok, bears-itself}
+use Rattle.model.proofs.Images.Tails.{part-is, lent-ok, bears-itself}
 use Rattle.image_valid.specs.Lends.{Lends}
 
 -- a refusal leaves the state as it was
@@ -37,7 +49,8 @@ module _ {lent image : List ℕ} (l : Lends lent image) (state : List ℤ) where
   unfolding resetOf provided _▷_
   reset-state a b = rw (l .judged ∙ a, sym (l .part a), b)
 
-  pub reset-done : wellFormed image ≡ true → ltb (countOf image) (length state) ≡ true → resetOf lent state ≡ done 0 (resetWords image state)
+  pub reset-done : wellFormed image ≡ true → ltb (countOf image) (length state) ≡ true →
+      resetOf lent state ≡ done 0 (resetWords image state)
   unfolding resetOf provided _▷_
   reset-done a b = rw (l .judged ∙ a, sym (l .part a), b)
 
@@ -46,22 +59,27 @@ module _ {lent image : List ℕ} (l : Lends lent image) (state samples : List �
   unfolding cycleOf provided _▷_
   cycle-image a = rw (l .judged ∙ a)
 
-  pub cycle-state : wellFormed image ≡ true → ltb (countOf image) (length state) ≡ false → cycleOf lent state samples ≡ refusal 21 state
+  pub cycle-state : wellFormed image ≡ true → ltb (countOf image) (length state) ≡ false →
+      cycleOf lent state samples ≡ refusal 21 state
   unfolding cycleOf provided _▷_
   cycle-state a b = rw (l .judged ∙ a, sym (l .part a), b)
 
-  pub cycle-position : wellFormed image ≡ true → ltb (countOf image) (length state) ≡ true → isPosition (hyperOf image) (getD state 0 (pos 0)) ≡ false
+  pub cycle-position : wellFormed image ≡ true → ltb (countOf image) (length state) ≡ true →
+      isPosition (hyperOf image) (getD state 0 (pos 0)) ≡ false
       → cycleOf lent state samples ≡ refusal 22 state
   unfolding cycleOf provided _▷_
   cycle-position a b c = rw (l .judged ∙ a, sym (l .part a), b, c)
 
-  pub cycle-samples : wellFormed image ≡ true → ltb (countOf image) (length state) ≡ true → isPosition (hyperOf image) (getD state 0 (pos 0)) ≡ true
+  pub cycle-samples : wellFormed image ≡ true → ltb (countOf image) (length state) ≡ true →
+      isPosition (hyperOf image) (getD state 0 (pos 0)) ≡ true
       → leb (countOf image) (length samples) ≡ false → cycleOf lent state samples ≡ refusal 23 state
   unfolding cycleOf provided _▷_
   cycle-samples a b c d = rw (l .judged ∙ a, sym (l .part a), b, c, d)
 
-  pub cycle-done : wellFormed image ≡ true → ltb (countOf image) (length state) ≡ true → isPosition (hyperOf image) (getD state 0 (pos 0)) ≡ true
-      → leb (countOf image) (length samples) ≡ true → cycleOf lent state samples ≡ done (cycleCount image state) (cycleWords image state samples)
+  pub cycle-done : wellFormed image ≡ true → ltb (countOf image) (length state) ≡ true →
+      isPosition (hyperOf image) (getD state 0 (pos 0)) ≡ true
+      → leb (countOf image) (length samples) ≡ true →
+      cycleOf lent state samples ≡ done (cycleCount image state) (cycleWords image state samples)
   unfolding cycleOf provided _▷_
   cycle-done a b c d = rw (l .judged ∙ a, sym (l .part a), b, c, d)
 

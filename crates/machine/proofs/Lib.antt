@@ -1,5 +1,5 @@
 -- Laws that the proofs of several functions cite.
-pub mod Laws
+pub mod Lists
 pub mod Answers
 pub mod Runnable
 pub mod Judging

@@ -3,7 +3,6 @@ use Prim.Native.Nat.{ℕ, _+_, _≤_, _<_}
 use mathlib.Core.Bool.{Bool, true, false}
 use mathlib.Core.List.{List}
 use mathlib.Core.Path.{_≡_, refl, ap, _∙_}
-use native.Mathlib.Numerals.{add-one}
 use native.Mathlib.Omega.{arith}
 use borrow.Author.Tests.{ltb-true, lt-ltb, le-leb}
 use lib.Dec.{ltb}
@@ -11,17 +10,26 @@ use lib.IntN.{ℤ, pos}
 use lib.ListN.{length, getD, set, length-append, length-drop}
 use lib.Seq.{getD-set-same}
 use Rattle.model.specs.Says.Calls.{cycle, callOf}
-use Rattle.model.specs.Rules.Machine.{hyperOf, countOf, wellFormed, positionOf, nextPosition, listOf, runSignals, cycleWords, resetWords, Effect, effect, resetOf}
+use Rattle.model.specs.Rules.Machine.{
+  hyperOf,
+  countOf,
+  wellFormed,
+  positionOf,
+  nextPosition,
+  listOf,
+  runSignals,
+  cycleWords,
+  resetWords,
+  Effect,
+  effect,
+  resetOf,
+}
 use Rattle.model.specs.Rules.Outcome.{accepted, _▷_, provided}
-use Rattle.model.proofs.Bytes.{position-is, next-below, run-length, cycle-length}
-use Rattle.model.proofs.Stretches.{table-length}
+use Rattle.model.proofs.Images.Cycles.{position-is, next-inside, run-length, cycle-length}
+use Rattle.model.proofs.Images.Stretches.{table-length}
 use Rattle.image_valid.proofs.Parts.{head, formed}
 use Rattle.machine.specs.Runnable.{Runnable}
 use Rattle.machine.proofs.Answers.{cycle-done, lends-itself}
-
-next-inside : (h c : ℕ) → c < h → nextPosition h c < h
-unfolding nextPosition
-next-inside h c lt = rw (add-one c) (next-below h c lt)
 
 cycle-first : (image : List ℕ) (state samples : List ℤ) → 0 < length state →
     getD (cycleWords image state samples) 0 (pos 0) ≡ pos (nextPosition (hyperOf image) (positionOf (getD state 0 (pos 0))))
@@ -50,7 +58,8 @@ module _ {image : List ℕ} {state samples : List ℤ} (r : Runnable image state
   unfolding callOf
   cycle-leaves =
       ap (λ (e : Effect ℤ). e .left)
-      (cycle-done (lends-itself (r .formed)) state samples (r .formed) (lt-ltb (countOf image) (length state) (r .long)) (r .position)
+      (cycle-done (lends-itself (r .formed)) state samples (r .formed) (lt-ltb (countOf image) (length state) (r .long))
+      (r .position)
       (le-leb (countOf image) (length samples) (r .enough)))
 
 -- A reset of a well-formed image that is not refused: with 64 samples the state that it leaves can be run.

@@ -22,12 +22,6 @@ const BAD_POSITION: u8 = 22;
 
 const FEW_SAMPLES: u8 = 23;
 
-fn wide(byte: u8) -> usize
-    ensures { λ r. ⌜ (r ≡ byte) × (r < 256) ⌝ }
-{
-    byte as usize
-}
-
 fn refused(number: u8) -> Ran
     ensures { λ r. ⌜ ranOf r ≡ refuse number 0 ⌝ }
 {
@@ -45,7 +39,7 @@ pub fn run_list(image: &[u8], c: usize) -> &[u8]
     requires { ⌜ (wellFormed (now image) ≡ true) × (c < hyperOf (now image)) ⌝ }
     ensures { λ r. ⌜ now r ≡ listOf (now (image .entry)) c ⌝ }
 {
-    let n = wide(image[1]);
+    let n = basics::wide(image[1]);
     let from = image_valid::list_offset(image, n, c);
     let to = image_valid::list_offset(image, n, c + 1);
     &image[from..to]
@@ -59,12 +53,12 @@ fn run_signals(list: &[u8], image: &[u8], n: u8, state: &mut [i32], samples: &[i
     ensures count { λ r. ⌜ r ≡ countSignals (now (image .entry)) (now (list .entry)) ⌝ }
     ensures left { λ _. ⌜ now (state .exit) ≡ runSignals (now (image .entry)) (now (list .entry)) (now (samples .entry)) (now (state .entry)) ⌝ }
 {
-    let count = wide(n);
+    let count = basics::wide(n);
     let mut total: u32 = 0;
     let mut i: usize = 0;
     while i < list.len() {
         let x = list[i];
-        let own = wide(x);
+        let own = basics::wide(x);
         let from = image_valid::code_offset(image, count, own);
         let to = image_valid::code_offset(image, count, own + 1);
         let run = run_code::run_code(&image[from..to], n, x, &state[..], samples);
@@ -107,7 +101,7 @@ pub fn reset(lent: &[u8], state: &mut [i32]) -> Ran
     if !image_valid::well_formed(image) {
         return refused(BAD_IMAGE);
     }
-    let n = wide(image[1]);
+    let n = basics::wide(image[1]);
     if state.len() <= n {
         return refused(SHORT_STATE);
     }
@@ -122,7 +116,7 @@ pub fn run_cycle(image: &[u8], state: &mut [i32], samples: &[i32]) -> u32
     ensures count { λ r. ⌜ r ≡ cycleCount (now (image .entry)) (now (state .entry)) ⌝ }
     ensures left { λ _. ⌜ now (state .exit) ≡ cycleWords (now (image .entry)) (now (state .entry)) (now (samples .entry)) ⌝ }
 {
-    let h = wide(image[0]);
+    let h = basics::wide(image[0]);
     let n = image[1];
     let position = state[0];
     let c = position as usize;
@@ -140,8 +134,8 @@ pub fn judge_cycle(lent: &[u8], state: &[i32], samples: &[i32]) -> u8
     if !image_valid::well_formed(image) {
         return BAD_IMAGE;
     }
-    let h = wide(image[0]);
-    let count = wide(image[1]);
+    let h = basics::wide(image[0]);
+    let count = basics::wide(image[1]);
     if state.len() <= count {
         return SHORT_STATE;
     }

@@ -1,3 +1,3 @@
--- Paper 01 as definitions that compute, a module for each of its sections, and the same as statements that judge them.
+-- Paper 01 as definitions that compute, a module for each of its sections, and as statements.
 pub mod Rules
 pub mod Says

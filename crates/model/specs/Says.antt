@@ -1,18 +1,6 @@
--- The statements that judge: the paper's words over all bytes, runs and calls.
+-- The statements that code and its laws cite: the paper's words over bytes, runs and calls. Those that judge the definitions as a
+-- whole are in crate theorems.
 pub mod Written
-pub mod Enums
 pub mod Grammar
-pub mod Stops
 pub mod Feasible
-pub mod Streams
-pub mod Conditions
-pub mod Refusals
-pub mod Height
-pub mod WellFormed
-pub mod Reach
 pub mod Calls
-pub mod Lists
-pub mod Exactness
-pub mod TrialRefusals
-pub mod Convert
-pub mod Conversion

@@ -33,37 +33,23 @@ pub enum Binary {
     Max,
 }
 
+// The operators with one operand.
+pub enum Unary {
+    Negate,
+}
+
 // The mode of a latency constraint.
 pub enum Mode {
     Exists,
     Backward,
 }
 
-// What a byte of the program text commands, before its operands are looked at.
-pub enum Keyword {
-    // no byte is left
-    Missing,
-    // no command has this byte
-    Unknown,
-    End,
-    Input,
-    Equation,
-    Latency,
-    Link,
-    Cap,
-    Tag,
-    Constant,
-    Read(Kind),
-    Binary(Binary),
-    Negate,
-    If,
-}
-
-// A command of the program text with its operands, expressions and LINKs left out.
-pub enum Command {
+// A command of the program text that is none of an expression, with its operands; the expression of an EQ and the LINKs of a LAT are
+// commands of their own.
+pub enum Declaration {
     // no byte is left, or an operand is cut off by the end of the text
     EndsEarly,
-    // no command has this byte
+    // no declaration has this byte
     Unknown,
     // an operand is outside its range
     OutOfRange,
@@ -80,10 +66,20 @@ pub enum Command {
     Cap(u32),
     // label
     Tag(u16),
+}
+
+// A command of an expression with its operands; the expressions that it is applied to are commands of their own.
+pub enum Operator {
+    // no byte is left, or an operand is cut off by the end of the text
+    EndsEarly,
+    // no operator has this byte
+    Unknown,
+    // an operand is outside its range
+    OutOfRange,
     Constant(i32),
     Read(Kind, Sampled),
     Binary(Binary),
-    Negate,
+    Unary(Unary),
     If,
 }
 
@@ -122,7 +118,7 @@ pub enum Code {
     Fetch(u8),
     Store(u8),
     Binary(Binary),
-    Negate,
+    Unary(Unary),
     If,
 }
 

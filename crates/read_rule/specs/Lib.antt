@@ -1,2 +1,3 @@
 -- What the functions on one read stand for.
+pub mod Lines
 pub mod Reads

@@ -3,10 +3,12 @@ use model::Found;
 use model::Index;
 use model::Kind;
 use model::Sampled;
-ghost use mathlib.Core.Bool.{false};
+ghost use mathlib.Core.Bool.{false, cond};
 ghost use mathlib.Core.Path.{_≡_};
-ghost use Prim.Native.Nat.{ℕ, suc, _+_, _*_, _≤_, _<_};
-ghost use Rattle.model.specs.Rules.Reads.{between, line, writerFirst, share, ordered, settle};
+ghost use Prim.Native.Nat.{ℕ, _-_, _≤_, _<_};
+ghost use Rattle.model.specs.Rules.Reads.{writerFirst};
+ghost use Rattle.model.specs.Rules.Search.{firstFrom};
+ghost use Rattle.read_rule.specs.Lines.{isPlain, isCurrent, isBefore, SmallLine, LineFor, numberAt, meetsAt, CandidatesOf, Paced};
 ghost use Rattle.read_rule.specs.Reads.{rateIn, indexFound, metBy};
 
 // A signal's period and phase.
@@ -15,110 +17,49 @@ pub struct Timing {
     pub phase: u8,
 }
 
-// Whether run `index` is the last of its signal at or before a cycle below the next.
-fn runs_before(index: u8, period: u8, phase: u8, cycle: u8) -> bool
-    ensures { λ r. ⌜ r ≡ between (index * period + phase) cycle (suc index * period + phase) ⌝ }
+fn either(first: bool, a: usize, b: usize) -> usize
+    ensures { λ r. ⌜ (r ≡ cond first a b) × ((a ≤ 256) → (b ≤ 256) → r ≤ 256) ⌝ }
 {
-    let start = (index as u32) * (period as u32) + (phase as u32);
-    if (cycle as u32) < start {
-        return false;
-    }
-    (cycle as u32) < start + (period as u32)
+    if first { a } else { b }
 }
 
-// Whether run `index` is the first of its signal at or after a cycle.
-fn runs_after(index: u8, period: u8, phase: u8, cycle: u8) -> bool
-    ensures { λ r. ⌜ r ≡ between cycle (index * period + phase) (cycle + period) ⌝ }
-{
-    let start = (index as u32) * (period as u32) + (phase as u32);
-    if start < (cycle as u32) {
-        return false;
-    }
-    start < (cycle as u32) + (period as u32)
-}
-
-// The line of a read at an index.
-fn meets_line(kind: Kind, w: Timing, r: Timing, index: u8) -> bool
-    ensures { λ b. ⌜ b ≡ line kind (rateIn w) (rateIn r) index ⌝ }
+// NOW and LAST.
+fn is_plain(kind: Kind) -> bool
+    ensures { λ b. ⌜ b ≡ isPlain kind ⌝ }
 {
     match kind {
-        Kind::Now => w.phase <= r.phase,
-        Kind::Last => r.phase <= w.phase,
-        Kind::When => runs_before(index, w.period, w.phase, r.phase),
-        Kind::LastWhen => runs_after(index, w.period, w.phase, r.phase),
-        Kind::Current => runs_after(index, r.period, r.phase, w.phase),
+        Kind::Now => true,
+        Kind::Last => true,
+        Kind::When => false,
+        Kind::LastWhen => false,
+        Kind::Current => false,
     }
 }
 
-// How many runs end a whole period at or before a cycle.
-fn passed_runs(period: u8, phase: u8, cycle: u8) -> u8
-    ensures { λ m. ⌜ ((k : ℕ) → k < m → suc k * period + phase ≤ cycle) ⌝ }
-{
-    if period == 0 {
-        return 0;
-    }
-    if cycle < phase {
-        return 0;
-    }
-    (cycle - phase) / period
-}
-
-// The lowest index that can meet the line of a read.
-fn lowest_index(kind: Kind, w: Timing, r: Timing) -> u8
-    ensures { λ m. ⌜ ((k : ℕ) → k < m → line kind (rateIn w) (rateIn r) k ≡ false) ⌝ }
+// Whether the runs counted are the reader's.
+fn is_current(kind: Kind) -> bool
+    ensures { λ b. ⌜ b ≡ isCurrent kind ⌝ }
 {
     match kind {
-        Kind::Now => 0,
-        Kind::Last => 0,
-        Kind::When => passed_runs(w.period, w.phase, r.phase),
-        Kind::LastWhen => passed_runs(w.period, w.phase, r.phase),
-        Kind::Current => passed_runs(r.period, r.phase, w.phase),
+        Kind::Now => false,
+        Kind::Last => false,
+        Kind::When => false,
+        Kind::LastWhen => false,
+        Kind::Current => true,
     }
 }
 
-// The index of an open read: the one from 0 to n - 1 that meets its line, or none.
-fn settle_index(kind: Kind, w: Timing, r: Timing, n: u8) -> Found
-    ensures { λ f. ⌜ f ≡ settle kind (rateIn w) (rateIn r) n ⌝ }
+// Whether a read uses the last run at or before its cycle, and not the first at or after it.
+fn is_before(kind: Kind) -> bool
+    ensures { λ b. ⌜ b ≡ isBefore kind ⌝ }
 {
-    let mut i = lowest_index(kind, w, r);
-    let settled = loop {
-        if n <= i {
-            break Found::Nowhere;
-        }
-        if meets_line(kind, w, r, i) {
-            break Found::At(i as usize);
-        }
-        i = i + 1;
-    };
-    settled
-}
-
-// The index of a read whose line holds: its own, or the one settled.
-pub fn find_index(kind: Kind, sampled: Sampled, w: Timing, r: Timing) -> Found
-    ensures { λ f. ⌜ f ≡ indexFound kind sampled (rateIn w) (rateIn r) ⌝ }
-{
-    let index = sampled.index;
-    match index {
-        Index::Fixed(i) => {
-            if meets_line(kind, w, r, i) {
-                Found::At(i as usize)
-            } else {
-                Found::Nowhere
-            }
-        }
-        Index::Open => settle_index(kind, w, r, sampled.factor),
+    match kind {
+        Kind::Now => true,
+        Kind::Last => false,
+        Kind::When => true,
+        Kind::LastWhen => false,
+        Kind::Current => false,
     }
-}
-
-// Whether runs of two signals share a cycle, where one period is a multiple of the other.
-fn shares_cycle(w: Timing, r: Timing) -> bool
-    requires { ⌜ (0 < w .period) × (0 < r .period) ⌝ }
-    ensures { λ b. ⌜ b ≡ share (rateIn w) (rateIn r) ⌝ }
-{
-    if w.period <= r.period {
-        return w.phase % w.period == r.phase % w.period;
-    }
-    w.phase % r.period == r.phase % r.period
 }
 
 // Whether a read wants the signal read to run first where runs share a cycle.
@@ -134,25 +75,141 @@ fn wants_first(kind: Kind) -> bool
     }
 }
 
-// The order of a read: `before` tells whether the signal read is put before the reader.
-fn keeps_order(kind: Kind, w: Timing, r: Timing, before: bool) -> bool
-    requires { ⌜ (0 < w .period) × (0 < r .period) ⌝ }
-    ensures { λ b. ⌜ b ≡ ordered kind (rateIn w) (rateIn r) before ⌝ }
+// One form for the lines of the five reads, so that no branch is taken by the kind: index i meets it where the number
+// first + i * stride is one of the `step` from `cycle` on. For LAST, LASTWHEN and CURRENT these numbers are cycles of runs, for NOW
+// and WHEN the cycles just before the next run, `ahead` after the run. Every index of NOW and LAST has the same number, and a step
+// that is over any phase.
+struct Line {
+    first: usize,
+    stride: usize,
+    step: usize,
+    cycle: usize,
+    ahead: usize,
+}
+
+// The difference, or 0.
+fn minus(a: usize, b: usize) -> usize
+    ensures { λ r. ⌜ r ≡ a - b ⌝ }
 {
-    if shares_cycle(w, r) {
+    if a <= b { 0 } else { a - b }
+}
+
+fn line_of(kind: Kind, w: Timing, r: Timing) -> Line
+    ensures { λ l. ⌜ LineFor kind w r l ⌝ }
+{
+    let plain = is_plain(kind);
+    let current = is_current(kind);
+    let period = either(current, basics::wide(r.period), basics::wide(w.period));
+    let start = either(current, basics::wide(r.phase), basics::wide(w.phase));
+    let cycle = either(current, basics::wide(w.phase), basics::wide(r.phase));
+    let step = either(plain, 256, period);
+    let stride = either(plain, 0, period);
+    let ahead = either(is_before(kind), minus(step, 1), 0);
+    Line {
+        first: start + ahead,
+        stride: stride,
+        step: step,
+        cycle: cycle,
+        ahead: ahead,
+    }
+}
+
+// The number of an index on a line.
+fn number_at(line: Line, index: usize) -> usize
+    requires { ⌜ SmallLine line × (index ≤ 256) ⌝ }
+    ensures { λ r. ⌜ r ≡ numberAt line index ⌝ }
+{
+    line.first + index * line.stride
+}
+
+fn meets(line: Line, index: usize) -> bool
+    requires { ⌜ SmallLine line × (index ≤ 256) ⌝ }
+    ensures { λ b. ⌜ b ≡ meetsAt line index ⌝ }
+{
+    let number = number_at(line, index);
+    if number < line.cycle {
+        return false;
+    }
+    number < line.cycle + line.step
+}
+
+// The lowest index that can meet a line.
+fn lowest_index(line: Line) -> usize
+    requires { ⌜ SmallLine line ⌝ }
+    ensures { λ m. ⌜ ((k : ℕ) → k < m → meetsAt line k ≡ false) ⌝ }
+{
+    if line.step == 0 {
+        return 0;
+    }
+    let past = line.cycle + (line.step - 1);
+    minus(past, line.first) / line.step
+}
+
+// The candidates for the index of a read: those from `from` on that are below `to`.
+struct Candidates {
+    from: usize,
+    to: usize,
+}
+
+// The index of a read is its own, or an open one's from the lowest to n - 1.
+fn candidates_of(line: Line, sampled: Sampled) -> Candidates
+    requires { ⌜ SmallLine line ⌝ }
+    ensures { λ r. ⌜ CandidatesOf line sampled r ⌝ }
+{
+    let lowest = lowest_index(line);
+    let index = sampled.index;
+    match index {
+        Index::Fixed(i) => Candidates {
+            from: basics::wide(i),
+            to: basics::wide(i) + 1,
+        },
+        Index::Open => Candidates {
+            from: lowest,
+            to: basics::wide(sampled.factor),
+        },
+    }
+}
+
+// The first candidate that meets its line, or none.
+fn settle(line: Line, from: usize, to: usize) -> Found
+    requires { ⌜ SmallLine line × (to ≤ 256) ⌝ }
+    ensures { λ f. ⌜ f ≡ firstFrom from (to - from) (meetsAt line) ⌝ }
+{
+    let mut i = from;
+    let settled = loop {
+        if to <= i {
+            break Found::Nowhere;
+        }
+        if meets(line, i) {
+            break Found::At(i);
+        }
+        i = i + 1;
+    };
+    settled
+}
+
+// The index of a read whose line holds: its own, or the one settled.
+pub fn find_index(kind: Kind, sampled: Sampled, w: Timing, r: Timing) -> Found
+    ensures { λ f. ⌜ f ≡ indexFound kind sampled (rateIn w) (rateIn r) ⌝ }
+{
+    let line = line_of(kind, w, r);
+    let among = candidates_of(line, sampled);
+    settle(line, among.from, among.to)
+}
+
+// A read is met if its line and its order both hold. Runs share a cycle where the number is `ahead` after the cycle.
+pub fn is_met(kind: Kind, sampled: Sampled, w: Timing, r: Timing, before: bool) -> bool
+    ensures { λ b. ⌜ (Paced kind sampled w r → b ≡ metBy kind sampled (rateIn w) (rateIn r) before) ⌝ }
+{
+    let line = line_of(kind, w, r);
+    let among = candidates_of(line, sampled);
+    let found = settle(line, among.from, among.to);
+    let Found::At(i) = found else {
+        return false;
+    };
+    let number = number_at(line, i);
+    if number == line.cycle + line.ahead {
         return before == wants_first(kind);
     }
     true
-}
-
-// A read is met if its line and its order both hold.
-pub fn is_met(kind: Kind, sampled: Sampled, w: Timing, r: Timing, before: bool) -> bool
-    requires { ⌜ (0 < w .period) × (0 < r .period) ⌝ }
-    ensures { λ b. ⌜ b ≡ metBy kind sampled (rateIn w) (rateIn r) before ⌝ }
-{
-    let found = find_index(kind, sampled, w, r);
-    match found {
-        Found::At(_) => keeps_order(kind, w, r, before),
-        Found::Nowhere => false,
-    }
 }

@@ -1,5 +1,6 @@
 // Makes the calls of a stream on standard input and prints a line for each (docs/VECTORS.md has the layout of both). What is
 // compared from outside is these lines. A stream that is cut off or too large for the space here ends the run.
+use basics::Judged;
 use libc::STDIN_FILENO;
 use libc::STDOUT_FILENO;
 use model::Compiled;
@@ -7,7 +8,6 @@ use model::Cycled;
 use model::Ran;
 use model::Reported;
 use model::Width;
-use text_program::Judged;
 ghost use Prim.Native.Nat.{_*_, _≤_};
 ghost use lib.ListN.{length};
 ghost use Rattle.trial_step.specs.Steps.{atStart, Underway};
@@ -33,17 +33,13 @@ fn fill(space: &mut [u8], n: usize) -> bool {
     io::read_full(STDIN_FILENO, &mut space[..n]) == n
 }
 
-fn wide(byte: u8) -> usize {
-    byte as usize
-}
-
 // Reads a number of one byte.
 fn one() -> Number {
     let mut bytes = [0u8; 1];
     if !fill(&mut bytes, 1) {
         return Number::Missing;
     }
-    Number::Is(wide(bytes[0]))
+    Number::Is(basics::wide(bytes[0]))
 }
 
 // Reads a number of two bytes.
@@ -668,7 +664,7 @@ fn call_turn(lent: Lent, image: &[u8], state: &mut [i32], record: &mut [usize; 1
 fn flags_of(loaded: u8, due: u8, weight: u8) -> usize
     requires { ⌜ 1 ≤ weight ⌝ }
 {
-    wide(loaded / weight % 2 + due / weight % 2 * 2)
+    basics::wide(loaded / weight % 2 + due / weight % 2 * 2)
 }
 
 // The numbers of a record that is put as it is: four counts, then start and length of each place.
@@ -696,7 +692,7 @@ fn put_record(lent: Lent, record: &mut [usize; 17]) -> Lent {
     let b = flags_of(loaded, due, 2);
     let c = flags_of(loaded, due, 4);
     let d = flags_of(loaded, due, 8);
-    let last = wide(bytes[2]);
+    let last = basics::wide(bytes[2]);
     let n = record_numbers(&bytes);
     *record = [
         a,

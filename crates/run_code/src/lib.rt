@@ -1,6 +1,7 @@
 // Runs the code of one signal. The code is known to be well formed, so nothing is checked again here.
 use model::Binary;
 use model::Code;
+use model::Unary;
 use run_stack::Stack;
 ghost use mathlib.Core.Path.{_≡_};
 ghost use mathlib.Core.Bool.{true};
@@ -9,12 +10,6 @@ ghost use lib.ListN.{length};
 ghost use Rattle.model.specs.Rules.Machine.{operatorCode, codeAt, codeOk, runCode, countCode};
 ghost use Rattle.model.specs.Rules.Word.{byteAt};
 ghost use Rattle.run_code.specs.Leaf.{leafWord, leafOk, leafLength};
-
-fn wide(byte: u8) -> usize
-    ensures { λ r. ⌜ (r ≡ byte) × (r < 256) ⌝ }
-{
-    byte as usize
-}
 
 // The operator with two operands that a byte commands.
 fn operator(byte: u8) -> Binary
@@ -41,7 +36,7 @@ fn leaf_word(code: &[u8], at: usize, state: &[i32], samples: &[i32]) -> i32
     if byte == 0x50 {
         return word::word_at(code, at + 1);
     }
-    let x = wide(code[at + 1]);
+    let x = basics::wide(code[at + 1]);
     if byte == 0x51 {
         return state[x + 1];
     }
@@ -107,7 +102,7 @@ pub fn run_code(code: &[u8], n: u8, own: u8, state: &[i32], samples: &[i32]) -> 
                     count: count,
                 };
             }
-            0x38 => stack = stack.negate(),
+            0x38 => stack = stack.unary(Unary::Negate),
             0x3A => stack = stack.choose(),
             _ => stack = stack.binary(operator(byte)),
         }

@@ -1,2 +1,2 @@
 -- Laws that the proofs of several methods cite.
-pub mod Laws
+pub mod Words

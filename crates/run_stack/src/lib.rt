@@ -1,10 +1,11 @@
 // The working stack of an image's code, by value: each method hands the next stack back. It is never short and never over 32.
 use model::Binary;
+use model::Unary;
 ghost use mathlib.Core.Path.{_≡_};
 ghost use mathlib.Core.List.{[], _∷_};
 ghost use Prim.Native.Nat.{_+_, _<_, _≤_};
 ghost use Rattle.model.specs.Rules.Machine.{onOne, onTwo, onThree};
-ghost use Rattle.model.specs.Rules.Word.{binaryWord, negWord, ifWord};
+ghost use Rattle.model.specs.Rules.Word.{binaryWord, unaryWord, ifWord};
 ghost use Rattle.run_stack.specs.View.{view};
 
 // The top word apart, the words under it in an array, whose word 0 is not used.
@@ -63,12 +64,12 @@ impl Stack {
         }
     }
 
-    pub fn negate(self) -> Self
+    pub fn unary(self, operator: Unary) -> Self
         requires { ⌜ (1 ≤ self .height) × (self .height ≤ 32) ⌝ }
-        ensures { λ r. ⌜ (view r ≡ onOne negWord (view self)) × (r .height ≡ self .height) ⌝ }
+        ensures { λ r. ⌜ (view r ≡ onOne (unaryWord operator) (view self)) × (r .height ≡ self .height) ⌝ }
     {
         let below = self.below;
-        let top = word::neg(self.top);
+        let top = word::unary(operator, self.top);
         Self {
             top,
             below,

@@ -1,44 +1,38 @@
 -- The commands of an expression by ranges of their bytes. Assumes nothing.
 use Prim.Native.Nat.{ℕ, _≤_, _<_}
 use mathlib.Core.List.{List}
-use mathlib.Core.Bool.{Bool, true, false, cond}
-use mathlib.Core.Path.{_≡_, refl, sym, ap}
+use mathlib.Core.Path.{_≡_}
 use native.Mathlib.Decide.{decLt}
 use native.Mathlib.Omega.{arith}
 use borrow.Author.Tests.{ne-eqb}
-use lib.Dec.{ltb}
-use lib.ListN.{length}
-use Rattle.model.specs.Rules.Command.{operatorOf, keywordOf, keywordAt, plainRead, sampledRead, commandOf, commandAt}
-use Rattle.model.specs.Rules.Word.{byteAt}
-use Rattle.model.specs.declared.Command.the-variants as Command
-use Rattle.model.specs.declared.Keyword.{Keyword}
-use Rattle.model.specs.declared.Keyword.the-variants as Keyword
-use Rattle.text_command.specs.Operator.{operatorAt, kindOf, binaryOf}
+use Rattle.model.specs.Rules.Command.{plainRead, sampledRead, operatorOf}
+use Rattle.model.specs.declared.Operator.the-variants as Operator
+use Rattle.text_command.specs.Operator.{kindOf, binaryOf}
 
 module _ (text : List ℕ) (at b : ℕ) where
-  pub plain-is : 0x21 ≤ b → b ≤ 0x22 → commandOf (operatorOf b) text at ≡ plainRead (kindOf b) text at
-  unfolding operatorOf commandOf kindOf
+  pub plain-is : 0x21 ≤ b → b ≤ 0x22 → operatorOf b text at ≡ plainRead (kindOf b) text at
+  unfolding operatorOf kindOf
   plain-is l h = go (decLt b 0x22)
     where
-      go : Dec (b < 0x22) → commandOf (operatorOf b) text at ≡ plainRead (kindOf b) text at
+      go : Dec (b < 0x22) → operatorOf b text at ≡ plainRead (kindOf b) text at
       go (yes p) = let e : b ≡ 0x21 = omega arith in rw e
       go (no p) = let e : b ≡ 0x22 = omega arith in rw e
 
-  pub sampled-is : 0x23 ≤ b → b ≤ 0x25 → commandOf (operatorOf b) text at ≡ sampledRead (kindOf b) text at
-  unfolding operatorOf commandOf kindOf
+  pub sampled-is : 0x23 ≤ b → b ≤ 0x25 → operatorOf b text at ≡ sampledRead (kindOf b) text at
+  unfolding operatorOf kindOf
   sampled-is l h = go (decLt b 0x24) (decLt b 0x25)
     where
-      go : Dec (b < 0x24) → Dec (b < 0x25) → commandOf (operatorOf b) text at ≡ sampledRead (kindOf b) text at
+      go : Dec (b < 0x24) → Dec (b < 0x25) → operatorOf b text at ≡ sampledRead (kindOf b) text at
       go (yes p) q = let e : b ≡ 0x23 = omega arith in rw e
       go (no p) (yes q) = let e : b ≡ 0x24 = omega arith in rw e
       go (no p) (no q) = let e : b ≡ 0x25 = omega arith in rw e
 
-  pub binary-is : 0x30 ≤ b → b ≤ 0x36 → commandOf (operatorOf b) text at ≡ Command.Binary (binaryOf b)
-  unfolding operatorOf commandOf binaryOf
+  pub binary-is : 0x30 ≤ b → b ≤ 0x36 → operatorOf b text at ≡ Operator.Binary (binaryOf b)
+  unfolding operatorOf binaryOf
   binary-is l h = go (decLt b 0x31) (decLt b 0x32) (decLt b 0x33) (decLt b 0x34) (decLt b 0x35) (decLt b 0x36)
     where
       go : Dec (b < 0x31) → Dec (b < 0x32) → Dec (b < 0x33) → Dec (b < 0x34) → Dec (b < 0x35) → Dec (b < 0x36) →
-          commandOf (operatorOf b) text at ≡ Command.Binary (binaryOf b)
+          operatorOf b text at ≡ Operator.Binary (binaryOf b)
       go (yes p) q r s t u = let e : b ≡ 0x30 = omega arith in rw e
       go (no p) (yes q) r s t u = let e : b ≡ 0x31 = omega arith in rw e
       go (no p) (no q) (yes r) s t u = let e : b ≡ 0x32 = omega arith in rw e
@@ -49,8 +43,8 @@ module _ (text : List ℕ) (at b : ℕ) where
 
   -- A byte that is none of them.
   pub unknown-is : (0x20 ≤ b → b ≤ 0x25 → ⊥) → (0x30 ≤ b → b ≤ 0x36 → ⊥) → (b ≡ 0x38 → ⊥) → (b ≡ 0x3A → ⊥) →
-      commandOf (operatorOf b) text at ≡ Command.Unknown
-  unfolding operatorOf commandOf
+      operatorOf b text at ≡ Operator.Unknown
+  unfolding operatorOf
   unknown-is n m g h =
       rw (
         ne-eqb b 0x20 (λ e. n (omega arith) (omega arith)),
@@ -69,27 +63,3 @@ module _ (text : List ℕ) (at b : ℕ) where
         ne-eqb b 0x38 g,
         ne-eqb b 0x3A h,
       )
-
--- A byte from 20 on is an operator's, or no command's.
-keyword-is : (b : ℕ) → 0x20 ≤ b → keywordOf b ≡ operatorOf b
-unfolding keywordOf
-keyword-is b h =
-    rw (
-      ne-eqb b 0x00 (λ e. omega arith),
-      ne-eqb b 0x10 (λ e. omega arith),
-      ne-eqb b 0x11 (λ e. omega arith),
-      ne-eqb b 0x12 (λ e. omega arith),
-      ne-eqb b 0x13 (λ e. omega arith),
-      ne-eqb b 0x14 (λ e. omega arith),
-      ne-eqb b 0x15 (λ e. omega arith),
-    )
-
-pub command-is : (text : List ℕ) (at : ℕ) → 0x20 ≤ byteAt text at → operatorAt text at ≡ commandAt text at
-unfolding operatorAt commandAt keywordAt commandOf
-command-is text at h = go (ltb at (length text))
-  where
-    go : (t : Bool) →
-        cond t (commandOf (operatorOf (byteAt text at)) text at) Command.EndsEarly ≡
-        commandOf (cond t (keywordOf (byteAt text at)) Keyword.Missing) text at
-    go true = ap (λ (k : Keyword). commandOf k text at) (sym (keyword-is (byteAt text at) h))
-    go false = refl

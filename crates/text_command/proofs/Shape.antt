@@ -4,15 +4,15 @@ use mathlib.Core.List.{List}
 use mathlib.Core.Path.{_≡_, refl}
 use native.Mathlib.Omega.{arith}
 use lib.ListN.{length}
-use Rattle.model.specs.Rules.Command.{indexOf, commandAt}
+use Rattle.model.specs.Rules.Command.{indexOf, operatorAt}
 use Rattle.model.specs.Rules.Word.{byteAt}
-use Rattle.model.specs.Says.Written.{Written}
-use Rattle.model.specs.declared.Command.the-variants as Command
+use Rattle.model.specs.Says.Written.{OperatorWritten}
+use Rattle.model.specs.declared.Operator.the-variants as Operator
 use Rattle.model.specs.declared.Index.the-variants.{Fixed}
 use Rattle.model.specs.declared.Kind.{Kind}
 use Rattle.model.specs.declared.Kind.the-variants.{Now, Last, When, LastWhen, Current}
 use Rattle.model.specs.declared.Sampled.{Sampled}
-use Rattle.model.proofs.Written.{command-written}
+use Rattle.model.proofs.Texts.Written.{operator-written}
 use Rattle.text_command.specs.Operator.{kindOf}
 
 abbrev pub plainAt : List ℕ → ℕ → Sampled
@@ -31,24 +31,38 @@ pub record Shape (text : List ℕ) (at : ℕ) (kind : Kind) (x : Sampled) : Type
   pub sampled : 0x23 ≤ byteAt text at → x ≡ sampledAt text at
 
 module _ {text : List ℕ} {at : ℕ} where
-  shape-of : {kind : Kind} {x : Sampled} → Written text at (Command.Read kind x) → Shape text at kind x
+  shape-of : {kind : Kind} {x : Sampled} → OperatorWritten text at (Operator.Read kind x) → Shape text at kind x
   unfolding kindOf
-  shape-of (Written.plain Now e h b) =
-      record { kind-is = rw b; inside = h; plain = λ l. refl; wide = λ l. absurd (omega arith); sampled = λ l. absurd (omega arith) }
-  shape-of (Written.plain Last e h b) =
-      record { kind-is = rw b; inside = h; plain = λ l. refl; wide = λ l. absurd (omega arith); sampled = λ l. absurd (omega arith) }
-  shape-of (Written.plain When e h b) = absurd (omega arith)
-  shape-of (Written.plain LastWhen e h b) = absurd (omega arith)
-  shape-of (Written.plain Current e h b) = absurd (omega arith)
-  shape-of (Written.sampled Now e h b r i) = absurd (omega arith)
-  shape-of (Written.sampled Last e h b r i) = absurd (omega arith)
-  shape-of (Written.sampled When e h b r i) =
+  shape-of (OperatorWritten.plain Now e h b) =
+      record {
+        kind-is = rw b;
+        inside = h;
+        plain = λ l. refl;
+        wide = λ l. absurd (omega arith);
+        sampled = λ l.
+            absurd (omega arith);
+      }
+  shape-of (OperatorWritten.plain Last e h b) =
+      record {
+        kind-is = rw b;
+        inside = h;
+        plain = λ l. refl;
+        wide = λ l. absurd (omega arith);
+        sampled = λ l.
+            absurd (omega arith);
+      }
+  shape-of (OperatorWritten.plain When e h b) = absurd (omega arith)
+  shape-of (OperatorWritten.plain LastWhen e h b) = absurd (omega arith)
+  shape-of (OperatorWritten.plain Current e h b) = absurd (omega arith)
+  shape-of (OperatorWritten.sampled Now e h b r i) = absurd (omega arith)
+  shape-of (OperatorWritten.sampled Last e h b r i) = absurd (omega arith)
+  shape-of (OperatorWritten.sampled When e h b r i) =
       record { kind-is = rw b; inside = omega arith; plain = λ l. absurd (omega arith); wide = λ l. h; sampled = λ l. refl }
-  shape-of (Written.sampled LastWhen e h b r i) =
+  shape-of (OperatorWritten.sampled LastWhen e h b r i) =
       record { kind-is = rw b; inside = omega arith; plain = λ l. absurd (omega arith); wide = λ l. h; sampled = λ l. refl }
-  shape-of (Written.sampled Current e h b r i) =
+  shape-of (OperatorWritten.sampled Current e h b r i) =
       record { kind-is = rw b; inside = omega arith; plain = λ l. absurd (omega arith); wide = λ l. h; sampled = λ l. refl }
 
-pub read-shape : (text : List ℕ) (at : ℕ) (kind : Kind) (x : Sampled) → commandAt text at ≡ Command.Read kind x →
+pub read-shape : (text : List ℕ) (at : ℕ) (kind : Kind) (x : Sampled) → operatorAt text at ≡ Operator.Read kind x →
     Shape text at kind x
-read-shape text at kind x e = shape-of (command-written text at (Command.Read kind x) .0 (e, tt))
+read-shape text at kind x e = shape-of (operator-written text at (Operator.Read kind x) .0 (e, tt))

@@ -1,24 +1,17 @@
--- The operators of an expression: any other byte is unknown there.
+-- The operators of an expression that act alike, by their bytes; a read that stands in a text.
 use Prim.Native.Nat.{ℕ}
 use mathlib.Core.Bool.{cond}
 use mathlib.Core.List.{List}
 use mathlib.Core.Path.{_≡_}
-use lib.Dec.{ltb, eqb}
-use lib.ListN.{length}
-use Rattle.model.specs.Rules.Command.{operatorOf, commandOf, commandAt}
-use Rattle.model.specs.Rules.Word.{byteAt}
+use lib.Dec.{eqb}
+use Rattle.model.specs.Rules.Command.{operatorAt}
 use Rattle.model.specs.declared.Binary.{Binary}
 use Rattle.model.specs.declared.Binary.the-variants as Binary
-use Rattle.model.specs.declared.Command.{Command}
-use Rattle.model.specs.declared.Command.the-variants as Command
 use Rattle.model.specs.declared.Kind.{Kind}
 use Rattle.model.specs.declared.Kind.the-variants.{Now, Last, When, LastWhen, Current}
+use Rattle.model.specs.declared.Operator.the-variants as Operator
 use Rattle.model.specs.declared.Sampled.{Sampled}
 use Rattle.text_command.specs.declared.Taken.{Taken}
-
--- The operator at an offset of an expression, with its operands.
-unfoldable pub operatorAt : List ℕ → ℕ → Command
-operatorAt text at = cond (ltb at (length text)) (commandOf (operatorOf (byteAt text at)) text at) Command.EndsEarly
 
 -- The read of a byte from 21 to 25.
 unfoldable pub kindOf : ℕ → Kind
@@ -37,8 +30,8 @@ binaryOf b =
 pub record ReadStands (text : List ℕ) (at : ℕ) : Type 0 where
   pub kind : Kind
   pub operands : Sampled
-  pub is : commandAt text at ≡ Command.Read kind operands
+  pub is : operatorAt text at ≡ Operator.Read kind operands
 
 pub record ReadTaken (text : List ℕ) (at : ℕ) (r : Taken) : Type 0 where
-  pub is : (kind : Kind) (operands : Sampled) → commandAt text at ≡ Command.Read kind operands →
+  pub is : (kind : Kind) (operands : Sampled) → operatorAt text at ≡ Operator.Read kind operands →
       r ≡ record { kind = kind; operands = operands }

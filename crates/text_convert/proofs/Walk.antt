@@ -9,27 +9,45 @@ use borrow.Author.Tests.{leb-true, le-leb, lt-leb}
 use lib.Dec.{leb, eqb}
 use lib.ListN.{length, getD, take, drop, length-drop}
 use lib.Seq.{drop-cons, length-take-le, sets, sets-eq}
-use Rattle.model.specs.Rules.Command.{commandAt}
-use Rattle.model.specs.Says.Convert.{singleKind}
+use Rattle.model.specs.Rules.Command.{isOperator, declarationAt, operatorAt}
+use Rattle.model.specs.Rules.Rewrite.{singleKind}
 use Rattle.model.specs.Rules.Machine.{effect}
 use Rattle.model.specs.Rules.Outcome.{Outcome, accepted, refused, refuse, _▷_, provided}
 use Rattle.model.specs.Rules.Program.{Program, parseWith}
 use Rattle.model.specs.Rules.Width.{readWidth}
-use Rattle.model.specs.Rules.Rewrite.{widthOf, bytesAfter, rewriteAt, rewriteFrom, rewrite, convertOf}
+use Rattle.model.specs.Rules.Rewrite.{
+  Command,
+  ofDeclaration,
+  ofOperator,
+  commandAt,
+  declarationWidth,
+  operatorWidth,
+  widthOf,
+  operatorAfter,
+  bytesAfter,
+  rewriteAt,
+  rewriteFrom,
+  rewrite,
+  convertOf,
+}
+use Rattle.model.specs.Rules.Word.{byteAt}
 use Rattle.model.specs.Says.Written.{readByte}
-use Rattle.model.specs.declared.Command.{Command}
-use Rattle.model.specs.declared.Command.the-variants as Command
+use Rattle.model.specs.declared.Declaration.{Declaration}
+use Rattle.model.specs.declared.Declaration.the-variants as Declaration
 use Rattle.model.specs.declared.Fault.{Fault}
 use Rattle.model.specs.declared.Kind.{Kind}
 use Rattle.model.specs.declared.Kind.the-variants.{Now, Last, When, LastWhen, Current}
-use Rattle.model.proofs.Commands.{Sound, command-sound}
+use Rattle.model.specs.declared.Operator.{Operator}
+use Rattle.model.specs.declared.Operator.the-variants as Operator
+use Rattle.model.proofs.Texts.Commands.{DeclarationSound, declaration-sound, OperatorSound, operator-sound}
+use Rattle.model.proofs.Texts.Picks.{chosen-all}
 use Rattle.model.specs.Rules.Writing.{Wrote}
-use Rattle.model.proofs.Left.{Parts}
+use Rattle.model.proofs.Basics.Left.{Parts}
 use Rattle.text_program.specs.Tables.{ProgramReads}
-use Rattle.text_program.specs.declared.Judged.{Judged}
-use Rattle.text_program.specs.declared.Judged.the-variants as Judged
+use Rattle.basics.specs.declared.Judged.{Judged}
+use Rattle.basics.specs.declared.Judged.the-variants as Judged
 use Rattle.text_program.specs.declared.ProgramRead.{ProgramRead}
-use Rattle.text_convert.specs.Pieces.{widthIn, lengthIn, bytesIn, pieceOf, pieceAt}
+use Rattle.text_convert.specs.Pieces.{widthIn, lengthIn, bytesIn, operatorPiece, pieceOf, pieceAt}
 use Rattle.text_convert.specs.declared.Piece.{Piece}
 use Rattle.text_convert.specs.declared.Piece.the-variants as Piece
 
@@ -49,48 +67,34 @@ take-none zero l le = refl
 take-none (suc n) l le = absurd (omega arith)
 
 -- The piece of a command is what the definition says.
-piece-width : (c : Command) → widthIn (pieceOf c) ≡ widthOf c
-piece-width Command.EndsEarly = refl
-piece-width Command.Unknown = refl
-piece-width Command.OutOfRange = refl
-piece-width Command.End = refl
-piece-width (Command.Input period initial) = refl
-piece-width (Command.Equation period initial weight) = refl
-piece-width (Command.Latency mode bound) = refl
-piece-width (Command.Link signal) = refl
-piece-width (Command.Cap n) = refl
-piece-width (Command.Tag label) = refl
-piece-width (Command.Constant w) = refl
-piece-width (Command.Read kind x) = go (eqb (x .factor) 1) (readByte (singleKind kind)) (x .signal)
+operator-width : (o : Operator) → widthIn (operatorPiece o) ≡ operatorWidth o
+operator-width Operator.EndsEarly = refl
+operator-width Operator.Unknown = refl
+operator-width Operator.OutOfRange = refl
+operator-width (Operator.Constant w) = refl
+operator-width (Operator.Read kind x) = go (eqb (x .factor) 1) (readByte (singleKind kind)) (x .signal)
   where
     go : (b : Bool) (a s : ℕ) → widthIn (cond b (Piece.Short (readWidth kind) a s) (Piece.Keep (readWidth kind))) ≡ readWidth kind
     go true a s = refl
     go false a s = refl
-piece-width (Command.Binary operator) = refl
-piece-width Command.Negate = refl
-piece-width Command.If = refl
+operator-width (Operator.Binary operator) = refl
+operator-width (Operator.Unary operator) = refl
+operator-width Operator.If = refl
 
-piece-bytes : (c : Command) (l : List ℕ) → bytesIn (pieceOf c) l ≡ bytesAfter c l
-piece-bytes Command.EndsEarly l = refl
-piece-bytes Command.Unknown l = refl
-piece-bytes Command.OutOfRange l = refl
-piece-bytes Command.End l = refl
-piece-bytes (Command.Input period initial) l = refl
-piece-bytes (Command.Equation period initial weight) l = refl
-piece-bytes (Command.Latency mode bound) l = refl
-piece-bytes (Command.Link signal) l = refl
-piece-bytes (Command.Cap n) l = refl
-piece-bytes (Command.Tag label) l = refl
-piece-bytes (Command.Constant w) l = refl
-piece-bytes (Command.Read kind x) l = go (eqb (x .factor) 1) (readByte (singleKind kind)) (x .signal)
+operator-bytes : (o : Operator) (l : List ℕ) → bytesIn (operatorPiece o) l ≡ operatorAfter o l
+operator-bytes Operator.EndsEarly l = refl
+operator-bytes Operator.Unknown l = refl
+operator-bytes Operator.OutOfRange l = refl
+operator-bytes (Operator.Constant w) l = refl
+operator-bytes (Operator.Read kind x) l = go (eqb (x .factor) 1) (readByte (singleKind kind)) (x .signal)
   where
     go : (b : Bool) (a s : ℕ) →
         bytesIn (cond b (Piece.Short (readWidth kind) a s) (Piece.Keep (readWidth kind))) l ≡ cond b (a ∷ s ∷ []) l
     go true a s = refl
     go false a s = refl
-piece-bytes (Command.Binary operator) l = refl
-piece-bytes Command.Negate l = refl
-piece-bytes Command.If l = refl
+operator-bytes (Operator.Binary operator) l = refl
+operator-bytes (Operator.Unary operator) l = refl
+operator-bytes Operator.If l = refl
 
 width-two : (kind : Kind) → 2 ≤ readWidth kind
 width-two Now = omega arith
@@ -100,49 +104,68 @@ width-two LastWhen = omega arith
 width-two Current = omega arith
 
 -- No piece is longer than what it stands for.
-piece-short : (c : Command) → lengthIn (pieceOf c) ≤ widthIn (pieceOf c)
-piece-short Command.EndsEarly = omega arith
-piece-short Command.Unknown = omega arith
-piece-short Command.OutOfRange = omega arith
-piece-short Command.End = omega arith
-piece-short (Command.Input period initial) = omega arith
-piece-short (Command.Equation period initial weight) = omega arith
-piece-short (Command.Latency mode bound) = omega arith
-piece-short (Command.Link signal) = omega arith
-piece-short (Command.Cap n) = omega arith
-piece-short (Command.Tag label) = omega arith
-piece-short (Command.Constant w) = omega arith
-piece-short (Command.Read kind x) = go (eqb (x .factor) 1) (readByte (singleKind kind)) (x .signal)
+operator-short : (o : Operator) → lengthIn (operatorPiece o) ≤ widthIn (operatorPiece o)
+operator-short Operator.EndsEarly = omega arith
+operator-short Operator.Unknown = omega arith
+operator-short Operator.OutOfRange = omega arith
+operator-short (Operator.Constant w) = omega arith
+operator-short (Operator.Read kind x) = go (eqb (x .factor) 1) (readByte (singleKind kind)) (x .signal)
   where
     go : (b : Bool) (a s : ℕ) → lengthIn (cond b (Piece.Short (readWidth kind) a s) (Piece.Keep (readWidth kind))) ≤
         widthIn (cond b (Piece.Short (readWidth kind) a s) (Piece.Keep (readWidth kind)))
     go true a s = width-two kind
     go false a s = omega arith
-piece-short (Command.Binary operator) = omega arith
-piece-short Command.Negate = omega arith
-piece-short Command.If = omega arith
+operator-short (Operator.Binary operator) = omega arith
+operator-short (Operator.Unary operator) = omega arith
+operator-short Operator.If = omega arith
+
+piece-width : (c : Command) → widthIn (pieceOf c) ≡ widthOf c
+piece-width (ofDeclaration d) = refl
+piece-width (ofOperator o) = operator-width o
+
+piece-bytes : (c : Command) (l : List ℕ) → bytesIn (pieceOf c) l ≡ bytesAfter c l
+piece-bytes (ofDeclaration d) l = refl
+piece-bytes (ofOperator o) l = operator-bytes o l
+
+piece-short : (c : Command) → lengthIn (pieceOf c) ≤ widthIn (pieceOf c)
+piece-short (ofDeclaration d) = omega arith
+piece-short (ofOperator o) = operator-short o
 
 piece-length : (piece : Piece) (l : List ℕ) → length l ≡ widthIn piece → length (bytesIn piece l) ≡ lengthIn piece
 piece-length (Piece.Keep n) l e = e
 piece-length (Piece.Short n byte signal) l e = refl
 
 -- Every command lies within the text.
-sound-inside : (text : List ℕ) (at : ℕ) (c : Command) → Sound text at c → at ≤ length text → at + widthOf c ≤ length text
-sound-inside text at Command.EndsEarly h le = omega arith
-sound-inside text at Command.Unknown h le = omega arith
-sound-inside text at Command.OutOfRange h le = omega arith
-sound-inside text at Command.End h le = h
-sound-inside text at (Command.Input period initial) h le = h .3
-sound-inside text at (Command.Equation period initial weight) h le = h .3
-sound-inside text at (Command.Latency mode bound) h le = h
-sound-inside text at (Command.Link signal) h le = h
-sound-inside text at (Command.Cap n) h le = h
-sound-inside text at (Command.Tag label) h le = h .1
-sound-inside text at (Command.Constant w) h le = h .1
-sound-inside text at (Command.Read kind x) h le = h .1
-sound-inside text at (Command.Binary operator) h le = h
-sound-inside text at Command.Negate h le = h
-sound-inside text at Command.If h le = h
+declaration-inside : (text : List ℕ) (at : ℕ) (d : Declaration) → DeclarationSound text at d → at ≤ length text →
+    at + declarationWidth d ≤ length text
+declaration-inside text at Declaration.EndsEarly h le = omega arith
+declaration-inside text at Declaration.Unknown h le = omega arith
+declaration-inside text at Declaration.OutOfRange h le = omega arith
+declaration-inside text at Declaration.End h le = h
+declaration-inside text at (Declaration.Input period initial) h le = h .3
+declaration-inside text at (Declaration.Equation period initial weight) h le = h .3
+declaration-inside text at (Declaration.Latency mode bound) h le = h
+declaration-inside text at (Declaration.Link signal) h le = h
+declaration-inside text at (Declaration.Cap n) h le = h
+declaration-inside text at (Declaration.Tag label) h le = h .1
+
+operator-inside : (text : List ℕ) (at : ℕ) (o : Operator) → OperatorSound text at o → at ≤ length text →
+    at + operatorWidth o ≤ length text
+operator-inside text at Operator.EndsEarly h le = omega arith
+operator-inside text at Operator.Unknown h le = omega arith
+operator-inside text at Operator.OutOfRange h le = omega arith
+operator-inside text at (Operator.Constant w) h le = h .1
+operator-inside text at (Operator.Read kind x) h le = h .1
+operator-inside text at (Operator.Binary operator) h le = h
+operator-inside text at (Operator.Unary operator) h le = h
+operator-inside text at Operator.If h le = h
+
+command-inside : (text : List ℕ) (at : ℕ) → at ≤ length text → at + widthOf (commandAt text at) ≤ length text
+unfolding commandAt
+command-inside text at le =
+    chosen-all (λ c. at + widthOf c ≤ length text) (isOperator (byteAt text at)) _ _
+    (λ t. operator-inside text at (operatorAt text at) (operator-sound text at _ refl) le)
+    (λ t. declaration-inside text at (declarationAt text at) (declaration-sound text at _ refl) le)
 
 -- What one turn does at `at`, where `left` are left.
 pub record Turn (text : List ℕ) (at left : ℕ) (piece : Piece) : Type 0 where
@@ -166,17 +189,18 @@ turn-at text at left lt le =
     let c = commandAt text at in
     let w = piece-width c in
     let within : at + widthIn (pieceOf c) ≤ length text =
-    rw w (sound-inside text at c (command-sound text at c refl) le) in
+    rw w (command-inside text at le) in
     record {
       inside = within;
       short = piece-short c;
-      size = piece-length (pieceOf c) _ (length-take-le (widthIn (pieceOf c)) (drop at text) (omega (arith, length-drop at text)));
+      size = piece-length (pieceOf c) _
+          (length-take-le (widthIn (pieceOf c)) (drop at text) (omega (arith, length-drop at text)));
       parts = record { is = rewrite-step text at left lt ∙ rw (w, piece-bytes c (take (widthOf c) (drop at text))) refl };
     }
 
-pub turn-of : (text : List ℕ) (at left : ℕ) (c : Command) (piece : Piece) → 0 < left → at ≤ length text →
-    c ≡ commandAt text at → piece ≡ pieceOf c → Turn text at left piece
-turn-of text at left c piece lt le e f = rw (f, e) (turn-at text at left lt le)
+pub turn-of : (text : List ℕ) (at left : ℕ) (piece : Piece) → 0 < left → at ≤ length text →
+    piece ≡ pieceOf (commandAt text at) → Turn text at left piece
+turn-of text at left piece lt le e = rw e (turn-at text at left lt le)
 
 -- The walk starts with the whole text, and ends with nothing left.
 pub rewrite-starts : (text : List ℕ) → rewriteFrom (length text) text 0 ≡ rewrite text

@@ -4,10 +4,12 @@ use mathlib.Core.List.{List, [], _∷_}
 use mathlib.Core.Bool.{cond}
 use lib.Dec.{eqb}
 use lib.ListN.{take, drop}
-use Rattle.model.specs.Says.Convert.{singleKind}
-use Rattle.model.specs.Rules.Width.{inProgram, inExpression, readWidth}
+use Rattle.model.specs.Rules.Rewrite.{singleKind}
+use Rattle.model.specs.Rules.Rewrite.{Command, ofDeclaration, ofOperator, declarationWidth}
+use Rattle.model.specs.Rules.Width.{inExpression, readWidth}
 use Rattle.model.specs.Says.Written.{readByte}
-use Rattle.model.specs.declared.Command.{Command}
+use Rattle.model.specs.declared.Operator.{Operator}
+use Rattle.model.specs.declared.Operator.the-variants as Operator
 use Rattle.text_convert.specs.declared.Piece.{Piece}
 use Rattle.text_convert.specs.declared.Piece.the-variants as Piece
 
@@ -24,24 +26,21 @@ abbrev pub bytesIn : Piece → List ℕ → List ℕ
 bytesIn (Piece.Keep n) bytes = bytes
 bytesIn (Piece.Short n byte signal) bytes = byte ∷ signal ∷ []
 
--- The piece of a command.
-abbrev pub pieceOf : Command → Piece
-pieceOf Command.EndsEarly = Piece.Keep 0
-pieceOf Command.Unknown = Piece.Keep 0
-pieceOf Command.OutOfRange = Piece.Keep 0
-pieceOf Command.End = Piece.Keep (inProgram 0x00)
-pieceOf (Command.Input period initial) = Piece.Keep (inProgram 0x10)
-pieceOf (Command.Equation period initial weight) = Piece.Keep (inProgram 0x11)
-pieceOf (Command.Latency mode bound) = Piece.Keep (inProgram 0x12)
-pieceOf (Command.Link signal) = Piece.Keep (inProgram 0x13)
-pieceOf (Command.Cap n) = Piece.Keep (inProgram 0x14)
-pieceOf (Command.Tag label) = Piece.Keep (inProgram 0x15)
-pieceOf (Command.Constant w) = Piece.Keep (inExpression 0x20)
-pieceOf (Command.Read kind x) =
+-- The piece of an operator; a declaration is kept.
+abbrev pub operatorPiece : Operator → Piece
+operatorPiece Operator.EndsEarly = Piece.Keep 0
+operatorPiece Operator.Unknown = Piece.Keep 0
+operatorPiece Operator.OutOfRange = Piece.Keep 0
+operatorPiece (Operator.Constant w) = Piece.Keep (inExpression 0x20)
+operatorPiece (Operator.Read kind x) =
     cond (eqb (x .factor) 1) (Piece.Short (readWidth kind) (readByte (singleKind kind)) (x .signal)) (Piece.Keep (readWidth kind))
-pieceOf (Command.Binary operator) = Piece.Keep (inExpression 0x30)
-pieceOf Command.Negate = Piece.Keep (inExpression 0x38)
-pieceOf Command.If = Piece.Keep (inExpression 0x3A)
+operatorPiece (Operator.Binary operator) = Piece.Keep (inExpression 0x30)
+operatorPiece (Operator.Unary operator) = Piece.Keep (inExpression 0x38)
+operatorPiece Operator.If = Piece.Keep (inExpression 0x3A)
+
+abbrev pub pieceOf : Command → Piece
+pieceOf (ofDeclaration d) = Piece.Keep (declarationWidth d)
+pieceOf (ofOperator o) = operatorPiece o
 
 -- The bytes of the piece that stands for the command at `at`.
 abbrev pub pieceAt : List ℕ → ℕ → Piece → List ℕ

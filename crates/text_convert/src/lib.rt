@@ -1,19 +1,21 @@
 // The converter: a program text with each read of factor 1 written as NOW or LAST.
-use model::Command;
+use basics::Judged;
 use model::Compiled;
+use model::Declaration;
 use model::Fault;
 use model::Kind;
-use text_program::Judged;
+use model::Operator;
+use model::Width;
 ghost use mathlib.Core.Path.{_≡_};
 ghost use mathlib.Core.List.{_++_};
 ghost use Prim.Native.Nat.{_+_, _*_, _≤_};
 ghost use lib.ListN.{length, take, drop};
 ghost use Rattle.model.specs.Rules.Compile.{compiledOf};
-ghost use Rattle.model.specs.Says.Convert.{singleKind};
-ghost use Rattle.model.specs.Rules.Rewrite.{rewrite, convertOf};
+ghost use Rattle.model.specs.Rules.Rewrite.{singleKind};
+ghost use Rattle.model.specs.Rules.Rewrite.{commandAt, declarationWidth, rewrite, convertOf};
 ghost use Rattle.model.specs.Says.Written.{readByte};
 ghost use Rattle.model.specs.Rules.Writing.{Wrote};
-ghost use Rattle.text_convert.specs.Pieces.{widthIn, lengthIn, pieceOf, pieceAt};
+ghost use Rattle.text_convert.specs.Pieces.{widthIn, lengthIn, operatorPiece, pieceOf, pieceAt};
 
 // What a command becomes: its bytes as they are, so many; or, for so many bytes, a byte and a signal.
 enum Piece {
@@ -34,22 +36,33 @@ fn short_byte(kind: Kind) -> u8
     }
 }
 
-fn piece_of(command: Command) -> Piece
-    ensures { λ r. ⌜ r ≡ pieceOf command ⌝ }
+// The bytes of a declaration, which are kept.
+fn declaration_width(declaration: Declaration) -> usize
+    ensures { λ r. ⌜ r ≡ declarationWidth declaration ⌝ }
 {
-    match command {
-        Command::EndsEarly => Piece::Keep(0),
-        Command::Unknown => Piece::Keep(0),
-        Command::OutOfRange => Piece::Keep(0),
-        Command::End => Piece::Keep(width::in_program(0x00)),
-        Command::Input(_, _) => Piece::Keep(width::in_program(0x10)),
-        Command::Equation(_, _, _) => Piece::Keep(width::in_program(0x11)),
-        Command::Latency(_, _) => Piece::Keep(width::in_program(0x12)),
-        Command::Link(_) => Piece::Keep(width::in_program(0x13)),
-        Command::Cap(_) => Piece::Keep(width::in_program(0x14)),
-        Command::Tag(_) => Piece::Keep(width::in_program(0x15)),
-        Command::Constant(_) => Piece::Keep(width::in_expression(0x20)),
-        Command::Read(kind, x) => {
+    match declaration {
+        Declaration::EndsEarly => 0,
+        Declaration::Unknown => 0,
+        Declaration::OutOfRange => 0,
+        Declaration::End => width::in_program(0x00),
+        Declaration::Input(_, _) => width::in_program(0x10),
+        Declaration::Equation(_, _, _) => width::in_program(0x11),
+        Declaration::Latency(_, _) => width::in_program(0x12),
+        Declaration::Link(_) => width::in_program(0x13),
+        Declaration::Cap(_) => width::in_program(0x14),
+        Declaration::Tag(_) => width::in_program(0x15),
+    }
+}
+
+fn operator_piece(operator: Operator) -> Piece
+    ensures { λ r. ⌜ r ≡ operatorPiece operator ⌝ }
+{
+    match operator {
+        Operator::EndsEarly => Piece::Keep(0),
+        Operator::Unknown => Piece::Keep(0),
+        Operator::OutOfRange => Piece::Keep(0),
+        Operator::Constant(_) => Piece::Keep(width::in_expression(0x20)),
+        Operator::Read(kind, x) => {
             let width = width::of_read(kind);
             let factor = x.factor;
             if factor == 1 {
@@ -58,9 +71,26 @@ fn piece_of(command: Command) -> Piece
             }
             Piece::Keep(width)
         }
-        Command::Binary(_) => Piece::Keep(width::in_expression(0x30)),
-        Command::Negate => Piece::Keep(width::in_expression(0x38)),
-        Command::If => Piece::Keep(width::in_expression(0x3A)),
+        Operator::Binary(_) => Piece::Keep(width::in_expression(0x30)),
+        Operator::Unary(_) => Piece::Keep(width::in_expression(0x38)),
+        Operator::If => Piece::Keep(width::in_expression(0x3A)),
+    }
+}
+
+// The piece of the command at `at`, an operator or a declaration by its byte.
+fn command_piece(text: &[u8], at: usize) -> Piece
+    ensures { λ r. ⌜ r ≡ pieceOf (commandAt (now (text .entry)) at) ⌝ }
+{
+    if text.len() <= at {
+        return Piece::Keep(0);
+    }
+    let width = width::expression(text[at]);
+    match width {
+        Width::Bytes(_) => operator_piece(text_command::operator_at(text, at)),
+        Width::Unlisted => {
+            let declaration = text_command::declaration_at(text, at);
+            Piece::Keep(declaration_width(declaration))
+        }
     }
 }
 
@@ -123,8 +153,7 @@ fn rewritten_length(text: &[u8]) -> usize
     let mut total: usize = 0;
     let mut left = text.len();
     while 0 < left {
-        let command = text_command::command_at(text, at);
-        let piece = piece_of(command);
+        let piece = command_piece(text, at);
         let length = length_of(piece);
         total = total + length;
         let width = width_of(piece);
@@ -143,8 +172,7 @@ fn write(text: &[u8], out: &mut [u8]) -> usize
     let mut to: usize = 0;
     let mut left = text.len();
     while 0 < left {
-        let command = text_command::command_at(text, at);
-        let piece = piece_of(command);
+        let piece = command_piece(text, at);
         to = put(text, at, piece, out, to);
         let width = width_of(piece);
         at = at + width;

@@ -6,22 +6,22 @@ use native.Mathlib.Omega.{arith}
 use lib.ListN.{length, getD, drop, List·getD-map}
 use lib.Seq.{drop-cons, drop-length}
 use Rattle.model.specs.Says.Feasible.{All}
-use Rattle.model.specs.Rules.Command.{commandAt}
+use Rattle.model.specs.Rules.Command.{operatorAt}
 use Rattle.model.specs.Rules.Outcome.{Outcome, accepted, refused, lowest}
 use Rattle.model.specs.Rules.Program.{Program, Read, Signal, Link, Chain, noSignal, count, signalAt, bodyReads, parseProgram}
 use Rattle.model.specs.Rules.Search.{joinFrom}
-use Rattle.model.specs.declared.Command.the-variants as Command
+use Rattle.model.specs.declared.Operator.the-variants as Operator
 use Rattle.model.specs.declared.Fault.{Fault}
 use Rattle.model.specs.declared.Index.the-variants.{Fixed}
 use Rattle.model.specs.declared.Kind.the-variants.{Now}
-use Rattle.model.proofs.All.{all-at, all-append}
-use Rattle.model.proofs.Legal.{SpellsRead, legal, signal-reads}
-use Rattle.model.proofs.Outcomes.{accepted-same, lowest-sorted}
+use Rattle.model.proofs.Basics.All.{all-at, all-append}
+use Rattle.model.proofs.Texts.Legal.{SpellsRead, legal, signal-reads}
+use Rattle.model.proofs.Basics.Outcomes.{accepted-same, lowest-sorted}
 use Rattle.text_command.specs.Operator.{ReadStands, ReadTaken}
 use Rattle.text_command.specs.declared.Taken.{Taken}
 use Rattle.text_program.specs.Tables.{noChain, readsIn, ReadsOf, Indexed}
-use Rattle.text_program.specs.declared.Judged.{Judged}
-use Rattle.text_program.specs.declared.Judged.the-variants as Judged
+use Rattle.basics.specs.declared.Judged.{Judged}
+use Rattle.basics.specs.declared.Judged.the-variants as Judged
 use Rattle.text_program.proofs.Rising.{Rising, rising-all}
 use Rattle.text_program.proofs.Sums.{sums-below}
 
@@ -160,13 +160,16 @@ module _ (f : Family) (F : ℕ → f .Item → List Fault) (at-item : AtItem f F
   one-beyond n [] h le = tt
   one-beyond n (g ∷ gs) h le = (omega (arith, h .0), one-beyond n gs (h .1) le)
 
-  each-beyond : (x : ℕ) (is : List (f .Item)) → All (λ n. a ≤ n) (each f (placeOf f) x is) → All (λ g. a ≤ g .place) (each f F x is)
+  each-beyond : (x : ℕ) (is : List (f .Item)) → All (λ n. a ≤ n) (each f (placeOf f) x is) →
+      All (λ g. a ≤ g .place) (each f F x is)
   unfolding each
   each-beyond x [] h = tt
   each-beyond x (i ∷ is) h =
-      all-append (λ g. a ≤ g .place) (F x i) (each f F x is) (one-beyond (f .place i) (F x i) (at-item x i) (h .0)) (each-beyond x is (h .1))
+      all-append (λ g. a ≤ g .place) (F x i) (each f F x is) (one-beyond (f .place i) (F x i) (at-item x i) (h .0))
+      (each-beyond x is (h .1))
 
-  after-beyond : (x : ℕ) (os : List (f .Owner)) → All (λ n. a ≤ n) (after f (placeOf f) x os) → All (λ g. a ≤ g .place) (after f F x os)
+  after-beyond : (x : ℕ) (os : List (f .Owner)) → All (λ n. a ≤ n) (after f (placeOf f) x os) →
+      All (λ g. a ≤ g .place) (after f F x os)
   unfolding after
   after-beyond x [] h = tt
   after-beyond x (b ∷ os) h =
@@ -245,12 +248,14 @@ module _ (f : Family) (F : ℕ → f .Item → List Fault) (verdict : Outcome (U
     check-refuses {g} e =
         let n = f .place (itemAt f x j) in
         let z : g .place ≡ n = subst (All (λ (k : Fault). k .place ≡ n)) e (at-item x (itemAt f x j)) .0 in
-        let h = from-beyond f F at-item (suc n) x (suc j) (rising-all (suc n) (from f (placeOf f) x (suc j)) (b .end) (rises .1)) in
+        let h = from-beyond f F at-item (suc n) x (suc j) (rising-all (suc n) (from f (placeOf f) x (suc j)) (b .end) (rises .1))
+        in
         b .left ∙ ap lowest (next f F x j lt ∙ ap (_++ from f F x (suc j)) e) ∙
         lowest-sorted g g (from f F x (suc j)) (λ i l. omega (arith, all-at (λ k. suc n ≤ k .place) (from f F x (suc j)) g h i l))
 
 -- The entries of the table.
-module _ {text reads firsts : List ℕ} {n : ℕ} (ix : Indexed text reads firsts n) (p : Program) (e : parseProgram text ≡ accepted p) where
+module _ {text reads firsts : List ℕ} {n : ℕ} (ix : Indexed text reads firsts n) (p : Program)
+    (e : parseProgram text ≡ accepted p) where
   same-program : ix .program ≡ p
   same-program = accepted-same (ix .program) p (sym (ix .parsed) ∙ e)
 
@@ -290,8 +295,8 @@ module _ {text reads firsts : List ℕ} {n : ℕ} (ix : Indexed text reads first
           (rw z at (tabled .stand x (i - getD firsts x 0) below-count seen)) ∙
           List·getD-map (λ (ρ : Read). ρ .place) (bodyReads (signalAt p x .body)) (i - getD firsts x 0) noRead
 
-      pub spells : commandAt text (readAt p x (i - getD firsts x 0) .place) ≡
-          Command.Read (readAt p x (i - getD firsts x 0) .kind) (readAt p x (i - getD firsts x 0) .operands)
+      pub spells : operatorAt text (readAt p x (i - getD firsts x 0) .place) ≡
+          Operator.Read (readAt p x (i - getD firsts x 0) .kind) (readAt p x (i - getD firsts x 0) .operands)
       spells =
           all-at (SpellsRead text) (bodyReads (signalAt p x .body)) noRead (signal-reads (legal text p e .1) x below-count)
           (i - getD firsts x 0) seen
@@ -301,14 +306,15 @@ module _ {text reads firsts : List ℕ} {n : ℕ} (ix : Indexed text reads first
           record {
             kind = readAt p x (i - getD firsts x 0) .kind;
             operands = readAt p x (i - getD firsts x 0) .operands;
-            is = ap (commandAt text) place-is ∙ spells;
+            is = ap (operatorAt text) place-is ∙ spells;
           }
 
       pub taken-is : (r : Taken) → ReadTaken text (getD reads i 0) r →
           r ≡ record { kind = readAt p x (i - getD firsts x 0) .kind; operands = readAt p x (i - getD firsts x 0) .operands }
-      taken-is r h = h .is _ _ (ap (commandAt text) place-is ∙ spells)
+      taken-is r h = h .is _ _ (ap (operatorAt text) place-is ∙ spells)
 
-pub rises-at : {text reads firsts : List ℕ} {n : ℕ} (ix : Indexed text reads firsts n) (x : ℕ) → x < n → getD firsts x 0 ≤ getD firsts (x + 1) 0
+pub rises-at : {text reads firsts : List ℕ} {n : ℕ} (ix : Indexed text reads firsts n) (x : ℕ) → x < n →
+    getD firsts x 0 ≤ getD firsts (x + 1) 0
 rises-at ix x lt =
     let z : suc x ≡ x + 1 = omega arith in
     omega (arith, rw z at (ix .reads-are .sums .rises x (omega (arith, ix .count-is))))

@@ -6,11 +6,24 @@ use native.Mathlib.Omega.{arith}
 use Rattle.model.specs.Says.Feasible.{All}
 use Rattle.model.specs.Says.Grammar.{Spells, SpellsLinks, DeclaresOne, Declares}
 use Rattle.model.specs.Rules.Outcome.{accepted}
-use Rattle.model.specs.Rules.Program.{leastFactor, Read, Expr, Signal, Link, Chain, Program, withSignal, withChain, readsOf, bodyReads, parseProgram}
+use Rattle.model.specs.Rules.Program.{
+  leastFactor,
+  Read,
+  Expr,
+  Signal,
+  Link,
+  Chain,
+  Program,
+  withSignal,
+  withChain,
+  readsOf,
+  bodyReads,
+  parseProgram,
+}
 use Rattle.model.specs.Rules.Search.{joinFrom}
-use Rattle.model.proofs.Legal.{links-end}
-use Rattle.model.proofs.Outcomes.{joinFrom-append}
-use Rattle.model.proofs.Spelled.{declared}
+use Rattle.model.proofs.Texts.Legal.{links-end}
+use Rattle.model.proofs.Basics.Outcomes.{joinFrom-append}
+use Rattle.model.proofs.Texts.Spelled.{declared}
 use Rattle.text_program.specs.Walks.{placesOf}
 use Rattle.text_program.proofs.Walks.{read-least, spans}
 
@@ -44,7 +57,8 @@ module _ {text : List ℕ} where
       rw map-append
       (rising-less (at + 1) at (placesOf (readsOf x) ++ placesOf (readsOf y)) n (omega arith)
       (rising-append (at + 1) (placesOf (readsOf x)) m (placesOf (readsOf y)) n (rising-expr u) (rising-expr v)))
-  rising-expr (Spells.one {at = at} {n = n} {x = x} e u) = rising-less (at + 1) at (placesOf (readsOf x)) n (omega arith) (rising-expr u)
+  rising-expr (Spells.one {at = at} {n = n} {x = x} e u) =
+      rising-less (at + 1) at (placesOf (readsOf x)) n (omega arith) (rising-expr u)
   rising-expr (Spells.three {at = at} {m = m} {n = n} {o = o} {x = x} {y = y} {z = z} e u v w) =
       rw (map-append, map-append)
       (rising-less (at + 1) at (placesOf (readsOf x) ++ (placesOf (readsOf y) ++ placesOf (readsOf z))) o (omega arith)

@@ -10,8 +10,7 @@ use lib.ListN.{length, getD, set, length-append, length-map, length-set, List·g
 use lib.Seq.{sets, length-sets, getD-append-seam, getD-set-same, getD-set-other}
 use denote.Enum.Declared.{tagOf, declared}
 use borrow.Author.Tests.{le-ltb}
-use Rattle.model.specs.Rules.Command.{keywordAt}
-use Rattle.model.specs.Rules.Outcome.{accepted, refused, fault, refuse, _▷_}
+use Rattle.model.specs.Rules.Outcome.{accepted, refused, fault, refuse, _▷_, provided}
 use Rattle.model.specs.Rules.Program.{
   Program,
   Read,
@@ -26,6 +25,7 @@ use Rattle.model.specs.Rules.Program.{
   withCap,
   bodyReads,
   weightOf,
+  declarationHere,
   parseCommands,
   parseWith,
 }
@@ -35,7 +35,7 @@ use Rattle.text_program.specs.Tables.{noChain, Sums, readsIn, codeIn, Re
 use Rattle.text_program.specs.Walks.{placesOf, Room, Moves}
 use Rattle.text_program.specs.declared.Entry.{Entry}
 use Rattle.text_program.specs.declared.Entry.the-variants as Entry
-use Rattle.text_program.specs.declared.Judged.{Judged}
+use Rattle.basics.specs.declared.Judged.{Judged}
 use Rattle.text_program.specs.declared.ProgramRead.{ProgramRead}
 use Rattle.text_program.specs.declared.Step.{Step}
 use Rattle.text_program.specs.declared.Step.the-variants as Step
@@ -137,7 +137,8 @@ pub record Reading (least : ℕ) (text reads : List ℕ) (t : Tables) (at label 
 one-less : (n : ℕ) → 0 < n → n ≡ suc (n - 1)
 one-less n h = omega arith
 
-module _ {least : ℕ} {text reads : List ℕ} {t : Tables} {at label n to : ℕ} (r : Reading least text reads t at label n to) (lt : at < length text)
+module _ {least : ℕ} {text reads : List ℕ} {t : Tables} {at label n to : ℕ} (r : Reading least text reads t at label n to)
+    (lt : at < length text)
     {e : Entry} {reads′ : List ℕ} {w : Walk} (a : Added least text at label (r .program) e reads n to reads′ w) where
   abbrev p : Program
   p = r .program
@@ -217,7 +218,8 @@ module _ {least : ℕ} {text reads : List ℕ} {t : Tables} {at label n to : ℕ
                   one-more (λ x. x .place) noChain (p .chains) (c .chain) (t .starts) (t .chains) at (h .counts .chains-are)
                   (omega (arith, s .starts, c .room, h .counts .chains-are)) (c .stands) (h .starts);
               lengths =
-                  one-more (λ x. length (x .links)) noChain (p .chains) (c .chain) (t .lengths) (t .chains) k (h .counts .chains-are)
+                  one-more (λ x. length (x .links)) noChain (p .chains) (c .chain) (t .lengths) (t .chains) k
+                  (h .counts .chains-are)
                   (omega (arith, s .lengths, c .room, h .counts .chains-are)) (c .links-are) (h .lengths);
               cap = h .cap;
               space = (
@@ -280,7 +282,8 @@ module _ {least : ℕ} {text reads : List ℕ} {t : Tables} {at label n to : ℕ
             record {
               sums = record { first = g .sums .first; rises = g .sums .rises };
               stand = λ x j lx lj.
-                  ap (λ (l : List ℕ). getD l (getD (t .firsts) x 0 + j) 0) (m .holds ∙ ap (sets reads n) (b .1)) ∙ g .stand x j lx lj;
+                  ap (λ (l : List ℕ). getD l (getD (t .firsts) x 0 + j) 0) (m .holds ∙ ap (sets reads n) (b .1)) ∙
+                  g .stand x j lx lj;
               fits = omega (arith, g .fits, same-size);
             };
         count-is = r .count-is ∙ sym (count-same (b .1) (b .2));
@@ -374,7 +377,8 @@ module _ {least : ℕ} {text reads : List ℕ} {t : Tables} {at label n to : ℕ
             (sets-inside reads n (a .places) j (omega (arith, places-length))
             (omega (arith, same-size, room-next .few, room-next .table, b .inside, m .counts)))
 
-    signal-made : Reading least text reads′ (signalAdded t at label period weight (w .reads) (w .code)) (w .at) 0 (w .reads) (w .code)
+    signal-made : Reading least text reads′ (signalAdded t at label period weight (w .reads) (w .code)) (w .at) 0 (w .reads)
+        (w .code)
     signal-made =
         let h = r .tables in
         let s = r .space in
@@ -391,10 +395,12 @@ module _ {least : ℕ} {text reads : List ℕ} {t : Tables} {at label n to : ℕ
                       cap-is = h .counts .cap-is;
                     };
                 places =
-                    one-more (λ x. x .place) noSignal (p .signals) σ (t .places) (t .signals) at c (omega (arith, s .places)) (b .stands)
+                    one-more (λ x. x .place) noSignal (p .signals) σ (t .places) (t .signals) at c (omega (arith, s .places))
+                    (b .stands)
                     (h .places);
                 periods =
-                    one-more (λ x. x .period) noSignal (p .signals) σ (t .periods) (t .signals) period c (omega (arith, s .periods))
+                    one-more (λ x. x .period) noSignal (p .signals) σ (t .periods) (t .signals) period c
+                    (omega (arith, s .periods))
                     (b .period-is) (h .periods);
                 weights =
                     one-more (λ x. weightOf (x .body)) noSignal (p .signals) σ (t .weights) (t .signals) weight c
@@ -445,12 +451,12 @@ module _ {least : ℕ} {text reads : List ℕ} {t : Tables} {at label n to : ℕ
   signal-next q = signal-made q (signal-added q)
 
   -- There is space for it, and its numbers fit two bytes.
-  pub record Fits : Type 0 where
+  pub record SpaceLeft : Type 0 where
     pub below : t .signals < 64
     pub few : w .reads < 65536
     pub small : w .code < 65536
 
-  pub signal-fits : {period weight : ℕ} → e ≡ Entry.Signal period weight → Fits
+  pub signal-fits : {period weight : ℕ} → e ≡ Entry.Signal period weight → SpaceLeft
   signal-fits q =
       let b = signal-added q in
       record {
@@ -463,7 +469,8 @@ module _ {least : ℕ} {text reads : List ℕ} {t : Tables} {at label n to : ℕ
 abbrev stops : List ℕ
 stops = 1 ∷ 2 ∷ []
 
-pub program-stops : {least : ℕ} {text reads : List ℕ} {t : Tables} {at label n to : ℕ} (r : Reading least text reads t at label n to) →
+pub program-stops : {least : ℕ} {text reads : List ℕ} {t : Tables} {at label n to : ℕ}
+    (r : Reading least text reads t at label n to) →
     at < length text → (reads′ : List ℕ) (step : Step) → OneOf stops (tagOf (declared enum) step) →
     Stepped least text at label (r .program) reads n to reads′ step → (j : Judged) → j ≡ judgedOf step →
     ProgramReads (parseWith least text) reads′ (record { judged = j; tables = t })
@@ -481,11 +488,12 @@ program-stops {least} {text} {at = at} {label = label} r lt reads′ (Step.Refus
 -- So is the end of the text.
 commands-past : (least left : ℕ) (text : List ℕ) (at label : ℕ) (p : Program) → length text ≤ at →
     parseCommands least left text at label p ≡ refuse 2 (length text)
-unfolding parseCommands keywordAt _▷_
+unfolding parseCommands declarationHere provided _▷_
 commands-past least zero text at label p h = refl
 commands-past least (suc left) text at label p h = rw (le-ltb at (length text) h)
 
-pub program-ends : {least : ℕ} {text reads : List ℕ} {t : Tables} {at label n to : ℕ} (r : Reading least text reads t at label n to) →
+pub program-ends : {least : ℕ} {text reads : List ℕ} {t : Tables} {at label n to : ℕ}
+    (r : Reading least text reads t at label n to) →
     length text ≤ at → (reads′ : List ℕ) (t′ : Tables) (j : Judged) → j ≡ judgedOf (Step.Refused (fault 2 (length text))) →
     ProgramReads (parseWith least text) reads′ (record { judged = j; tables = t′ })
 unfolding ProgramReads judgedOf
@@ -493,7 +501,8 @@ program-ends {least} {text} {at = at} {label = label} r h reads′ t′ j q =
     rw (r .onward ∙ commands-past least (r .left) text at label (r .program) h) q
 
 -- Nothing is read at first.
-pub starts-empty : (least : ℕ) (text reads : List ℕ) (t : Tables) → length text ≤ 8192 → length text ≤ 2 * length reads → Space t →
+pub starts-empty : (least : ℕ) (text reads : List ℕ) (t : Tables) → length text ≤ 8192 → length text ≤ 2 * length reads →
+    Space t →
     t .signals ≡ 0 → t .chains ≡ 0 → t .capped ≡ false → getD (t .firsts) 0 0 ≡ 0 → getD (t .codes) 0 0 ≡ 0 →
     Reading least text reads t 0 0 0 0
 unfolding parseWith

@@ -8,7 +8,7 @@ use lib.IntN.{ℤ}
 use lib.ListN.{length, length-append, set}
 use lib.Seq.{sets, length-sets}
 use Rattle.model.specs.Says.Grammar.{Spells}
-use Rattle.model.specs.Rules.Image.{exprCode}
+use Rattle.model.specs.Rules.Image.{unaryByte, exprCode}
 use Rattle.model.specs.Rules.Outcome.{Outcome, accepted, refused, fault, refuse, _▷_, Parsed, parsed}
 use Rattle.model.specs.Rules.Program.{
   Read,
@@ -16,23 +16,23 @@ use Rattle.model.specs.Rules.Program.{
   constant,
   read,
   binary,
-  negate,
+  unary,
   choose,
   operatorHere,
   parseExpr,
   readsOf,
 }
-use Rattle.model.specs.Rules.Command.{keywordAt}
 use Rattle.model.specs.Rules.Width.{readWidth}
 use Rattle.model.specs.Rules.Word.{wordBytes, fourBytes}
 use Rattle.model.specs.declared.Binary.{Binary}
+use Rattle.model.specs.declared.Unary.{Unary}
 use Rattle.model.specs.declared.Fault.{Fault}
 use Rattle.model.specs.declared.Kind.{Kind}
 use Rattle.model.specs.declared.Kind.the-variants.{Now, Last, When, LastWhen, Current}
-use Rattle.model.proofs.Commands.{command-sound}
-use Rattle.model.proofs.Spelled.{spelled}
-use Rattle.model.proofs.Written.{decoded}
-use Rattle.model.proofs.Stretches.{sets-append}
+use Rattle.model.proofs.Texts.Commands.{operator-sound}
+use Rattle.model.proofs.Texts.Spelled.{spelled}
+use Rattle.model.proofs.Texts.Written.{operator-decoded}
+use Rattle.model.proofs.Images.Stretches.{sets-append}
 use Rattle.text_program.specs.Walks.{placesOf, Room, Moves, WalksBy, Walks, EquationBy, WalksEquation, deepOf}
 use Rattle.text_program.specs.declared.Entry.{Entry}
 use Rattle.text_program.specs.declared.Step.{Step}
@@ -92,7 +92,8 @@ go-on (accepted x) k {l} {l₁} {l′} {l₂} {c} {t} {c′} {t′} {r₁} {r} {
     let f = w .by .1 in
     let z : w .by .0 ≡ a = cc in
     let m : Moves (x .next) (placesOf (readsOf (x .value))) (length (exprCode (x .value))) l c t l₁ a =
-    subst (λ (y : Walk). Moves (x .next) (placesOf (readsOf (x .value))) (length (exprCode (x .value))) l c t l₁ y) z (w .by .2) in
+    subst (λ (y : Walk). Moves (x .next) (placesOf (readsOf (x .value))) (length (exprCode (x .value))) l c t l₁ y) z (w .by .2)
+    in
     subst (λ (n : ℕ). Walks (k (record { value = x .value; next = n })) l′ c′ t′ l₂ r) (m .goes)
     (h (x .value) (record { goes = refl; counts = m .counts; codes = m .codes; holds = m .holds }))
 go-on (refused f) k {r₁ = r₁} {a = a} w e h =
@@ -119,10 +120,10 @@ unfolding readsOf exprCode
 walks-read ρ e = made (read ρ) e (record { goes = refl; counts = refl; codes = refl; holds = refl }) refl refl
 
 module _ {l l₁ : List ℕ} {count to : ℕ} {a : Walk} (x : Expr) (m : Read-as x l count to l₁ a) where
-  pub walks-one : {r : Walked} → r ≡ Walked.Next (record { at = a .at; reads = a .reads; code = a .code + 1 }) →
-      Walks (parsed (negate x) (a .at)) l count to l₁ r
+  pub walks-one : (o : Unary) {r : Walked} → r ≡ Walked.Next (record { at = a .at; reads = a .reads; code = a .code + 1 }) →
+      Walks (parsed (unary o x) (a .at)) l count to l₁ r
   unfolding readsOf exprCode
-  walks-one e = made (negate x) e (longer 1 m) refl (length-append (exprCode x) (0x38 ∷ []))
+  walks-one o e = made (unary o x) e (longer 1 m) refl (length-append (exprCode x) (unaryByte o ∷ []))
 
   module _ {l₂ : List ℕ} {b : Walk} (y : Expr) (n : Read-as y l₁ (a .reads) (a .code) l₂ b) where
     pub walks-two : (o : Binary) {r : Walked} → r ≡ Walked.Next (record { at = b .at; reads = b .reads; code = b .code + 1 }) →
@@ -144,9 +145,9 @@ module _ {l l₁ : List ℕ} {count to : ℕ} {a : Walk} (x : Expr) (m : Read-as
 
 -- Where no depth is left.
 pub walks-deep : {l : List ℕ} {count to : ℕ} {r : Walked} (least : ℕ) (text : List ℕ) (at : ℕ) →
-    r ≡ deepOf at (operatorHere text at (keywordAt text at)) → Walks (parseExpr least 0 text at) l count to l r
+    r ≡ deepOf at (operatorHere text at) → Walks (parseExpr least 0 text at) l count to l r
 unfolding parseExpr WalksBy deepOf _▷_
-walks-deep {l} {count} {to} {r} least text at e = go (operatorHere text at (keywordAt text at)) e
+walks-deep {l} {count} {to} {r} least text at e = go (operatorHere text at) e
   where
     go : (o : Outcome (Unit {0})) → r ≡ deepOf at o → Walks (o ▷ λ _. refuse 4 at) l count to l r
     go (accepted u) e = record { by = e }
@@ -169,12 +170,12 @@ module _ {text : List ℕ} where
   pub spans : {least at n : ℕ} {e : Expr} → Spells least text at e n → Spans (length text) at e n
   unfolding readsOf exprCode wordBytes fourBytes
   spans (Spells.constants {at = at} e) =
-      record { few = omega arith; small = omega arith; inside = command-sound text at _ (decoded e) .1 }
+      record { few = omega arith; small = omega arith; inside = operator-sound text at _ (operator-decoded e) .1 }
   spans (Spells.reads {at = at} {kind = kind} e a) =
       record {
         few = omega (arith, read-least kind);
         small = omega (arith, read-least kind);
-        inside = command-sound text at _ (decoded e) .1;
+        inside = operator-sound text at _ (operator-decoded e) .1;
       }
   spans (Spells.two e u v) =
       let a = spans u in
@@ -217,7 +218,8 @@ ahead least text {l} {l′} {at} {count} {to} {r} {a} d h w e = go (parseExpr le
         let s = parsed-spans least d text at (x .value) (x .next) q in
         let f = w .by .1 in
         let z : w .by .0 ≡ a = cc in
-        let m = subst (λ (y : Walk). Moves (x .next) (placesOf (readsOf (x .value))) (length (exprCode (x .value))) l count to l′ y) z (w .by .2) in
+        let m = subst (λ (y : Walk). Moves (x .next) (placesOf (readsOf (x .value))) (length (exprCode (x .value))) l count to l′
+        y) z (w .by .2) in
         record {
           left =
               record {
@@ -248,18 +250,19 @@ module _ (o : Outcome (Parsed Expr)) {l l′ : List ℕ} {count to : ℕ} {r : W
       go (accepted x) w =
           let f = w .by .1 in
           let z : w .by .0 ≡ a = cc in
-          let m = subst (λ (y : Walk). Moves (x .next) (placesOf (readsOf (x .value))) (length (exprCode (x .value))) l count to l′ y) z (w .by .2) in
+          let m = subst (λ (y : Walk). Moves (x .next) (placesOf (readsOf (x .value))) (length (exprCode (x .value))) l count to
+          l′ y) z (w .by .2) in
           record { by = (record { at = a .at; reads = a .reads; code = a .code + 2 }, h, longer 2 m) }
       go (refused f) w =
           let k = w .by in
           let z : _≡_ {A = ℕ} 0 1 = cc in
           absurd (omega arith)
 
-  pub equation-refused : {f : Fault} → r ≡ Walked.Refused f → WalksEquation o e l count to l′ (Step.Refused f)
+  pub equation-refused : {f : Fault} {s : Step} → r ≡ Walked.Refused f → s ≡ Step.Refused f → WalksEquation o e l count to l′ s
   unfolding WalksBy EquationBy
-  equation-refused {f} g = go o w
+  equation-refused {f} {s} g h = go o w
     where
-      go : (o : Outcome (Parsed Expr)) → Walks o l count to l′ r → WalksEquation o e l count to l′ (Step.Refused f)
+      go : (o : Outcome (Parsed Expr)) → Walks o l count to l′ r → WalksEquation o e l count to l′ s
       go (accepted x) w =
           let k = w .by .1 in
           let z : _≡_ {A = ℕ} 0 1 = cc in
@@ -267,4 +270,4 @@ module _ (o : Outcome (Parsed Expr)) {l l′ : List ℕ} {count to : ℕ} {r : W
       go (refused q) w =
           let k = w .by in
           let z : f ≡ q = cc in
-          record { by = ap Step.Refused z }
+          record { by = h ∙ ap Step.Refused z }

@@ -2,28 +2,21 @@
 use Prim.Native.Nat.{ℕ}
 use mathlib.Core.Bool.{cond}
 use mathlib.Core.List.{List}
-use Rattle.text_command.specs.Operator.{operatorAt}
+use Rattle.model.specs.Rules.Command.{operatorAt}
 use Rattle.model.specs.Rules.Program.{isAllowed}
-use Rattle.model.specs.declared.Command.{Command}
-use Rattle.model.specs.declared.Command.the-variants as Command
+use Rattle.model.specs.declared.Operator.{Operator}
+use Rattle.model.specs.declared.Operator.the-variants as Operator
 
 -- A read with a smaller factor is outside its range.
-abbrev pub restricted : ℕ → Command → Command
-restricted least Command.EndsEarly = Command.EndsEarly
-restricted least Command.Unknown = Command.Unknown
-restricted least Command.OutOfRange = Command.OutOfRange
-restricted least Command.End = Command.End
-restricted least (Command.Input period initial) = Command.Input period initial
-restricted least (Command.Equation period initial weight) = Command.Equation period initial weight
-restricted least (Command.Latency mode bound) = Command.Latency mode bound
-restricted least (Command.Link signal) = Command.Link signal
-restricted least (Command.Cap n) = Command.Cap n
-restricted least (Command.Tag label) = Command.Tag label
-restricted least (Command.Constant w) = Command.Constant w
-restricted least (Command.Read kind x) = cond (isAllowed least kind x) (Command.Read kind x) Command.OutOfRange
-restricted least (Command.Binary operator) = Command.Binary operator
-restricted least Command.Negate = Command.Negate
-restricted least Command.If = Command.If
+abbrev pub restricted : ℕ → Operator → Operator
+restricted least Operator.EndsEarly = Operator.EndsEarly
+restricted least Operator.Unknown = Operator.Unknown
+restricted least Operator.OutOfRange = Operator.OutOfRange
+restricted least (Operator.Constant w) = Operator.Constant w
+restricted least (Operator.Read kind x) = cond (isAllowed least kind x) (Operator.Read kind x) Operator.OutOfRange
+restricted least (Operator.Binary operator) = Operator.Binary operator
+restricted least (Operator.Unary operator) = Operator.Unary operator
+restricted least Operator.If = Operator.If
 
-unfoldable pub operatorFrom : ℕ → List ℕ → ℕ → Command
+unfoldable pub operatorFrom : ℕ → List ℕ → ℕ → Operator
 operatorFrom least text at = restricted least (operatorAt text at)

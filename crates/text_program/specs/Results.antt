@@ -4,13 +4,12 @@ use mathlib.Core.Bool.{cond}
 use mathlib.Core.List.{List}
 use lib.Dec.{leb, ltb}
 use lib.ListN.{length}
+use Rattle.model.specs.Rules.Command.{isSignal}
 use Rattle.model.specs.Rules.Outcome.{Outcome, accepted, refused, fault, Parsed}
-use Rattle.model.specs.Rules.Program.{Link, isSignal}
+use Rattle.model.specs.Rules.Program.{Link}
 use Rattle.model.specs.Rules.Width.{inProgram}
 use Rattle.model.specs.Rules.Word.{byteAt}
 use Rattle.text_program.specs.declared.Entry.the-variants as Entry
-use Rattle.text_program.specs.declared.Judged.{Judged}
-use Rattle.text_program.specs.declared.Judged.the-variants as Judged
 use Rattle.text_program.specs.declared.LinksRead.{LinksRead}
 use Rattle.text_program.specs.declared.LinksRead.the-variants as Read
 use Rattle.text_program.specs.declared.Reached.{Reached}
@@ -49,8 +48,3 @@ tagOf text at label count to =
 unfoldable pub endOf : Outcome (Unit {0}) → Step
 endOf (accepted a) = Step.End
 endOf (refused f) = Step.Refused f
-
--- The judgement of a check.
-unfoldable pub judgementOf : Outcome (Unit {0}) → Judged
-judgementOf (accepted a) = Judged.Fine
-judgementOf (refused f) = Judged.Refused f

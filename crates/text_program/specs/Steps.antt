@@ -71,7 +71,8 @@ labelAfter (Entry.Cap m) = 0
 labelAfter (Entry.Label given) = given
 
 -- The command at `at` adds an entry to p: what the definition goes on with, and what is kept of its reads and its code.
-pub record Added (least : ℕ) (text : List ℕ) (at label : ℕ) (p : Program) (e : Entry) (l : List ℕ) (count to : ℕ) (l′ : List ℕ) (w : Walk)
+pub record Added (least : ℕ) (text : List ℕ) (at label : ℕ) (p : Program) (e : Entry) (l : List ℕ) (count to : ℕ) (l′ : List ℕ)
+    (w : Walk)
     : Type 0 where
   pub program : Program
   pub places : List ℕ

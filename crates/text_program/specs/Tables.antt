@@ -6,14 +6,26 @@ use mathlib.Core.Path.{_≡_}
 use lib.ListN.{length, getD}
 use Rattle.model.specs.Rules.Outcome.{Outcome, accepted, refused}
 use Rattle.model.specs.Rules.Image.{signalCode}
-use Rattle.model.specs.Rules.Program.{Program, Signal, Chain, Limit, unlimited, limit, count, signalAt, bodyReads, weightOf, parseProgram}
-use Rattle.model.specs.Rules.Reads.{place}
+use Rattle.model.specs.Rules.Program.{
+  Program,
+  Signal,
+  Chain,
+  Limit,
+  unlimited,
+  limit,
+  count,
+  signalAt,
+  bodyReads,
+  weightOf,
+  parseProgram,
+}
+use Rattle.model.specs.Rules.Reads.{rank}
 use Rattle.model.specs.Rules.Schedule.{Schedule, phaseOf}
 use Rattle.model.specs.declared.Mode.the-variants.{Exists}
 use Rattle.text_program.specs.Steps.{Counts}
 use Rattle.text_program.specs.Walks.{placesOf}
-use Rattle.text_program.specs.declared.Judged.{Judged}
-use Rattle.text_program.specs.declared.Judged.the-variants as Judged
+use Rattle.basics.specs.declared.Judged.{Judged}
+use Rattle.basics.specs.declared.Judged.the-variants as Judged
 use Rattle.text_program.specs.declared.ProgramRead.{ProgramRead}
 use Rattle.text_program.specs.declared.Step.{Step}
 use Rattle.text_program.specs.declared.Step.the-variants as Step
@@ -83,7 +95,7 @@ pub record Indexed (text reads firsts : List ℕ) (n : ℕ) : Type 0 where
 pub record SlotsOf (p : Program) (s : Schedule) (order phases ranks : List ℕ) : Type 0 where
   pub order-is : (j : ℕ) → j < length (s .order) → getD order j 0 ≡ getD (s .order) j 0
   pub phases-are : (x : ℕ) → x < count p → getD phases x 0 ≡ phaseOf s x
-  pub ranks-are : (x : ℕ) → x < count p → getD ranks x 0 ≡ place (s .order) x
+  pub ranks-are : (x : ℕ) → x < count p → getD ranks x 0 ≡ rank (s .order) x
   pub all-put : length (s .order) ≡ count p
 
 -- The judgement of a step that adds nothing.

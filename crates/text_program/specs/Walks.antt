@@ -19,7 +19,8 @@ use Rattle.text_program.specs.declared.Walked.the-variants as Walked
 abbrev pub placesOf : List Read → List ℕ
 placesOf ρs = map (λ (ρ : Read). ρ .place) ρs
 
--- A text of `size` bytes, read up to `at` with so many reads and so many bytes of code, and a table with an entry for each two bytes.
+-- A text of `size` bytes, read up to `at` with so many reads and so many bytes of code, and a table with an entry for each two
+-- bytes.
 pub record Room (size at count to room : ℕ) : Type 0 where
   pub short : size ≤ 8192
   pub table : size ≤ 2 * room
@@ -50,7 +51,8 @@ EquationBy (accepted x) e l count to l′ r =
     Moves (x .next) (placesOf (readsOf (x .value))) (length (exprCode (x .value)) + inCode 0x5F) l count to l′ w
 EquationBy (refused f) e l count to l′ r = r ≡ Step.Refused f
 
-pub record WalksEquation (o : Outcome (Parsed Expr)) (e : Entry) (l : List ℕ) (count to : ℕ) (l′ : List ℕ) (r : Step) : Type 0 where
+pub record WalksEquation (o : Outcome (Parsed Expr)) (e : Entry) (l : List ℕ) (count to : ℕ) (l′ : List ℕ) (r : Step) : Type
+    0 where
   pub by : EquationBy o e l count to l′ r
 
 -- The refusal where no depth is left.

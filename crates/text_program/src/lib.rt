@@ -1,18 +1,21 @@
 // Texts to tables: what stands where in a program and a schedule, or the first fault.
-use model::Command;
+use basics::Judged;
+use model::Declaration;
 use model::Fault;
-use model::Keyword;
 use model::Kind;
+use model::Operator;
 use model::Sampled;
+use model::Width;
 ghost use mathlib.Core.Path.{_≡_};
 ghost use mathlib.Core.List.{[]};
 ghost use Prim.Native.Nat.{ℕ, _+_, _*_, _≤_, _<_};
 ghost use lib.Dec.{leb};
 ghost use lib.ListN.{length};
-ghost use Rattle.model.specs.Rules.Command.{keywordAt};
+ghost use Rattle.model.specs.Rules.Command.{isSignal};
 ghost use Rattle.model.specs.Rules.Outcome.{provided};
-ghost use Rattle.model.specs.Rules.Program.{Program, operatorHere, isAllowed, parseExpr, parseLinks, isSignal, commandHere, parseWith};
+ghost use Rattle.model.specs.Rules.Program.{Program, operatorHere, isAllowed, parseExpr, parseLinks, declarationHere, parseWith};
 ghost use Rattle.model.specs.Rules.Width.{inProgram};
+ghost use Rattle.model.specs.declared.Fault.{Fault};
 ghost use Rattle.text_program.specs.Factors.{operatorFrom};
 ghost use Rattle.text_program.specs.Results.{hereOf, linksOf, chainOf, tagOf, endOf};
 ghost use Rattle.text_program.specs.Steps.{Counts, Stepped};
@@ -36,24 +39,15 @@ fn refuse(number: u8, place: usize) -> Reached
 
 // Whether an operator of an expression stands at `at`: 2 and 3 come before its depth and its operands.
 fn operator_here(text: &[u8], at: usize) -> Reached
-    ensures { λ r. ⌜ r ≡ hereOf at (operatorHere (now (text .entry)) at (keywordAt (now (text .entry)) at)) ⌝ }
+    ensures { λ r. ⌜ r ≡ hereOf at (operatorHere (now (text .entry)) at) ⌝ }
 {
-    let keyword = text_command::keyword_at(text, at);
-    match keyword {
-        Keyword::Missing => refuse(2, text.len()),
-        Keyword::Unknown => refuse(3, at),
-        Keyword::End => refuse(3, at),
-        Keyword::Input => refuse(3, at),
-        Keyword::Equation => refuse(3, at),
-        Keyword::Latency => refuse(3, at),
-        Keyword::Link => refuse(3, at),
-        Keyword::Cap => refuse(3, at),
-        Keyword::Tag => refuse(3, at),
-        Keyword::Constant => Reached::Next(at),
-        Keyword::Read(_) => Reached::Next(at),
-        Keyword::Binary(_) => Reached::Next(at),
-        Keyword::Negate => Reached::Next(at),
-        Keyword::If => Reached::Next(at),
+    if text.len() <= at {
+        return refuse(2, text.len());
+    }
+    let width = width::expression(text[at]);
+    match width {
+        Width::Bytes(_) => Reached::Next(at),
+        Width::Unlisted => refuse(3, at),
     }
 }
 
@@ -92,7 +86,7 @@ fn moved_on(at: usize, reads: usize, code: usize) -> Walked
 
 // The refusal at `at` where no operator may stand: 2 and 3 come before the depth.
 fn too_deep(text: &[u8], at: usize) -> Walked
-    ensures { λ r. ⌜ r ≡ deepOf at (operatorHere (now (text .entry)) at (keywordAt (now (text .entry)) at)) ⌝ }
+    ensures { λ r. ⌜ r ≡ deepOf at (operatorHere (now (text .entry)) at) ⌝ }
 {
     let here = operator_here(text, at);
     match here {
@@ -116,13 +110,13 @@ fn is_allowed(least: u8, kind: Kind, operands: Sampled) -> bool
 }
 
 // The operator at `at`, where factors go from `least` on.
-fn operator_from(least: u8, text: &[u8], at: usize) -> Command
+fn operator_from(least: u8, text: &[u8], at: usize) -> Operator
     ensures { λ r. ⌜ r ≡ operatorFrom least (now (text .entry)) at ⌝ }
 {
     let operator = text_command::operator_at(text, at);
-    if let Command::Read(kind, operands) = operator {
+    if let Operator::Read(kind, operands) = operator {
         if !is_allowed(least, kind, operands) {
-            return Command::OutOfRange;
+            return Operator::OutOfRange;
         }
     }
     operator
@@ -147,22 +141,15 @@ pub fn read_expression(
     }
     let operator = operator_from(least, text, at);
     match operator {
-        Command::EndsEarly => refuse_walk(2, text.len()),
-        Command::Unknown => refuse_walk(3, at),
-        Command::OutOfRange => refuse_walk(5, at),
-        Command::End => refuse_walk(3, at),
-        Command::Input(_, _) => refuse_walk(3, at),
-        Command::Equation(_, _, _) => refuse_walk(3, at),
-        Command::Latency(_, _) => refuse_walk(3, at),
-        Command::Link(_) => refuse_walk(3, at),
-        Command::Cap(_) => refuse_walk(3, at),
-        Command::Tag(_) => refuse_walk(3, at),
-        Command::Constant(_) => moved_on(
+        Operator::EndsEarly => refuse_walk(2, text.len()),
+        Operator::Unknown => refuse_walk(3, at),
+        Operator::OutOfRange => refuse_walk(5, at),
+        Operator::Constant(_) => moved_on(
             at + width::in_expression(0x20),
             count,
             to + width::in_code(0x50),
         ),
-        Command::Read(kind, _) => {
+        Operator::Read(kind, _) => {
             reads[count] = at as u16;
             moved_on(
                 at + width::of_read(kind),
@@ -170,7 +157,7 @@ pub fn read_expression(
                 to + width::in_code(0x51),
             )
         }
-        Command::Binary(_) => {
+        Operator::Binary(_) => {
             let first_at = at + width::in_expression(0x30);
             let first = read_expression(least, text, first_at, count, to, depth - 1, reads);
             let Walked::Next(a) = first else {
@@ -182,7 +169,7 @@ pub fn read_expression(
             };
             moved_on(b.at, b.reads, b.code + width::in_code(0x30))
         }
-        Command::Negate => {
+        Operator::Unary(_) => {
             let operand_at = at + width::in_expression(0x38);
             let operand = read_expression(least, text, operand_at, count, to, depth - 1, reads);
             let Walked::Next(a) = operand else {
@@ -190,7 +177,7 @@ pub fn read_expression(
             };
             moved_on(a.at, a.reads, a.code + width::in_code(0x38))
         }
-        Command::If => {
+        Operator::If => {
             let condition_at = at + width::in_expression(0x3A);
             let condition = read_expression(least, text, condition_at, count, to, depth - 1, reads);
             let Walked::Next(a) = condition else {
@@ -237,10 +224,10 @@ pub fn read_links(text: &[u8], at: usize) -> LinksRead
         if 16 <= count {
             return refuse_links(4, next);
         }
-        let left = text.len() - next;
-        if left < width::in_program(0x13) {
+        let link = text_command::link_at(text, next);
+        let Declaration::Link(_) = link else {
             return refuse_links(2, text.len());
-        }
+        };
         next = next + width::in_program(0x13);
         count = count + 1;
     }
@@ -283,26 +270,50 @@ fn judge(holds: bool, number: u8, at: usize) -> Reached
     }
 }
 
-// Whether a command may stand at `at` after so many signals and chains: 2, 3, then counts and second CAP.
-fn command_here(text: &[u8], at: usize, signals: usize, chains: usize, capped: bool) -> Reached
-    ensures { λ r. ⌜ ((p : Program) → Counts p signals chains capped → r ≡ hereOf at (commandHere (now (text .entry)) at p (keywordAt (now (text .entry)) at))) ⌝ }
+// Whether a declaration may stand at `at` after so many signals and chains: 2, 3, then counts and second CAP.
+fn declaration_here(text: &[u8], at: usize, signals: usize, chains: usize, capped: bool) -> Reached
+    ensures { λ r. ⌜ ((p : Program) → Counts p signals chains capped → r ≡ hereOf at (declarationHere (now (text .entry)) at p)) ⌝ }
 {
-    let keyword = text_command::keyword_at(text, at);
-    match keyword {
-        Keyword::Missing => refuse(2, text.len()),
-        Keyword::Unknown => refuse(3, at),
-        Keyword::End => Reached::Next(at),
-        Keyword::Input => judge(signals < 64, 4, at),
-        Keyword::Equation => judge(signals < 64, 4, at),
-        Keyword::Latency => judge(chains < 16, 4, at),
-        Keyword::Link => refuse(3, at),
-        Keyword::Cap => judge(!capped, 5, at),
-        Keyword::Tag => Reached::Next(at),
-        Keyword::Constant => refuse(3, at),
-        Keyword::Read(_) => refuse(3, at),
-        Keyword::Binary(_) => refuse(3, at),
-        Keyword::Negate => refuse(3, at),
-        Keyword::If => refuse(3, at),
+    if text.len() <= at {
+        return refuse(2, text.len());
+    }
+    let byte = text[at];
+    match byte {
+        0x00 => Reached::Next(at),
+        0x10 => judge(signals < 64, 4, at),
+        0x11 => judge(signals < 64, 4, at),
+        0x12 => judge(chains < 16, 4, at),
+        0x14 => judge(!capped, 5, at),
+        0x15 => Reached::Next(at),
+        _ => refuse(3, at),
+    }
+}
+
+// The step of a refusal. A reading that goes on is none: no caller asks.
+fn step_of_reached(reached: Reached) -> Step
+    ensures { λ r. ⌜ ((f : Fault) → reached ≡ Reached.Refused f → r ≡ Step.Refused f) ⌝ }
+{
+    match reached {
+        Reached::Next(at) => refuse_step(3, at),
+        Reached::Refused(fault) => Step::Refused(fault),
+    }
+}
+
+fn step_of_walked(walked: Walked) -> Step
+    ensures { λ r. ⌜ ((f : Fault) → walked ≡ Walked.Refused f → r ≡ Step.Refused f) ⌝ }
+{
+    match walked {
+        Walked::Next(walk) => refuse_step(3, walk.at),
+        Walked::Refused(fault) => Step::Refused(fault),
+    }
+}
+
+fn step_of_links(read: LinksRead) -> Step
+    ensures { λ r. ⌜ ((f : Fault) → read ≡ LinksRead.Refused f → r ≡ Step.Refused f) ⌝ }
+{
+    match read {
+        LinksRead::Links(_, next) => refuse_step(3, next),
+        LinksRead::Refused(fault) => Step::Refused(fault),
     }
 }
 
@@ -333,7 +344,7 @@ fn equation_step(
     requires { ⌜ (at < length (now text)) × Room (length (now text)) at count to (length (now reads)) ⌝ }
     ensures { λ r. ⌜ WalksEquation (parseExpr least 16 (now (text .entry)) (at + inProgram 0x11)) entry (now (reads .entry)) count to (now (reads .exit)) r ⌝ }
 {
-    let reached = read_expression(
+    let walked = read_expression(
         least,
         text,
         at + width::in_program(0x11),
@@ -342,10 +353,10 @@ fn equation_step(
         16,
         reads,
     );
-    match reached {
-        Walked::Next(w) => adds(entry, w.at, w.reads, w.code + width::in_code(0x5F)),
-        Walked::Refused(fault) => Step::Refused(fault),
-    }
+    let Walked::Next(w) = walked else {
+        return step_of_walked(walked);
+    };
+    adds(entry, w.at, w.reads, w.code + width::in_code(0x5F))
 }
 
 // A LAT ends where its LINKs do; a chain has two of them at least.
@@ -354,15 +365,13 @@ fn chain_step(text: &[u8], at: usize, count: usize, to: usize) -> Step
     ensures { λ r. ⌜ r ≡ chainOf at count to (parseLinks 16 (now (text .entry)) (at + inProgram 0x12) []) ⌝ }
 {
     let read = read_links(text, at + width::in_program(0x12));
-    match read {
-        LinksRead::Links(links, next) => {
-            if links < 2 {
-                return refuse_step(5, at);
-            }
-            adds(Entry::Chain(links), next, count, to)
-        }
-        LinksRead::Refused(fault) => Step::Refused(fault),
+    let LinksRead::Links(links, next) = read else {
+        return step_of_links(read);
+    };
+    if links < 2 {
+        return refuse_step(5, at);
     }
+    adds(Entry::Chain(links), next, count, to)
 }
 
 fn is_signal(byte: u8) -> bool
@@ -399,7 +408,7 @@ fn end_step(text: &[u8], at: usize) -> Step
     Step::End
 }
 
-// One command of the program text, after so many signals and chains. Its reads are kept from `count` on; the code before it takes `to`
+// One declaration of the program text, after so many signals and chains. Its reads are kept from `count` on; the code before it takes `to`
 // bytes.
 fn read_command(
     least: u8,
@@ -415,39 +424,31 @@ fn read_command(
     requires { ⌜ Room (length (now text)) at count to (length (now reads)) ⌝ }
     ensures { λ r. ⌜ ((p : Program) (label : ℕ) → Counts p signals chains capped → Stepped least (now (text .entry)) at label p (now (reads .entry)) count to (now (reads .exit)) r) ⌝ }
 {
-    let here = command_here(text, at, signals, chains, capped);
-    if let Reached::Refused(fault) = here {
-        return Step::Refused(fault);
-    }
-    let command = text_command::command_at(text, at);
-    match command {
-        Command::EndsEarly => refuse_step(2, text.len()),
-        Command::Unknown => refuse_step(3, at),
-        Command::OutOfRange => refuse_step(5, at),
-        Command::End => end_step(text, at),
-        Command::Input(period, _) => {
+    let here = declaration_here(text, at, signals, chains, capped);
+    let Reached::Next(_) = here else {
+        return step_of_reached(here);
+    };
+    let declaration = text_command::declaration_at(text, at);
+    match declaration {
+        Declaration::EndsEarly => refuse_step(2, text.len()),
+        Declaration::Unknown => refuse_step(3, at),
+        Declaration::OutOfRange => refuse_step(5, at),
+        Declaration::End => end_step(text, at),
+        Declaration::Input(period, _) => {
             let next = at + width::in_program(0x10);
             let end = to + (width::in_code(0x52) + width::in_code(0x5F));
             adds(Entry::Signal(period, 0), next, count, end)
         }
-        Command::Equation(period, _, weight) => equation_step(
-            least,
-            text,
-            at,
-            Entry::Signal(period, weight),
-            count,
-            to,
-            reads,
-        ),
-        Command::Latency(_, _) => chain_step(text, at, count, to),
-        Command::Link(_) => refuse_step(3, at),
-        Command::Cap(limit) => adds(Entry::Cap(limit), at + width::in_program(0x14), count, to),
-        Command::Tag(label) => tag_step(text, at, label, count, to),
-        Command::Constant(_) => refuse_step(3, at),
-        Command::Read(_, _) => refuse_step(3, at),
-        Command::Binary(_) => refuse_step(3, at),
-        Command::Negate => refuse_step(3, at),
-        Command::If => refuse_step(3, at),
+        Declaration::Equation(period, _, weight) => {
+            let entry = Entry::Signal(period, weight);
+            equation_step(least, text, at, entry, count, to, reads)
+        }
+        Declaration::Latency(_, _) => chain_step(text, at, count, to),
+        Declaration::Link(_) => refuse_step(3, at),
+        Declaration::Cap(limit) => {
+            adds(Entry::Cap(limit), at + width::in_program(0x14), count, to)
+        }
+        Declaration::Tag(label) => tag_step(text, at, label, count, to),
     }
 }
 
@@ -455,7 +456,7 @@ fn read_command(
 // `firsts[x + 1]` of the table of reads, its code the bytes from `codes[x]` to `codes[x + 1]` of the whole code.
 pub struct Tables {
     pub signals: usize,
-    pub places: [usize; 64],
+    pub places: [u16; 64],
     pub periods: [u8; 64],
     pub weights: [u16; 64],
     pub labels: [u16; 64],
@@ -487,12 +488,6 @@ impl Tables {
     }
 }
 
-// Whether a text was read to its end.
-pub enum Judged {
-    Fine,
-    Refused(Fault),
-}
-
 // What reading a program finds. The tables are of use where it is fine.
 pub struct ProgramRead {
     pub judged: Judged,
@@ -516,7 +511,7 @@ pub fn read_program(least: u8, text: &[u8], reads: &mut [u16]) -> ProgramRead
     requires { ⌜ (length (now text) ≤ 8192) × (length (now text) ≤ 2 * length (now reads)) ⌝ }
     ensures { λ r. ⌜ ProgramReads (parseWith least (now (text .entry))) (now (reads .exit)) r ⌝ }
 {
-    let mut places: [usize; 64] = [0; 64];
+    let mut places: [u16; 64] = [0; 64];
     let mut periods: [u8; 64] = [0; 64];
     let mut weights: [u16; 64] = [0; 64];
     let mut labels: [u16; 64] = [0; 64];
@@ -559,7 +554,7 @@ pub fn read_program(least: u8, text: &[u8], reads: &mut [u16]) -> ProgramRead
         to = walk.code;
         match entry {
             Entry::Signal(period, weight) => {
-                places[signals] = place;
+                places[signals] = place as u16;
                 periods[signals] = period;
                 weights[signals] = weight;
                 labels[signals] = label;

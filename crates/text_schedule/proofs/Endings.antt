@@ -50,5 +50,6 @@ unfolding parsePuts scheduleCommand
 puts-more left text at puts signal phase e = rw e
 
 -- What is no PUT is none.
-pub not-put : (c : ScheduleCommand) (signal phase : ℕ) → OneOf stops (tagOf (declared enum) c) → c ≡ ScheduleCommand.Put signal phase → ⊥
+pub not-put : (c : ScheduleCommand) (signal phase : ℕ) → OneOf stops (tagOf (declared enum) c) →
+    c ≡ ScheduleCommand.Put signal phase → ⊥
 not-put c signal phase k e = miss stops 3 tt (subst (λ x. OneOf stops (tagOf (declared enum) x)) e k)

@@ -7,8 +7,8 @@ use native.Mathlib.Omega.{arith}
 use lib.Dec.{eqb}
 use lib.ListN.{length, getD}
 use borrow.Author.Tests.{eqb-true, eqb-false}
-use Rattle.model.specs.Rules.Reads.{place}
-use Rattle.model.proofs.Decide.{place-at}
+use Rattle.model.specs.Rules.Reads.{rank}
+use Rattle.model.proofs.Pairs.Decide.{rank-at}
 
 -- The number m is given up for what the last one goes to.
 abbrev around : (ℕ → ℕ) → ℕ → ℕ → ℕ → ℕ
@@ -42,12 +42,12 @@ pigeons (suc m) (suc n) f low apart =
     let h = pigeons m n (around f n m) (around-low f n m low apart) (around-apart f n m low apart) in omega arith
 
 -- An order in which every signal stands once has as many places as there are signals.
-pub order-length : (order : List ℕ) (n : ℕ) → ((x : ℕ) → x < n → place order x < length order) →
-    ((j : ℕ) → j < length order → place order (getD order j 0) ≡ j) → ((j : ℕ) → j < length order → getD order j 0 < n) →
+pub order-length : (order : List ℕ) (n : ℕ) → ((x : ℕ) → x < n → rank order x < length order) →
+    ((j : ℕ) → j < length order → rank order (getD order j 0) ≡ j) → ((j : ℕ) → j < length order → getD order j 0 < n) →
     length order ≡ n
 order-length order n put once only =
     let a = pigeons n (length order) (λ j. getD order j 0) only
-    (λ i j li lj e. sym (once i li) ∙ ap (place order) e ∙ once j lj) in
-    let b = pigeons (length order) n (place order) put
-    (λ x y lx ly e. sym (place-at order x (put x lx)) ∙ ap (λ j. getD order j 0) e ∙ place-at order y (put y ly)) in
+    (λ i j li lj e. sym (once i li) ∙ ap (rank order) e ∙ once j lj) in
+    let b = pigeons (length order) n (rank order) put
+    (λ x y lx ly e. sym (rank-at order x (put x lx)) ∙ ap (λ j. getD order j 0) e ∙ rank-at order y (put y ly)) in
     omega arith

@@ -11,7 +11,7 @@ use borrow.Author.Tests.{eqb-true, eqb-false, eq-eqb, ne-eqb, lt-ltb, le-ltb, lt
 use Rattle.model.specs.Says.Feasible.{All}
 use Rattle.model.specs.Rules.Outcome.{Outcome, accepted, refused, fault, _▷_, provided, lowest, Parsed}
 use Rattle.model.specs.Rules.Program.{Program, count, signalAt}
-use Rattle.model.specs.Rules.Reads.{place}
+use Rattle.model.specs.Rules.Reads.{rank}
 use Rattle.model.specs.Rules.Schedule.{
   Schedule,
   Put,
@@ -29,15 +29,15 @@ use Rattle.model.specs.Rules.Search.{allBelow}
 use Rattle.model.specs.declared.Fault.{Fault}
 use Rattle.model.specs.declared.ScheduleCommand.{ScheduleCommand}
 use Rattle.model.specs.declared.ScheduleCommand.the-variants as ScheduleCommand
-use Rattle.model.proofs.All.{all-at, all-append}
-use Rattle.model.proofs.Decide.{all-true, true-all}
-use Rattle.model.proofs.Outcomes.{lowest-sorted, getD-table}
+use Rattle.model.proofs.Basics.All.{all-at, all-append}
+use Rattle.model.proofs.Pairs.Decide.{all-true, true-all}
+use Rattle.model.proofs.Basics.Outcomes.{lowest-sorted, getD-table}
 use Rattle.model.specs.Says.Grammar.{SpellsPuts}
-use Rattle.model.proofs.Puts.{puts-end, puts-spelled, placed-ordered}
-use Rattle.model.proofs.Written.{put-decoded}
+use Rattle.model.proofs.Texts.Puts.{puts-end, puts-spelled, placed-ordered}
+use Rattle.model.proofs.Texts.Written.{put-decoded}
 use Rattle.text_program.specs.Tables.{PeriodsOf, SlotsOf}
-use Rattle.text_program.specs.declared.Judged.{Judged}
-use Rattle.text_program.specs.declared.Judged.the-variants as Judged
+use Rattle.basics.specs.declared.Judged.{Judged}
+use Rattle.basics.specs.declared.Judged.the-variants as Judged
 use Rattle.text_program.proofs.Filled.{filled}
 use Rattle.text_schedule.specs.Slots.{signalsOf, SlotsAfter, putAdded, judgedBy, PutJudged, allRanked, ScheduledAs}
 use Rattle.text_schedule.specs.declared.Placing.{Placing}
@@ -59,25 +59,25 @@ put-snoc [] q x = or-false (eqb (q .signal) x)
 put-snoc (r ∷ done) q x = ap (eqb (r .signal) x ||_) (put-snoc done q x) ∙ sym (or-assoc (eqb (r .signal) x) (isPut done x) _)
 
 module _ (q : Put) (x : ℕ) where
-  place-old : (done : List Put) → isPut done x ≡ true → place (signalsOf (done ++ (q ∷ []))) x ≡ place (signalsOf done) x
-  unfolding isPut place
-  place-old [] e = absurd (false≢true e)
-  place-old (r ∷ done) e = go (eqb (r .signal) x) e (λ h. place-old done h)
+  rank-old : (done : List Put) → isPut done x ≡ true → rank (signalsOf (done ++ (q ∷ []))) x ≡ rank (signalsOf done) x
+  unfolding isPut rank
+  rank-old [] e = absurd (false≢true e)
+  rank-old (r ∷ done) e = go (eqb (r .signal) x) e (λ h. rank-old done h)
     where
       go : (b : Bool) → b || isPut done x ≡ true →
-          (isPut done x ≡ true → place (signalsOf (done ++ (q ∷ []))) x ≡ place (signalsOf done) x) →
-          cond b 0 (suc (place (signalsOf (done ++ (q ∷ []))) x)) ≡ cond b 0 (suc (place (signalsOf done) x))
+          (isPut done x ≡ true → rank (signalsOf (done ++ (q ∷ []))) x ≡ rank (signalsOf done) x) →
+          cond b 0 (suc (rank (signalsOf (done ++ (q ∷ []))) x)) ≡ cond b 0 (suc (rank (signalsOf done) x))
       go true h ih = refl
       go false h ih = ap suc (ih h)
 
-  place-new : (done : List Put) → isPut done x ≡ false → q .signal ≡ x → place (signalsOf (done ++ (q ∷ []))) x ≡ length done
-  unfolding isPut place
-  place-new [] e g = rw (eq-eqb (q .signal) x g)
-  place-new (r ∷ done) e g = go (eqb (r .signal) x) e (λ h. place-new done h g)
+  rank-new : (done : List Put) → isPut done x ≡ false → q .signal ≡ x → rank (signalsOf (done ++ (q ∷ []))) x ≡ length done
+  unfolding isPut rank
+  rank-new [] e g = rw (eq-eqb (q .signal) x g)
+  rank-new (r ∷ done) e g = go (eqb (r .signal) x) e (λ h. rank-new done h g)
     where
       go : (b : Bool) → b || isPut done x ≡ false →
-          (isPut done x ≡ false → place (signalsOf (done ++ (q ∷ []))) x ≡ length done) →
-          cond b 0 (suc (place (signalsOf (done ++ (q ∷ []))) x)) ≡ suc (length done)
+          (isPut done x ≡ false → rank (signalsOf (done ++ (q ∷ []))) x ≡ length done) →
+          cond b 0 (suc (rank (signalsOf (done ++ (q ∷ []))) x)) ≡ suc (length done)
       go true h ih = absurd (false≢true (sym h))
       go false h ih = ap suc (ih h)
 
@@ -102,13 +102,13 @@ module _ (q : Put) (x : ℕ) where
       go false h ih = ih h
 
 -- A signal that is put has a place below the number of PUTs.
-place-below : (done : List Put) (x : ℕ) → isPut done x ≡ true → place (signalsOf done) x < length done
-unfolding isPut place
-place-below [] x e = absurd (false≢true e)
-place-below (r ∷ done) x e = go (eqb (r .signal) x) e (λ h. place-below done x h)
+rank-below : (done : List Put) (x : ℕ) → isPut done x ≡ true → rank (signalsOf done) x < length done
+unfolding isPut rank
+rank-below [] x e = absurd (false≢true e)
+rank-below (r ∷ done) x e = go (eqb (r .signal) x) e (λ h. rank-below done x h)
   where
-    go : (b : Bool) → b || isPut done x ≡ true → (isPut done x ≡ true → place (signalsOf done) x < length done) →
-        cond b 0 (suc (place (signalsOf done) x)) < suc (length done)
+    go : (b : Bool) → b || isPut done x ≡ true → (isPut done x ≡ true → rank (signalsOf done) x < length done) →
+        cond b 0 (suc (rank (signalsOf done) x)) < suc (length done)
     go true h ih = omega arith
     go false h ih = omega (arith, ih h)
 
@@ -154,14 +154,15 @@ module _ (done : List Put) (t : Slots) (h : SlotsAfter done t) (q : Put) (low : 
         puts-are = length-append done (q ∷ []) ∙ ap (_+ 1) (h .puts-are);
         order-is = λ j lt.
             filled (λ i. getD (signalsOf (done ++ (q ∷ []))) i 0) (t .order) (t .puts) (q .signal)
-            (omega (arith, h .space .0, h .puts-are)) (sym (signals-last done q) ∙ ap (λ i. getD (signalsOf (done ++ (q ∷ []))) i 0) (h .puts-are))
+            (omega (arith, h .space .0, h .puts-are))
+            (sym (signals-last done q) ∙ ap (λ i. getD (signalsOf (done ++ (q ∷ []))) i 0) (h .puts-are))
             (λ y ly. h .order-is y (omega (arith, h .puts-are)) ∙ sym (signals-snoc done q y (omega (arith, h .puts-are)))) j
             (omega (arith, length-append done (q ∷ []), h .puts-are));
         unput = unput-after;
         ranks-are = λ x lt p.
-            by-signal (t .ranks) (t .puts) x (place (signalsOf (done ++ (q ∷ [])))) (h .space .2) lt p
-            (λ o. h .ranks-are x lt o ∙ sym (place-old q x done o))
-            (λ z. sym (place-new q x done (ap (isPut done) (sym z) ∙ fresh) z ∙ h .puts-are));
+            by-signal (t .ranks) (t .puts) x (rank (signalsOf (done ++ (q ∷ [])))) (h .space .2) lt p
+            (λ o. h .ranks-are x lt o ∙ sym (rank-old q x done o))
+            (λ z. sym (rank-new q x done (ap (isPut done) (sym z) ∙ fresh) z ∙ h .puts-are));
         phases-are = λ x lt p.
             by-signal (t .phases) (q .phase) x (putPhase (done ++ (q ∷ []))) (h .space .1) lt p
             (λ o. h .phases-are x lt o ∙ sym (phase-old q x done o))
@@ -179,7 +180,7 @@ pub ranked : (done : List Put) (t : Slots) → SlotsAfter done t → length done
 ranked done t h few x lt = go (isPut done x) refl
   where
     go : (b : Bool) → isPut done x ≡ b → not (eqb (getD (t .ranks) x 0) 64) ≡ b
-    go true e = rw (ne-eqb (getD (t .ranks) x 0) 64 (λ z. omega (arith, h .ranks-are x lt e, place-below done x e)))
+    go true e = rw (ne-eqb (getD (t .ranks) x 0) 64 (λ z. omega (arith, h .ranks-are x lt e, rank-below done x e)))
     go false e = rw (eq-eqb (getD (t .ranks) x 0) 64 (h .unput x lt e))
 
 -- Tests that are the same below n.
@@ -274,7 +275,8 @@ fresh-put p done q = go (ltb (q .signal) (count p)) (isPut done (q .signal)) (lt
     some f e = omega (arith, ap length e)
 
     go : (a b c : Bool) →
-        cond a (cond b (fault 12 (q .place) ∷ []) (cond c [] (fault 13 (q .place) ∷ []))) (fault 12 (q .place) ∷ []) ≡ [] → b ≡ false
+        cond a (cond b (fault 12 (q .place) ∷ []) (cond c [] (fault 13 (q .place) ∷ []))) (fault 12 (q .place) ∷ []) ≡ [] →
+        b ≡ false
     go true true c e = absurd (some _ e)
     go true false c e = refl
     go false b c e = absurd (some _ e)
@@ -363,7 +365,8 @@ module _ (text : List ℕ) (p : Program) (o : Parsed (List Put)) (at : ℕ) (t :
   placed-slots e =
       let s = scheduleOf p (o .value) in
       let ok = placed-ordered p o s (placed-all e) .0 in
-      let put : (x : ℕ) → x < count p → isPut (g .done) x ≡ true = λ x lt. all-true (count p) (isPut (g .done)) (sym (all-ranked (g .done) t (count p) (g .after) fit few) ∙ e) x lt in
+      let put : (x : ℕ) → x < count p → isPut (g .done) x ≡ true = λ x lt.
+      all-true (count p) (isPut (g .done)) (sym (all-ranked (g .done) t (count p) (g .after) fit few) ∙ e) x lt in
       let size : length (s .order) ≡ length (g .done) = length-map (o .value) _ ∙ ap length all-done in (
         sym (size ∙ g .after .puts-are),
         record {
@@ -372,7 +375,7 @@ module _ (text : List ℕ) (p : Program) (o : Parsed (List Put)) (at : ℕ) (t :
               g .after .phases-are x (omega arith) (put x lt) ∙ ap (λ qs. putPhase qs x) (sym all-done) ∙
               sym (getD-table (putPhase (o .value)) (count p) x 0 lt);
           ranks-are = λ x lt.
-              g .after .ranks-are x (omega arith) (put x lt) ∙ ap (λ qs. place (signalsOf qs) x) (sym all-done);
+              g .after .ranks-are x (omega arith) (put x lt) ∙ ap (λ qs. rank (signalsOf qs) x) (sym all-done);
           all-put = order-length (s .order) (count p) (ok .put) (ok .once) (ok .only);
         },
       )
@@ -453,12 +456,14 @@ progress-start text p o t e h =
     record { done = []; rest = o .value; whole = refl; spelled = puts-spelled text o e; faults = refl; after = h }
 
 -- The answers.
-pub scheduled-refused : (p : Program) (o : Outcome Schedule) (r : Placing) (f : Fault) → o ≡ refused f → r .judged ≡ Judged.Refused f →
+pub scheduled-refused : (p : Program) (o : Outcome Schedule) (r : Placing) (f : Fault) → o ≡ refused f →
+    r .judged ≡ Judged.Refused f →
     ScheduledAs p o r
 unfolding ScheduledAs
 scheduled-refused p o r f e h = rw e h
 
-pub scheduled-fine : (p : Program) (o : Outcome Schedule) (r : Placing) (s : Schedule) → o ≡ accepted s → r .judged ≡ Judged.Fine →
+pub scheduled-fine : (p : Program) (o : Outcome Schedule) (r : Placing) (s : Schedule) → o ≡ accepted s →
+    r .judged ≡ Judged.Fine →
     (r .slots .puts ≡ length (s .order)) × SlotsOf p s (r .slots .order) (r .slots .phases) (r .slots .ranks) → ScheduledAs p o r
 unfolding ScheduledAs
 scheduled-fine p o r s e h g = rw e (h, g .0, g .1)

@@ -7,15 +7,15 @@ use lib.Dec.{leb, eqb}
 use lib.ListN.{length, getD, set}
 use Rattle.model.specs.Rules.Outcome.{Outcome, accepted, refused, fault, Parsed}
 use Rattle.model.specs.Rules.Program.{Program, count, signalAt}
-use Rattle.model.specs.Rules.Reads.{place}
+use Rattle.model.specs.Rules.Reads.{rank}
 use Rattle.model.specs.Rules.Schedule.{Schedule, Put, isPut, putPhase, putFaults, placed}
 use Rattle.model.specs.Rules.Search.{allBelow}
 use Rattle.model.specs.declared.Fault.{Fault}
 use Rattle.model.specs.declared.ScheduleCommand.{ScheduleCommand}
 use Rattle.model.specs.declared.ScheduleCommand.the-variants as ScheduleCommand
 use Rattle.text_program.specs.Tables.{PeriodsOf, SlotsOf}
-use Rattle.text_program.specs.declared.Judged.{Judged}
-use Rattle.text_program.specs.declared.Judged.the-variants as Judged
+use Rattle.basics.specs.declared.Judged.{Judged}
+use Rattle.basics.specs.declared.Judged.the-variants as Judged
 use Rattle.text_schedule.specs.declared.Ended.{Ended}
 use Rattle.text_schedule.specs.declared.Ended.the-variants as Ended
 use Rattle.text_schedule.specs.declared.Placing.{Placing}
@@ -45,7 +45,7 @@ pub record SlotsAfter (done : List Put) (t : Slots) : Type 0 where
   pub puts-are : length done ≡ t .puts
   pub order-is : (j : ℕ) → j < length done → getD (t .order) j 0 ≡ getD (signalsOf done) j 0
   pub unput : (x : ℕ) → x < 64 → isPut done x ≡ false → getD (t .ranks) x 0 ≡ 64
-  pub ranks-are : (x : ℕ) → x < 64 → isPut done x ≡ true → getD (t .ranks) x 0 ≡ place (signalsOf done) x
+  pub ranks-are : (x : ℕ) → x < 64 → isPut done x ≡ true → getD (t .ranks) x 0 ≡ rank (signalsOf done) x
   pub phases-are : (x : ℕ) → x < 64 → isPut done x ≡ true → getD (t .phases) x 0 ≡ putPhase done x
   -- how many entries they have space for
   pub space : (length (t .order) ≡ 64) × (length (t .phases) ≡ 64) × (length (t .ranks) ≡ 64)

@@ -1,7 +1,7 @@
 // Schedule texts to tables: the signals in PUT order, and by signal its phase and its place in that order.
+use basics::Judged;
 use model::Fault;
 use model::ScheduleCommand;
-use text_program::Judged;
 ghost use mathlib.Core.Path.{_≡_};
 ghost use mathlib.Core.List.{List, []};
 ghost use Prim.Native.Nat.{_≤_, _<_};
@@ -10,7 +10,8 @@ ghost use Rattle.model.specs.Rules.Outcome.{Parsed, accepted};
 ghost use Rattle.model.specs.Rules.Program.{Program, count};
 ghost use Rattle.model.specs.Rules.Schedule.{Put, parseSchedule, scheduleCommandAt};
 ghost use Rattle.text_program.specs.Tables.{PeriodsOf};
-ghost use Rattle.text_schedule.specs.Slots.{endedOf, EndedAt, allRanked, SlotsAfter, putAdded, PutJudged, Scheduled};
+ghost use Rattle.text_schedule.specs.Slots.{endedOf, EndedAt, allRanked, SlotsAfter, PutJudged, Scheduled};
+ghost use Rattle.text_schedule.specs.declared.Slots.{Slots};
 
 // Where a schedule text ends, or the refusal.
 pub enum Ended {
@@ -80,41 +81,11 @@ impl Slots {
             ranks: [64; 64],
         }
     }
-
-    // The tables with one PUT more.
-    fn with_put(self, signal: u8, phase: u8) -> Self
-        requires { ⌜ (self .puts < 64) × (signal < 64) ⌝ }
-        ensures { λ r. ⌜ r ≡ putAdded self signal phase ⌝ }
-    {
-        let rank = self.puts;
-        let x = signal as usize;
-        let mut order = self.order;
-        order[rank] = signal;
-        let mut phases = self.phases;
-        phases[x] = phase;
-        let mut ranks = self.ranks;
-        ranks[x] = rank as u8;
-        Self {
-            puts: rank + 1,
-            order: order,
-            phases: phases,
-            ranks: ranks,
-        }
-    }
-}
-
-fn refuse(number: u8, place: usize) -> Judged
-    ensures { λ r. ⌜ r ≡ Judged.Refused (record { number = number; place = place }) ⌝ }
-{
-    Judged::Refused(Fault {
-        number: number,
-        place: place,
-    })
 }
 
 // One PUT, after those that have a rank: 12 and 13.
 fn judge_put(
-    slots: Slots,
+    ranks: &[u8; 64],
     periods: &[u8; 64],
     signals: usize,
     signal: u8,
@@ -122,26 +93,25 @@ fn judge_put(
     at: usize,
 ) -> Judged
     requires { ⌜ signals ≤ 64 ⌝ }
-    ensures { λ r. ⌜ PutJudged slots (now (periods .entry)) signals (record { place = at; signal = signal; phase = phase }) r ⌝ }
+    ensures { λ r. ⌜ ((t : Slots) → t .ranks ≡ now (ranks .entry) → PutJudged t (now (periods .entry)) signals (record { place = at; signal = signal; phase = phase }) r) ⌝ }
 {
     let x = signal as usize;
     if signals <= x {
-        return refuse(12, at);
+        return basics::refuse(12, at);
     }
-    let ranks = slots.ranks;
     if ranks[x] != 64 {
-        return refuse(12, at);
+        return basics::refuse(12, at);
     }
     if periods[x] <= phase {
-        return refuse(13, at);
+        return basics::refuse(13, at);
     }
     Judged::Fine
 }
 
 // Whether every signal has a rank.
-fn all_put(ranks: [u8; 64], signals: usize) -> bool
+fn all_put(ranks: &[u8; 64], signals: usize) -> bool
     requires { ⌜ signals ≤ 64 ⌝ }
-    ensures { λ r. ⌜ r ≡ allRanked ranks signals ⌝ }
+    ensures { λ r. ⌜ r ≡ allRanked (now (ranks .entry)) signals ⌝ }
 {
     let mut x: usize = 0;
     while x < signals {
@@ -159,40 +129,52 @@ pub struct Placing {
     pub slots: Slots,
 }
 
+// A refused schedule, whose tables are of no use.
+pub fn unplaced(judged: Judged) -> Placing
+    ensures { λ r. ⌜ r .judged ≡ judged ⌝ }
+{
+    Placing {
+        judged: judged,
+        slots: Slots::new(),
+    }
+}
+
 // Goes through the PUTs of a schedule text that ends at `end`, for signals of these periods: 12 and 13, missing last.
 pub fn place_signals(text: &[u8], end: usize, signals: usize, periods: &[u8; 64]) -> Placing
     requires { ⌜ (signals ≤ 64) × (end ≤ 192) ⌝ }
     ensures { λ r. ⌜ ((p : Program) (o : Parsed (List Put)) → count p ≡ signals → PeriodsOf p (now (periods .entry)) → parseSchedule (now (text .entry)) ≡ accepted o → o .next ≡ end → Scheduled p o r) ⌝ }
 {
-    let mut slots = Slots::new();
+    let mut order: [u8; 64] = [0; 64];
+    let mut phases: [u8; 64] = [0; 64];
+    let mut ranks: [u8; 64] = [64; 64];
+    let mut puts: usize = 0;
     let mut at: usize = 0;
     while at < end {
         let command = text_command::schedule_command_at(text, at);
         let ScheduleCommand::Put(signal, phase) = command else {
-            return Placing {
-                judged: Judged::Fine,
-                slots: slots,
-            };
+            return unplaced(Judged::Fine);
         };
-        let judged = judge_put(slots, periods, signals, signal, phase, at);
+        let judged = judge_put(&ranks, periods, signals, signal, phase, at);
         let Judged::Fine = judged else {
-            return Placing {
-                judged: judged,
-                slots: slots,
-            };
+            return unplaced(judged);
         };
-        slots = slots.with_put(signal, phase);
+        let x = basics::wide(signal);
+        order[puts] = signal;
+        phases[x] = phase;
+        ranks[x] = puts as u8;
+        puts = puts + 1;
         at = at + width::in_schedule(0x40);
     }
-    let ranks = slots.ranks;
-    if all_put(ranks, signals) {
-        return Placing {
-            judged: Judged::Fine,
-            slots: slots,
-        };
+    if !all_put(&ranks, signals) {
+        return unplaced(basics::refuse(12, end));
     }
     Placing {
-        judged: refuse(12, end),
-        slots: slots,
+        judged: Judged::Fine,
+        slots: Slots {
+            puts: puts,
+            order: order,
+            phases: phases,
+            ranks: ranks,
+        },
     }
 }

@@ -1,10 +1,10 @@
 // A bench trial: reads a program, a schedule and a script from the three files that the arguments name, and prints a line for
 // each cycle of the script, or the number of the refusal. All that is printed is made by `bench_trial` and `stepper`; here it is
 // read and written.
+use basics::Judged;
 use libc::STDERR_FILENO;
 use libc::STDOUT_FILENO;
 use model::Fault;
-use text_program::Judged;
 use trial_step::Progress;
 ghost use Rattle.io.specs.Counts.{Counts};
 ghost use Rattle.trial_step.specs.Steps.{atStart, Underway};

@@ -17,18 +17,25 @@ use Rattle.model.specs.Rules.Program.{Program}
 use Rattle.model.specs.Rules.Schedule.{Schedule}
 use Rattle.model.specs.Rules.Script.{isInputOf, scriptOf, inputsOnly, noSamples, checkOf, callsOf, cyclesOf}
 use Rattle.model.specs.Rules.Trial.{linesFrom, startOf, trialOf}
+use Rattle.model.specs.Rules.Word.{AreBytes}
 use Rattle.model.specs.declared.Fault.{Fault}
-use Rattle.model.proofs.Bounds.{Bounded}
-use Rattle.model.proofs.Commands.{Bytes}
-use Rattle.model.proofs.Formed.{image-well-formed}
-use Rattle.model.proofs.Outcomes.{accepted≢refused, accepted-same, accepted-then, refused-then, then-accepted, provided-true}
-use Rattle.model.proofs.Scripts.{calls-count}
-use Rattle.model.proofs.Stretches.{image-length, image-count}
-use Rattle.model.proofs.Tails.{headed, stated-length, written-bears, written-length}
-use Rattle.model.proofs.TrialLines.{lines-count}
-use Rattle.model.proofs.Verdict.{pair-accepted, pair-multiple, pair-bounded}
-use Rattle.text_program.specs.declared.Judged.{Judged}
-use Rattle.text_program.specs.declared.Judged.the-variants as Judged
+use Rattle.model.proofs.Images.Bounds.{Bounded}
+use Rattle.model.proofs.Images.Formed.{image-well-formed}
+use Rattle.model.proofs.Basics.Outcomes.{
+  accepted≢refused,
+  accepted-same,
+  accepted-then,
+  refused-then,
+  then-accepted,
+  provided-true,
+}
+use Rattle.model.proofs.Bench.Scripts.{calls-count}
+use Rattle.model.proofs.Images.Stretches.{image-length, image-count}
+use Rattle.model.proofs.Images.Tails.{headed, stated-length, written-bears, written-length}
+use Rattle.model.proofs.Bench.Scripts.{lines-count}
+use Rattle.model.proofs.Pairs.Verdict.{pair-accepted, pair-multiple, pair-bounded}
+use Rattle.basics.specs.declared.Judged.{Judged}
+use Rattle.basics.specs.declared.Judged.the-variants as Judged
 use Rattle.machine.specs.Runnable.{Runnable}
 use Rattle.machine.proofs.Answers.{reset-done, lends-itself}
 use Rattle.machine.proofs.Runnable.{reset-runnable}
@@ -107,7 +114,7 @@ module _ (program schedule image : List ℕ) (n : ℕ) (w : Written program sche
             take-append-seam (imageOf p s h) (tailOf p s ++ drop n image);
       }
 
-module _ (program schedule buffer : List ℕ) (bytes : Bytes program) (room : 65791 ≤ length buffer) where
+module _ (program schedule buffer : List ℕ) (bytes : AreBytes program) (room : 65791 ≤ length buffer) where
   abbrev both : Pair → List ℕ
   both q = writtenOf (q .program) (q .schedule) (q .hypercycle)
 

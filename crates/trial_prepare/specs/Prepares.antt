@@ -7,8 +7,8 @@ use lib.ListN.{length, take}
 use Rattle.model.specs.Rules.Outcome.{accepted, refused}
 use Rattle.model.specs.Rules.Script.{noSamples, scriptOf, checkOf, cyclesOf}
 use Rattle.model.specs.Rules.Trial.{startOf, trialOf}
-use Rattle.text_program.specs.declared.Judged.{Judged}
-use Rattle.text_program.specs.declared.Judged.the-variants as Judged
+use Rattle.basics.specs.declared.Judged.{Judged}
+use Rattle.basics.specs.declared.Judged.the-variants as Judged
 use Rattle.trial_script.specs.Inputs.{fetches}
 use Rattle.trial_step.specs.Steps.{linesLeft, atStart, Underway}
 use Rattle.trial_prepare.specs.declared.Prepared.{Prepared}

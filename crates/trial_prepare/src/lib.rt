@@ -1,7 +1,7 @@
 // The start of a bench trial: the pair is compiled, the script checked and the state reset, before any line.
+use basics::Judged;
 use model::Compiled;
 use model::Fault;
-use text_program::Judged;
 ghost use mathlib.Core.Path.{_≡_};
 ghost use mathlib.Core.Bool.{true};
 ghost use Rattle.model.specs.Rules.Machine.{wellFormed};

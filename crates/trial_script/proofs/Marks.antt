@@ -10,11 +10,24 @@ use lib.ListN.{length, getD, take, drop, set, replicate, length-take, length-app
 use lib.Seq.{getD-take, getD-drop, getD-set-same, getD-set-other}
 use Rattle.model.specs.Rules.Image.{exprCode, signalCode, imageOf}
 use Rattle.model.specs.Rules.Machine.{countOf, codeOffset, codeOf}
-use Rattle.model.specs.Rules.Program.{Program, Body, input, equation, Expr, constant, read, binary, negate, choose, count, signalAt}
+use Rattle.model.specs.Rules.Program.{
+  Program,
+  Body,
+  input,
+  equation,
+  Expr,
+  constant,
+  read,
+  binary,
+  unary,
+  choose,
+  count,
+  signalAt,
+}
 use Rattle.model.specs.Rules.Schedule.{Schedule}
 use Rattle.model.specs.Rules.Word.{byteAt}
-use Rattle.model.proofs.Bounds.{Bounded}
-use Rattle.model.proofs.Stretches.{image-count, code-stretch}
+use Rattle.model.proofs.Images.Bounds.{Bounded}
+use Rattle.model.proofs.Images.Stretches.{image-count, code-stretch}
 use Rattle.model.specs.Rules.Script.{isInputBody, isInputOf}
 use Rattle.trial_script.specs.Inputs.{fetches, markOf, marked}
 
@@ -24,7 +37,7 @@ unfolding exprCode
 no-fetch (constant w) rest = refl
 no-fetch (read ρ) rest = refl
 no-fetch (binary o x y) rest = rw append-assoc (no-fetch x _)
-no-fetch (negate x) rest = rw append-assoc (no-fetch x _)
+no-fetch (unary operator x) rest = rw append-assoc (no-fetch x _)
 no-fetch (choose x y z) rest = rw append-assoc (no-fetch x _)
 
 first-byte : (x : ℕ) (b : Body) → eqb (byteAt (signalCode x b) 0) 0x52 ≡ isInputBody b

@@ -1,10 +1,11 @@
 -- The walk over a script: how a command stands in a text, and what it does to what follows. Assumes nothing.
 use Prim.Native.Nat.{ℕ, suc, _+_, _≤_, _<_}
-use mathlib.Core.Bool.{Bool, true, false}
+use mathlib.Core.Bool.{Bool, true, false, cond}
 use mathlib.Core.List.{List, [], _∷_, _++_}
 use mathlib.Core.Path.{_≡_, refl, sym, ap, _∙_}
 use native.Mathlib.Omega.{arith}
-use borrow.Author.Tests.{le-leb, lt-leb}
+use borrow.Author.Tests.{leb-true, lt-ltb, le-leb, lt-leb}
+use lib.Dec.{leb, eqb}
 use lib.IntN.{ℤ}
 use lib.ListN.{length, replicate}
 use Rattle.model.specs.Says.Calls.{Call, cycle}
@@ -22,24 +23,33 @@ use Rattle.model.specs.Rules.Script.{
   callsFrom,
   cyclesOf,
 }
+use Rattle.model.specs.Rules.Word.{byteAt, wordAt}
 use Rattle.model.specs.declared.Fault.{Fault}
 use Rattle.model.specs.declared.ScriptCommand.{ScriptCommand}
 use Rattle.model.specs.declared.ScriptCommand.the-variants as ScriptCommand
-use Rattle.model.proofs.Scripts.{past, step, Stands, stands}
+use Rattle.model.proofs.Bench.Scripts.{past, step}
 use Rattle.image_valid.proofs.Parts.{formed, codes, stretch-length}
 use Rattle.trial_script.specs.Steps.{widthOf, runsOf, altered, mayStand, endingAt}
 
 -- A SET or RUN is whole.
 pub inside : (text : List ℕ) (at w : ℕ) → w ≡ widthOf (scriptCommandAt text at) → at < length text → at + w ≤ length text
-unfolding widthOf
-inside text at w e h = rw e (go (scriptCommandAt text at) (stands text at))
+unfolding widthOf scriptCommandAt
+inside text at w e h =
+    rw (e, lt-ltb at (length text) h)
+    (go (eqb (byteAt text at) 0x00) (eqb (byteAt text at) 0x70) (eqb (byteAt text at) 0x71) (leb (at + 6) (length text))
+    (leb (at + 2) (length text)) refl refl)
   where
-    go : (c : ScriptCommand) → Stands text at c → at + widthOf c ≤ length text
-    go ScriptCommand.EndsEarly s = omega arith
-    go ScriptCommand.Unknown s = omega arith
-    go ScriptCommand.End s = omega arith
-    go (ScriptCommand.Set x v) s = s .0 .0
-    go (ScriptCommand.Run n) s = s .0 .0
+    go : (a b c d f : Bool) → leb (at + 6) (length text) ≡ d → leb (at + 2) (length text) ≡ f →
+        at +
+        widthOf (cond a ScriptCommand.End
+        (cond b (cond d (ScriptCommand.Set (byteAt text (at + 1)) (wordAt text (at + 2))) ScriptCommand.EndsEarly)
+        (cond c (cond f (ScriptCommand.Run (byteAt text (at + 1))) ScriptCommand.EndsEarly) ScriptCommand.Unknown))) ≤ length text
+    go true b c d f p q = omega arith
+    go false true c true f p q = leb-true _ _ p
+    go false true c false f p q = omega arith
+    go false false true d true p q = leb-true _ _ q
+    go false false true d false p q = omega arith
+    go false false false d f p q = omega arith
 
 module _ (text : List ℕ) (at : ℕ) where
   abbrev here : ScriptCommand

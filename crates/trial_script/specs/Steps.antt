@@ -9,8 +9,8 @@ use Rattle.model.specs.Rules.Outcome.{Outcome, accepted, refused, refuse, provi
 use Rattle.model.specs.Rules.Width.{inScript}
 use Rattle.model.specs.declared.ScriptCommand.{ScriptCommand}
 use Rattle.model.specs.declared.ScriptCommand.the-variants as ScriptCommand
-use Rattle.text_program.specs.declared.Judged.{Judged}
-use Rattle.text_program.specs.declared.Judged.the-variants as Judged
+use Rattle.basics.specs.declared.Judged.{Judged}
+use Rattle.basics.specs.declared.Judged.the-variants as Judged
 
 -- What a judgement stands for.
 abbrev pub ruledOf : Judged → Outcome (Unit {0})

@@ -1,7 +1,7 @@
 // A bench trial's script: its commands, and its check as a whole.
+use basics::Judged;
 use model::Fault;
 use model::ScriptCommand;
-use text_program::Judged;
 ghost use mathlib.Core.Path.{_≡_};
 ghost use mathlib.Core.Bool.{true};
 ghost use Prim.Native.Nat.{ℕ, _*_, _≤_, _<_};
@@ -11,12 +11,6 @@ ghost use Rattle.model.specs.Rules.Outcome.{refuse};
 ghost use Rattle.model.specs.Rules.Script.{scriptCommandAt, scriptOf, inputsOnly, checkOf, cyclesOf};
 ghost use Rattle.trial_script.specs.Inputs.{fetches, markOf, marked};
 ghost use Rattle.trial_script.specs.Steps.{ruledOf, widthOf, runsOf, endingAt, mayStand};
-
-fn wide(byte: u8) -> usize
-    ensures { λ r. ⌜ (r ≡ byte) × (r < 256) ⌝ }
-{
-    byte as usize
-}
 
 fn refused(number: u8, place: usize) -> Judged
     ensures { λ r. ⌜ ruledOf r ≡ refuse number place ⌝ }
@@ -121,8 +115,8 @@ pub fn is_input(image: &[u8], x: u8) -> bool
     requires { ⌜ wellFormed (now image) ≡ true ⌝ }
     ensures { λ r. ⌜ r ≡ fetches (now (image .entry)) x ⌝ }
 {
-    let n = wide(image[1]);
-    let own = wide(x);
+    let n = basics::wide(image[1]);
+    let own = basics::wide(x);
     if n <= own {
         return false;
     }
@@ -147,7 +141,7 @@ pub fn mark_inputs(image: &[u8]) -> [u8; 256]
     let n = image[1];
     while x < n {
         let mark = mark_of(image, x);
-        inputs[wide(x)] = mark;
+        inputs[basics::wide(x)] = mark;
         x = x + 1;
     }
     inputs
@@ -156,7 +150,7 @@ pub fn mark_inputs(image: &[u8]) -> [u8; 256]
 fn is_marked(inputs: &[u8; 256], x: u8) -> bool
     ensures { λ r. ⌜ r ≡ marked (now (inputs .entry)) x ⌝ }
 {
-    inputs[wide(x)] == 1
+    inputs[basics::wide(x)] == 1
 }
 
 // Whether a command may stand: a SET only of an input.
@@ -218,7 +212,7 @@ pub fn count_cycles(text: &[u8]) -> usize
         if width == 0 {
             return total;
         }
-        total = total + wide(runs_of(command));
+        total = total + basics::wide(runs_of(command));
         at = at + width;
     }
     total

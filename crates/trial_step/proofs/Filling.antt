@@ -9,7 +9,7 @@ use lib.ListN.{length, take, drop, length-append, length-take}
 use lib.Seq.{take-append-le, take-append-add}
 use Rattle.model.specs.Rules.Image.{joined}
 use Rattle.model.specs.Rules.Search.{joinFrom}
-use Rattle.model.proofs.Stretches.{joined-cons}
+use Rattle.model.proofs.Images.Stretches.{joined-cons}
 use Rattle.trial_step.specs.Steps.{linesLeft, Underway, Lined, Filled}
 use Rattle.trial_step.specs.declared.Block.{Block}
 use Rattle.trial_step.specs.declared.Progress.{Progress}
@@ -42,7 +42,8 @@ filling-none block u =
     }
 
 -- Where no line is left, all bytes are there.
-pub filling-all : {image text : List ℕ} {p₀ : Progress} {samples₀ state₀ : List ℤ} {block₀ : List ℕ} {samples state : List ℤ} {block : List ℕ}
+pub filling-all : {image text : List ℕ} {p₀ : Progress} {samples₀ state₀ : List ℤ} {block₀ : List ℕ} {samples state : List ℤ}
+    {block : List ℕ}
     {p : Progress} {size : ℕ} → Filling image text p₀ samples₀ state₀ block₀ samples state block p size →
     linesLeft image text p samples state ≡ [] → joined (linesLeft image text p₀ samples₀ state₀) ≡ take size block
 unfolding joinFrom
@@ -58,7 +59,8 @@ module _ (block line rest : List ℕ) (size n : ℕ) (fits : size ≤ length blo
       go a e = rw (← e) (take-append-add a (line ++ rest) n ∙ ap (a ++_) (take-append-le n line rest inside))
 
 -- One line more.
-module _ {image text : List ℕ} {p₀ : Progress} {samples₀ state₀ : List ℤ} {block₀ : List ℕ} {samples state samples′ state′ : List ℤ}
+module _ {image text : List ℕ} {p₀ : Progress} {samples₀ state₀ : List ℤ} {block₀ : List ℕ}
+    {samples state samples′ state′ : List ℤ}
     {block line′ : List ℕ} {p next : Progress} {size n : ℕ} (rest : List ℕ)
     (f : Filling image text p₀ samples₀ state₀ block₀ samples state block p size)
     (l : Lined image text p samples state samples′ state′ line′ n next)

@@ -12,8 +12,8 @@ use Rattle.model.specs.Rules.Decimal.{lineOf}
 use Rattle.model.specs.Rules.Machine.{cycleWords}
 use Rattle.model.specs.Rules.Script.{scriptCommandAt, scriptAt, scriptOf, callsFrom, cyclesOf}
 use Rattle.model.specs.Rules.Trial.{signalsOf, linesFrom}
-use Rattle.model.proofs.Scripts.{calls-count}
-use Rattle.model.proofs.TrialLines.{lines-count}
+use Rattle.model.proofs.Bench.Scripts.{calls-count}
+use Rattle.model.proofs.Bench.Scripts.{lines-count}
 use Rattle.decimal.specs.Put.{Put}
 use Rattle.decimal.proofs.Puts.{put-length}
 use Rattle.machine.specs.Runnable.{Runnable}

@@ -37,12 +37,6 @@ pub struct Block {
 // The most bytes that a line has, and a few more.
 const LINE: usize = 1024;
 
-fn wide(byte: u8) -> usize
-    ensures { λ r. ⌜ (r ≡ byte) × (r < 256) ⌝ }
-{
-    byte as usize
-}
-
 // Before the first line.
 pub fn at_start() -> Progress
     ensures { λ r. ⌜ r ≡ atStart ⌝ }
@@ -58,7 +52,7 @@ pub fn at_start() -> Progress
 fn store(samples: &mut [i32], signal: u8, word: i32)
     ensures { λ _. ⌜ now (samples .exit) ≡ set (now (samples .entry)) signal word ⌝ }
 {
-    let x = wide(signal);
+    let x = basics::wide(signal);
     if x < samples.len() {
         samples[x] = word;
     }
@@ -110,7 +104,7 @@ fn print_cycle(
     ensures { λ r. ⌜ Printed (now (image .entry)) number (now (samples .entry)) (now (state .entry)) (now (line .entry)) (now (state .exit)) (now (line .exit)) r ⌝ }
 {
     machine::run_cycle(image, &mut state[..], samples);
-    let n = wide(image[1]);
+    let n = basics::wide(image[1]);
     let end = n + 1;
     decimal::put_line(&mut line[..], number, &state[1..end])
 }

@@ -1,3 +1,3 @@
 -- Laws that the proofs of several functions cite, and laws of words for the crates that stand on this one.
 pub mod Results
-pub mod Laws
+pub mod Locals

@@ -12,8 +12,8 @@ use mir.Syntax.{w32, w64}
 use mir.Val.{toZ, ofZ, SFits}
 use mir.Facts.{toZ-ofZ, sfits-widen}
 use Rattle.model.specs.Rules.Word.{nearest}
-use Rattle.model.proofs.Nearest.{sub-by}
-use Rattle.word.proofs.Laws.{kept}
+use Rattle.model.proofs.Basics.Tests.{sub-by}
+use Rattle.word.proofs.Locals.{kept}
 
 -- a word as a number of 64 bits, from its bits
 abbrev pub widened : ℤ → ℤ

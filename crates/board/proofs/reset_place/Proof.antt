@@ -24,7 +24,8 @@ refused-requires c κs = search needs
 returns : tie.Need-returns
 returns c =
     let w = c .before .before in
-    gives-effect (outside-27 _ _ _ _ _ (sym (w .is-inside .ensures) ∙ not-true _ (c .before .if1 .taken))) (c .refused .ensures) refl
+    gives-effect (outside-27 _ _ _ _ _ (sym (w .is-inside .ensures) ∙ not-true _ (c .before .if1 .taken))) (c .refused .ensures)
+    refl
 
 add-end : tie.Need-add-end
 add-end c =

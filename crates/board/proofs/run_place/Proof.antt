@@ -4,16 +4,10 @@ use mathlib.Core.Path.{ap, ap₂, _∙_}
 use borrow.Author.Needs.{needs}
 use denote.Ref.{now}
 use lib.IntN.{ℤ}
-use Rattle.board.specs.Board.{placeAt, withWords, cycleIn, runOf}
+use Rattle.board.specs.Board.{withWords, cycleIn}
 use Rattle.board.proofs.Words.{part-words, part-samples, put-words}
 use Rattle.board.proofs.run_place.Statement.{statement}
 use Rattle.board.proofs.run_place.Tie as tie
-
-mul-p : tie.Need-mul-p
-mul-p c = search needs
-
-array-copy-out-p : tie.Need-array-copy-out-p
-array-copy-out-p c = search needs
 
 mul-from : tie.Need-mul-from
 mul-from c = search needs
@@ -58,27 +52,23 @@ same-length : tie.Need-same-length
 same-length c = search needs
 
 returns : tie.Need-returns
-unfolding runOf
 returns c =
     let r = c .before in
-    let a = r .before .before .before .before .before .before .args in
+    let a = r .before .before .before .before .args in
     let images = now (a .images) in
     let state = now (a .state) in
-    let p = placeAt (a .board) (a .place) in
     let words = part-words (a .place) state in
     let samples = part-samples (a .place) (now (a .samples)) in (
-      r .cycle-place .ensures .0 ∙ ap₂ (λ (ws ss : List ℤ). cycleIn images (p .start) (p .size) ws ss .answer) words samples,
+      r .cycle-place .ensures .0 ∙ ap₂ (λ (ws ss : List ℤ). cycleIn images (a .start) (a .size) ws ss .answer) words samples,
       put-words (a .place) state (r .cycle-place .last .1 .1 .1 .0) ∙
           ap (withWords (a .place) state)
-          (r .cycle-place .ensures .1 ∙ ap₂ (λ (ws ss : List ℤ). cycleIn images (p .start) (p .size) ws ss .left) words samples),
+          (r .cycle-place .ensures .1 ∙ ap₂ (λ (ws ss : List ℤ). cycleIn images (a .start) (a .size) ws ss .left) words samples),
     )
 
 pub run-place-spec : {M : Type 1} → statement M
 run-place-spec =
     tie.close
     (tie.spec
-    mul-p
-    array-copy-out-p
     mul-from
     add-to
     mul-first

@@ -10,8 +10,8 @@ use Rattle.model.specs.Rules.Program.{Program}
 use Rattle.model.specs.Rules.Schedule.{Schedule}
 use Rattle.check_rates.proofs.Chains.{restFrom, rest-start, rest-later, rest-over, rest-broken}
 use Rattle.check_rates.proofs.Linking.{few-chains}
-use Rattle.text_program.specs.Results.{judgementOf}
-use Rattle.text_program.specs.declared.Judged.the-variants as Judged
+use Rattle.basics.specs.Judgement.{judgementOf}
+use Rattle.basics.specs.declared.Judged.the-variants as Judged
 use Rattle.check_latency.specs.Timely.{Timed}
 use Rattle.check_latency.proofs.check_latency.Statement.{statement}
 use Rattle.check_latency.proofs.check_latency.Tie as tie
@@ -55,7 +55,9 @@ returns c =
     let k = t .joined .known in
     let lt : l .chain < length (p .chains) = omega (arith, b .if1 .taken, k .tables-are .counts .chains-are) in
     ap (λ n. Judged.Refused (fault 16 n)) (k .tables-are .starts (l .chain) lt) ∙
-    sym (ap judgementOf (l .inv p s t ∙ rest-broken p 16 (keeps p s _) _ (k .parsed) (l .chain) lt (sym (c .before .keeps-time .ensures p s t) ∙ not-true (c .before .keeps-time .result) (c .if2 .taken))))
+    sym (ap judgementOf (l .inv p s t ∙
+    rest-broken p 16 (keeps p s _) _ (k .parsed) (l .chain) lt
+    (sym (c .before .keeps-time .ensures p s t) ∙ not-true (c .before .keeps-time .result) (c .if2 .taken))))
 
 add-chain : tie.Need-add-chain Inv-loop μ-loop
 add-chain c = omega (arith, few (c .before .before))
@@ -69,7 +71,8 @@ loop-again c =
     let l = b .before .before .loop in
     λ p s t.
     let lt : l .chain < length (p .chains) = omega (arith, b .if1 .taken, t .joined .known .tables-are .counts .chains-are) in
-    l .inv p s t ∙ rest-later p 16 (keeps p s _) (l .chain) lt (sym (c .before .keeps-time .ensures p s t) ∙ not-false (c .before .keeps-time .result) (c .if2 .left))
+    l .inv p s t ∙ rest-later p 16 (keeps p s _) (l .chain) lt
+    (sym (c .before .keeps-time .ensures p s t) ∙ not-false (c .before .keeps-time .result) (c .if2 .left))
 
 returns-2 : tie.Need-returns-2 Inv-loop μ-loop
 unfolding judgementOf

@@ -24,7 +24,10 @@ abbrev μ-loop : tie.MeasureT-loop
 μ-loop text reads tables periods phases chain at₀ left₀ source last₀ count₀ hops₀ at left last count hops = left
 
 -- the first link lies within the text
-begins : (c : tie.After-lengths Inv-loop μ-loop) → Begun (now (c .before .before .before .before .args .text)) (c .before .before .before .before .args .tables) (c .before .before .before .before .pre .0 .0) (c .before .before .before .before .pre .0 .1) (c .before .before .before .before .args .chain)
+begins : (c : tie.After-lengths Inv-loop μ-loop) →
+    Begun (now (c .before .before .before .before .args .text)) (c .before .before .before .before .args .tables)
+    (c .before .before .before .before .pre .0 .0) (c .before .before .before .before .pre .0 .1)
+    (c .before .before .before .before .args .chain)
 begins c =
     let s = c .before .before .before .before in
     begun _ _ _ _ _ _ _ (s .pre .0 .2) (s .pre .1)
@@ -36,11 +39,15 @@ few c =
 
 -- and so do the two at hand
 next : (c : tie.In-loop Inv-loop μ-loop) →
-    (c .before .loop .at + 4 ≤ length (now (c .before .before .before .before .before .before .before .before .before .args .text))) ×
+    (c .before .loop .at + 4 ≤ length
+    (now (c .before .before .before .before .before .before .before .before .before .args .text))) ×
     (c .before .loop .count < 15)
 next c =
-    let s = c .before .before .before .before .before .before .before .before .before in
-    let n = next-link _ _ _ _ _ _ _ _ _ _ (c .before .loop .inv (s .pre .0 .0) (s .pre .0 .1) (s .pre .0 .2)) (c .loop-test .taken) in
+    let c5 = c .before .before .before .before .before in
+    let c9 = c5 .before .before .before .before in
+    let s = c9 in
+    let n = next-link _ _ _ _ _ _ _ _ _ _ (c .before .loop .inv (s .pre .0 .0) (s .pre .0 .1) (s .pre .0 .2))
+    (c .loop-test .taken) in
     (n .inside, n .room)
 
 mul-at : tie.Need-mul-at Inv-loop μ-loop

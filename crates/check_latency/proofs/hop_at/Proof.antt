@@ -5,14 +5,14 @@ use native.Mathlib.Omega.{arith}
 use borrow.Author.Needs.{needs}
 use borrow.Author.Tests.{eqb-false}
 use Rattle.text_command.specs.declared.Taken.{Taken}
-use Rattle.model.specs.Rules.Latency.{readOf}
+use Rattle.model.specs.Rules.Latency.{readAmong}
 use Rattle.model.specs.Rules.Program.{Read, signalAt, bodyReads}
 use Rattle.model.specs.Rules.Rates.{countReads}
-use Rattle.model.specs.Rules.Reads.{rateOf, indexOf, settled}
+use Rattle.model.specs.Rules.Reads.{rateOf, settledIndex, settled}
 use Rattle.check_rates.proofs.Counting.{found-none, one-spelled, one-stands}
 use Rattle.check_rates.proofs.Judging.{indexed, few-signals}
 use Rattle.read_rule.specs.Reads.{rateIn}
-use Rattle.check_latency.proofs.Laws.{rate-at, read-signal}
+use Rattle.check_latency.proofs.Indices.{rate-at, read-signal}
 use Rattle.check_latency.proofs.hop_at.Statement.{statement}
 use Rattle.check_latency.proofs.hop_at.Tie as tie
 
@@ -32,16 +32,20 @@ no-hop-requires c κs = search needs
 
 returns : tie.Need-returns
 returns c =
-    let a = c .before .before .before .before .before .before .before .before .args in
+    let c3 = c .before .before .before in
+    let c8 = c3 .before .before .before .before .before in
+    let a = c8 .args in
     λ p s k lw lr n.
-    let f = c .before .before .before .one-read .ensures p (k .parsed) in
+    let f = c3 .one-read .ensures p (k .parsed) in
     let z = found-none _ _ (sym f ∙ c .before .enum-told .given .1) in
     absurd (eqb-false (countReads (a .w) (bodyReads (signalAt p (a .r) .body))) 1 z n)
 
 taken-at-requires : tie.Need-taken-at-requires
 taken-at-requires c κs =
-    let s = c .before .before .before .before .before .before .before .before in
-    let f = c .before .before .before .one-read .ensures (s .pre .0) (s .pre .1) in
+    let c3 = c .before .before .before in
+    let c8 = c3 .before .before .before .before .before in
+    let s = c8 in
+    let f = c3 .one-read .ensures (s .pre .0) (s .pre .1) in
     one-stands _ _ (s .pre .1) _ _ _ (sym f ∙ c .before .found .given .1)
 
 timing-at-requires : tie.Need-timing-at-requires
@@ -56,20 +60,27 @@ settled-index-requires c κs = search needs
 returns-2 : tie.Need-returns-2
 unfolding settled
 returns-2 c =
-    let a = c .before .before .before .before .before .before .before .before .before .before .before .before .before .args in
-    let t = c .before .before .before .before .taken-at in
-    let read = c .before .before .before .timing-at in
+    let c3 = c .before .before .before in
+    let c4 = c3 .before in
+    let c6 = c4 .before .before in
+    let c8 = c6 .before .before in
+    let c13 = c8 .before .before .before .before .before in
+    let a = c13 .args in
+    let t = c4 .taken-at in
+    let read = c3 .timing-at in
     let reader = c .before .before .timing-at2 in
     λ p s k lw lr n.
-    let f = c .before .before .before .before .before .before .before .before .one-read .ensures p (k .parsed) in
-    let ρ : Read = readOf (a .w) (bodyReads (signalAt p (a .r) .body)) in
+    let f = c8 .one-read .ensures p (k .parsed) in
+    let ρ : Read = readAmong (a .w) (bodyReads (signalAt p (a .r) .body)) in
     let taken : _≡_ {A = Taken} (t .result) (record { kind = ρ .kind; operands = ρ .operands }) =
-    t .ensures .is (ρ .kind) (ρ .operands) (one-spelled _ p (k .parsed) _ _ _ (sym f ∙ c .before .before .before .before .before .before .found .given .1)) in
+    t .ensures .is (ρ .kind) (ρ .operands) (one-spelled _ p (k .parsed) _ _ _ (sym f ∙ c6 .found .given .1)) in
     let w : rateIn (read .result) ≡ rateOf p s (ρ .operands .signal) =
-    ap rateIn (read .ensures) ∙ rate-at k (a .w) lw ∙ ap (rateOf p s) (sym (read-signal (a .w) (bodyReads (signalAt p (a .r) .body)) (omega (arith, n)))) in
+    ap rateIn (read .ensures) ∙ rate-at k (a .w) lw ∙
+    ap (rateOf p s) (sym (read-signal (a .w) (bodyReads (signalAt p (a .r) .body)) (omega (arith, n)))) in
     let r : rateIn (reader .result) ≡ rateOf p s (a .r) = ap rateIn (reader .ensures) ∙ rate-at k (a .r) lr in
     let index : c .settled-index .result ≡ settled p s (a .r) ρ =
-    c .settled-index .ensures ∙ (λ i. indexOf (taken i .kind) (w i) (r i) (taken i .operands .factor) (taken i .operands .index)) in
+    c .settled-index .ensures ∙ (λ i.
+    settledIndex (taken i .kind) (w i) (r i) (taken i .operands .factor) (taken i .operands .index)) in
     λ i. record { kind = taken i .kind; factor = taken i .operands .factor; index = index i }
 
 pub hop-at-spec : {M : Type 1} → statement M

@@ -5,8 +5,8 @@ use mathlib.Core.Path.{_≡_, sym, ap, _∙_}
 use native.Mathlib.Omega.{arith}
 use denote.Ref.{now}
 use Rattle.latency_rule.specs.Back.{timelyBy}
-use Rattle.model.specs.declared.Command.{Command}
-use Rattle.model.specs.declared.Command.the-variants as Command
+use Rattle.model.specs.declared.Declaration.{Declaration}
+use Rattle.model.specs.declared.Declaration.the-variants as Declaration
 use Rattle.text_program.specs.Tables.{chainAt}
 use Rattle.read_rule.specs.Reads.{rateIn}
 use Rattle.check_rates.proofs.Linking.{few-chains}
@@ -23,22 +23,23 @@ few c =
     let k = a .pre .0 .2 .joined .known in
     omega (arith, a .pre .1, few-chains _ _ (_, k .parsed, k .tables-are))
 
-mul-command-at : tie.Need-mul-command-at
-mul-command-at c = omega (arith, few c)
+mul-declaration-at : tie.Need-mul-declaration-at
+mul-declaration-at c = omega (arith, few c)
 
-array-read-command-at : tie.Need-array-read-command-at
-array-read-command-at c = few c
+array-read-declaration-at : tie.Need-array-read-declaration-at
+array-read-declaration-at c = few c
 
-command-at-requires : tie.Need-command-at-requires
-command-at-requires c κs = search needs
+declaration-at-requires : tie.Need-declaration-at-requires
+declaration-at-requires c κs = search needs
 
-enum-known-command : tie.Need-enum-known-command
-enum-known-command c = search needs
+enum-known-declaration : tie.Need-enum-known-declaration
+enum-known-declaration c = search needs
 
 returns : tie.Need-returns
 returns c =
     let b = c .before .before .before .before .before in
-    λ p s t. absurd (missed _ (c .before .command-at .ensures ∙ chain-command _ _ _ _ _ p s _ t (b .pre .1)) (c .match .keys2))
+    λ p s t. absurd (missed _ (c .before .declaration-at .ensures ∙ chain-command _ _ _ _ _ p s _ t (b .pre .1))
+    (c .match .keys2))
 
 follow-requires : tie.Need-follow-requires
 follow-requires c κs = search needs
@@ -59,15 +60,19 @@ window-of-requires : tie.Need-window-of-requires
 window-of-requires c κs =
     let b = c .before .before .before in
     let i = b .before .before .follow in
-    let a = b .before .before .before .before .before .before .before .before .before .before in
+    let b5 = b .before .before .before .before .before in
+    let a = b5 .before .before .before .before .before in
     let t = a .pre .0 .2 in
     let d = decided _ _ _ _ _ _ _ _ _ t (a .pre .1) (i .ensures _ _ (t .joined)) in
     (t .hyper, rw (b .timing-at .ensures) (d .positive))
 
 first-run-requires : tie.Need-first-run-requires
 first-run-requires c κs =
-    let i = c .before .before .before .before .before .before .follow in
-    let a = c .before .before .before .before .before .before .before .before .before .before .before .before .before .before in
+    let c6 = c .before .before .before .before .before .before in
+    let c11 = c6 .before .before .before .before .before in
+    let c14 = c11 .before .before .before in
+    let i = c6 .follow in
+    let a = c14 in
     let t = a .pre .0 .2 in
     (decided _ _ _ _ _ _ _ _ _ t (a .pre .1) (i .ensures _ _ (t .joined)) .few, c .window-of .ensures .1)
 
@@ -79,7 +84,8 @@ is-timely-requires c κs =
     let g = c .before .window-of in
     let b = c .before .before .before .before .before in
     let i = b .before .before .follow in
-    let a = b .before .before .before .before .before .before .before .before .before .before in
+    let b5 = b .before .before .before .before .before in
+    let a = b5 .before .before .before .before .before in
     let t = a .pre .0 .2 in
     let d = decided _ _ _ _ _ _ _ _ _ t (a .pre .1) (i .ensures _ _ (t .joined)) in
     let w : g .result ≡ windowBy (a .args .h) (periodAt (now (a .args .periods)) (i .result .last)) =
@@ -99,29 +105,32 @@ returns-2 c =
     let a = m .before .before .before .before .before .before .before in
     λ p s t.
     let d = decided _ _ _ _ _ p s _ _ t (a .pre .1) (i .ensures p s (t .joined)) in
-    let found = m .before .before .before .command-at in
-    let v = m .before .command .given in
-    let same : _≡_ {A = Command} (Command.Latency (v .0 .0) (v .0 .1 .0)) (Command.Latency (chainAt p (a .args .chain) .mode) (chainAt p (a .args .chain) .bound)) =
+    let found = m .before .before .before .declaration-at in
+    let v = m .before .declaration .given in
+    let same : _≡_ {A = Declaration} (Declaration.Latency (v .0 .0) (v .0 .1 .0))
+    (Declaration.Latency (chainAt p (a .args .chain) .mode) (chainAt p (a .args .chain) .bound)) =
     sym (v .1) ∙ found .ensures ∙ chain-command _ _ _ _ _ p s _ t (a .pre .1) in
     let mode : v .0 .0 ≡ chainAt p (a .args .chain) .mode = cc same in
     let bound : v .0 .1 .0 ≡ chainAt p (a .args .chain) .bound = cc same in
     let g = c .before .before .window-of in
     let w : g .result ≡ windowBy (a .args .h) (periodAt (now (a .args .periods)) (i .result .last)) =
     g .ensures .0 ∙ ap (λ x. windowBy (a .args .h) (x .period)) (b .timing-at .ensures) in
-    let from : c .before .first-run .result ≡ i .result .count * windowBy (a .args .h) (periodAt (now (a .args .periods)) (i .result .last)) =
+    let from : c .before .first-run .result ≡ i .result .count * windowBy (a .args .h)
+    (periodAt (now (a .args .periods)) (i .result .last)) =
     c .before .first-run .ensures .0 ∙ ap (i .result .count *_) w in
     c .is-timely .ensures ∙
-    (λ j. timelyBy (mode j) (bound j) (i .result .hops) (i .result .count) (rateIn (b .timing-at .ensures j)) (rateIn (e .timing-at2 .ensures j)) (from j) (w j)) ∙
+    (λ j. timelyBy (mode j) (bound j) (i .result .hops) (i .result .count) (rateIn (b .timing-at .ensures j))
+    (rateIn (e .timing-at2 .ensures j)) (from j) (w j)) ∙
     d .same
 
 pub keeps-time-spec : {M : Type 1} → statement M
 keeps-time-spec =
     tie.close
     (tie.spec
-    mul-command-at
-    array-read-command-at
-    command-at-requires
-    enum-known-command
+    mul-declaration-at
+    array-read-declaration-at
+    declaration-at-requires
+    enum-known-declaration
     returns
     follow-requires
     cast-timing-at

@@ -71,7 +71,11 @@ returns c =
     record {
       long = i .3;
       raised = λ d lt. i .5 .0 d (omega arith);
-      bounded = λ d lt. omega (arith, i .5 .0 d (omega arith), added-most (record { period = a .period; phase = a .phase }) (a .weight) d 65535 (omega arith));
+      bounded = λ d lt. omega (
+        arith,
+        i .5 .0 d (omega arith),
+        added-most (record { period = a .period; phase = a .phase }) (a .weight) d 65535 (omega arith),
+      );
       beyond = i .6;
     }
 

@@ -7,10 +7,10 @@ use Rattle.model.specs.Rules.Load.{loaded}
 use Rattle.model.specs.Rules.Program.{Program, count}
 use Rattle.model.specs.Rules.Schedule.{Schedule}
 use Rattle.model.specs.declared.Found.{Found}
-use Rattle.text_program.specs.Results.{judgementOf}
+use Rattle.basics.specs.Judgement.{judgementOf}
 use Rattle.text_program.specs.Tables.{PeriodsOf, WeightsOf, capOf}
 use Rattle.check_load.specs.Load.{PhasesOf}
-use Rattle.check_load.proofs.Laws.{judgedAt, judged-capped, judged-uncapped}
+use Rattle.check_load.proofs.Loads.{judgedAt, judged-capped, judged-uncapped}
 use Rattle.check_load.proofs.check_load.Statement.{statement}
 use Rattle.check_load.proofs.check_load.Tie as tie
 
@@ -21,11 +21,14 @@ start f = f .before .before .before .before
 judged : (f : tie.After-first-over) (found : Found) → f .first-over .result ≡ found →
     let a = start f .args in
     (p : Program) (s : Schedule) → count p ≡ a .signals → PeriodsOf p (now (a .periods)) → WeightsOf p (now (a .weights)) →
-    PhasesOf p s (now (a .phases)) → p .cap ≡ capOf (a .capped) (a .limit) → judgedAt found ≡ judgementOf (loaded p s (a .hypercycle))
+    PhasesOf p s (now (a .phases)) → p .cap ≡ capOf (a .capped) (a .limit) →
+    judgedAt found ≡ judgementOf (loaded p s (a .hypercycle))
 judged f found e p s n hp hw hf cap =
     let a = start f .args in
-    judged-capped p s (now (a .periods)) (now (a .phases)) (now (a .weights)) (f .before .before .loads-of .result) (a .signals) (a .hypercycle) (a .limit) (a .capped) found
-    (not-false _ (f .before .before .before .if1 .left)) n hp hw hf cap (f .before .before .loads-of .ensures) (sym (f .first-over .ensures) ∙ e)
+    judged-capped p s (now (a .periods)) (now (a .phases)) (now (a .weights)) (f .before .before .loads-of .result) (a .signals)
+    (a .hypercycle) (a .limit) (a .capped) found
+    (not-false _ (f .before .before .before .if1 .left)) n hp hw hf cap (f .before .before .loads-of .ensures)
+    (sym (f .first-over .ensures) ∙ e)
 
 returns : tie.Need-returns
 returns c =

@@ -7,7 +7,7 @@ use borrow.Author.Tests.{lt-ltb, le-ltb}
 use lib.Dec.{ltb}
 use lib.ListN.{getD}
 use Rattle.model.specs.Rules.Search.{first, firstFrom}
-use Rattle.read_rule.proofs.Laws.{search-none, search-here, search-next}
+use Rattle.read_rule.proofs.Searches.{search-none, search-here, search-next}
 use Rattle.check_load.proofs.first_over.Statement.{statement}
 use Rattle.check_load.proofs.first_over.Tie as tie
 
@@ -44,8 +44,11 @@ loop-less c = omega arith
 loop-again : tie.Need-loop-again Inv-loop μ-loop
 loop-again c =
     let l = c .before .before .before .loop in
-    let a = c .before .before .before .before .args in
-    (l .inv .0, l .inv .1 ∙ search-next _ (l .cycle) (a .hypercycle) (c .before .before .loop-test .taken) (le-ltb _ _ (c .if1 .left)))
+    let a = c .before .before .before .before .args in (
+      l .inv .0,
+      l .inv .1 ∙ search-next _ (l .cycle) (a .hypercycle) (c .before .before .loop-test .taken)
+          (le-ltb _ _ (c .if1 .left)),
+    )
 
 returns-2 : tie.Need-returns-2 Inv-loop μ-loop
 returns-2 c =

@@ -6,7 +6,7 @@ use native.Mathlib.Omega.{arith}
 use denote.Ref.{now}
 use lib.ListN.{length, getD, getD-replicate}
 use Rattle.check_load.specs.Load.{loadIn, LoadsOf}
-use Rattle.check_load.proofs.Laws.{load-none, loads-more}
+use Rattle.check_load.proofs.Loads.{load-none, loads-more}
 use Rattle.check_load.proofs.loads_of.Statement.{statement}
 use Rattle.check_load.proofs.loads_of.Tie as tie
 
@@ -56,9 +56,11 @@ loop-less c = omega arith
 
 loop-again : tie.Need-loop-again Inv-loop μ-loop
 loop-again c =
-    let l = c .before .before .before .before .before .before .loop in
+    let c6 = c .before .before .before .before .before .before in
+    let c7 = c6 .before in
+    let l = c6 .loop in
     let i = l .inv in
-    let a = c .before .before .before .before .before .before .before .args in
+    let a = c7 .args in
     let r = c .add-runs .ensures in (
       omega arith,
       i .1,

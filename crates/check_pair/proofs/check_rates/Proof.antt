@@ -2,7 +2,17 @@
 use mathlib.Core.Path.{refl, _∙_}
 use borrow.Author.Needs.{needs}
 use Rattle.check_pair.specs.Steps.{ratesOf}
-use Rattle.check_pair.proofs.Laws.{few-signals, answers-then, answers-stop, answers-last, judgement-answers, judgement-fine, judgement-refused, cycles-least, cycles-refused}
+use Rattle.check_pair.proofs.Verdicts.{
+  few-signals,
+  answers-then,
+  answers-stop,
+  answers-last,
+  judgement-answers,
+  judgement-fine,
+  judgement-refused,
+  cycles-least,
+  cycles-refused,
+}
 use Rattle.check_pair.proofs.check_rates.Statement.{statement}
 use Rattle.check_pair.proofs.check_rates.Tie as tie
 
@@ -26,7 +36,8 @@ returns c p e t =
     answers-stop _ _ _ _ _ (judgement-refused _ _ _ d (told .1)) (c .unrated .ensures ∙ told .1)
 
 hypercycle-requires : tie.Need-hypercycle-requires
-hypercycle-requires c κs = let known = c .before .before .before .before .before .before .before .pre in few-signals _ _ _ (known .1) (known .2)
+hypercycle-requires c κs = let known = c .before .before .before .before .before .before .before .pre in
+    few-signals _ _ _ (known .1) (known .2)
 
 enum-known-cycles : tie.Need-enum-known-cycles
 enum-known-cycles c = search needs
@@ -47,7 +58,8 @@ returns-2 c p e t =
     let n = t .counts .signals-are in
     let h = c .before .before .before .before in
     let d = h .before .before .before .before .before in
-    answers-then _ _ _ _ _ (judgement-fine _ _ (d .declared-and-rated .ensures p e) (h .before .before .before .enum-told .given .1))
+    answers-then _ _ _ _ _ (judgement-fine _ _ (d .declared-and-rated .ensures p e)
+    (h .before .before .before .enum-told .given .1))
     (answers-stop _ _ _ _ _ (cycles-refused _ _ _ (h .hypercycle .ensures p n (t .periods)) (told .1))
     (c .unrated2 .ensures ∙ c .before .judged-cycles .ensures _ (told .1)))
 
@@ -60,7 +72,8 @@ returns-3 c p e t =
     let n = t .counts .signals-are in
     let h = c .before .before .before .before in
     let d = h .before .before .before .before .before in
-    answers-then _ _ _ _ _ (judgement-fine _ _ (d .declared-and-rated .ensures p e) (h .before .before .before .enum-told .given .1))
+    answers-then _ _ _ _ _ (judgement-fine _ _ (d .declared-and-rated .ensures p e)
+    (h .before .before .before .enum-told .given .1))
     (answers-then _ _ _ _ _ (cycles-least _ _ _ (h .hypercycle .ensures p n (t .periods)) (c .before .before .cycles .given .1))
     (answers-last _ _ _ _ (judgement-answers _ _ _ (c .linked .ensures p e t) (λ _. refl))))
 

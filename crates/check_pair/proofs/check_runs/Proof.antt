@@ -10,15 +10,23 @@ use Rattle.model.specs.Rules.Outcome.{accepted}
 use Rattle.model.specs.Rules.Program.{Program, count}
 use Rattle.model.specs.Rules.Reads.{met}
 use Rattle.model.specs.Rules.Schedule.{Schedule}
-use Rattle.model.proofs.Hypercycle.{hypercycle-least}
-use Rattle.model.proofs.Puts.{placed-ordered}
-use Rattle.model.proofs.Verdict.{steps-accepted}
+use Rattle.model.proofs.Pairs.Hypercycle.{hypercycle-least}
+use Rattle.model.proofs.Texts.Puts.{placed-ordered}
+use Rattle.model.proofs.Pairs.Verdict.{steps-accepted}
 use Rattle.check_rates.proofs.Judging.{indexed}
-use Rattle.text_program.specs.Results.{judgementOf}
+use Rattle.basics.specs.Judgement.{judgementOf}
 use Rattle.check_latency.specs.Timely.{Timed}
 use Rattle.check_pair.specs.Answers.{Arranged}
 use Rattle.check_pair.specs.Steps.{runsOf}
-use Rattle.check_pair.proofs.Laws.{few-signals, positive, answers-then, answers-stop, answers-judgement, judgement-answers, judgement-fine, judgement-refused}
+use Rattle.check_pair.proofs.Verdicts.{
+  few-signals,
+  answers-then,
+  answers-stop,
+  answers-judgement,
+  judgement-answers,
+  judgement-fine,
+  judgement-refused,
+}
 use Rattle.check_pair.proofs.check_runs.Statement.{statement}
 use Rattle.check_pair.proofs.check_runs.Tie as tie
 
@@ -26,19 +34,15 @@ abbrev Pair : tie.Start → Program → Schedule → Type 0
 Pair b p s = Arranged (now (b .args .text)) (b .args .tables) (b .args .slots) (b .args .h) p s
 
 abbrev start : tie.After-check-reads → tie.Start
-start r = r .before .before .before .before .before .before .before .before .before .before .before
+start r =
+    let r5 = r .before .before .before .before .before in
+    let r11 = r5 .before .before .before .before .before .before in
+    r11
 
 abbrev reads : tie.After-check-load → tie.After-check-reads
 reads l = l .before .before .before .before .before .before .before
 
--- what the check of the reads asks
-bounded : (b : tie.Start) → (b .args .tables .signals ≤ 64) ×
-    ((x : ℕ) → x < b .args .tables .signals → 0 < getD (b .args .tables .periods) x 0)
-bounded b =
-    let g = b .pre .0 .2 in
-    (few-signals _ _ _ (g .parsed) (g .tables-are), positive _ _ _ (g .parsed) (g .tables-are) (b .args .tables .periods) (g .tables-are .periods))
-
--- what the load asks
+-- what the reads and the load ask
 phased : (b : tie.Start) → (b .args .tables .signals ≤ 64) × (b .args .h ≤ 240) ×
     ((x : ℕ) → x < b .args .tables .signals → getD (b .args .slots .phases) x 0 < getD (b .args .tables .periods) x 0)
 phased b =
@@ -49,7 +53,12 @@ phased b =
       hypercycle-least p (b .args .h) .0 (g .hyper) .bound,
       (λ x lt.
           let l : x < count p = omega (arith, g .tables-are .counts .signals-are) in
-          omega (arith, g .slots-are .phases-are x l, g .tables-are .periods x l, placed-ordered p (g .puts) s (g .places) .0 .phases x l)),
+          omega (
+            arith,
+            g .slots-are .phases-are x l,
+            g .tables-are .periods x l,
+            placed-ordered p (g .puts) s (g .places) .0 .phases x l,
+          )),
     )
 
 -- what the first two checks find of a pair
@@ -94,8 +103,10 @@ timed b p s g m =
 
 check-reads-requires : tie.Need-check-reads-requires
 check-reads-requires c κs =
-    let b = c .before .before .before .before .before .before .before .before .before .before in
-    (bounded b .0, bounded b .1, indexed _ _ _ (b .pre .1))
+    let c5 = c .before .before .before .before .before in
+    let c10 = c5 .before .before .before .before .before in
+    let b = c10 in
+    (phased b .0, phased b .2, indexed _ _ _ (b .pre .1))
 
 enum-told : tie.Need-enum-told
 enum-told c = search needs

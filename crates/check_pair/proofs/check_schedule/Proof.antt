@@ -2,10 +2,10 @@
 use mathlib.Core.Path.{_∙_}
 use native.Mathlib.Omega.{arith}
 use borrow.Author.Needs.{needs}
-use Rattle.model.proofs.Outcomes.{accepted-then, refused-then}
-use Rattle.model.proofs.Puts.{puts-spelled, puts-end}
+use Rattle.model.proofs.Basics.Outcomes.{accepted-then, refused-then}
+use Rattle.model.proofs.Texts.Puts.{puts-spelled, puts-end}
 use Rattle.check_pair.specs.Steps.{scheduleFor}
-use Rattle.check_pair.proofs.Laws.{ended-at, ended-refused}
+use Rattle.check_pair.proofs.Verdicts.{ended-at, ended-refused}
 use Rattle.text_schedule.proofs.Puts.{scheduled-refused}
 use Rattle.check_pair.proofs.check_schedule.Statement.{statement}
 use Rattle.check_pair.proofs.check_schedule.Tie as tie

@@ -5,14 +5,32 @@ use borrow.Author.Needs.{needs}
 use Rattle.model.specs.Rules.Compile.{shortEnough}
 use Rattle.model.specs.Rules.Outcome.{accepted}
 use Rattle.model.specs.Rules.Schedule.{Schedule}
-use Rattle.model.proofs.Hypercycle.{hypercycle-least}
-use Rattle.model.proofs.Puts.{placed-ordered}
+use Rattle.model.proofs.Pairs.Hypercycle.{hypercycle-least}
+use Rattle.model.proofs.Texts.Puts.{placed-ordered}
 use Rattle.check_rates.specs.Answers.{ReadAs}
 use Rattle.text_program.specs.declared.Tables.{Tables}
 use Rattle.text_schedule.specs.Slots.{ScheduledAs}
 use Rattle.check_pair.specs.Answers.{RatedAs, Arranged}
 use Rattle.check_pair.specs.Steps.{ratesOf, scheduleFor, stepsOf}
-use Rattle.check_pair.proofs.Laws.{answers-fine, answers-refused, answers-then, answers-stop, answers-last, judgement-answers, judgement-fine, judgement-refused, program-answers, program-read, schedule-answers, rates-passed, schedule-passed, few-signals, short-program, short-schedule, pair-steps}
+use Rattle.check_pair.proofs.Verdicts.{
+  answers-fine,
+  answers-refused,
+  answers-then,
+  answers-stop,
+  answers-last,
+  judgement-answers,
+  judgement-fine,
+  judgement-refused,
+  program-answers,
+  program-read,
+  schedule-answers,
+  rates-passed,
+  schedule-passed,
+  few-signals,
+  short-program,
+  short-schedule,
+  pair-steps,
+}
 use Rattle.check_pair.proofs.check_with.Statement.{statement}
 use Rattle.check_pair.proofs.check_with.Tie as tie
 
@@ -40,7 +58,8 @@ looked r = r .before .before .before
 rates : (r : tie.After-check-rates) → RatedAs (ratesOf (read (looked r) .0)) (r .check-rates .result)
 rates r = let g = read (looked r) in r .check-rates .ensures (g .0) (g .1) (g .2)
 
-rated : (e : tie.After-enum-told5) → ratesOf (read (looked (e .before .before)) .0) ≡ accepted (e .before .before .check-rates .result .hypercycle)
+rated : (e : tie.After-enum-told5) →
+    ratesOf (read (looked (e .before .before)) .0) ≡ accepted (e .before .before .check-rates .result .hypercycle)
 rated e = let a = answers-fine _ _ _ (rates (e .before .before)) (e .enum-told5 .given .1) in a .1 ∙ ap accepted (sym (a .2))
 
 abbrev found : tie.After-check-schedule → tie.After-enum-told5
@@ -61,7 +80,8 @@ arranged : (e : tie.After-enum-told7) →
     let g = read x in
     let b = start (lengths x) in
     (s : Schedule) × (scheduleFor (g .0) (now (b .args .schedule)) ≡ accepted s) ×
-    Arranged (now (b .args .program)) (tables x) (d .check-schedule .result .slots) (found d .before .before .check-rates .result .hypercycle) (g .0) s
+    Arranged (now (b .args .program)) (tables x) (d .check-schedule .result .slots)
+    (found d .before .before .check-rates .result .hypercycle) (g .0) s
 arranged e =
     let d = e .before .before in
     let x = known d in
@@ -100,7 +120,8 @@ unfolding stepsOf
 returns c =
     let told = c .before .enum-told2 .given .1 in
     rw (pair-steps _ _)
-    (answers-stop _ _ _ _ _ (judgement-refused _ _ _ (c .before .before .before .check-lengths .ensures) told) (c .refused .ensures ∙ told))
+    (answers-stop _ _ _ _ _ (judgement-refused _ _ _ (c .before .before .before .check-lengths .ensures) told)
+    (c .refused .ensures ∙ told))
 
 read-program-requires : tie.Need-read-program-requires
 read-program-requires c κs =
@@ -127,7 +148,8 @@ returns-2 c =
     let told = c .before .enum-told4 .given .1 in
     rw (pair-steps _ _)
     (answers-then _ _ _ _ _ (short (r .before .before))
-    (answers-stop _ _ _ _ _ (answers-refused _ _ _ _ (program-answers _ _ _ (r .read-program .ensures)) told) (c .refused2 .ensures ∙ told)))
+    (answers-stop _ _ _ _ _ (answers-refused _ _ _ _ (program-answers _ _ _ (r .read-program .ensures)) told)
+    (c .refused2 .ensures ∙ told)))
 
 check-rates-requires : tie.Need-check-rates-requires
 check-rates-requires c κs =
@@ -173,7 +195,11 @@ refused-requires-4 : tie.Need-refused-requires-4
 refused-requires-4 c κs = search needs
 
 same-length-3 : tie.Need-same-length-3
-same-length-3 c = search (needs, c .before .before .before .before .before .before .before .before .before .before .before .before .before .before .reads .given)
+same-length-3 c =
+    let c5 = c .before .before .before .before .before in
+    let c10 = c5 .before .before .before .before .before in
+    let c14 = c10 .before .before .before .before in
+    search (needs, c14 .reads .given)
 
 returns-4 : tie.Need-returns-4
 unfolding stepsOf
@@ -185,7 +211,8 @@ returns-4 c =
     (answers-then _ _ _ _ _ (short (lengths x))
     (answers-then _ _ _ _ _ (read x .1)
     (answers-then _ _ _ _ _ (rated (found d))
-    (answers-stop _ _ _ _ _ (answers-refused _ _ _ _ (schedule-answers _ _ _ (scheduled d)) told) (c .refused4 .ensures ∙ told)))))
+    (answers-stop _ _ _ _ _ (answers-refused _ _ _ _ (schedule-answers _ _ _ (scheduled d)) told)
+    (c .refused4 .ensures ∙ told)))))
 
 check-runs-requires : tie.Need-check-runs-requires
 check-runs-requires c κs =
@@ -221,8 +248,7 @@ returns-5 c =
             periods-are = g .tables-are .periods;
             ranks = d .check-schedule .result .slots .ranks;
             slots = g .slots-are;
-            only = placed-ordered p (g .puts) (a .0) (g .places) .0 .only;
-            phased = placed-ordered p (g .puts) (a .0) (g .places) .0 .phases;
+            ordered = placed-ordered p (g .puts) (a .0) (g .places) .0;
           };
       hyper = refl;
       bound = hypercycle-least p _ .0 (g .hyper) .bound;

@@ -1,7 +1,7 @@
 -- `check_rates::declared_and_rated` meets its contract. Assumes nothing.
 use mathlib.Core.Path.{ap, _∙_}
 use Rattle.model.specs.Rules.Outcome.{lowest}
-use Rattle.text_program.specs.Results.{judgementOf}
+use Rattle.basics.specs.Judgement.{judgementOf}
 use Rattle.check_rates.specs.Answers.{readRates, lowerOf}
 use Rattle.check_rates.proofs.Judging.{both-rates, indexed, few-signals, periods-of}
 use borrow.Author.Needs.{needs}
@@ -9,18 +9,26 @@ use Rattle.check_rates.proofs.declared_and_rated.Statement.{statement}
 use Rattle.check_rates.proofs.declared_and_rated.Tie as tie
 
 judge-reads-requires : tie.Need-judge-reads-requires
-judge-reads-requires c κs = (few-signals _ _ _ (c .before .before .before .before .before .before .pre), indexed _ _ _ (c .before .before .before .before .before .before .pre))
+judge-reads-requires c κs =
+    let c6 = c .before .before .before .before .before .before in
+    (few-signals _ _ _ (c6 .pre), indexed _ _ _ (c6 .pre))
 
 judge-links-requires : tie.Need-judge-links-requires
-judge-links-requires c κs = (c .before .before .before .before .before .before .before .pre .0, c .before .before .before .before .before .before .before .pre .1, c .before .before .before .before .before .before .before .pre .2)
+judge-links-requires c κs =
+    let c5 = c .before .before .before .before .before in
+    let c7 = c5 .before .before in
+    (c7 .pre .0, c7 .pre .1, c7 .pre .2)
 
 lower-requires : tie.Need-lower-requires
 lower-requires c κs = search needs
 
 returns : tie.Need-returns
 returns c =
+    let c5 = c .before .before .before .before .before in
+    let c9 = c5 .before .before .before .before in
     λ p e.
-    c .lower .ensures ∙ ap (λ x. lowerOf x (c .before .judge-links .result)) (c .before .before .judge-reads .ensures p e (periods-of _ _ _ (c .before .before .before .before .before .before .before .before .before .pre) p e)) ∙
+    c .lower .ensures ∙ ap (λ x. lowerOf x (c .before .judge-links .result))
+    (c .before .before .judge-reads .ensures p e (periods-of _ _ _ (c9 .pre) p e)) ∙
     ap (λ x. lowerOf (judgementOf (lowest (readRates p))) x) (c .before .judge-links .ensures p e) ∙ both-rates p
 
 pub declared-and-rated-spec : {M : Type 1} → statement M

@@ -10,7 +10,16 @@ use Rattle.model.specs.Rules.Program.{Program, parseProgram}
 use Rattle.text_program.specs.Tables.{TablesOf, chainAt}
 use Rattle.check_rates.proofs.Counting.{found-one, found-none}
 use Rattle.check_rates.proofs.Judging.{indexed, few-signals}
-use Rattle.check_rates.proofs.Linking.{LinksLeft, link-inside, link-broken, link-on, link-over, few-chains, chain-begins, chain-inside}
+use Rattle.check_rates.proofs.Linking.{
+  LinksLeft,
+  link-inside,
+  link-broken,
+  link-on,
+  link-over,
+  few-chains,
+  chain-begins,
+  chain-inside,
+}
 use Rattle.check_rates.proofs.is_linked.Statement.{statement}
 use Rattle.check_rates.proofs.is_linked.Tie as tie
 
@@ -80,7 +89,10 @@ shared-slice-read-signal c = omega (arith, inside (c .before .before .before))
 
 one-read-requires : tie.Need-one-read-requires Inv-loop μ-loop
 one-read-requires c κs =
-    let s = c .before .before .before .before .before .before .before .before .before .before .before .before in
+    let c5 = c .before .before .before .before .before in
+    let c10 = c5 .before .before .before .before .before in
+    let c12 = c10 .before .before in
+    let s = c12 in
     (few-signals _ _ _ (s .pre .0), indexed _ _ _ (s .pre .0))
 
 enum-told : tie.Need-enum-told Inv-loop μ-loop
@@ -91,11 +103,14 @@ enum-told-2 c = search needs
 
 returns : tie.Need-returns Inv-loop μ-loop
 returns c =
-    let b = c .before .before .before .before .before .before .before in
-    let two = c .before .before .before .before .before .before .in-program2 .ensures in
+    let c6 = c .before .before .before .before .before .before in
+    let c7 = c6 .before in
+    let b = c7 in
+    let two = c6 .in-program2 .ensures in
     λ p q t.
     let r = rw two at (c .before .before .one-read .ensures p q) in
-    sym (link-broken _ _ _ _ _ (b .before .loop .inv p q t) (b .loop-test .taken) (found-none _ _ (sym r ∙ c .enum-told2 .given .1)))
+    sym (link-broken _ _ _ _ _ (b .before .loop .inv p q t) (b .loop-test .taken)
+    (found-none _ _ (sym r ∙ c .enum-told2 .given .1)))
 
 sub-left : tie.Need-sub-left Inv-loop μ-loop
 sub-left c = omega (arith, c .before .before .before .before .before .before .before .loop-test .taken)
@@ -105,8 +120,10 @@ loop-less c = omega (arith, c .before .before .before .before .before .before .b
 
 loop-again : tie.Need-loop-again Inv-loop μ-loop
 loop-again c =
-    let b = c .before .before .before .before .before .before .before in
-    let two = c .before .before .before .before .before .before .in-program2 .ensures in
+    let c6 = c .before .before .before .before .before .before in
+    let c7 = c6 .before in
+    let b = c7 in
+    let two = c6 .in-program2 .ensures in
     λ p q t.
     let r = rw two at (c .before .before .one-read .ensures p q) in
     rw two

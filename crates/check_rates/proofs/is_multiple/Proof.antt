@@ -18,23 +18,28 @@ use Rattle.check_rates.proofs.is_multiple.Tie as tie
 abbrev Inv-loop : tie.InvT-loop
 Inv-loop count periods h s₀ s =
     (s ≤ count) ×
-    ((p : Program) → length (p .signals) ≡ count → PeriodsOf p periods → isMultiple (p .signals) h ≡ isMultiple (drop s (p .signals)) h)
+    ((p : Program) → length (p .signals) ≡ count → PeriodsOf p periods →
+    isMultiple (p .signals) h ≡ isMultiple (drop s (p .signals)) h)
 
 abbrev μ-loop : tie.MeasureT-loop
 μ-loop count periods h s₀ s = count - s
 
 -- the period at hand, and those after it
-here : (c : tie.After-divides Inv-loop μ-loop) (p : Program) → length (p .signals) ≡ c .before .before .before .before .args .count →
+here : (c : tie.After-divides Inv-loop μ-loop) (p : Program) →
+    length (p .signals) ≡ c .before .before .before .before .args .count →
     PeriodsOf p (now (c .before .before .before .before .args .periods)) →
     isMultiple (p .signals) (c .before .before .before .before .args .h) ≡
-    c .divides .result && isMultiple (drop (c .before .before .before .loop .s + 1) (p .signals)) (c .before .before .before .before .args .h)
+    c .divides .result && isMultiple (drop (c .before .before .before .loop .s + 1) (p .signals))
+    (c .before .before .before .before .args .h)
 here c p n t =
-    let l = c .before .before .before .loop in
+    let c3 = c .before .before .before in
+    let c4 = c3 .before in
+    let l = c3 .loop in
     let lt : l .s < length (p .signals) = omega (arith, c .before .before .loop-test .taken) in
-    let same : c .divides .result ≡ eqb (c .before .before .before .before .args .h % signalAt p (l .s) .period) 0 =
-    c .divides .ensures ∙ ap (λ d. eqb (c .before .before .before .before .args .h % d) 0) (t (l .s) lt) in
+    let same : c .divides .result ≡ eqb (c4 .args .h % signalAt p (l .s) .period) 0 =
+    c .divides .ensures ∙ ap (λ d. eqb (c4 .args .h % d) 0) (t (l .s) lt) in
     l .inv .1 p n t ∙ multiple-here (p .signals) (l .s) _ lt ∙
-    ap (λ b. b && isMultiple (drop (l .s + 1) (p .signals)) (c .before .before .before .before .args .h)) (sym same)
+    ap (λ b. b && isMultiple (drop (l .s + 1) (p .signals)) (c4 .args .h)) (sym same)
 
 loop-holds : tie.Need-loop-holds Inv-loop μ-loop
 loop-holds c = (omega arith, λ p n t. refl)
@@ -58,7 +63,8 @@ loop-again : tie.Need-loop-again Inv-loop μ-loop
 loop-again c = (omega arith, λ p n t. here (c .before) p n t ∙ rw (not-false (c .before .divides .result) (c .if1 .left)))
 
 returns-2 : tie.Need-returns-2 Inv-loop μ-loop
-returns-2 c = λ p n t. sym (c .before .loop .inv .1 p n t ∙ multiple-over (p .signals) (c .before .loop .s) _ (omega (arith, c .loop-test .left)))
+returns-2 c = λ p n t. sym (c .before .loop .inv .1 p n t ∙
+    multiple-over (p .signals) (c .before .loop .s) _ (omega (arith, c .loop-test .left)))
 
 pub is-multiple-spec : {M : Type 1} → statement M
 is-multiple-spec =

@@ -25,7 +25,12 @@ unfolding readJudged
 returns c =
     let r = c .before in
     c .judge-rate .ensures ∙
-    rw (r .period-rule .ensures, r .before .before .period-at .ensures, r .before .period-at2 .ensures, r .before .before .before .wide .ensures .0)
+    rw (
+      r .period-rule .ensures,
+      r .before .before .period-at .ensures,
+      r .before .period-at2 .ensures,
+      r .before .before .before .wide .ensures .0,
+    )
 
 pub judge-read-spec : {M : Type 1} → statement M
 judge-read-spec =

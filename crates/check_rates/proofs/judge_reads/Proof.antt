@@ -8,10 +8,10 @@ use lib.ListN.{length, getD}
 use borrow.Author.Needs.{needs}
 use Rattle.model.specs.Rules.Outcome.{accepted, lowest}
 use Rattle.model.specs.Rules.Program.{Program, parseProgram}
-use Rattle.text_program.specs.Results.{judgementOf}
+use Rattle.basics.specs.Judgement.{judgementOf}
 use Rattle.text_command.specs.Operator.{ReadStands}
 use Rattle.text_program.specs.Tables.{PeriodsOf, Indexed}
-use Rattle.text_program.specs.declared.Judged.the-variants as Judged
+use Rattle.basics.specs.declared.Judged.the-variants as Judged
 use Rattle.text_program.proofs.ByIndex.{
   Ahead,
   Before,
@@ -93,7 +93,12 @@ module _ (b : tie.In-loop2 Inv-loop2 μ-loop2 Inv-loop μ-loop) where
 
 loop-holds : tie.Need-loop-holds Inv-loop2 μ-loop2 Inv-loop μ-loop
 unfolding allPlaces
-loop-holds c = (omega arith, sym (c .before .before .pre .1 .reads-are .sums .first), λ p e t. let h = rising-program _ p e in check-starts (reads-in p) (readAs p) (lowest (readRates p)) (h .0) (h .1 .reads) (all-rates p))
+loop-holds c = (
+  omega arith,
+  sym (c .before .before .pre .1 .reads-are .sums .first),
+  λ p e t. let h = rising-program _ p e in
+      check-starts (reads-in p) (readAs p) (lowest (readRates p)) (h .0) (h .1 .reads) (all-rates p),
+)
 
 add-wider : tie.Need-add-wider Inv-loop2 μ-loop2 Inv-loop μ-loop
 add-wider c = omega (arith, c .before .before .before .before .pre .0)
@@ -108,15 +113,22 @@ wider-requires : tie.Need-wider-requires Inv-loop2 μ-loop2 Inv-loop μ-loop
 wider-requires c κs = search needs
 
 loop2-holds : tie.Need-loop2-holds Inv-loop2 μ-loop2 Inv-loop μ-loop
-loop2-holds c = (
-  omega (arith, c .before .before .before .loop .inv .1),
-  omega (arith, c .before .before .before .loop .inv .1, c .wider .ensures .0, rises-at (c .before .before .before .before .before .before .pre .1) (c .before .before .before .loop .reader) (c .before .before .loop-test .taken)),
-  λ p e t.
-      let h = c .before .before .before .loop .inv .1 in
-      subst (Ahead (reads-in p) (readAs p) (lowest (readRates p)) (c .before .before .before .loop .reader)) (omega (arith, h))
-      (check-enters (reads-in p) (readAs p) (lowest (readRates p)) (c .before .before .before .loop .reader)
-      (omega (arith, c .before .before .loop-test .taken, counted (c .before .before .before .before .before .before .pre .1) p e)) (c .before .before .before .loop .inv .2 p e t)),
-)
+loop2-holds c =
+    let c3 = c .before .before .before in
+    let c6 = c3 .before .before .before in (
+      omega (arith, c3 .loop .inv .1),
+      omega (
+        arith,
+        c3 .loop .inv .1,
+        c .wider .ensures .0,
+        rises-at (c6 .pre .1) (c3 .loop .reader) (c .before .before .loop-test .taken),
+      ),
+      λ p e t.
+          let h = c3 .loop .inv .1 in
+          subst (Ahead (reads-in p) (readAs p) (lowest (readRates p)) (c3 .loop .reader)) (omega (arith, h))
+          (check-enters (reads-in p) (readAs p) (lowest (readRates p)) (c3 .loop .reader)
+          (omega (arith, c .before .before .loop-test .taken, counted (c6 .pre .1) p e)) (c3 .loop .inv .2 p e t)),
+    )
 
 mul-wider-2 : tie.Need-mul-wider-2 Inv-loop2 μ-loop2 Inv-loop μ-loop
 mul-wider-2 c = omega (arith, c .loop2-test .taken, c .before .before .wider .ensures .1)
@@ -142,44 +154,72 @@ enum-told-2 c = search needs
 returns : tie.Need-returns Inv-loop2 μ-loop2 Inv-loop μ-loop
 unfolding judgementOf
 returns c =
+    let c4 = c .before .before .before .before in
+    let c5 = c4 .before in
+    let c7 = c5 .before .before in
+    let c8 = c7 .before in
+    let c13 = c8 .before .before .before .before .before in
+    let c15 = c13 .before .before in
     λ p e t.
     c .enum-told2 .given .1 ∙
-    sym (ap judgementOf (check-refuses (reads-in p) (readAs p) (lowest (readRates p)) (read-there p) (reader (c .before .before .before .before .before .before .before)) _ (seen (ix (c .before .before .before .before .before .before .before)) p e (reader (c .before .before .before .before .before .before .before)) (i (c .before .before .before .before .before .before .before)) (lt (c .before .before .before .before .before .before .before)) (low (c .before .before .before .before .before .before .before)) (high (c .before .before .before .before .before .before .before))) (c .before .before .before .before .before .before .before .before .loop2 .inv .2 p e t)
-    (one-read (ix (c .before .before .before .before .before .before .before)) p e _ (c .before .before .before .before .before .before .before .before .before .before .before .before .before .before .before .pre .0) t (reader (c .before .before .before .before .before .before .before)) (i (c .before .before .before .before .before .before .before)) (lt (c .before .before .before .before .before .before .before)) (low (c .before .before .before .before .before .before .before)) (high (c .before .before .before .before .before .before .before)) _ (Judged.Refused _) _ (c .before .before .before .before .before .wider2 .ensures .0) (c .before .before .before .before .taken-at .ensures) (sym (c .enum-told2 .given .1) ∙ c .before .before .judge-read .ensures))))
+    sym (ap judgementOf (check-refuses (reads-in p) (readAs p) (lowest (readRates p)) (read-there p) (reader c7) _
+    (seen (ix c7) p e (reader c7) (i c7) (lt c7) (low c7) (high c7)) (c8 .loop2 .inv .2 p e t)
+    (one-read (ix c7) p e _
+    (c15 .pre .0) t (reader c7) (i c7) (lt c7) (low c7) (high c7) _ (Judged.Refused _) _ (c5 .wider2 .ensures .0)
+    (c4 .taken-at .ensures) (sym (c .enum-told2 .given .1) ∙ c .before .before .judge-read .ensures))))
 
 add-i : tie.Need-add-i Inv-loop2 μ-loop2 Inv-loop μ-loop
-add-i c = omega (arith, c .before .before .before .before .before .before .before .loop2-test .taken, c .before .before .before .before .before .before .before .before .before .wider .ensures .1)
+add-i c =
+    let c5 = c .before .before .before .before .before in
+    let c7 = c5 .before .before in
+    let c9 = c7 .before .before in
+    omega (arith, c7 .loop2-test .taken, c9 .wider .ensures .1)
 
 loop2-less : tie.Need-loop2-less Inv-loop2 μ-loop2 Inv-loop μ-loop
 loop2-less c = omega (arith, c .before .before .before .before .before .before .before .loop2-test .taken)
 
 loop2-again : tie.Need-loop2-again Inv-loop2 μ-loop2 Inv-loop μ-loop
-loop2-again c = (
-  omega (arith, low (c .before .before .before .before .before .before .before)),
-  omega (arith, c .before .before .before .before .before .before .before .loop2-test .taken),
-  λ p e t.
-      let h = low (c .before .before .before .before .before .before .before) in
-      subst (Ahead (reads-in p) (readAs p) (lowest (readRates p)) (reader (c .before .before .before .before .before .before .before))) (omega (arith, h))
-      (check-passes (reads-in p) (readAs p) (lowest (readRates p)) (read-there p) (reader (c .before .before .before .before .before .before .before)) _ (seen (ix (c .before .before .before .before .before .before .before)) p e (reader (c .before .before .before .before .before .before .before)) (i (c .before .before .before .before .before .before .before)) (lt (c .before .before .before .before .before .before .before)) (low (c .before .before .before .before .before .before .before)) (high (c .before .before .before .before .before .before .before))) (c .before .before .before .before .before .before .before .before .loop2 .inv .2 p e t)
-      (one-read (ix (c .before .before .before .before .before .before .before)) p e _ (c .before .before .before .before .before .before .before .before .before .before .before .before .before .before .before .pre .0) t (reader (c .before .before .before .before .before .before .before)) (i (c .before .before .before .before .before .before .before)) (lt (c .before .before .before .before .before .before .before)) (low (c .before .before .before .before .before .before .before)) (high (c .before .before .before .before .before .before .before)) _ Judged.Fine _ (c .before .before .before .before .before .wider2 .ensures .0) (c .before .before .before .before .taken-at .ensures) (sym (c .enum-told .given .1) ∙ c .before .before .judge-read .ensures))),
-)
+loop2-again c =
+    let c4 = c .before .before .before .before in
+    let c5 = c4 .before in
+    let c7 = c5 .before .before in
+    let c8 = c7 .before in
+    let c13 = c8 .before .before .before .before .before in
+    let c15 = c13 .before .before in (
+      omega (arith, low c7),
+      omega (arith, c7 .loop2-test .taken),
+      λ p e t.
+          let h = low c7 in
+          subst (Ahead (reads-in p) (readAs p) (lowest (readRates p)) (reader c7)) (omega (arith, h))
+          (check-passes (reads-in p) (readAs p) (lowest (readRates p)) (read-there p) (reader c7) _ (seen (ix c7) p e
+          (reader c7) (i c7) (lt c7) (low c7) (high c7)) (c8 .loop2 .inv .2 p e t) (one-read (ix c7) p e _
+          (c15 .pre .0) t (reader c7) (i c7) (lt c7) (low c7) (high c7) _ Judged.Fine _ (c5 .wider2 .ensures .0)
+          (c4 .taken-at .ensures) (sym (c .enum-told .given .1) ∙ c .before .before .judge-read .ensures))),
+    )
 
 add-reader : tie.Need-add-reader Inv-loop2 μ-loop2 Inv-loop μ-loop
-add-reader c = omega (arith, c .before .before .before .before .loop-test .taken, c .before .before .before .before .before .before .before .before .pre .0)
+add-reader c =
+    let c4 = c .before .before .before .before in
+    let c8 = c4 .before .before .before .before in
+    omega (arith, c4 .loop-test .taken, c8 .pre .0)
 
 loop-less : tie.Need-loop-less Inv-loop2 μ-loop2 Inv-loop μ-loop
 loop-less c = omega (arith, c .before .before .before .before .loop-test .taken)
 
 loop-again : tie.Need-loop-again Inv-loop2 μ-loop2 Inv-loop μ-loop
 loop-again c =
+    let c4 = c .before .before .before .before in
+    let c5 = c4 .before in
+    let c8 = c5 .before .before .before in
     let l = c .before .loop2 in
-    let f : getD (now (c .before .before .before .before .before .before .before .before .args .firsts)) (c .before .before .before .before .before .loop .reader + 1) 0 ≡ l .i = omega (arith, l .inv .1, c .loop2-test .left, c .before .before .wider .ensures .0) in (
-      omega (arith, c .before .before .before .before .loop-test .taken),
+    let f : getD (now (c8 .args .firsts)) (c5 .loop .reader + 1) 0 ≡ l .i =
+    omega (arith, l .inv .1, c .loop2-test .left, c .before .before .wider .ensures .0) in (
+      omega (arith, c4 .loop-test .taken),
       sym f,
       λ p e t.
           subst (Before (reads-in p) (readAs p) (lowest (readRates p))) (omega arith)
-          (check-leaves (reads-in p) (readAs p) (lowest (readRates p)) (c .before .before .before .before .before .loop .reader) _
-          (all-seen (c .before .before .before .before .before .before .before .before .pre .1) p e (c .before .before .before .before .before .loop .reader) (l .i) (c .before .before .before .before .loop-test .taken) (l .inv .0) f) (l .inv .2 p e t)),
+          (check-leaves (reads-in p) (readAs p) (lowest (readRates p)) (c5 .loop .reader) _ (all-seen (c8 .pre .1) p e
+          (c5 .loop .reader) (l .i) (c4 .loop-test .taken) (l .inv .0) f) (l .inv .2 p e t)),
     )
 
 returns-2 : tie.Need-returns-2 Inv-loop2 μ-loop2 Inv-loop μ-loop
@@ -187,7 +227,8 @@ unfolding judgementOf
 returns-2 c =
     λ p e t.
     sym (ap judgementOf (check-ends (reads-in p) (readAs p) (lowest (readRates p)) (c .before .loop .reader)
-    (omega (arith, counted (c .before .before .before .before .pre .1) p e, c .before .loop .inv .0, c .loop-test .left)) (c .before .loop .inv .2 p e t)))
+    (omega (arith, counted (c .before .before .before .before .pre .1) p e, c .before .loop .inv .0, c .loop-test .left))
+    (c .before .loop .inv .2 p e t)))
 
 pub judge-reads-spec : {M : Type 1} → statement M
 judge-reads-spec =

@@ -10,8 +10,8 @@ use Rattle.model.specs.Rules.Outcome.{Outcome, accepted, fault}
 use Rattle.model.specs.Rules.Program.{Program, Chain, parseProgram}
 use Rattle.model.specs.Rules.Rates.{isLinked, linked}
 use Rattle.text_program.specs.Tables.{TablesOf}
-use Rattle.text_program.specs.declared.Judged.the-variants as Judged
-use Rattle.text_program.specs.Results.{judgementOf}
+use Rattle.basics.specs.declared.Judged.the-variants as Judged
+use Rattle.basics.specs.Judgement.{judgementOf}
 use Rattle.check_rates.proofs.Chains.{restFrom, rest-start, rest-later, rest-over, rest-broken}
 use Rattle.check_rates.proofs.Linking.{few-chains}
 use Rattle.check_rates.proofs.linked.Statement.{statement}
@@ -59,10 +59,13 @@ returns c =
     λ p q t.
     let lt : l .chain < length (p .chains) = omega (arith, b .before .if1 .taken, t .counts .chains-are) in
     c .refuse .ensures ∙ ap (λ n. Judged.Refused (fault 10 n)) (t .starts (l .chain) lt) ∙
-    sym (ap judgementOf (l .inv p q t ∙ rest-broken p 10 (linkedIn p) _ q (l .chain) lt (sym (b .is-linked .ensures p q t) ∙ not-true (b .is-linked .result) (c .before .if2 .taken))))
+    sym (ap judgementOf (l .inv p q t ∙
+    rest-broken p 10 (linkedIn p) _ q (l .chain) lt
+    (sym (b .is-linked .ensures p q t) ∙ not-true (b .is-linked .result) (c .before .if2 .taken))))
 
 add-chain : tie.Need-add-chain Inv-loop μ-loop
-add-chain c = let s = c .before .before .before .before .before .before .before .before .pre in omega (arith, c .before .before .if1 .taken, few-chains _ _ (s .0, s .1, s .2))
+add-chain c = let s = c .before .before .before .before .before .before .before .before .pre in
+    omega (arith, c .before .before .if1 .taken, few-chains _ _ (s .0, s .1, s .2))
 
 loop-less : tie.Need-loop-less Inv-loop μ-loop
 loop-less c = omega (arith, c .before .before .if1 .taken)
@@ -73,7 +76,8 @@ loop-again c =
     let l = b .before .before .before .loop in
     λ p q t.
     let lt : l .chain < length (p .chains) = omega (arith, b .before .if1 .taken, t .counts .chains-are) in
-    l .inv p q t ∙ rest-later p 10 (linkedIn p) (l .chain) lt (sym (b .is-linked .ensures p q t) ∙ not-false (b .is-linked .result) (c .if2 .left))
+    l .inv p q t ∙ rest-later p 10 (linkedIn p) (l .chain) lt
+    (sym (b .is-linked .ensures p q t) ∙ not-false (b .is-linked .result) (c .if2 .left))
 
 returns-2 : tie.Need-returns-2 Inv-loop μ-loop
 unfolding judgementOf

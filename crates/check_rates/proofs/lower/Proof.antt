@@ -19,7 +19,10 @@ enum-known-b c = search needs
 
 returns : tie.Need-returns
 unfolding lowerOf
-returns c = rw (c .before .before .before .before .before .before .before .a .given .1, c .before .before .before .before .b .given .1) (rw (lt-ltb _ _ (c .if1 .taken)))
+returns c =
+    let c4 = c .before .before .before .before in
+    let c7 = c4 .before .before .before in
+    rw (c7 .a .given .1, c4 .b .given .1) (rw (lt-ltb _ _ (c .if1 .taken)))
 
 returns-2 : tie.Need-returns-2
 unfolding lowerOf
@@ -31,7 +34,10 @@ returns-3 c = rw (c .before .before .before .a .given .1, c .enum-told2 .given .
 
 returns-4 : tie.Need-returns-4
 unfolding lowerOf
-returns-4 c = rw (c .before .before .before .before .before .before .before .a .given .1, c .before .before .before .before .b .given .1) (rw (le-ltb _ _ (c .if1 .left)))
+returns-4 c =
+    let c4 = c .before .before .before .before in
+    let c7 = c4 .before .before .before in
+    rw (c7 .a .given .1, c4 .b .given .1) (rw (le-ltb _ _ (c .if1 .left)))
 
 pub lower-spec : {M : Type 1} → statement M
 lower-spec =

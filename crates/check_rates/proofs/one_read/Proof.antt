@@ -14,7 +14,18 @@ use Rattle.text_command.specs.Operator.{ReadStands}
 use Rattle.text_program.specs.Tables.{Indexed}
 use Rattle.text_program.proofs.ByIndex.{counted, in-table, read-stands, rises-at}
 use Rattle.check_rates.specs.Answers.{oneRead}
-use Rattle.check_rates.proofs.Counting.{Searched, same-search, search-starts, one-hit, one-missed, one-found, none-found, over, none-far, stands-inside}
+use Rattle.check_rates.proofs.Counting.{
+  Searched,
+  same-search,
+  search-starts,
+  one-hit,
+  one-missed,
+  one-found,
+  none-found,
+  over,
+  none-far,
+  stands-inside,
+}
 use Rattle.check_rates.proofs.one_read.Statement.{statement}
 use Rattle.check_rates.proofs.one_read.Tie as tie
 
@@ -81,15 +92,18 @@ module _ (c : tie.Joined2 Inv-loop μ-loop) where
   b = c .before .before .before .before
 
   go-on : (p : Program) → parseProgram (text (a b)) ≡ accepted p →
-      Searched (w (a b)) (bodyReads (signalAt p (x (a b)) .body)) (i b + 1 - b .before .before .before .before .wider .result) (c .if2 .many) (c .if2 .found)
+      Searched (w (a b)) (bodyReads (signalAt p (x (a b)) .body)) (i b + 1 - b .before .before .before .before .wider .result)
+      (c .if2 .many) (c .if2 .found)
   go-on p e =
       let f = b .before .before .before .before .wider .ensures .0 in
       let l = b .before .loop .inv .0 in
       let z = c .before .before .wider3 .ensures .0 in
       let v = b .before .loop .inv .3 p e in
       ⊎-elim
-      (λ h. same-search _ _ (h .1) (h .2) (one-hit (ix (a b)) p e (w (a b)) (x (a b)) (i b) (lt (a b)) _ f l (high b) _ z v (h .0 .taken)))
-      (λ h. same-search _ _ (h .1) (h .2) (one-missed (ix (a b)) p e (w (a b)) (x (a b)) (i b) (lt (a b)) _ f l (high b) _ z v (h .0 .left)))
+      (λ h. same-search _ _ (h .1) (h .2)
+      (one-hit (ix (a b)) p e (w (a b)) (x (a b)) (i b) (lt (a b)) _ f l (high b) _ z v (h .0 .taken)))
+      (λ h. same-search _ _ (h .1) (h .2)
+      (one-missed (ix (a b)) p e (w (a b)) (x (a b)) (i b) (lt (a b)) _ f l (high b) _ z v (h .0 .left)))
       (c .if2 .came)
 
 -- where all are seen
@@ -101,7 +115,8 @@ module _ (d : tie.After-loop Inv-loop μ-loop) where
       d .before .loop .i - d .before .before .before .before .wider .result ≡ length (bodyReads (signalAt p (x o) .body))
   all-seen p e =
       let v = d .before .loop .inv in
-      let h : getD (firsts o) (x o + 1) 0 ≡ d .before .loop .i = omega (arith, v .1, d .loop-test .left, d .before .before .wider2 .ensures .0) in
+      let h : getD (firsts o) (x o + 1) 0 ≡ d .before .loop .i =
+      omega (arith, v .1, d .loop-test .left, d .before .before .wider2 .ensures .0) in
       over (ix o) p e (w o) (x o) (d .before .loop .i) (lt o) _ (d .before .before .before .before .wider .ensures .0) (v .0) h
 
 wide-requires : tie.Need-wide-requires Inv-loop μ-loop
@@ -190,7 +205,8 @@ returns-3 : tie.Need-returns-3 Inv-loop μ-loop
 returns-3 c =
     let d = c .before in
     λ p e.
-    subst (λ (m : ℕ). At (d .before .loop .found) ≡ oneRead (w (o d)) (bodyReads (signalAt p m .body))) (o d .before .wide .ensures .0)
+    subst (λ (m : ℕ). At (d .before .loop .found) ≡ oneRead (w (o d)) (bodyReads (signalAt p m .body)))
+    (o d .before .wide .ensures .0)
     (one-found _ _ _ (all-seen d p e) (d .before .loop .inv .3 p e) (omega (arith, c .if3 .left)))
 
 pub one-read-spec : {M : Type 1} → statement M

@@ -1,8 +1,15 @@
 -- `check_rates::period_rule` meets its contract. Assumes nothing.
-use native.Mathlib.Omega.{arith}
 use Prim.Native.Nat.{ℕ, _*_, _≤_, _<_}
+use mathlib.Core.Bool.{cond}
+use mathlib.Core.Path.{_≡_, refl, ap, _∙_}
 use native.Mathlib.Nat.{mul-le-mul-right}
+use native.Mathlib.Omega.{arith}
 use borrow.Author.Needs.{needs}
+use lib.Dec.{eqb}
+use Rattle.model.specs.Rules.Rates.{periodRule}
+use Rattle.model.specs.declared.Kind.{Kind}
+use Rattle.model.specs.declared.Kind.the-variants.{Now, Last, When, LastWhen, Current}
+use Rattle.check_rates.specs.Answers.{factorOf, isCurrent}
 use Rattle.check_rates.proofs.period_rule.Statement.{statement}
 use Rattle.check_rates.proofs.period_rule.Tie as tie
 
@@ -10,80 +17,68 @@ use Rattle.check_rates.proofs.period_rule.Tie as tie
 small-product : (a b : ℕ) → a < 256 → b < 256 → a * b ≤ 65025
 small-product a b h g = let f : a * b ≤ 255 * b = mul-le-mul-right b (omega arith) in omega arith
 
+-- the longer period is the factor times the shorter
+one-product : (kind : Kind) (w r n : ℕ) →
+    eqb (cond (isCurrent kind) w r) (factorOf kind n * cond (isCurrent kind) r w) ≡ periodRule kind w r n
+one-product Now w r n = ap (eqb r) (omega arith)
+one-product Last w r n = ap (eqb r) (omega arith)
+one-product When w r n = refl
+one-product LastWhen w r n = refl
+one-product Current w r n = refl
+
+factor-of-requires : tie.Need-factor-of-requires
+factor-of-requires c κs = search needs
+
 wide-requires : tie.Need-wide-requires
 wide-requires c κs = search needs
+
+is-current-requires : tie.Need-is-current-requires
+is-current-requires c κs = search needs
+
+either-requires : tie.Need-either-requires
+either-requires c κs = search needs
 
 wide-requires-2 : tie.Need-wide-requires-2
 wide-requires-2 c κs = search needs
 
+either-requires-2 : tie.Need-either-requires-2
+either-requires-2 c κs = search needs
+
 wide-requires-3 : tie.Need-wide-requires-3
 wide-requires-3 c κs = search needs
 
-enum-told : tie.Need-enum-told
-enum-told c = search needs
-
-enum-told-2 : tie.Need-enum-told-2
-enum-told-2 c = search needs
-
-enum-told-3 : tie.Need-enum-told-3
-enum-told-3 c = search needs
-
 mul-result : tie.Need-mul-result
 mul-result c =
-    let n = c .before .before .wide3 in
-    let w = c .before .before .before .before .wide in
-    omega (arith, small-product (n .result) (w .result) (n .ensures .1) (w .ensures .1))
-
-enum-told-4 : tie.Need-enum-told-4
-enum-told-4 c = search needs
-
-mul-result-2 : tie.Need-mul-result-2
-mul-result-2 c =
-    let n = c .before .before .wide3 in
-    let w = c .before .before .before .before .wide in
-    omega (arith, small-product (n .result) (w .result) (n .ensures .1) (w .ensures .1))
-
-enum-told-5 : tie.Need-enum-told-5
-enum-told-5 c = search needs
-
-mul-result-3 : tie.Need-mul-result-3
-mul-result-3 c =
-    let n = c .before .before .wide3 in
-    let r = c .before .before .before .wide2 in
-    omega (arith, small-product (n .result) (r .result) (n .ensures .1) (r .ensures .1))
+    let shorter = c .wide3 in
+    let factor = c .before .before .before .before .before .wide in
+    omega (arith, small-product (factor .result) (shorter .result) (factor .ensures .1) (shorter .ensures .1))
 
 returns : tie.Need-returns
-returns c = rw (c .enum-told .given .1, c .before .before .before .wide2 .ensures .0, c .before .before .before .before .wide .ensures .0)
-
-returns-2 : tie.Need-returns-2
-returns-2 c = rw (c .enum-told2 .given .1, c .before .before .before .wide2 .ensures .0, c .before .before .before .before .wide .ensures .0)
-
-returns-3 : tie.Need-returns-3
-returns-3 c = rw (c .enum-told3 .given .1, c .before .before .wide3 .ensures .0, c .before .before .before .wide2 .ensures .0, c .before .before .before .before .wide .ensures .0)
-
-returns-4 : tie.Need-returns-4
-returns-4 c = rw (c .enum-told4 .given .1, c .before .before .wide3 .ensures .0, c .before .before .before .wide2 .ensures .0, c .before .before .before .before .wide .ensures .0)
-
-returns-5 : tie.Need-returns-5
-returns-5 c = rw (c .enum-told5 .given .1, c .before .before .wide3 .ensures .0, c .before .before .before .wide2 .ensures .0, c .before .before .before .before .wide .ensures .0)
+returns c =
+    let l = c .before .before in
+    let f = l .before .before .before in
+    let a = f .before .before .args in
+    rw (
+      l .wide2 .ensures .0,
+      f .wide .ensures .0,
+      c .wide3 .ensures .0,
+      l .before .either .ensures,
+      c .before .either2 .ensures,
+      f .before .factor-of .ensures,
+      l .before .before .is-current .ensures,
+    )
+    (one-product (a .kind) (a .w) (a .r) (a .n))
 
 pub period-rule-spec : {M : Type 1} → statement M
 period-rule-spec =
     tie.close
     (tie.spec
+    factor-of-requires
     wide-requires
+    is-current-requires
+    either-requires
     wide-requires-2
+    either-requires-2
     wide-requires-3
-    enum-told
-    enum-told-2
-    enum-told-3
     mul-result
-    enum-told-4
-    mul-result-2
-    enum-told-5
-    mul-result-3
-    returns
-    returns-2
-    returns-3
-    returns-4
-    returns-5)
+    returns)

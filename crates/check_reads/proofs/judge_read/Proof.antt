@@ -12,11 +12,15 @@ cast-read c = search needs
 
 returns : tie.Need-returns
 unfolding readMet
-returns c = let a = c .before .before .args in rw (le-ltb (a .operands .signal) (a .signals) (c .if1 .taken))
+returns c = λ q. let a = c .before .before .args in rw (le-ltb (a .operands .signal) (a .signals) (c .if1 .taken))
 
 returns-2 : tie.Need-returns-2
 unfolding readMet
-returns-2 c = let a = c .before .before .before .args in rw (lt-ltb (a .operands .signal) (a .signals) (omega (arith, c .before .if1 .left)), le-ltb (a .reader) (a .signals) (c .if2 .taken))
+returns-2 c = λ q. let a = c .before .before .before .args in
+    rw (
+      lt-ltb (a .operands .signal) (a .signals) (omega (arith, c .before .if1 .left)),
+      le-ltb (a .reader) (a .signals) (c .if2 .taken),
+    )
 
 element-copy-out-before : tie.Need-element-copy-out-before
 element-copy-out-before c = search needs
@@ -37,17 +41,18 @@ element-copy-out-before-6 : tie.Need-element-copy-out-before-6
 element-copy-out-before-6 c = search needs
 
 is-met-requires : tie.Need-is-met-requires
-is-met-requires c κs =
-    let e = c .before .before .before .before .before .before in
-    let q = e .before .before .before .pre .1 in
-    (q (e .before .before .before .args .operands .signal) (omega (arith, e .before .if1 .left)), q (e .before .before .before .args .reader) (omega (arith, e .if2 .left)))
+is-met-requires c κs = search needs
 
 returns-3 : tie.Need-returns-3
 unfolding readMet
-returns-3 c =
+returns-3 c = λ q.
     let e = c .before .before .before .before .before .before .before .before in
     let a = e .before .before .before .args in
-    rw (lt-ltb (a .operands .signal) (a .signals) (omega (arith, e .before .if1 .left)), lt-ltb (a .reader) (a .signals) (omega (arith, e .if2 .left)), sym (c .before .is-met .ensures) ∙ c .if3 .taken)
+    rw (
+      lt-ltb (a .operands .signal) (a .signals) (omega (arith, e .before .if1 .left)),
+      lt-ltb (a .reader) (a .signals) (omega (arith, e .if2 .left)),
+      sym (c .before .is-met .ensures q) ∙ c .if3 .taken,
+    )
 
 refuse-requires : tie.Need-refuse-requires
 refuse-requires c κs = search needs
@@ -55,9 +60,17 @@ refuse-requires c κs = search needs
 returns-4 : tie.Need-returns-4
 unfolding readMet
 returns-4 c =
-    let e = c .before .before .before .before .before .before .before .before .before in
+    let c5 = c .before .before .before .before .before in
+    let c9 = c5 .before .before .before .before in
+    λ q.
+    let e = c9 in
     let a = e .before .before .before .args in
-    rw (lt-ltb (a .operands .signal) (a .signals) (omega (arith, e .before .if1 .left)), lt-ltb (a .reader) (a .signals) (omega (arith, e .if2 .left)), sym (c .before .before .is-met .ensures) ∙ c .before .if3 .left) (c .refuse .ensures)
+    rw (
+      lt-ltb (a .operands .signal) (a .signals) (omega (arith, e .before .if1 .left)),
+      lt-ltb (a .reader) (a .signals) (omega (arith, e .if2 .left)),
+      sym (c .before .before .is-met .ensures q) ∙
+          c .before .if3 .left,
+    ) (c .refuse .ensures)
 
 pub judge-read-spec : {M : Type 1} → statement M
 judge-read-spec =

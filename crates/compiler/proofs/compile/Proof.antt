@@ -13,7 +13,7 @@ use Rattle.image_write.proofs.Imaged.{declared}
 use Rattle.image_write.proofs.Tailed.{tail-by}
 use Rattle.image_write.specs.Prepared.{LaidOut, Ready}
 use Rattle.check_pair.specs.Answers.{Checks}
-use Rattle.check_pair.proofs.Laws.{answers-fine, answers-refused}
+use Rattle.check_pair.proofs.Verdicts.{answers-fine, answers-refused}
 use Rattle.compiler.proofs.Answers.{compile-refused, compile-short, tail-room, compile-done}
 use Rattle.compiler.proofs.compile.Statement.{statement}
 use Rattle.compiler.proofs.compile.Tie as tie
@@ -34,7 +34,10 @@ ready e =
     record { program = k .0 .program; schedule = k .0 .schedule; prepared = k .2 .prepared; hyper = k .2 .bound }
 
 abbrev checked : tie.After-lay-out → tie.After-enum-told
-checked l = l .before .before .before .before .before .before .before .before .before
+checked l =
+    let l5 = l .before .before .before .before .before in
+    let l9 = l5 .before .before .before .before in
+    l9
 
 -- the layout of its image, with L
 laid-out : (l : tie.After-lay-out) → let q = pair (checked l) .0 in

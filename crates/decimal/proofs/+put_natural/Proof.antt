@@ -1,6 +1,6 @@
 -- `decimal::put_natural` meets its contract. Assumes nothing.
 use Rattle.decimal.proofs.Puts.{put-one, put-then, put-is, put-length}
-use Rattle.model.proofs.Decimals.{natural-one, natural-more, natural-length}
+use Rattle.model.proofs.Bench.Decimals.{natural-one, natural-more, natural-length}
 use Rattle.model.specs.Rules.Decimal.{natural, digit}
 use Rattle.decimal.specs.Put.{Put}
 use lib.ListN.{length, length-append}

@@ -2,7 +2,7 @@
 use Rattle.decimal.proofs.Puts.{decimal-minus, decimal-plus, put-one, put-then, put-is, put-length}
 use Rattle.model.specs.Rules.Decimal.{natural, decimal}
 use Rattle.decimal.specs.Put.{Put}
-use Rattle.word.proofs.Laws.{of-local, minus}
+use Rattle.word.proofs.Locals.{of-local, minus}
 use Rattle.model.specs.Rules.Word.{bitsOf}
 use lib.ListN.{length, length-append, length-set}
 use mathlib.Core.Path.{_≡_, refl, sym, ap, _∙_}

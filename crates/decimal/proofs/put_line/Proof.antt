@@ -1,10 +1,10 @@
 -- `decimal::put_line` meets its contract. Assumes nothing.
 use Prim.Native.Nat.{_*_}
 use Rattle.decimal.proofs.Puts.{spaced-more, spaced-none, line-is, put-one, put-then, put-is, put-length}
-use Rattle.model.proofs.Decimals.{natural-length, decimal-length}
+use Rattle.model.proofs.Bench.Decimals.{natural-length, decimal-length}
 use Rattle.model.specs.Rules.Decimal.{natural, decimal, spaced, lineOf}
 use Rattle.decimal.specs.Put.{Put}
-use Rattle.word.proofs.Laws.{kept}
+use Rattle.word.proofs.Locals.{kept}
 use lib.Seq.{take-all}
 use lib.ListN.{length, getD, take, length-append, length-set}
 use lib.IntN.{ℤ, pos}
@@ -88,13 +88,16 @@ loop-less : tie.Need-loop-less Inv-loop μ-loop
 loop-less c = omega arith
 
 loop-again : tie.Need-loop-again Inv-loop μ-loop
-loop-again c = let t = c .before .before .before .before .before in
+loop-again c =
+    let c4 = c .before .before .before .before in
+    let c5 = c4 .before in
+    let t = c5 in
     let l = t .before in
-    let m = c .before .before .before .before .w .given in
+    let m = c4 .w .given in
     let w = kept _ m in
     let p = put-is (ap decimal w) (c .before .before .put-decimal .ensures) in (
       put-is (sym (spaced-more (start l .args .words .now) (l .loop .i) (t .loop-test .taken)))
-          (put-then (l .loop .inv .0) (put-then (put-one _ _ _ (slice-write-out (c .before .before .before .before))) p)),
+          (put-then (l .loop .inv .0) (put-then (put-one _ _ _ (slice-write-out c4)) p)),
       omega arith,
       omega (arith, p .ends, l .loop .inv .2, decimal-length (getD (start l .args .words .now) (l .loop .i) (pos 0)) m),
     )

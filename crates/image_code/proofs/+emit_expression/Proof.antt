@@ -9,11 +9,11 @@ use denote.Ref.{now}
 use mir.Facts.{toZ-ofZ}
 use borrow.Fn.Kinds.{In}
 use borrow.Fn.PlainCycle.{Measures, is as at-measure, falls, and}
-use Rattle.model.specs.Rules.Command.{commandAt}
-use Rattle.model.specs.declared.Command.{Command}
+use Rattle.model.specs.Rules.Command.{operatorAt}
+use Rattle.model.specs.declared.Operator.{Operator}
 use Rattle.image_code.specs.Code.{Room}
 use Rattle.image_code.specs.Shape.{leadOf}
-use Rattle.image_code.proofs.Laws.{
+use Rattle.image_code.proofs.Operands.{
   Rooms,
   rooms,
   positive,
@@ -29,12 +29,12 @@ use Rattle.image_code.proofs.Laws.{
   word-length,
   same-word,
 }
-use Rattle.image_code.proofs.Spans.{operator-is}
 use Rattle.image_code.proofs.emit_expression.Reads as own
 use Rattle.image_code.proofs.emit_expression.Kinds as kinds
 use Rattle.image_code.proofs.+emit_expression.Lts-emit_expression as lts
 use Rattle.text_command.proofs.operator_at.Reads as operator-at-reads
 use Rattle.image_code.proofs.binary_byte.Reads as binary-byte-reads
+use Rattle.image_code.proofs.unary_byte.Reads as unary-byte-reads
 use Rattle.image_code.proofs.put_access.Reads as put-access-reads
 use Rattle.image_code.proofs.put_operator.Reads as put-operator-reads
 use Rattle.image_code.proofs.put_push.Reads as put-push-reads
@@ -70,6 +70,8 @@ known t = (
   binary-byte-reads.Learnt,
   put-operator-reads.Asked,
   put-operator-reads.Learnt,
+  unary-byte-reads.Asked,
+  unary-byte-reads.Learnt,
 )
 
 -- where the command is known
@@ -92,9 +94,9 @@ module _ (t : ℕ) (c : lts.After-operator-at (known t) (given t) own.Post) wher
   room-at : Room depth text at size to
   room-at = c .before .before .before .pre .1
 
-  module _ (o : Command) (e : c .operator-at .result ≡ o) where
-    is : commandAt text at ≡ o
-    is = sym (operator-is (room-at .spelled)) ∙ sym (c .operator-at .ensures) ∙ e
+  module _ (o : Operator) (e : c .operator-at .result ≡ o) where
+    is : operatorAt text at ≡ o
+    is = sym (c .operator-at .ensures) ∙ e
 
     some : 0 < depth
     some = positive o is room-at
@@ -108,151 +110,297 @@ module _ (t : ℕ) (c : lts.After-operator-at (known t) (given t) own.Post) wher
 operator-at-requires : (t : ℕ) → lts.Need-operator-at-requires (known t) (given t) own.Post
 operator-at-requires t c κs = search needs
 
-enum-known-command : (t : ℕ) → lts.Need-enum-known-command (known t) (given t) own.Post
-enum-known-command t c = search needs
+enum-known-decoded : (t : ℕ) → lts.Need-enum-known-decoded (known t) (given t) own.Post
+enum-known-decoded t c = search needs
 
 in-expression-requires : (t : ℕ) → lts.Need-in-expression-requires (known t) (given t) own.Post
 in-expression-requires t c κs = search needs
 
 add-put-push : (t : ℕ) → lts.Need-add-put-push (known t) (given t) own.Post
-add-put-push t c = omega (arith, inside t (c .before .before .before .before .before) _ (c .before .before .before .command .given .1), c .before .before .before .before .before .before .before .before .good .0 .1)
+add-put-push t c =
+    let c3 = c .before .before .before in
+    let c5 = c3 .before .before in
+    let c8 = c5 .before .before .before in
+    omega (arith, inside t c5 _ (c3 .decoded .given .1), c8 .good .0 .1)
 
 put-push-requires : (t : ℕ) → lts.Need-put-push-requires (known t) (given t) own.Post
-put-push-requires t c κs = omega (arith, word-length (c .before .before .before .command .given .0 .0), no-rooms (rooms-at t (c .before .before .before .before .before) _ (c .before .before .before .command .given .1)))
+put-push-requires t c κs =
+    let c3 = c .before .before .before in
+    let c5 = c3 .before .before in
+    omega (arith, word-length (c3 .decoded .given .0 .0), no-rooms (rooms-at t c5 _ (c3 .decoded .given .1)))
 
-enum-known-command-2 : (t : ℕ) → lts.Need-enum-known-command-2 (known t) (given t) own.Post
-enum-known-command-2 t c = search needs
+enum-known-decoded-2 : (t : ℕ) → lts.Need-enum-known-decoded-2 (known t) (given t) own.Post
+enum-known-decoded-2 t c = search needs
 
 of-read-requires : (t : ℕ) → lts.Need-of-read-requires (known t) (given t) own.Post
 of-read-requires t c κs = search needs
 
 add-put-access : (t : ℕ) → lts.Need-add-put-access (known t) (given t) own.Post
-add-put-access t c = omega (arith, inside t (c .before .before .before .before .before) _ (c .before .before .before .command2 .given .1), c .of-read .ensures, c .before .before .before .before .before .before .before .before .good .0 .1)
+add-put-access t c =
+    let c3 = c .before .before .before in
+    let c5 = c3 .before .before in
+    let c8 = c5 .before .before .before in
+    omega (arith, inside t c5 _ (c3 .decoded2 .given .1), c .of-read .ensures, c8 .good .0 .1)
 
 put-access-requires : (t : ℕ) → lts.Need-put-access-requires (known t) (given t) own.Post
-put-access-requires t c κs = omega (arith, no-rooms (rooms-at t (c .before .before .before .before .before) _ (c .before .before .before .command2 .given .1)))
+put-access-requires t c κs = omega
+    (arith, no-rooms (rooms-at t (c .before .before .before .before .before) _ (c .before .before .before .decoded2 .given .1)))
 
-enum-known-command-3 : (t : ℕ) → lts.Need-enum-known-command-3 (known t) (given t) own.Post
-enum-known-command-3 t c = search needs
+enum-known-decoded-3 : (t : ℕ) → lts.Need-enum-known-decoded-3 (known t) (given t) own.Post
+enum-known-decoded-3 t c = search needs
 
 in-expression-requires-2 : (t : ℕ) → lts.Need-in-expression-requires-2 (known t) (given t) own.Post
 in-expression-requires-2 t c κs = search needs
 
 add-emit-expression : (t : ℕ) → lts.Need-add-emit-expression (known t) (given t) own.Post
-add-emit-expression t c = omega (arith, inside t (c .before .before .before .before) _ (c .before .before .command3 .given .1), c .before .before .before .before .before .before .before .good .0 .1)
+add-emit-expression t c =
+    let c4 = c .before .before .before .before in
+    let c7 = c4 .before .before .before in
+    omega (arith, inside t c4 _ (c .before .before .decoded3 .given .1), c7 .good .0 .1)
 
 sub-emit-expression : (t : ℕ) → lts.Need-sub-emit-expression (known t) (given t) own.Post
-sub-emit-expression t c = omega (arith, some t (c .before .before .before .before) _ (c .before .before .command3 .given .1))
+sub-emit-expression t c = omega (arith, some t (c .before .before .before .before) _ (c .before .before .decoded3 .given .1))
 
 emit-expression-requires : (t : ℕ) → lts.Need-emit-expression-requires (known t) (given t) own.Post
-emit-expression-requires t c κs = (omega (arith, some t (c .before .before .before .before .before) _ (c .before .before .before .command3 .given .1)), rw (c .before .in-expression2 .ensures) (first-room (rooms-at t (c .before .before .before .before .before) _ (c .before .before .before .command3 .given .1))))
+emit-expression-requires t c κs =
+    let c3 = c .before .before .before in
+    let c5 = c3 .before .before in (
+      omega (arith, some t c5 _ (c3 .decoded3 .given .1)),
+      rw (c .before .in-expression2 .ensures)
+          (first-room (rooms-at t c5 _ (c3 .decoded3 .given .1))),
+    )
 
 sub-emit-expression-2 : (t : ℕ) → lts.Need-sub-emit-expression-2 (known t) (given t) own.Post
-sub-emit-expression-2 t c = omega (arith, some t (c .before .before .before .before .before .before .before .before) _ (c .before .before .before .before .before .before .command3 .given .1))
+sub-emit-expression-2 t c =
+    let c6 = c .before .before .before .before .before .before in
+    let c8 = c6 .before .before in
+    omega (arith, some t c8 _ (c6 .decoded3 .given .1))
 
 emit-expression-requires-2 : (t : ℕ) → lts.Need-emit-expression-requires-2 (known t) (given t) own.Post
-emit-expression-requires-2 t c κs = (omega (arith, some t (c .before .before .before .before .before .before .before .before .before) _ (c .before .before .before .before .before .before .before .command3 .given .1)), first-room (rest-rooms (rooms-at t (c .before .before .before .before .before .before .before .before .before) _ (c .before .before .before .before .before .before .before .command3 .given .1)) (rw (c .before .before .before .before .before .in-expression2 .ensures) at (c .before .before .before .emit-expression .ensures))))
+emit-expression-requires-2 t c κs =
+    let c3 = c .before .before .before in
+    let c5 = c3 .before .before in
+    let c7 = c5 .before .before in
+    let c9 = c7 .before .before in (
+      omega (arith, some t c9 _ (c7 .decoded3 .given .1)),
+      first-room (rest-rooms (rooms-at t c9 _
+          (c7 .decoded3 .given .1)) (rw (c5 .in-expression2 .ensures) at (c3 .emit-expression .ensures))),
+    )
 
 binary-byte-requires : (t : ℕ) → lts.Need-binary-byte-requires (known t) (given t) own.Post
 binary-byte-requires t c κs = search needs
 
 put-operator-requires : (t : ℕ) → lts.Need-put-operator-requires (known t) (given t) own.Post
-put-operator-requires t c κs = omega (arith, no-rooms (rest-rooms (rest-rooms (rooms-at t (c .before .before .before .before .before .before .before .before .before .before .before .before .before .before) _ (c .before .before .before .before .before .before .before .before .before .before .before .before .command3 .given .1)) (rw (c .before .before .before .before .before .before .before .before .before .before .in-expression2 .ensures) at (c .before .before .before .before .before .before .before .before .emit-expression .ensures))) (c .before .before .before .before .emit-expression2 .ensures)))
+put-operator-requires t c κs =
+    let c4 = c .before .before .before .before in
+    let c8 = c4 .before .before .before .before in
+    let c10 = c8 .before .before in
+    let c12 = c10 .before .before in
+    let c14 = c12 .before .before in
+    omega (
+      arith,
+      no-rooms (rest-rooms
+          (rest-rooms (rooms-at t c14 _ (c12 .decoded3 .given .1))
+          (rw (c10 .in-expression2 .ensures) at (c8 .emit-expression .ensures))) (c4 .emit-expression2 .ensures)),
+    )
 
-enum-told : (t : ℕ) → lts.Need-enum-told (known t) (given t) own.Post
-enum-told t c = search needs
+enum-known-decoded-4 : (t : ℕ) → lts.Need-enum-known-decoded-4 (known t) (given t) own.Post
+enum-known-decoded-4 t c = search needs
 
 in-expression-requires-3 : (t : ℕ) → lts.Need-in-expression-requires-3 (known t) (given t) own.Post
 in-expression-requires-3 t c κs = search needs
 
 add-emit-expression-2 : (t : ℕ) → lts.Need-add-emit-expression-2 (known t) (given t) own.Post
-add-emit-expression-2 t c = omega (arith, inside t (c .before .before .before) _ (c .before .enum-told .given .1), c .before .before .before .before .before .before .good .0 .1)
+add-emit-expression-2 t c =
+    let c4 = c .before .before .before .before in
+    let c7 = c4 .before .before .before in
+    omega (arith, inside t c4 _ (c .before .before .decoded4 .given .1), c7 .good .0 .1)
 
 sub-emit-expression-3 : (t : ℕ) → lts.Need-sub-emit-expression-3 (known t) (given t) own.Post
-sub-emit-expression-3 t c = omega (arith, some t (c .before .before .before) _ (c .before .enum-told .given .1))
+sub-emit-expression-3 t c = omega (arith, some t (c .before .before .before .before) _ (c .before .before .decoded4 .given .1))
 
 emit-expression-requires-3 : (t : ℕ) → lts.Need-emit-expression-requires-3 (known t) (given t) own.Post
-emit-expression-requires-3 t c κs = (omega (arith, some t (c .before .before .before .before) _ (c .before .before .enum-told .given .1)), rw (c .before .in-expression3 .ensures) (first-room (rooms-at t (c .before .before .before .before) _ (c .before .before .enum-told .given .1))))
+emit-expression-requires-3 t c κs =
+    let o = c .before .before .before .before .before in
+    let e = c .before .before .before .decoded4 .given .1 in
+    (omega (arith, some t o _ e), rw (c .before .in-expression3 .ensures) (first-room (rooms-at t o _ e)))
+
+unary-byte-requires : (t : ℕ) → lts.Need-unary-byte-requires (known t) (given t) own.Post
+unary-byte-requires t c κs = search needs
 
 put-operator-requires-2 : (t : ℕ) → lts.Need-put-operator-requires-2 (known t) (given t) own.Post
-put-operator-requires-2 t c κs = omega (arith, no-rooms (rest-rooms (rooms-at t (c .before .before .before .before .before .before .before .before) _ (c .before .before .before .before .before .before .enum-told .given .1)) (rw (c .before .before .before .before .before .in-expression3 .ensures) at (c .before .before .before .emit-expression3 .ensures))))
+put-operator-requires-2 t c κs =
+    let c4 = c .before .before .before .before in
+    let c6 = c4 .before .before in
+    let c8 = c6 .before .before in
+    let c10 = c8 .before .before in
+    omega (
+      arith,
+      no-rooms (rest-rooms (rooms-at t c10 _ (c8 .decoded4 .given .1))
+          (rw (c6 .in-expression3 .ensures) at (c4 .emit-expression3 .ensures))),
+    )
 
-enum-told-2 : (t : ℕ) → lts.Need-enum-told-2 (known t) (given t) own.Post
-enum-told-2 t c = search needs
+enum-told : (t : ℕ) → lts.Need-enum-told (known t) (given t) own.Post
+enum-told t c = search needs
 
 in-expression-requires-4 : (t : ℕ) → lts.Need-in-expression-requires-4 (known t) (given t) own.Post
 in-expression-requires-4 t c κs = search needs
 
 add-emit-expression-3 : (t : ℕ) → lts.Need-add-emit-expression-3 (known t) (given t) own.Post
-add-emit-expression-3 t c = omega (arith, inside t (c .before .before .before) _ (c .before .enum-told2 .given .1), c .before .before .before .before .before .before .good .0 .1)
+add-emit-expression-3 t c =
+    let c3 = c .before .before .before in
+    let c6 = c3 .before .before .before in
+    omega (arith, inside t c3 _ (c .before .enum-told .given .1), c6 .good .0 .1)
 
 sub-emit-expression-4 : (t : ℕ) → lts.Need-sub-emit-expression-4 (known t) (given t) own.Post
-sub-emit-expression-4 t c = omega (arith, some t (c .before .before .before) _ (c .before .enum-told2 .given .1))
+sub-emit-expression-4 t c = omega (arith, some t (c .before .before .before) _ (c .before .enum-told .given .1))
 
 emit-expression-requires-4 : (t : ℕ) → lts.Need-emit-expression-requires-4 (known t) (given t) own.Post
-emit-expression-requires-4 t c κs = (omega (arith, some t (c .before .before .before .before) _ (c .before .before .enum-told2 .given .1)), rw (c .before .in-expression4 .ensures) (first-room (rooms-at t (c .before .before .before .before) _ (c .before .before .enum-told2 .given .1))))
+emit-expression-requires-4 t c κs = (
+  omega (arith, some t (c .before .before .before .before) _ (c .before .before .enum-told .given .1)),
+  rw (c .before .in-expression4 .ensures)
+      (first-room (rooms-at t (c .before .before .before .before) _ (c .before .before .enum-told .given .1))),
+)
 
 sub-emit-expression-5 : (t : ℕ) → lts.Need-sub-emit-expression-5 (known t) (given t) own.Post
-sub-emit-expression-5 t c = omega (arith, some t (c .before .before .before .before .before .before .before) _ (c .before .before .before .before .before .enum-told2 .given .1))
+sub-emit-expression-5 t c =
+    let c5 = c .before .before .before .before .before in
+    let c7 = c5 .before .before in
+    omega (arith, some t c7 _ (c5 .enum-told .given .1))
 
 emit-expression-requires-5 : (t : ℕ) → lts.Need-emit-expression-requires-5 (known t) (given t) own.Post
-emit-expression-requires-5 t c κs = (omega (arith, some t (c .before .before .before .before .before .before .before .before) _ (c .before .before .before .before .before .before .enum-told2 .given .1)), first-room (rest-rooms (rooms-at t (c .before .before .before .before .before .before .before .before) _ (c .before .before .before .before .before .before .enum-told2 .given .1)) (rw (c .before .before .before .before .before .in-expression4 .ensures) at (c .before .before .before .emit-expression4 .ensures))))
+emit-expression-requires-5 t c κs =
+    let c3 = c .before .before .before in
+    let c5 = c3 .before .before in
+    let c6 = c5 .before in
+    let c8 = c6 .before .before in (
+      omega (arith, some t c8 _ (c6 .enum-told .given .1)),
+      first-room (rest-rooms (rooms-at t c8 _
+          (c6 .enum-told .given .1)) (rw (c5 .in-expression4 .ensures) at (c3 .emit-expression4 .ensures))),
+    )
 
 sub-emit-expression-6 : (t : ℕ) → lts.Need-sub-emit-expression-6 (known t) (given t) own.Post
-sub-emit-expression-6 t c = omega (arith, some t (c .before .before .before .before .before .before .before .before .before .before .before) _ (c .before .before .before .before .before .before .before .before .before .enum-told2 .given .1))
+sub-emit-expression-6 t c =
+    let c5 = c .before .before .before .before .before in
+    let c9 = c5 .before .before .before .before in
+    let c11 = c9 .before .before in
+    omega (arith, some t c11 _ (c9 .enum-told .given .1))
 
 emit-expression-requires-6 : (t : ℕ) → lts.Need-emit-expression-requires-6 (known t) (given t) own.Post
-emit-expression-requires-6 t c κs = (omega (arith, some t (c .before .before .before .before .before .before .before .before .before .before .before .before) _ (c .before .before .before .before .before .before .before .before .before .before .enum-told2 .given .1)), first-room (rest-rooms (rest-rooms (rooms-at t (c .before .before .before .before .before .before .before .before .before .before .before .before) _ (c .before .before .before .before .before .before .before .before .before .before .enum-told2 .given .1)) (rw (c .before .before .before .before .before .before .before .before .before .in-expression4 .ensures) at (c .before .before .before .before .before .before .before .emit-expression4 .ensures))) (c .before .before .before .emit-expression5 .ensures)))
+emit-expression-requires-6 t c κs =
+    let c3 = c .before .before .before in
+    let c7 = c3 .before .before .before .before in
+    let c9 = c7 .before .before in
+    let c10 = c9 .before in
+    let c12 = c10 .before .before in (
+      omega (arith, some t c12 _ (c10 .enum-told .given .1)),
+      first-room (rest-rooms (rest-rooms (rooms-at t c12 _
+          (c10 .enum-told .given .1)) (rw (c9 .in-expression4 .ensures) at (c7 .emit-expression4 .ensures)))
+          (c3 .emit-expression5 .ensures)),
+    )
 
 put-operator-requires-3 : (t : ℕ) → lts.Need-put-operator-requires-3 (known t) (given t) own.Post
-put-operator-requires-3 t c κs = omega (arith, no-rooms (rest-rooms (rest-rooms (rest-rooms (rooms-at t (c .before .before .before .before .before .before .before .before .before .before .before .before .before .before .before .before) _ (c .before .before .before .before .before .before .before .before .before .before .before .before .before .before .enum-told2 .given .1)) (rw (c .before .before .before .before .before .before .before .before .before .before .before .before .before .in-expression4 .ensures) at (c .before .before .before .before .before .before .before .before .before .before .before .emit-expression4 .ensures))) (c .before .before .before .before .before .before .before .emit-expression5 .ensures)) (c .before .before .before .emit-expression6 .ensures)))
+put-operator-requires-3 t c κs =
+    let c3 = c .before .before .before in
+    let c7 = c3 .before .before .before .before in
+    let c11 = c7 .before .before .before .before in
+    let c13 = c11 .before .before in
+    let c14 = c13 .before in
+    let c16 = c14 .before .before in
+    omega (
+      arith,
+      no-rooms (rest-rooms (rest-rooms (rest-rooms (rooms-at t
+          c16 _ (c14 .enum-told .given .1)) (rw (c13 .in-expression4 .ensures) at (c11 .emit-expression4 .ensures)))
+          (c7 .emit-expression5 .ensures)) (c3 .emit-expression6 .ensures)),
+    )
 
 same-length : (t : ℕ) → lts.Need-same-length (known t) (given t) own.Post
 same-length t c = c .before .before .put-push .kept .0
 
 returns : (t : ℕ) → lts.Need-returns (known t) (given t) own.Post
-returns t c = emits-last _ (is t (c .before .before .before .before .before .before .before .before) _ (c .before .before .before .before .before .before .command .given .1)) emits-none (same-word (toZ-ofZ (search needs)) (rw (c .before .before .before .in-expression .ensures) at (c .before .before .put-push .ensures)))
+returns t c =
+    let c3 = c .before .before .before in
+    let c6 = c3 .before .before .before in
+    let c8 = c6 .before .before in
+    emits-last _ (is t c8 _ (c6 .decoded .given .1)) emits-none (same-word (toZ-ofZ (search needs))
+    (rw (c3 .in-expression .ensures) at (c .before .before .put-push .ensures)))
 
 same-length-2 : (t : ℕ) → lts.Need-same-length-2 (known t) (given t) own.Post
 same-length-2 t c = c .before .before .put-access .kept .0
 
 returns-2 : (t : ℕ) → lts.Need-returns-2 (known t) (given t) own.Post
-returns-2 t c = emits-last _ (is t (c .before .before .before .before .before .before .before .before) _ (c .before .before .before .before .before .before .command2 .given .1)) emits-none (rw (c .before .before .before .of-read .ensures) at (c .before .before .put-access .ensures))
+returns-2 t c =
+    let c3 = c .before .before .before in
+    let c6 = c3 .before .before .before in
+    let c8 = c6 .before .before in
+    emits-last _ (is t c8 _ (c6 .decoded2 .given .1)) emits-none
+    (rw (c3 .of-read .ensures) at (c .before .before .put-access .ensures))
 
 same-length-3 : (t : ℕ) → lts.Need-same-length-3 (known t) (given t) own.Post
 same-length-3 t c = search needs
 
 returns-3 : (t : ℕ) → lts.Need-returns-3 (known t) (given t) own.Post
-returns-3 t c = emits-last _ (is t (c .before .before .before .before .before .before .before .before .before .before .before .before .before .before .before .before .before) _ (c .before .before .before .before .before .before .before .before .before .before .before .before .before .before .before .command3 .given .1)) (emits-more (rw (c .before .before .before .before .before .before .before .before .before .before .before .before .before .in-expression2 .ensures) at (c .before .before .before .before .before .before .before .before .before .before .before .emit-expression .ensures)) (emits-more (c .before .before .before .before .before .before .before .emit-expression2 .ensures) emits-none)) (rw (c .before .before .before .binary-byte .ensures) at (c .before .before .put-operator .ensures))
+returns-3 t c =
+    let c3 = c .before .before .before in
+    let c7 = c3 .before .before .before .before in
+    let c11 = c7 .before .before .before .before in
+    let c13 = c11 .before .before in
+    let c15 = c13 .before .before in
+    let c17 = c15 .before .before in
+    emits-last _ (is t
+    c17 _ (c15 .decoded3 .given .1))
+    (emits-more (rw (c13 .in-expression2 .ensures) at (c11 .emit-expression .ensures))
+    (emits-more (c7 .emit-expression2 .ensures) emits-none))
+    (rw (c3 .binary-byte .ensures) at (c .before .before .put-operator .ensures))
 
 same-length-4 : (t : ℕ) → lts.Need-same-length-4 (known t) (given t) own.Post
 same-length-4 t c = search needs
 
 returns-4 : (t : ℕ) → lts.Need-returns-4 (known t) (given t) own.Post
-returns-4 t c = emits-last _ (is t (c .before .before .before .before .before .before .before .before .before .before .before) _ (c .before .before .before .before .before .before .before .before .before .enum-told .given .1)) (emits-more (rw (c .before .before .before .before .before .before .before .before .in-expression3 .ensures) at (c .before .before .before .before .before .before .emit-expression3 .ensures)) emits-none) (c .before .before .put-operator2 .ensures)
+returns-4 t c =
+    let c3 = c .before .before .before in
+    let c7 = c3 .before .before .before .before in
+    let c9 = c7 .before .before in
+    let c11 = c9 .before .before in
+    let c13 = c11 .before .before in
+    emits-last _ (is t c13 _ (c11 .decoded4 .given .1)) (emits-more (rw (c9 .in-expression3 .ensures) at
+    (c7 .emit-expression3 .ensures)) emits-none)
+    (rw (c3 .unary-byte .ensures) at (c .before .before .put-operator2 .ensures))
 
 same-length-5 : (t : ℕ) → lts.Need-same-length-5 (known t) (given t) own.Post
 same-length-5 t c = search needs
 
 returns-5 : (t : ℕ) → lts.Need-returns-5 (known t) (given t) own.Post
-returns-5 t c = emits-last _ (is t (c .before .before .before .before .before .before .before .before .before .before .before .before .before .before .before .before .before .before .before) _ (c .before .before .before .before .before .before .before .before .before .before .before .before .before .before .before .before .before .enum-told2 .given .1)) (emits-more (rw (c .before .before .before .before .before .before .before .before .before .before .before .before .before .before .before .before .in-expression4 .ensures) at (c .before .before .before .before .before .before .before .before .before .before .before .before .before .before .emit-expression4 .ensures)) (emits-more (c .before .before .before .before .before .before .before .before .before .before .emit-expression5 .ensures) (emits-more (c .before .before .before .before .before .before .emit-expression6 .ensures) emits-none))) (c .before .before .put-operator3 .ensures)
+returns-5 t c =
+    let c6 = c .before .before .before .before .before .before in
+    let c10 = c6 .before .before .before .before in
+    let c14 = c10 .before .before .before .before in
+    let c16 = c14 .before .before in
+    let c17 = c16 .before in
+    let c19 = c17 .before .before in
+    emits-last _ (is t
+    c19 _ (c17 .enum-told .given .1))
+    (emits-more (rw (c16 .in-expression4 .ensures) at (c14 .emit-expression4 .ensures))
+    (emits-more (c10 .emit-expression5 .ensures) (emits-more (c6 .emit-expression6 .ensures) emits-none)))
+    (c .before .before .put-operator3 .ensures)
 
 returns-6 : (t : ℕ) → lts.Need-returns-6 (known t) (given t) own.Post
-returns-6 t c = absurd (no-operator (c .before .operator-at .result) (c .match .keys6) (operator-stands _ (is t (c .before) _ refl) (room-at t (c .before))))
+returns-6 t c = absurd (no-operator (c .before .operator-at .result) (c .match .keys6)
+    (operator-stands _ (is t (c .before) _ refl) (room-at t (c .before))))
 
 pub +emit-expression-spec : {M : Type 1} → statement M
 +emit-expression-spec =
     close μ (λ t. lts.spec (known t) (given t) own.Post
     (operator-at-requires t)
-    (enum-known-command t)
+    (enum-known-decoded t)
     (in-expression-requires t)
     (add-put-push t)
     (put-push-requires t)
-    (enum-known-command-2 t)
+    (enum-known-decoded-2 t)
     (of-read-requires t)
     (add-put-access t)
     (put-access-requires t)
-    (enum-known-command-3 t)
+    (enum-known-decoded-3 t)
     (in-expression-requires-2 t)
     (add-emit-expression t)
     (sub-emit-expression t)
@@ -261,13 +409,14 @@ pub +emit-expression-spec : {M : Type 1} → statement M
     (emit-expression-requires-2 t)
     (binary-byte-requires t)
     (put-operator-requires t)
-    (enum-told t)
+    (enum-known-decoded-4 t)
     (in-expression-requires-3 t)
     (add-emit-expression-2 t)
     (sub-emit-expression-3 t)
     (emit-expression-requires-3 t)
+    (unary-byte-requires t)
     (put-operator-requires-2 t)
-    (enum-told-2 t)
+    (enum-told t)
     (in-expression-requires-4 t)
     (add-emit-expression-3 t)
     (sub-emit-expression-4 t)

@@ -4,7 +4,7 @@ use native.Mathlib.Numerals.{add-one}
 use mathlib.Core.Path.{refl, ap, _∙_}
 use lib.ListN.{length, set, length-set}
 use lib.Seq.{sets, length-sets}
-use Rattle.image_code.proofs.Laws.{word-length}
+use Rattle.image_code.proofs.Operands.{word-length}
 use Rattle.model.specs.Rules.Word.{wordBytes}
 use Prim.Native.Nat.{ℕ, _+_}
 use lib.IntN.{ℤ}
@@ -33,13 +33,15 @@ same-length c = ap length (c .before .before .before .put-word .ensures) ∙ sim
 
 returns : tie.Need-returns
 returns c =
-    let a = c .before .before .before .before .before .before .args in
+    let c3 = c .before .before .before in
+    let c6 = c3 .before .before .before in
+    let a = c6 .args in
     record {
       goes = refl;
       ends = omega (arith, word-length (a .w));
       holds =
-          c .before .before .before .put-word .ensures ∙
-          ap (λ (z : ℤ). sets (set (a .out .now) (a .to) 0x50) (a .to + 1) (wordBytes z)) (toZ-ofZ (c .before .before .before .before .before .before .fits .w)) ∙
+          c3 .put-word .ensures ∙
+          ap (λ (z : ℤ). sets (set (a .out .now) (a .to) 0x50) (a .to + 1) (wordBytes z)) (toZ-ofZ (c6 .fits .w)) ∙
           ap (λ (j : ℕ). sets (set (a .out .now) (a .to) 0x50) j (wordBytes (a .w))) (add-one (a .to));
     }
 

@@ -1,4 +1,5 @@
--- `image_measure::measure_expression` meets its contract: the measure of the recursion is the depth that is still allowed. Assumes
+-- `image_measure::measure_expression` meets its contract: the measure of the recursion is the depth that is still allowed.
+-- Assumes
 -- nothing.
 use borrow.Author.Needs.{needs}
 use native.Mathlib.Omega.{arith}
@@ -9,11 +10,10 @@ use lib.ListN.{length}
 use denote.Ref.{now}
 use borrow.Fn.Kinds.{In}
 use borrow.Fn.PlainCycle.{Measures, is as at-measure, falls, and}
-use Rattle.model.specs.Rules.Command.{commandAt}
-use Rattle.model.specs.declared.Command.{Command}
+use Rattle.model.specs.Rules.Command.{operatorAt}
+use Rattle.model.specs.declared.Operator.{Operator}
 use Rattle.image_code.specs.Shape.{leadOf}
-use Rattle.image_code.proofs.Laws.{no-operator, spans}
-use Rattle.image_code.proofs.Spans.{operator-is}
+use Rattle.image_code.proofs.Operands.{no-operator, spans}
 use Rattle.image_measure.specs.Measure.{Nests}
 use Rattle.image_measure.proofs.Operands.{
   NestsAll,
@@ -82,9 +82,9 @@ module _ (t : ℕ) (c : lts.After-operator-at (known t) (given t) own.Post) wher
   short : length text ≤ 8192
   short = c .before .before .pre .1 .1
 
-  module _ (o : Command) (e : c .operator-at .result ≡ o) where
-    is : commandAt text at ≡ o
-    is = sym (operator-is (nests .spelled)) ∙ sym (c .operator-at .ensures) ∙ e
+  module _ (o : Operator) (e : c .operator-at .result ≡ o) where
+    is : operatorAt text at ≡ o
+    is = sym (c .operator-at .ensures) ∙ e
 
     some : 0 < depth
     some = positive o is nests
@@ -105,16 +105,25 @@ in-expression-requires : (t : ℕ) → lts.Need-in-expression-requires (known t)
 in-expression-requires t c κs = search needs
 
 add-next : (t : ℕ) → lts.Need-add-next (known t) (given t) own.Post
-add-next t c = omega (arith, inside t (c .before .before .before) _ (c .before .enum-told .given .1), short t (c .before .before .before))
+add-next t c = omega (
+  arith,
+  inside t (c .before .before .before) _ (c .before .enum-told .given .1),
+  short t (c .before .before .before),
+)
 
-enum-known-command : (t : ℕ) → lts.Need-enum-known-command (known t) (given t) own.Post
-enum-known-command t c = search needs
+enum-known-decoded : (t : ℕ) → lts.Need-enum-known-decoded (known t) (given t) own.Post
+enum-known-decoded t c = search needs
 
 of-read-requires : (t : ℕ) → lts.Need-of-read-requires (known t) (given t) own.Post
 of-read-requires t c κs = search needs
 
 add-next-2 : (t : ℕ) → lts.Need-add-next-2 (known t) (given t) own.Post
-add-next-2 t c = omega (arith, inside t (c .before .before .before .before) _ (c .before .before .command .given .1), c .of-read .ensures, short t (c .before .before .before .before))
+add-next-2 t c = omega (
+  arith,
+  inside t (c .before .before .before .before) _ (c .before .before .decoded .given .1),
+  c .of-read .ensures,
+  short t (c .before .before .before .before),
+)
 
 enum-told-2 : (t : ℕ) → lts.Need-enum-told-2 (known t) (given t) own.Post
 enum-told-2 t c = search needs
@@ -123,34 +132,67 @@ in-expression-requires-2 : (t : ℕ) → lts.Need-in-expression-requires-2 (know
 in-expression-requires-2 t c κs = search needs
 
 add-measure-expression : (t : ℕ) → lts.Need-add-measure-expression (known t) (given t) own.Post
-add-measure-expression t c = omega (arith, inside t (c .before .before .before) _ (c .before .enum-told2 .given .1), short t (c .before .before .before))
+add-measure-expression t c = omega
+    (arith, inside t (c .before .before .before) _ (c .before .enum-told2 .given .1), short t (c .before .before .before))
 
 sub-measure-expression : (t : ℕ) → lts.Need-sub-measure-expression (known t) (given t) own.Post
 sub-measure-expression t c = omega (arith, some t (c .before .before .before) _ (c .before .enum-told2 .given .1))
 
 measure-expression-requires : (t : ℕ) → lts.Need-measure-expression-requires (known t) (given t) own.Post
 measure-expression-requires t c κs =
-    rw (c .in-expression2 .ensures) ((omega (arith, some t (c .before .before .before) _ (c .before .enum-told2 .given .1))), (first-nests (all t (c .before .before .before) _ (c .before .enum-told2 .given .1)), short t (c .before .before .before)))
+    let c3 = c .before .before .before in
+    rw (c .in-expression2 .ensures) (
+      (omega (arith, some t c3 _ (c .before .enum-told2 .given .1))),
+      (first-nests (all t c3 _ (c .before .enum-told2 .given .1)), short t c3),
+    )
 
 sub-measure-expression-2 : (t : ℕ) → lts.Need-sub-measure-expression-2 (known t) (given t) own.Post
-sub-measure-expression-2 t c = omega (arith, some t (c .before .before .before .before) _ (c .before .before .enum-told2 .given .1))
+sub-measure-expression-2 t c =
+    omega (arith, some t (c .before .before .before .before) _ (c .before .before .enum-told2 .given .1))
 
 measure-expression-requires-2 : (t : ℕ) → lts.Need-measure-expression-requires-2 (known t) (given t) own.Post
-measure-expression-requires-2 t c κs = ((omega (arith, some t (c .before .before .before .before) _ (c .before .before .enum-told2 .given .1))), (first-nests (rest-nests (all t (c .before .before .before .before) _ (c .before .before .enum-told2 .given .1)) (rw (c .before .in-expression2 .ensures) at (c .measure-expression .ensures))), short t (c .before .before .before .before)))
+measure-expression-requires-2 t c κs =
+    let c4 = c .before .before .before .before in (
+      (omega (arith, some t c4 _ (c .before .before .enum-told2 .given .1))),
+      (
+        first-nests (rest-nests (all t c4 _ (c .before .before .enum-told2 .given .1))
+            (rw (c .before .in-expression2 .ensures) at (c .measure-expression .ensures))),
+        short t c4,
+      ),
+    )
 
 -- the operands of an operator with two
 two : (t : ℕ) (c : lts.After-measure-expression2 (known t) (given t) own.Post) →
-    Small (text t (c .before .before .before .before .before)) (at t (c .before .before .before .before .before) + 1) (c .before .measure-expression .result) ×
-    Small (text t (c .before .before .before .before .before)) (c .before .measure-expression .result .next) (c .measure-expression2 .result)
+    Small (text t (c .before .before .before .before .before)) (at t (c .before .before .before .before .before) + 1)
+    (c .before .measure-expression .result) ×
+    Small (text t (c .before .before .before .before .before)) (c .before .measure-expression .result .next)
+    (c .measure-expression2 .result)
 two t c =
-    let a = all t (c .before .before .before .before .before) _ (c .before .before .before .enum-told2 .given .1) in
-    (small (first-nests a) (rw (c .before .before .in-expression2 .ensures) at (c .before .measure-expression .ensures)), small (first-nests (rest-nests a (rw (c .before .before .in-expression2 .ensures) at (c .before .measure-expression .ensures)))) (c .measure-expression2 .ensures))
+    let a = all t (c .before .before .before .before .before) _ (c .before .before .before .enum-told2 .given .1) in (
+      small (first-nests a) (rw (c .before .before .in-expression2 .ensures) at (c .before .measure-expression .ensures)),
+      small (first-nests (rest-nests a
+          (rw (c .before .before .in-expression2 .ensures) at (c .before .measure-expression .ensures))))
+          (c .measure-expression2 .ensures),
+    )
 
 joined-requires : (t : ℕ) → lts.Need-joined-requires (known t) (given t) own.Post
-joined-requires t c κs = let s = two t c in let l = short t (c .before .before .before .before .before) in (omega (arith, s .0 .fits, s .0 .within), omega (arith, s .1 .fits, s .1 .within), omega (arith, s .1 .low, s .1 .fits, s .1 .within))
+joined-requires t c κs = let s = two t c in let l = short t (c .before .before .before .before .before) in (
+  omega (arith, s .0 .fits, s .0 .within),
+  omega (arith, s .1 .fits, s .1 .within),
+  omega (arith, s .1 .low, s .1 .fits, s .1 .within),
+)
 
 operated-requires : (t : ℕ) → lts.Need-operated-requires (known t) (given t) own.Post
-operated-requires t c κs = let s = two t (c .before) in omega (arith, c .joined .ensures .commands, s .0 .fits, s .0 .within, s .1 .fits, s .1 .within, short t (c .before .before .before .before .before .before))
+operated-requires t c κs = let s = two t (c .before) in
+    omega (
+      arith,
+      c .joined .ensures .commands,
+      s .0 .fits,
+      s .0 .within,
+      s .1 .fits,
+      s .1 .within,
+      short t (c .before .before .before .before .before .before),
+    )
 
 enum-told-3 : (t : ℕ) → lts.Need-enum-told-3 (known t) (given t) own.Post
 enum-told-3 t c = search needs
@@ -159,17 +201,25 @@ in-expression-requires-3 : (t : ℕ) → lts.Need-in-expression-requires-3 (know
 in-expression-requires-3 t c κs = search needs
 
 add-measure-expression-2 : (t : ℕ) → lts.Need-add-measure-expression-2 (known t) (given t) own.Post
-add-measure-expression-2 t c = omega (arith, inside t (c .before .before .before) _ (c .before .enum-told3 .given .1), short t (c .before .before .before))
+add-measure-expression-2 t c =
+    omega (arith, inside t (c .before .before .before) _ (c .before .enum-told3 .given .1), short t (c .before .before .before))
 
 sub-measure-expression-3 : (t : ℕ) → lts.Need-sub-measure-expression-3 (known t) (given t) own.Post
 sub-measure-expression-3 t c = omega (arith, some t (c .before .before .before) _ (c .before .enum-told3 .given .1))
 
 measure-expression-requires-3 : (t : ℕ) → lts.Need-measure-expression-requires-3 (known t) (given t) own.Post
 measure-expression-requires-3 t c κs =
-    rw (c .in-expression3 .ensures) ((omega (arith, some t (c .before .before .before) _ (c .before .enum-told3 .given .1))), (first-nests (all t (c .before .before .before) _ (c .before .enum-told3 .given .1)), short t (c .before .before .before)))
+    let c3 = c .before .before .before in
+    rw (c .in-expression3 .ensures) (
+      (omega (arith, some t c3 _ (c .before .enum-told3 .given .1))),
+      (first-nests (all t c3 _ (c .before .enum-told3 .given .1)), short t c3),
+    )
 
 operated-requires-2 : (t : ℕ) → lts.Need-operated-requires-2 (known t) (given t) own.Post
-operated-requires-2 t c κs = let s = small (first-nests (all t (c .before .before .before .before) _ (c .before .before .enum-told3 .given .1))) (rw (c .before .in-expression3 .ensures) at (c .measure-expression3 .ensures)) in omega (arith, s .fits, s .within, short t (c .before .before .before .before))
+operated-requires-2 t c κs = let s =
+    small (first-nests (all t (c .before .before .before .before) _ (c .before .before .enum-told3 .given .1)))
+    (rw (c .before .in-expression3 .ensures) at (c .measure-expression3 .ensures)) in
+    omega (arith, s .fits, s .within, short t (c .before .before .before .before))
 
 enum-told-4 : (t : ℕ) → lts.Need-enum-told-4 (known t) (given t) own.Post
 enum-told-4 t c = search needs
@@ -178,48 +228,101 @@ in-expression-requires-4 : (t : ℕ) → lts.Need-in-expression-requires-4 (know
 in-expression-requires-4 t c κs = search needs
 
 add-measure-expression-3 : (t : ℕ) → lts.Need-add-measure-expression-3 (known t) (given t) own.Post
-add-measure-expression-3 t c = omega (arith, inside t (c .before .before .before) _ (c .before .enum-told4 .given .1), short t (c .before .before .before))
+add-measure-expression-3 t c =
+    omega (arith, inside t (c .before .before .before) _ (c .before .enum-told4 .given .1), short t (c .before .before .before))
 
 sub-measure-expression-4 : (t : ℕ) → lts.Need-sub-measure-expression-4 (known t) (given t) own.Post
 sub-measure-expression-4 t c = omega (arith, some t (c .before .before .before) _ (c .before .enum-told4 .given .1))
 
 measure-expression-requires-4 : (t : ℕ) → lts.Need-measure-expression-requires-4 (known t) (given t) own.Post
 measure-expression-requires-4 t c κs =
-    rw (c .in-expression4 .ensures) ((omega (arith, some t (c .before .before .before) _ (c .before .enum-told4 .given .1))), (first-nests (all t (c .before .before .before) _ (c .before .enum-told4 .given .1)), short t (c .before .before .before)))
+    let c3 = c .before .before .before in
+    rw (c .in-expression4 .ensures) (
+      (omega (arith, some t c3 _ (c .before .enum-told4 .given .1))),
+      (first-nests (all t c3 _ (c .before .enum-told4 .given .1)), short t c3),
+    )
 
 sub-measure-expression-5 : (t : ℕ) → lts.Need-sub-measure-expression-5 (known t) (given t) own.Post
-sub-measure-expression-5 t c = omega (arith, some t (c .before .before .before .before) _ (c .before .before .enum-told4 .given .1))
+sub-measure-expression-5 t c =
+    omega (arith, some t (c .before .before .before .before) _ (c .before .before .enum-told4 .given .1))
 
 measure-expression-requires-5 : (t : ℕ) → lts.Need-measure-expression-requires-5 (known t) (given t) own.Post
-measure-expression-requires-5 t c κs = ((omega (arith, some t (c .before .before .before .before) _ (c .before .before .enum-told4 .given .1))), (first-nests (rest-nests (all t (c .before .before .before .before) _ (c .before .before .enum-told4 .given .1)) (rw (c .before .in-expression4 .ensures) at (c .measure-expression4 .ensures))), short t (c .before .before .before .before)))
+measure-expression-requires-5 t c κs =
+    let c4 = c .before .before .before .before in (
+      (omega (arith, some t c4 _ (c .before .before .enum-told4 .given .1))),
+      (
+        first-nests (rest-nests (all t c4 _ (c .before .before .enum-told4 .given .1))
+            (rw (c .before .in-expression4 .ensures) at (c .measure-expression4 .ensures))),
+        short t c4,
+      ),
+    )
 
 sub-measure-expression-6 : (t : ℕ) → lts.Need-sub-measure-expression-6 (known t) (given t) own.Post
-sub-measure-expression-6 t c = omega (arith, some t (c .before .before .before .before .before) _ (c .before .before .before .enum-told4 .given .1))
+sub-measure-expression-6 t c =
+    omega (arith, some t (c .before .before .before .before .before) _ (c .before .before .before .enum-told4 .given .1))
 
 measure-expression-requires-6 : (t : ℕ) → lts.Need-measure-expression-requires-6 (known t) (given t) own.Post
-measure-expression-requires-6 t c κs = ((omega (arith, some t (c .before .before .before .before .before) _ (c .before .before .before .enum-told4 .given .1))), (first-nests (rest-nests (rest-nests (all t (c .before .before .before .before .before) _ (c .before .before .before .enum-told4 .given .1)) (rw (c .before .before .in-expression4 .ensures) at (c .before .measure-expression4 .ensures))) (c .measure-expression5 .ensures)), short t (c .before .before .before .before .before)))
+measure-expression-requires-6 t c κs =
+    let c3 = c .before .before .before in
+    let c5 = c3 .before .before in (
+      (omega (arith, some t c5 _ (c3 .enum-told4 .given .1))),
+      (
+        first-nests (rest-nests (rest-nests
+            (all t c5 _ (c3 .enum-told4 .given .1))
+            (rw (c .before .before .in-expression4 .ensures) at (c .before .measure-expression4 .ensures)))
+            (c .measure-expression5 .ensures)),
+        short t c5,
+      ),
+    )
 
 -- the operands of IF
 three : (t : ℕ) (c : lts.After-measure-expression6 (known t) (given t) own.Post) →
-    Small (text t (c .before .before .before .before .before .before)) (at t (c .before .before .before .before .before .before) + 1) (c .before .before .measure-expression4 .result) ×
-    Small (text t (c .before .before .before .before .before .before)) (c .before .before .measure-expression4 .result .next) (c .before .measure-expression5 .result) ×
-    Small (text t (c .before .before .before .before .before .before)) (c .before .measure-expression5 .result .next) (c .measure-expression6 .result)
+    Small (text t (c .before .before .before .before .before .before))
+    (at t (c .before .before .before .before .before .before) + 1) (c .before .before .measure-expression4 .result) ×
+    Small (text t (c .before .before .before .before .before .before)) (c .before .before .measure-expression4 .result .next)
+    (c .before .measure-expression5 .result) ×
+    Small (text t (c .before .before .before .before .before .before)) (c .before .measure-expression5 .result .next)
+    (c .measure-expression6 .result)
 three t c =
-    let a = all t (c .before .before .before .before .before .before) _ (c .before .before .before .before .enum-told4 .given .1) in
-    let b = rest-nests a (rw (c .before .before .before .in-expression4 .ensures) at (c .before .before .measure-expression4 .ensures)) in (
-      small (first-nests a) (rw (c .before .before .before .in-expression4 .ensures) at (c .before .before .measure-expression4 .ensures)),
+    let c3 = c .before .before .before in
+    let c4 = c3 .before in
+    let c6 = c4 .before .before in
+    let a = all t c6 _ (c4 .enum-told4 .given .1) in
+    let b = rest-nests a (rw (c3 .in-expression4 .ensures) at (c .before .before .measure-expression4 .ensures)) in (
+      small (first-nests a) (rw (c3 .in-expression4 .ensures) at (c .before .before .measure-expression4 .ensures)),
       small (first-nests b) (c .before .measure-expression5 .ensures),
       small (first-nests (rest-nests b (c .before .measure-expression5 .ensures))) (c .measure-expression6 .ensures),
     )
 
 joined-requires-2 : (t : ℕ) → lts.Need-joined-requires-2 (known t) (given t) own.Post
-joined-requires-2 t c κs = let s = three t c in let l = short t (c .before .before .before .before .before .before) in (omega (arith, s .1 .fits, s .1 .within), omega (arith, s .2 .fits, s .2 .within), omega (arith, s .2 .low, s .2 .fits, s .2 .within))
+joined-requires-2 t c κs = let s = three t c in let l = short t (c .before .before .before .before .before .before) in (
+  omega (arith, s .1 .fits, s .1 .within),
+  omega (arith, s .2 .fits, s .2 .within),
+  omega (arith, s .2 .low, s .2 .fits, s .2 .within),
+)
 
 joined-requires-3 : (t : ℕ) → lts.Need-joined-requires-3 (known t) (given t) own.Post
-joined-requires-3 t c κs = let s = three t (c .before) in let l = short t (c .before .before .before .before .before .before .before) in let j = c .joined2 .ensures in (omega (arith, s .0 .fits, s .0 .within), omega (arith, j .commands, s .1 .fits, s .1 .within, s .2 .fits, s .2 .within), omega (arith, j .height, s .1 .low, s .1 .fits, s .1 .within, s .2 .low, s .2 .fits, s .2 .within))
+joined-requires-3 t c κs = let s = three t (c .before) in let l =
+    short t (c .before .before .before .before .before .before .before) in let j = c .joined2 .ensures in (
+      omega (arith, s .0 .fits, s .0 .within),
+      omega (arith, j .commands, s .1 .fits, s .1 .within, s .2 .fits, s .2 .within),
+      omega (arith, j .height, s .1 .low, s .1 .fits, s .1 .within, s .2 .low, s .2 .fits, s .2 .within),
+    )
 
 operated-requires-3 : (t : ℕ) → lts.Need-operated-requires-3 (known t) (given t) own.Post
-operated-requires-3 t c κs = let s = three t (c .before .before) in omega (arith, c .joined3 .ensures .commands, c .before .joined2 .ensures .commands, s .0 .fits, s .0 .within, s .1 .fits, s .1 .within, s .2 .fits, s .2 .within, short t (c .before .before .before .before .before .before .before .before))
+operated-requires-3 t c κs = let s = three t (c .before .before) in
+    omega (
+      arith,
+      c .joined3 .ensures .commands,
+      c .before .joined2 .ensures .commands,
+      s .0 .fits,
+      s .0 .within,
+      s .1 .fits,
+      s .1 .within,
+      s .2 .fits,
+      s .2 .within,
+      short t (c .before .before .before .before .before .before .before .before),
+    )
 
 returns : (t : ℕ) → lts.Need-returns (known t) (given t) own.Post
 returns t c =
@@ -227,19 +330,43 @@ returns t c =
     (ap (λ (k : ℕ). at t (c .before .before .before) + k) (c .in-expression .ensures)) refl refl
 
 returns-2 : (t : ℕ) → lts.Need-returns-2 (known t) (given t) own.Post
-returns-2 t c = measures-leaf _ (is t (c .before .before .before .before) _ (c .before .before .command .given .1)) refl (ap (λ (k : ℕ). at t (c .before .before .before .before) + k) (c .of-read .ensures)) refl refl
+returns-2 t c = measures-leaf _ (is t (c .before .before .before .before) _ (c .before .before .decoded .given .1)) refl
+    (ap (λ (k : ℕ). at t (c .before .before .before .before) + k) (c .of-read .ensures)) refl refl
 
 returns-3 : (t : ℕ) → lts.Need-returns-3 (known t) (given t) own.Post
-returns-3 t c = measures-last _ (is t (c .before .before .before .before .before .before .before) _ (c .before .before .before .before .before .enum-told2 .given .1)) (omega arith) (measures-more (rw (c .before .before .before .before .in-expression2 .ensures) at (c .before .before .before .measure-expression .ensures)) (measures-one (c .before .before .measure-expression2 .ensures)) (c .before .joined .ensures)) (c .operated .ensures)
+returns-3 t c =
+    let c3 = c .before .before .before in
+    let c4 = c3 .before in
+    let c5 = c4 .before in
+    let c7 = c5 .before .before in
+    measures-last _ (is t c7 _ (c5 .enum-told2 .given .1)) (omega arith)
+    (measures-more (rw (c4 .in-expression2 .ensures) at
+    (c3 .measure-expression .ensures)) (measures-one (c .before .before .measure-expression2 .ensures))
+    (c .before .joined .ensures)) (c .operated .ensures)
 
 returns-4 : (t : ℕ) → lts.Need-returns-4 (known t) (given t) own.Post
-returns-4 t c = measures-last _ (is t (c .before .before .before .before .before) _ (c .before .before .before .enum-told3 .given .1)) (omega arith) (measures-one (rw (c .before .before .in-expression3 .ensures) at (c .before .measure-expression3 .ensures))) (c .operated2 .ensures)
+returns-4 t c = measures-last _
+    (is t (c .before .before .before .before .before) _ (c .before .before .before .enum-told3 .given .1)) (omega arith)
+    (measures-one (rw (c .before .before .in-expression3 .ensures) at (c .before .measure-expression3 .ensures)))
+    (c .operated2 .ensures)
 
 returns-5 : (t : ℕ) → lts.Need-returns-5 (known t) (given t) own.Post
-returns-5 t c = measures-last _ (is t (c .before .before .before .before .before .before .before .before .before) _ (c .before .before .before .before .before .before .before .enum-told4 .given .1)) (omega arith) (measures-more (rw (c .before .before .before .before .before .before .in-expression4 .ensures) at (c .before .before .before .before .before .measure-expression4 .ensures)) (measures-more (c .before .before .before .before .measure-expression5 .ensures) (measures-one (c .before .before .before .measure-expression6 .ensures)) (c .before .before .joined2 .ensures)) (c .before .joined3 .ensures)) (c .operated3 .ensures)
+returns-5 t c =
+    let c3 = c .before .before .before in
+    let c4 = c3 .before in
+    let c5 = c4 .before in
+    let c6 = c5 .before in
+    let c7 = c6 .before in
+    let c9 = c7 .before .before in
+    measures-last _ (is t c9 _ (c7 .enum-told4 .given .1)) (omega arith)
+    (measures-more (rw (c6 .in-expression4 .ensures) at (c5 .measure-expression4 .ensures))
+    (measures-more (c4 .measure-expression5 .ensures)
+    (measures-one (c3 .measure-expression6 .ensures)) (c .before .before .joined2 .ensures))
+    (c .before .joined3 .ensures)) (c .operated3 .ensures)
 
 returns-6 : (t : ℕ) → lts.Need-returns-6 (known t) (given t) own.Post
-returns-6 t c = absurd (no-operator (c .before .operator-at .result) (c .match .keys6) (operator-stands _ (is t (c .before) _ refl) (nests t (c .before))))
+returns-6 t c = absurd (no-operator (c .before .operator-at .result) (c .match .keys6)
+    (operator-stands _ (is t (c .before) _ refl) (nests t (c .before))))
 
 pub +measure-expression-spec : {M : Type 1} → statement M
 +measure-expression-spec =
@@ -248,7 +375,7 @@ pub +measure-expression-spec : {M : Type 1} → statement M
     (enum-told t)
     (in-expression-requires t)
     (add-next t)
-    (enum-known-command t)
+    (enum-known-decoded t)
     (of-read-requires t)
     (add-next-2 t)
     (enum-told-2 t)

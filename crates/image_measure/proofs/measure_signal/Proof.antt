@@ -1,58 +1,69 @@
 -- `image_measure::measure_signal` meets its contract. Assumes nothing.
-use Prim.Native.Nat.{ℕ, _+_, _≤_}
+use Prim.Native.Nat.{ℕ, _+_, _≤_, _<_}
 use mathlib.Core.List.{List}
-use mathlib.Core.Path.{_≡_, sym, ap, _∙_}
+use mathlib.Core.Path.{_≡_, sym, ap}
 use native.Mathlib.Omega.{arith}
 use denote.Ref.{now}
 use lib.ListN.{length}
 use Rattle.model.specs.Rules.Program.{Signal}
-use Rattle.model.specs.Rules.Report.{exprCommands, exprHeight, bodyCommands, bodyHeight}
-use Rattle.model.proofs.Commands.{command-sound}
-use Rattle.model.proofs.Legal.{SpellsSignal}
-use Rattle.image_code.proofs.Signals.{Equated, equated, sampled}
+use Rattle.model.specs.Rules.Report.{bodyCommands, bodyHeight}
+use Rattle.model.specs.Rules.Word.{byteAt}
+use Rattle.model.proofs.Texts.Legal.{SpellsSignal}
+use Rattle.image_code.proofs.Signals.{Equated, equated, sampled, place-inside}
 use Rattle.image_measure.specs.Measure.{Nests, Measures}
 use Rattle.image_measure.proofs.Operands.{small}
 use borrow.Author.Needs.{needs}
 use Rattle.image_measure.proofs.measure_signal.Statement.{statement}
 use Rattle.image_measure.proofs.measure_signal.Tie as tie
 
--- the equation of a signal that is declared here
-equation-of : (c : tie.After-enum-told) (σ : Signal) → let a = c .before .before .before .before .args in
-    σ .place ≡ a .place → SpellsSignal (now (a .text)) σ → Equated (now (a .text)) (a .place) σ
-equation-of c σ at h = equated _ _ σ at h (sym (c .before .before .command-at .ensures) ∙ c .enum-told .given .1)
+-- where the signal's declaration stands
+inside : (s : tie.Start) → let a = s .args in
+    (a .place < length (now (a .text))) × (byteAt (now (a .text)) (a .place) ≡ 0x11 → a .place + 8 ≤ length (now (a .text)))
+inside s = let h = s .pre .0 in place-inside _ _ (h .signal) (h .stands) (h .spelled)
 
-nests : (c : tie.After-enum-told) → let a = c .before .before .before .before .args in Nests 16 (now (a .text)) (a .place + 8)
-nests c =
-    let s = c .before .before .before .before .pre .0 in
-    let q = equation-of c (s .signal) (s .stands) (s .spelled) in
-    record { expr = q .expr; next = q .next; spelled = q .spelled; deep = q .deep }
+-- a signal with an equation
+module _ (c : tie.Then1) where
+  abbrev start : tie.Start
+  start = c .before .before .before
+
+  abbrev text : List ℕ
+  text = now (start .args .text)
+
+  abbrev place : ℕ
+  place = start .args .place
+
+  equation-of : (σ : Signal) → σ .place ≡ place → SpellsSignal text σ → Equated text place σ
+  equation-of σ at h = equated _ _ σ at h (c .if1 .taken)
+
+  nests : Nests 16 text (place + 8)
+  nests =
+      let s = start .pre .0 in
+      let q = equation-of (s .signal) (s .stands) (s .spelled) in
+      record { expr = q .expr; next = q .next; spelled = q .spelled; deep = q .deep }
 
 -- what measuring the expression tells
-told : (m : tie.After-measure-expression) → let a = m .before .before .before .before .before .before .args in
-    Measures (now (a .text)) (a .place + 8) (m .measure-expression .result)
-told m = rw (m .before .in-program .ensures) at (m .measure-expression .ensures)
+module _ (m : tie.After-measure-expression) where
+  told : Measures (text (m .before .before)) (place (m .before .before) + 8) (m .measure-expression .result)
+  told = rw (m .before .in-program .ensures) at (m .measure-expression .ensures)
 
-few : (m : tie.After-measure-expression) → m .measure-expression .result .commands ≤ 8192
-few m =
-    let s = small (nests (m .before .before)) (told m) in
-    omega (arith, s .fits, s .within, m .before .before .before .before .before .before .pre .1)
+  few : m .measure-expression .result .commands ≤ 8192
+  few =
+      let s = small (nests (m .before .before)) told in
+      omega (arith, s .fits, s .within, start (m .before .before) .pre .1)
 
-command-at-requires : tie.Need-command-at-requires
-command-at-requires c κs = search needs
-
-enum-told : tie.Need-enum-told
-enum-told c = search needs
+shared-slice-read-if1 : tie.Need-shared-slice-read-if1
+shared-slice-read-if1 c = inside (c .before .before) .0
 
 in-program-requires : tie.Need-in-program-requires
 in-program-requires c κs = search needs
 
 add-measure-expression : tie.Need-add-measure-expression
 add-measure-expression c =
-    omega (arith, command-sound _ _ _ (sym (c .before .before .before .command-at .ensures) ∙ c .before .enum-told .given .1) .3, c .before .before .before .before .before .pre .1)
+    let s = start (c .before) in
+    omega (arith, inside s .1 (c .before .if1 .taken), s .pre .1)
 
 measure-expression-requires : tie.Need-measure-expression-requires
-measure-expression-requires c κs =
-    rw (c .in-program .ensures) (nests (c .before), c .before .before .before .before .before .pre .1)
+measure-expression-requires c κs = rw (c .in-program .ensures) (nests (c .before), start (c .before) .pre .1)
 
 add-total : tie.Need-add-total
 add-total c = omega (arith, few (c .before))
@@ -75,18 +86,15 @@ returns c =
 returns-2 : tie.Need-returns-2
 returns-2 c =
     record {
-      commands = λ σ at h.
-          sym (ap bodyCommands (sampled _ _ σ at h (c .before .command-at .result) (sym (c .before .command-at .ensures)) (c .match .keys2)));
-      height = λ σ at h.
-          sym (ap bodyHeight (sampled _ _ σ at h (c .before .command-at .result) (sym (c .before .command-at .ensures)) (c .match .keys2)));
+      commands = λ σ at h. sym (ap bodyCommands (sampled _ _ σ at h (c .if1 .left)));
+      height = λ σ at h. sym (ap bodyHeight (sampled _ _ σ at h (c .if1 .left)));
     }
 
 pub measure-signal-spec : {M : Type 1} → statement M
 measure-signal-spec =
     tie.close
     (tie.spec
-    command-at-requires
-    enum-told
+    shared-slice-read-if1
     in-program-requires
     add-measure-expression
     measure-expression-requires

@@ -17,7 +17,8 @@ use Rattle.image_valid.proofs.codes_ok.Tie as tie
 -- the code of signal x is a stretch of the image, and well formed
 abbrev good : List ℕ → ℕ → Bool
 good image x =
-    leb (codeOffset image x) (codeOffset image (x + 1)) && leb (codeOffset image (x + 1)) (length image) && codeOk (codeOf image x) (countOf image) x
+    leb (codeOffset image x) (codeOffset image (x + 1)) && leb (codeOffset image (x + 1)) (length image) && codeOk
+    (codeOf image x) (countOf image) x
 
 abbrev Inv-loop : tie.InvT-loop
 Inv-loop image n table count from₀ x₀ from x = (allBelow x (good image) ≡ true) × (x ≤ n) × (from ≡ codeOffset image x)
@@ -32,11 +33,14 @@ abbrev turn : tie.After-code-offset2 Inv-loop μ-loop → tie.At-loop Inv-loop �
 turn o = o .before .before .before
 
 -- where the code of the turn's signal ends
-ends : (o : tie.After-code-offset2 Inv-loop μ-loop) → o .code-offset2 .result ≡ codeOffset (start (turn o) .args .image .now) (turn o .loop .x + 1)
-ends o = o .code-offset2 .ensures ∙ ap (λ (k : ℕ). codeOffset (start (turn o) .args .image .now) (k + 1)) (o .before .wide2 .ensures .0)
+ends : (o : tie.After-code-offset2 Inv-loop μ-loop) →
+    o .code-offset2 .result ≡ codeOffset (start (turn o) .args .image .now) (turn o .loop .x + 1)
+ends o = o .code-offset2 .ensures ∙
+    ap (λ (k : ℕ). codeOffset (start (turn o) .args .image .now) (k + 1)) (o .before .wide2 .ensures .0)
 
 -- a code that is not well formed
-fails : (o : tie.After-code-offset2 Inv-loop μ-loop) → good (start (turn o) .args .image .now) (turn o .loop .x) ≡ false → false ≡ codesOk (start (turn o) .args .image .now)
+fails : (o : tie.After-code-offset2 Inv-loop μ-loop) → good (start (turn o) .args .image .now) (turn o .loop .x) ≡ false →
+    false ≡ codesOk (start (turn o) .args .image .now)
 unfolding codesOk
 fails o e = sym (all-fails _ _ (turn o .loop .x) (omega (arith, o .before .before .loop-test .taken, start (turn o) .pre .1)) e)
 
@@ -68,7 +72,8 @@ add-code-offset : tie.Need-add-code-offset Inv-loop μ-loop
 add-code-offset c = omega (arith, c .wide2 .ensures .1)
 
 code-offset-requires-2 : tie.Need-code-offset-requires-2 Inv-loop μ-loop
-code-offset-requires-2 c κs = let l = c .before .before in (start l .pre .0, l .before .before .wide .ensures .0 ∙ start l .pre .1)
+code-offset-requires-2 c κs = let l = c .before .before in
+    (start l .pre .0, l .before .before .wide .ensures .0 ∙ start l .pre .1)
 
 returns : tie.Need-returns Inv-loop μ-loop
 unfolding codesOk
@@ -89,14 +94,22 @@ part-code-ok-end : tie.Need-part-code-ok-end Inv-loop μ-loop
 part-code-ok-end c = c .if2 .left
 
 code-ok-requires : tie.Need-code-ok-requires Inv-loop μ-loop
-code-ok-requires c κs = (c .before .before .before .before .before .before .before .before .before .before .shapes .ensures, c .before .before .before .before .before .before .loop-test .taken)
+code-ok-requires c κs =
+    let c6 = c .before .before .before .before .before .before in
+    let c10 = c6 .before .before .before .before in
+    (c10 .shapes .ensures, c6 .loop-test .taken)
 
 returns-3 : tie.Need-returns-3 Inv-loop μ-loop
 unfolding codesOk
 returns-3 c =
     let k = c .before in
     let e = k .before .before .before in
-    fails (e .before .before) (rw (← (turn (e .before .before) .loop .inv .2), ← (ends (e .before .before)), le-leb _ _ (e .before .if1 .left), le-leb _ _ (e .if2 .left)) (code k (not-true _ (c .if3 .taken))))
+    fails (e .before .before) (rw (
+      ← (turn (e .before .before) .loop .inv .2),
+      ← (ends (e .before .before)),
+      le-leb _ _ (e .before .if1 .left),
+      le-leb _ _ (e .if2 .left),
+    ) (code k (not-true _ (c .if3 .taken))))
 
 add-x : tie.Need-add-x Inv-loop μ-loop
 add-x c = omega arith
@@ -111,7 +124,8 @@ loop-again c =
     let o = e .before .before in
     let l = turn o in (
       all-more (l .loop .x) (good (start l .args .image .now)) (l .loop .inv .0)
-          (rw (← (l .loop .inv .2), ← (ends o), le-leb _ _ (e .before .if1 .left), le-leb _ _ (e .if2 .left)) (code k (not-false _ (c .if3 .left)))),
+          (rw (← (l .loop .inv .2), ← (ends o), le-leb _ _ (e .before .if1 .left), le-leb _ _ (e .if2 .left))
+          (code k (not-false _ (c .if3 .left)))),
       omega arith,
       ends o,
     )

@@ -35,11 +35,14 @@ loop-again : tie.Need-loop-again Inv-loop μ-loop
 loop-again c =
     let l = c .before .before .before in
     let list = l .before .args .list .now in
-    let more : (n : ℕ) → 0 < n → allBelow (l .loop .i + 1) (λ k. ltb (byteAt list k) n) ≡ (ltb (l .loop .most) n && ltb (byteAt list (l .loop .i)) n) =
+    let more : (n : ℕ) → 0 < n → allBelow (l .loop .i + 1) (λ k. ltb (byteAt list k) n) ≡
+    (ltb (l .loop .most) n && ltb (byteAt list (l .loop .i)) n) =
     λ n h. all-one (l .loop .i) _ ∙ rw (l .loop .inv .0 n h) in (
       ⊎-elim
-          (λ w n h. more n h ∙ below-greater (l .loop .most) (byteAt list (l .loop .i)) n (w .0 .taken) ∙ ap (λ (k : ℕ). ltb k n) (sym (w .1)))
-          (λ w n h. more n h ∙ below-least (l .loop .most) (byteAt list (l .loop .i)) n (w .0 .left) ∙ ap (λ (k : ℕ). ltb k n) (sym (w .1)))
+          (λ w n h. more n h ∙ below-greater (l .loop .most) (byteAt list (l .loop .i)) n (w .0 .taken) ∙
+          ap (λ (k : ℕ). ltb k n) (sym (w .1)))
+          (λ w n h. more n h ∙ below-least (l .loop .most) (byteAt list (l .loop .i)) n (w .0 .left) ∙
+          ap (λ (k : ℕ). ltb k n) (sym (w .1)))
           (c .if1 .came),
       omega arith,
     )

@@ -15,7 +15,8 @@ stated-length-requires c κs = search needs
 
 returns-2 : tie.Need-returns-2
 unfolding headOk
-returns-2 c = let o = c .before in rw (le-leb 4 _ (o .before .if1 .left), ne-eqb _ _ (λ e. c .if2 .taken (o .stated-length .ensures ∙ e)))
+returns-2 c = let o = c .before in
+    rw (le-leb 4 _ (o .before .if1 .left), ne-eqb _ _ (λ e. c .if2 .taken (o .stated-length .ensures ∙ e)))
 
 shared-slice-read-wide : tie.Need-shared-slice-read-wide
 shared-slice-read-wide c = search needs

@@ -40,29 +40,36 @@ first e = eq-eqb _ _ (sym (e .before .list-offset .ensures) ∙ e .if1 .left ∙
 done : (a : tie.After-loop Inv-loop μ-loop) → a .before .loop .c ≡ hyperOf (start (a .before) .args .image .now)
 done a = omega (arith, start (a .before) .pre .2)
 
-rose : (a : tie.After-loop Inv-loop μ-loop) → let image = start (a .before) .args .image .now in allBelow (hyperOf image) (rising image) ≡ true
+rose : (a : tie.After-loop Inv-loop μ-loop) → let image = start (a .before) .args .image .now in
+    allBelow (hyperOf image) (rising image) ≡ true
 rose a = ap (λ (k : ℕ). allBelow k (rising (start (a .before) .args .image .now))) (sym (done a)) ∙ a .before .loop .inv .0
 
-ends : (a : tie.After-loop Inv-loop μ-loop) → let image = start (a .before) .args .image .now in a .before .loop .last ≡ listOffset image (hyperOf image)
+ends : (a : tie.After-loop Inv-loop μ-loop) → let image = start (a .before) .args .image .now in
+    a .before .loop .last ≡ listOffset image (hyperOf image)
 ends a = a .before .loop .inv .2 ∙ ap (listOffset (start (a .before) .args .image .now)) (done a)
 
 list-offset-requires : tie.Need-list-offset-requires Inv-loop μ-loop
 list-offset-requires c κs = (c .before .pre .0, c .before .pre .1, omega arith)
 
 mul-if1 : tie.Need-mul-if1 Inv-loop μ-loop
-mul-if1 c = let s = c .before .before in omega (arith, s .pre .1, s .pre .2, head _ (s .pre .0) .signals, head _ (s .pre .0) .hyper)
+mul-if1 c = let s = c .before .before in
+    omega (arith, s .pre .1, s .pre .2, head _ (s .pre .0) .signals, head _ (s .pre .0) .hyper)
 
 add-if1 : tie.Need-add-if1 Inv-loop μ-loop
-add-if1 c = let s = c .before .before in omega (arith, s .pre .1, s .pre .2, head _ (s .pre .0) .signals, head _ (s .pre .0) .hyper)
+add-if1 c = let s = c .before .before in
+    omega (arith, s .pre .1, s .pre .2, head _ (s .pre .0) .signals, head _ (s .pre .0) .hyper)
 
 add-if1-2 : tie.Need-add-if1-2 Inv-loop μ-loop
-add-if1-2 c = let s = c .before .before in omega (arith, s .pre .1, s .pre .2, head _ (s .pre .0) .signals, head _ (s .pre .0) .hyper)
+add-if1-2 c = let s = c .before .before in
+    omega (arith, s .pre .1, s .pre .2, head _ (s .pre .0) .signals, head _ (s .pre .0) .hyper)
 
 mul-if1-2 : tie.Need-mul-if1-2 Inv-loop μ-loop
-mul-if1-2 c = let s = c .before .before in omega (arith, s .pre .1, s .pre .2, head _ (s .pre .0) .signals, head _ (s .pre .0) .hyper)
+mul-if1-2 c = let s = c .before .before in
+    omega (arith, s .pre .1, s .pre .2, head _ (s .pre .0) .signals, head _ (s .pre .0) .hyper)
 
 add-if1-3 : tie.Need-add-if1-3 Inv-loop μ-loop
-add-if1-3 c = let s = c .before .before in omega (arith, s .pre .1, s .pre .2, head _ (s .pre .0) .signals, head _ (s .pre .0) .hyper)
+add-if1-3 c = let s = c .before .before in
+    omega (arith, s .pre .1, s .pre .2, head _ (s .pre .0) .signals, head _ (s .pre .0) .hyper)
 
 returns : tie.Need-returns Inv-loop μ-loop
 unfolding listsOk
@@ -78,7 +85,8 @@ add-list-offset : tie.Need-add-list-offset Inv-loop μ-loop
 add-list-offset c = omega arith
 
 list-offset-requires-2 : tie.Need-list-offset-requires-2 Inv-loop μ-loop
-list-offset-requires-2 c κs = let s = c .before .before .before .before .before in (s .pre .0, s .pre .1, omega (arith, s .pre .2))
+list-offset-requires-2 c κs = let s = c .before .before .before .before .before in
+    (s .pre .0, s .pre .1, omega (arith, s .pre .2))
 
 returns-2 : tie.Need-returns-2 Inv-loop μ-loop
 unfolding listsOk
@@ -102,7 +110,8 @@ loop-again : tie.Need-loop-again Inv-loop μ-loop
 loop-again c =
     let o = c .before in
     let l = o .before .before in (
-      all-more (l .loop .c) (rising (start l .args .image .now)) (l .loop .inv .0) (rw (← (l .loop .inv .2), ← (o .list-offset2 .ensures)) (le-leb _ _ (c .if2 .left))),
+      all-more (l .loop .c) (rising (start l .args .image .now)) (l .loop .inv .0)
+          (rw (← (l .loop .inv .2), ← (o .list-offset2 .ensures)) (le-leb _ _ (c .if2 .left))),
       omega arith,
       o .list-offset2 .ensures,
     )
@@ -116,7 +125,11 @@ returns-3 c =
     let o = c .before in
     let l = o .before .before in
     let image = start l .args .image .now in
-    rw (first (l .before), rose (o .before), ne-eqb (listOffset image (hyperOf image)) _ (λ e. c .if3 .taken (ends (o .before) ∙ e ∙ sym (o .code-offset .ensures))))
+    rw (
+      first (l .before),
+      rose (o .before),
+      ne-eqb (listOffset image (hyperOf image)) _ (λ e. c .if3 .taken (ends (o .before) ∙ e ∙ sym (o .code-offset .ensures))),
+    )
 
 returns-4 : tie.Need-returns-4 Inv-loop μ-loop
 unfolding listsOk
@@ -124,8 +137,15 @@ returns-4 c =
     let o = c .before in
     let l = o .before .before in
     let image = start l .args .image .now in
-    let same : listOffset image (hyperOf image) ≡ codeOffset image 0 = sym (ends (o .before)) ∙ c .if3 .left ∙ o .code-offset .ensures in
-    rw (first (l .before), rose (o .before), eq-eqb (listOffset image (hyperOf image)) (codeOffset image 0) same, ← same, ← (ends (o .before)))
+    let same : listOffset image (hyperOf image) ≡ codeOffset image 0 = sym (ends (o .before)) ∙ c .if3 .left ∙
+    o .code-offset .ensures in
+    rw (
+      first (l .before),
+      rose (o .before),
+      eq-eqb (listOffset image (hyperOf image)) (codeOffset image 0) same,
+      ← same,
+      ← (ends (o .before)),
+    )
 
 pub lists-ok-spec : {M : Type 1} → statement M
 lists-ok-spec =

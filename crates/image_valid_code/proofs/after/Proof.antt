@@ -22,7 +22,8 @@ wide-requires-2 : tie.Need-wide-requires-2
 wide-requires-2 c κs = search needs
 
 mul-if2 : tie.Need-mul-if2
-mul-if2 c = let a = c .before .before .before .args in omega (arith, mul-le-mul-left (a .shape / 8) (le-of-lt (c .wide2 .ensures .1)), c .before .before .before .pre .1)
+mul-if2 c = let a = c .before .before .before .args in
+    omega (arith, mul-le-mul-left (a .shape / 8) (le-of-lt (c .wide2 .ensures .1)), c .before .before .before .pre .1)
 
 -- the test on a signal's number, of the bytes themselves
 over : (w : tie.After-wide2) → w .before .wide .result ≤ w .before .before .before .args .shape / 8 * w .wide2 .result
@@ -45,11 +46,21 @@ sub-result c = search needs
 
 returns-3 : tie.Need-returns-3
 unfolding afterOf
-returns-3 c = simp (le-ltb _ _ (c .before .before .before .before .before .if1 .left), lt-leb _ _ (under (c .before .before .before) (c .before .before .if2 .left)), eq-eqb _ _ (c .before .if3 .taken), eq-eqb _ _ (c .if4 .taken))
+returns-3 c = simp (
+  le-ltb _ _ (c .before .before .before .before .before .if1 .left),
+  lt-leb _ _ (under (c .before .before .before) (c .before .before .if2 .left)),
+  eq-eqb _ _ (c .before .if3 .taken),
+  eq-eqb _ _ (c .if4 .taken),
+)
 
 returns-4 : tie.Need-returns-4
 unfolding afterOf
-returns-4 c = simp (le-ltb _ _ (c .before .before .before .before .before .if1 .left), lt-leb _ _ (under (c .before .before .before) (c .before .before .if2 .left)), eq-eqb _ _ (c .before .if3 .taken), ne-eqb _ _ (c .if4 .left))
+returns-4 c = simp (
+  le-ltb _ _ (c .before .before .before .before .before .if1 .left),
+  lt-leb _ _ (under (c .before .before .before) (c .before .before .if2 .left)),
+  eq-eqb _ _ (c .before .if3 .taken),
+  ne-eqb _ _ (c .if4 .left),
+)
 
 add-result-2 : tie.Need-add-result-2
 add-result-2 c = search needs
@@ -59,7 +70,11 @@ sub-result-2 c = search needs
 
 returns-5 : tie.Need-returns-5
 unfolding afterOf
-returns-5 c = simp (le-ltb _ _ (c .before .before .before .before .if1 .left), lt-leb _ _ (under (c .before .before) (c .before .if2 .left)), ne-eqb _ _ (c .if3 .left))
+returns-5 c = simp (
+  le-ltb _ _ (c .before .before .before .before .if1 .left),
+  lt-leb _ _ (under (c .before .before) (c .before .if2 .left)),
+  ne-eqb _ _ (c .if3 .left),
+)
 
 pub after-spec : {M : Type 1} → statement M
 after-spec =

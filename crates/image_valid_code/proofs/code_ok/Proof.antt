@@ -27,22 +27,31 @@ loop-holds c = ((length (c .before .args .code .now), omega arith, refl), omega 
 -- what the code is by the command of the turn
 module _ (d : tie.After-shape Inv-loop μ-loop) where
   begun : let l = d .before .before .before .before in let s = l .before .before in let code = s .args .code .now in
-      codeOk code (s .args .n) (s .args .own) ≡ step (commandOf (getD code (l .loop .at) 0) code (l .loop .at)) (l .loop .inv .0 .0 - 1) code (l .loop .at) (s .args .n) (s .args .own) (l .loop .h)
+      codeOk code (s .args .n) (s .args .own) ≡ step (commandOf (getD code (l .loop .at) 0) code (l .loop .at))
+      (l .loop .inv .0 .0 - 1) code (l .loop .at) (s .args .n) (s .args .own) (l .loop .h)
   begun = let i = d .before .before .before in let l = i .before in let s = l .before .before in
-      sym (l .loop .inv .0 .2) ∙ turn (l .loop .inv .0 .0) (s .args .code .now) (l .loop .at) (s .args .n) (s .args .own) (l .loop .h) (omega (arith, i .loop-test .taken)) (omega (arith, i .loop-test .taken, l .loop .inv .0 .1))
+      sym (l .loop .inv .0 .2) ∙ turn (l .loop .inv .0 .0) (s .args .code .now) (l .loop .at) (s .args .n) (s .args .own)
+      (l .loop .h) (omega (arith, i .loop-test .taken)) (omega (arith, i .loop-test .taken, l .loop .inv .0 .1))
 
   some : 0 < d .before .before .before .before .before .before .args .n
   some = omega (arith, d .before .before .before .before .before .before .pre .1)
 
-  ended : shapeOf (getD (d .before .before .before .before .before .before .args .code .now) (d .before .before .before .before .loop .at) 0) ≡ 0
+  ended : shapeOf (getD (d .before .before .before .before .before .before .args .code .now)
+      (d .before .before .before .before .loop .at) 0) ≡ 0
       → let l = d .before .before .before .before in let s = l .before .before in let code = s .args .code .now in
-      codeOk code (s .args .n) (s .args .own) ≡ (lastOf (getD code (l .loop .at) 0) (getD code (l .loop .at + 1) 0) (s .args .own) (l .loop .h) && eqb (l .loop .at + 2) (length code))
+      codeOk code (s .args .n) (s .args .own) ≡
+      (lastOf (getD code (l .loop .at) 0) (getD code (l .loop .at + 1) 0) (s .args .own) (l .loop .h) && eqb (l .loop .at + 2)
+      (length code))
   ended e = let i = d .before .before .before in let l = i .before in let s = l .before .before in
-      begun ∙ stops (l .loop .inv .0 .0 - 1) (s .args .code .now) (l .loop .at) (s .args .n) (s .args .own) (l .loop .h) (i .loop-test .taken) (l .loop .inv .2) some (getD (s .args .code .now) (l .loop .at) 0) e
+      begun ∙ stops (l .loop .inv .0 .0 - 1) (s .args .code .now) (l .loop .at) (s .args .n) (s .args .own) (l .loop .h)
+      (i .loop-test .taken) (l .loop .inv .2) some (getD (s .args .code .now) (l .loop .at) 0) e
 
 -- a turn that goes on
-going : (a : tie.After-after Inv-loop μ-loop) → let l = a .before .before .before .before .before .before in let s = l .before .before in let code = s .args .code .now in
-    codeOk code (s .args .n) (s .args .own) ≡ cond (ltb 32 (a .after .result)) false (codeOkFrom (l .loop .inv .0 .0 - 1) code (s .args .n) (s .args .own) (l .loop .at + lengthOf (getD code (l .loop .at) 0)) (a .after .result))
+going : (a : tie.After-after Inv-loop μ-loop) → let l = a .before .before .before .before .before .before in let s =
+    l .before .before in let code = s .args .code .now in
+    codeOk code (s .args .n) (s .args .own) ≡ cond (ltb 32 (a .after .result)) false
+    (codeOkFrom (l .loop .inv .0 .0 - 1) code (s .args .n) (s .args .own) (l .loop .at + lengthOf (getD code (l .loop .at) 0))
+    (a .after .result))
 going a =
     let d = a .before .before in
     let i = d .before .before .before in
@@ -51,10 +60,13 @@ going a =
     let code = s .args .code .now in
     let b = getD code (l .loop .at) 0 in
     let same : afterOf (shapeOf b) b (getD code (l .loop .at + 1) 0) (l .loop .h) (s .args .n) (s .args .own) ≡ a .after .result =
-    sym (a .after .ensures ∙ ap (λ (p : ℕ). afterOf p b (getD code (l .loop .at + 1) 0) (l .loop .h) (s .args .n) (s .args .own)) (d .shape .ensures)) in
+    sym (a .after .ensures ∙ ap (λ (p : ℕ). afterOf p b (getD code (l .loop .at + 1) 0) (l .loop .h) (s .args .n) (s .args .own))
+    (d .shape .ensures)) in
     begun d
-    ∙ goes (l .loop .inv .0 .0 - 1) code (l .loop .at) (s .args .n) (s .args .own) (l .loop .h) (i .loop-test .taken) (l .loop .inv .2) (some d) b (λ e. a .before .if1 .left (d .shape .ensures ∙ e))
-    ∙ ap (λ (r : ℕ). cond (ltb 32 r) false (codeOkFrom (l .loop .inv .0 .0 - 1) code (s .args .n) (s .args .own) (l .loop .at + lengthOf b) r)) same
+    ∙ goes (l .loop .inv .0 .0 - 1) code (l .loop .at) (s .args .n) (s .args .own) (l .loop .h) (i .loop-test .taken)
+    (l .loop .inv .2) (some d) b (λ e. a .before .if1 .left (d .shape .ensures ∙ e))
+    ∙ ap (λ (r : ℕ). cond (ltb 32 r) false
+    (codeOkFrom (l .loop .inv .0 .0 - 1) code (s .args .n) (s .args .own) (l .loop .at + lengthOf b) r)) same
 
 add-loop : tie.Need-add-loop Inv-loop μ-loop
 add-loop c = search needs
@@ -89,7 +101,8 @@ returns c =
 returns-2 : tie.Need-returns-2 Inv-loop μ-loop
 returns-2 c =
     let d = c .before .before .before in
-    sym (ended d (sym (d .shape .ensures) ∙ c .before .before .if1 .taken) ∙ rw (sym (c .before .is-last .ensures) ∙ c .if2 .left) refl)
+    sym (ended d (sym (d .shape .ensures) ∙ c .before .before .if1 .taken) ∙
+    rw (sym (c .before .is-last .ensures) ∙ c .if2 .left) refl)
 
 after-requires : tie.Need-after-requires Inv-loop μ-loop
 after-requires c κs = (c .before .before .before .before .before .loop .inv .2, rw (c .before .shape .ensures) (shape-most _))
@@ -101,10 +114,22 @@ length-of-requires : tie.Need-length-of-requires Inv-loop μ-loop
 length-of-requires c κs = search needs
 
 add-at : tie.Need-add-at Inv-loop μ-loop
-add-at c = let z = length-some (getD (c .before .before .before .before .before .before .before .before .before .before .args .code .now) (c .before .before .before .before .before .before .before .before .loop .at) 0) in omega (arith, z .1, c .length-of .ensures, c .before .before .before .before .before .before .before .loop-test .taken)
+add-at c =
+    let c5 = c .before .before .before .before .before in
+    let c7 = c5 .before .before in
+    let c8 = c7 .before in
+    let c10 = c8 .before .before in
+    let z = length-some (getD (c10 .args .code .now) (c8 .loop .at) 0) in
+    omega (arith, z .1, c .length-of .ensures, c7 .loop-test .taken)
 
 loop-less : tie.Need-loop-less Inv-loop μ-loop
-loop-less c = let z = length-some (getD (c .before .before .before .before .before .before .before .before .before .before .args .code .now) (c .before .before .before .before .before .before .before .before .loop .at) 0) in omega (arith, z .0, z .1, c .length-of .ensures, c .before .before .before .before .before .before .before .loop-test .taken)
+loop-less c =
+    let c5 = c .before .before .before .before .before in
+    let c7 = c5 .before .before in
+    let c8 = c7 .before in
+    let c10 = c8 .before .before in
+    let z = length-some (getD (c10 .args .code .now) (c8 .loop .at) 0) in
+    omega (arith, z .0, z .1, c .length-of .ensures, c7 .loop-test .taken)
 
 loop-again : tie.Need-loop-again Inv-loop μ-loop
 loop-again c =

@@ -20,7 +20,8 @@ returns c =
     let w = c .before .before in
     let b = w .before .args .byte in
     let small : b < 256 = rw (w .wide .ensures .0) at (w .wide .ensures .1) in
-    c .wide2 .ensures .0 ∙ ap (λ (i : ℕ). getD (w .before .args .table .now) i 0) (w .wide .ensures .0) ∙ w .before .pre .entry b small
+    c .wide2 .ensures .0 ∙ ap (λ (i : ℕ). getD (w .before .args .table .now) i 0) (w .wide .ensures .0) ∙
+    w .before .pre .entry b small
 
 pub shape-spec : {M : Type 1} → statement M
 shape-spec = tie.close (tie.spec wide-requires element-copy-out-wide wide-requires-2 returns)

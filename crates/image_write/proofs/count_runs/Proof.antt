@@ -9,7 +9,7 @@ use lib.ListN.{length, getD, getD-replicate}
 use borrow.Author.Needs.{needs}
 use Rattle.model.specs.Rules.Reads.{due}
 use Rattle.image_write.specs.Lists.{rateAt, listBy}
-use Rattle.model.proofs.Left.{parts-length}
+use Rattle.model.proofs.Basics.Left.{parts-length}
 use Rattle.image_write.proofs.Listed.{run-size, listFrom, list-starts, list-step, list-ends}
 use Rattle.image_write.proofs.count_runs.Statement.{statement}
 use Rattle.image_write.proofs.count_runs.Tie as tie
@@ -29,7 +29,11 @@ loop-holds c =
       omega arith,
       refl,
       (λ d lt. le-of-eq (zeros d (omega (arith, c .pre .2)))),
-      (λ d lt. omega (arith, zeros d (omega (arith, c .pre .2)), ap length (list-starts (now (a .periods)) (now (a .order)) (now (a .phases)) (a .n) d))),
+      (λ d lt. omega (
+        arith,
+        zeros d (omega (arith, c .pre .2)),
+        ap length (list-starts (now (a .periods)) (now (a .order)) (now (a .phases)) (a .n) d),
+      )),
     )
 
 element-copy-out-wide : tie.Need-element-copy-out-wide Inv-loop μ-loop
@@ -41,7 +45,12 @@ wide-requires c κs = search needs
 -- the signal of the turn
 small : (w : tie.After-wide Inv-loop μ-loop) → w .wide .result < 64
 small w =
-    omega (arith, w .wide .ensures .0, w .before .before .before .before .pre .0 .below (w .before .before .before .loop .i) (w .before .before .loop-test .taken))
+    omega (
+      arith,
+      w .wide .ensures .0,
+      w .before .before .before .before .pre .0 .below (w .before .before .before .loop .i)
+          (w .before .before .loop-test .taken),
+    )
 
 element-copy-out-add-runs : tie.Need-element-copy-out-add-runs Inv-loop μ-loop
 element-copy-out-add-runs c = omega (arith, small (c .before))
@@ -96,7 +105,12 @@ returns c =
     let a = l .before .args in
     record {
       counted = λ d ld.
-          omega (arith, l .loop .inv .3 d ld, ap length (list-ends (now (a .periods)) (now (a .order)) (now (a .phases)) (a .n) d (l .loop .i) (omega (arith, c .loop-test .left))));
+          omega (
+            arith,
+            l .loop .inv .3 d ld,
+            ap length (list-ends (now (a .periods)) (now (a .order)) (now (a .phases)) (a .n) d (l .loop .i)
+                (omega (arith, c .loop-test .left))),
+          );
     }
 
 pub count-runs-spec : {M : Type 1} → statement M

@@ -8,8 +8,24 @@ use Rattle.model.specs.Rules.Image.{joined, offsets, records, listsAt}
 use Rattle.model.specs.Rules.Word.{twoBytes}
 use Rattle.image_write.specs.Codes.{signalsOf, codesFrom}
 use Rattle.image_write.specs.Lists.{listsBy, pairs}
-use Rattle.model.proofs.Left.{Left, starts, room, turn, done}
-use Rattle.image_write.proofs.Imaged.{codesBy, lengthBy, imageBy, head-first, both, last, declared, timed, phased, lists-by, codes-at, code-by, length-by, image-size, image-written}
+use Rattle.model.proofs.Basics.Left.{Left, starts, room, turn, done}
+use Rattle.image_write.proofs.Imaged.{
+  codesBy,
+  lengthBy,
+  imageBy,
+  head-first,
+  both,
+  last,
+  declared,
+  timed,
+  phased,
+  lists-by,
+  codes-at,
+  code-by,
+  length-by,
+  image-size,
+  image-written,
+}
 use borrow.Author.Needs.{needs}
 use Rattle.image_write.proofs.emit.Statement.{statement}
 use Rattle.image_write.proofs.emit.Tie as tie
@@ -53,26 +69,50 @@ module _ (s : tie.Start) where
 
 -- what is left after each part
 after-head : (c : tie.After-put-head) → let s = c .before .before .before .before .before .before in
-    Rest s (c .put-head .last .1 .1 .1 .0) (c .put-head .result) (recorded s ++ (paired s ++ (joined (lists s) ++ joined (codes s))))
+    Rest s (c .put-head .last .1 .1 .1 .0) (c .put-head .result)
+    (recorded s ++ (paired s ++ (joined (lists s) ++ joined (codes s))))
 after-head c =
     let s = c .before .before .before .before .before .before in
     turn (head-first (s .args .h) (count s) _ (lists s) (codes s)) starts (rw (ends s) at (c .put-head .ensures))
 
-after-records : (c : tie.After-emit-records) → let s = c .before .before .before .before .before .before .before .before .before .before .before .before in
-    Rest s (c .emit-records .last .1 .1 .1 .1 .1 .0) (c .emit-records .result) (paired s ++ (joined (lists s) ++ joined (codes s)))
+after-records : (c : tie.After-emit-records) →
+    let c6 = c .before .before .before .before .before .before in
+    let s = c6 .before .before .before .before .before .before in
+    Rest s (c .emit-records .last .1 .1 .1 .1 .1 .0) (c .emit-records .result)
+    (paired s ++ (joined (lists s) ++ joined (codes s)))
 after-records c =
-    let s = c .before .before .before .before .before .before .before .before .before .before .before .before in
-    turn (both (recorded s) _) (after-head (c .before .before .before .before .before .before)) (rw (code-at s) at (c .emit-records .ensures))
+    let c6 = c .before .before .before .before .before .before in
+    let c12 = c6 .before .before .before .before .before .before in
+    let s = c12 in
+    turn (both (recorded s) _) (after-head c6) (rw (code-at s) at (c .emit-records .ensures))
 
-after-offsets : (c : tie.After-emit-offsets) → let s = c .before .before .before .before .before .before .before .before .before .before .before .before .before .before .before .before in
-    Rest s (c .emit-offsets .last .1 .1 .1 .1 .1 .1 .0) (c .emit-offsets .result) (joined (lists s) ++ joined (codes s))
+after-offsets : (c : tie.After-emit-offsets) →
+    let c6 = c .before .before .before .before .before .before in
+    let c12 = c6 .before .before .before .before .before .before in
+    let s = c12 .before .before .before .before .before in
+    Rest s (c .emit-offsets .last .1 .1 .1 .1 .1 .1 .1 .0) (c .emit-offsets .result) (joined (lists s) ++ joined (codes s))
 after-offsets c =
-    let s = c .before .before .before .before .before .before .before .before .before .before .before .before .before .before .before .before in
-    turn (both (paired s) _) (after-records (c .before .before .before .before)) (rw (lists-at s) at (c .emit-offsets .ensures))
+    let c5 = c .before .before .before .before .before in
+    let c10 = c5 .before .before .before .before .before in
+    let c15 = c10 .before .before .before .before .before in
+    let c17 = c15 .before .before in
+    let s = c17 in
+    turn (both (paired s) _) (after-records c5) (rw (lists-at s) at (c .emit-offsets .ensures .1))
 
-after-lists : (c : tie.After-emit-lists) → let s = c .before .before .before .before .before .before .before .before .before .before .before .before .before .before .before .before .before .before .before .before in
-    Rest s (c .emit-lists .last .1 .1 .1 .1 .1 .0) (c .emit-lists .result) (joined (codes s))
-after-lists c = let s = c .before .before .before .before .before .before .before .before .before .before .before .before .before .before .before .before .before .before .before .before in turn (both (joined (lists s)) _) (after-offsets (c .before .before .before .before)) (c .emit-lists .ensures)
+after-lists : (c : tie.After-emit-lists) →
+    let c6 = c .before .before .before .before .before .before in
+    let c12 = c6 .before .before .before .before .before .before in
+    let c18 = c12 .before .before .before .before .before .before in
+    let s = c18 .before .before .before .before in
+    Rest s (c .emit-lists .last .1 .1 .1 .1 .1 .1 .0) (c .emit-lists .result) (joined (codes s))
+after-lists c =
+    let c5 = c .before .before .before .before .before in
+    let c10 = c5 .before .before .before .before .before in
+    let c15 = c10 .before .before .before .before .before in
+    let c20 = c15 .before .before .before .before .before in
+    let c22 = c20 .before .before in
+    let s = c22 in
+    turn (both (joined (lists s)) _) (after-offsets c5) (c .emit-lists .ensures)
 
 put-head-requires : tie.Need-put-head-requires
 unfolding twoBytes
@@ -85,8 +125,10 @@ put-head-requires c κs =
 
 emit-records-requires : tie.Need-emit-records-requires
 emit-records-requires c κs =
-    let s = c .before .before .before .before .before .before .before .before .before .before .before in
-    let l = after-head (c .before .before .before .before .before) in (
+    let c5 = c .before .before .before .before .before in
+    let c11 = c5 .before .before .before .before .before .before in
+    let s = c11 in
+    let l = after-head c5 in (
       declared (s .pre .ready .prepared),
       codes-at (s .pre .ready .prepared) (s .args .layout .code),
       omega (arith, code-at s, ends s, s .pre .room, l .size),
@@ -95,8 +137,13 @@ emit-records-requires c κs =
 
 emit-offsets-requires : tie.Need-emit-offsets-requires
 emit-offsets-requires c κs =
-    let s = c .before .before .before .before .before .before .before .before .before .before .before .before .before .before .before in
-    let l = after-records (c .before .before .before) in (
+    let c4 = c .before .before .before .before in
+    let c9 = c4 .before .before .before .before .before in
+    let c14 = c9 .before .before .before .before .before in
+    let c16 = c14 .before .before in
+    let s = c16 in
+    let l = after-records c4 in (
+      refl,
       (timed (s .pre .ready .prepared), phased (s .pre .ready .prepared), s .pre .ready .hyper),
       omega (arith, lists-at s, ends s, s .pre .room, l .size),
       rw (lists-at s) (room (both (paired s) _) l (space s)),
@@ -104,21 +151,43 @@ emit-offsets-requires c κs =
 
 emit-lists-requires : tie.Need-emit-lists-requires
 emit-lists-requires c κs =
-    let s = c .before .before .before .before .before .before .before .before .before .before .before .before .before .before .before .before .before .before .before in
-    ((timed (s .pre .ready .prepared), phased (s .pre .ready .prepared), s .pre .ready .hyper), room (both (joined (lists s)) _) (after-offsets (c .before .before .before)) (space s))
+    let c4 = c .before .before .before .before in
+    let c9 = c4 .before .before .before .before .before in
+    let c14 = c9 .before .before .before .before .before in
+    let c19 = c14 .before .before .before .before .before in
+    let c21 = c19 .before .before in
+    let s = c21 in
+    let o = c4 in (
+      (timed (s .pre .ready .prepared), phased (s .pre .ready .prepared), s .pre .ready .hyper),
+      o .emit-offsets .ensures .0,
+      room (both (joined (lists s)) _) (after-offsets o) (space s),
+    )
 
 emit-codes-requires : tie.Need-emit-codes-requires
 emit-codes-requires c κs =
-    let s = c .before .before .before .before .before .before .before .before .before .before .before .before .before .before .before .before .before .before .before .before .before .before .before .before in
-    (declared (s .pre .ready .prepared), room (last (joined (codes s))) (after-lists (c .before .before .before .before)) (space s))
+    let c4 = c .before .before .before .before in
+    let c9 = c4 .before .before .before .before .before in
+    let c14 = c9 .before .before .before .before .before in
+    let c19 = c14 .before .before .before .before .before in
+    let c24 = c19 .before .before .before .before .before in
+    let c26 = c24 .before .before in
+    let s = c26 in
+    (declared (s .pre .ready .prepared), room (last (joined (codes s))) (after-lists c4) (space s))
 
 same-length : tie.Need-same-length
 same-length c = search needs
 
 returns : tie.Need-returns
 returns c =
-    let s = c .before .before .before .before .before .before .before .before .before .before .before .before .before .before .before .before .before .before .before .before .before .before .before .before .before .before .before in
-    let l = turn (last (joined (codes s))) (after-lists (c .before .before .before .before .before .before .before)) (c .before .before .emit-codes .ensures) in
+    let c5 = c .before .before .before .before .before in
+    let c7 = c5 .before .before in
+    let c12 = c7 .before .before .before .before .before in
+    let c17 = c12 .before .before .before .before .before in
+    let c22 = c17 .before .before .before .before .before in
+    let c27 = c22 .before .before .before .before .before in
+    let c29 = c27 .before .before in
+    let s = c29 in
+    let l = turn (last (joined (codes s))) (after-lists c7) (c .before .before .emit-codes .ensures) in
     λ p q e. image-written e (s .args .h) (omega (arith, length-by e (s .args .h), ends s, s .pre .room)) (done refl l)
 
 pub emit-spec : {M : Type 1} → statement M

@@ -1,9 +1,14 @@
 -- `image_write::emit_codes` meets its contract. Assumes nothing.
-use Prim.Native.Nat.{_-_, _≤_}
+use Prim.Native.Nat.{ℕ, _-_, _≤_, _<_}
+use mathlib.Core.List.{List}
+use mathlib.Core.Path.{_≡_, sym, _∙_}
 use native.Mathlib.Omega.{arith}
+use borrow.Author.Needs.{needs}
+use lib.ListN.{length}
 use Rattle.model.specs.Rules.Image.{joined}
+use Rattle.model.specs.Rules.Program.{Signal}
 use Rattle.image_write.specs.Codes.{signalsOf, codesFrom}
-use Rattle.model.proofs.Left.{Left, starts, room, turn, done}
+use Rattle.model.proofs.Basics.Left.{Left, starts, room, turn, done}
 use Rattle.image_write.proofs.Coded.{nth, codesLeft, codes-start, codes-next, codes-end}
 use Rattle.image_write.proofs.emit_codes.Statement.{statement}
 use Rattle.image_write.proofs.emit_codes.Tie as tie
@@ -15,48 +20,77 @@ Inv-loop text places n out₀ to end₀ x₀ out end x =
 abbrev μ-loop : tie.MeasureT-loop
 μ-loop text places n out₀ to end₀ x₀ out end x = n - x
 
+-- where signal x is declared
+module _ (w : tie.After-wider Inv-loop μ-loop) where
+  abbrev named : tie.After-narrow Inv-loop μ-loop
+  named = w .before .before
+
+  abbrev s : tie.Start Inv-loop μ-loop
+  s = named .before .before .before .before .before
+
+  abbrev g : List Signal
+  g = signalsOf (s .args .text .now)
+
+  abbrev x : ℕ
+  x = named .before .before .loop .x
+
+  lt : x < s .args .n
+  lt = named .before .loop-test .taken
+
+  within : x < length g
+  within = omega (arith, lt, s .pre .0 .count-is)
+
+  stands : nth g x .place ≡ w .wider .result
+  stands = s .pre .0 .stands x lt ∙ sym (w .wider .ensures .0)
+
 loop-holds : tie.Need-loop-holds Inv-loop μ-loop
-loop-holds c =
-    let g = signalsOf (c .before .before .args .text .now) in
-    (omega arith, rw (codes-start g) starts)
+loop-holds c = (omega arith, rw (codes-start (signalsOf (c .before .before .args .text .now))) starts)
 
 narrow-requires : tie.Need-narrow-requires Inv-loop μ-loop
 narrow-requires c κs = omega (arith, c .before .before .before .before .pre .0 .few)
 
-mul-emit-signal : tie.Need-mul-emit-signal Inv-loop μ-loop
-mul-emit-signal c = omega (arith, c .before .before .before .before .before .pre .0 .few)
+mul-wider : tie.Need-mul-wider Inv-loop μ-loop
+mul-wider c = omega (arith, c .before .before .before .before .before .pre .0 .few)
 
-element-copy-out-emit-signal : tie.Need-element-copy-out-emit-signal Inv-loop μ-loop
-element-copy-out-emit-signal c = omega (arith, c .before .before .before .before .before .pre .0 .few)
+element-copy-out-wider : tie.Need-element-copy-out-wider Inv-loop μ-loop
+element-copy-out-wider c = omega (arith, c .before .before .before .before .before .pre .0 .few)
+
+wider-requires : tie.Need-wider-requires Inv-loop μ-loop
+wider-requires c κs = search needs
 
 emit-signal-requires : tie.Need-emit-signal-requires Inv-loop μ-loop
 emit-signal-requires c κs =
-    let g = signalsOf (c .before .before .before .before .before .before .before .args .text .now) in
-    rw (c .before .before .narrow .ensures)
+    let w = c .before in
+    rw (named w .narrow .ensures)
     (record {
-      here = record { signal = nth (signalsOf (c .before .before .before .before .before .before .before .args .text .now)) (c .before .before .before .before .loop .x); stands = c .before .before .before .before .before .before .before .pre .0 .stands (c .before .before .before .before .loop .x) (omega arith); spelled = c .before .before .before .before .before .before .before .pre .0 .spelled (c .before .before .before .before .loop .x) (omega arith) };
-      fits = room (codes-next g (c .before .before .before .before .loop .x) (omega (arith, c .before .before .before .before .before .before .before .pre .0 .count-is))) (c .before .before .before .before .loop .inv .1) (c .before .before .before .before .before .before .before .pre .1);
+      here = record { signal = nth (g w) (x w); stands = stands w; spelled = s w .pre .0 .spelled (x w) (lt w) };
+      fits = room (codes-next (g w) (x w) (within w)) (named w .before .before .loop .inv .1) (s w .pre .1);
     })
 
 add-x : tie.Need-add-x Inv-loop μ-loop
-add-x c = omega (arith, c .before .before .before .before .before .before .before .before .before .before .pre .0 .few)
+add-x c = let w = c .before .before .before .before in omega (arith, lt w, s w .pre .0 .few)
 
 loop-less : tie.Need-loop-less Inv-loop μ-loop
-loop-less c = omega arith
+loop-less c = omega (arith, lt (c .before .before .before .before))
 
 loop-again : tie.Need-loop-again Inv-loop μ-loop
 loop-again c =
-    let g = signalsOf (c .before .before .before .before .before .before .before .before .before .before .args .text .now) in
-    let p = (rw (c .before .before .before .before .before .narrow .ensures) at (c .before .before .emit-signal .ensures)) .puts (nth g (c .before .before .before .before .before .before .before .loop .x)) (c .before .before .before .before .before .before .before .before .before .before .pre .0 .stands (c .before .before .before .before .before .before .before .loop .x) (omega arith)) (c .before .before .before .before .before .before .before .before .before .before .pre .0 .spelled (c .before .before .before .before .before .before .before .loop .x) (omega arith)) in
-    (omega arith, turn (codes-next g (c .before .before .before .before .before .before .before .loop .x) (omega (arith, c .before .before .before .before .before .before .before .before .before .before .pre .0 .count-is))) (c .before .before .before .before .before .before .before .loop .inv .1) (record { holds = p .0; ends = p .1 }))
+    let w = c .before .before .before .before in
+    let p =
+    (rw (named w .narrow .ensures) at (c .before .before .emit-signal .ensures)) .puts (nth (g w) (x w)) (stands w)
+    (s w .pre .0 .spelled (x w) (lt w)) in (
+      omega (arith, lt w),
+      turn (codes-next (g w) (x w) (within w)) (named w .before .before .loop .inv .1) (record { holds = p .0; ends = p .1 }),
+    )
 
 same-length : tie.Need-same-length Inv-loop μ-loop
 same-length c = c .before .loop .inv .1 .size
 
 returns : tie.Need-returns Inv-loop μ-loop
 returns c =
-    let g = signalsOf (c .before .before .before .before .args .text .now) in
-    done (codes-end g (c .before .loop .x) (omega (arith, c .before .before .before .before .pre .0 .count-is))) (c .before .loop .inv .1)
+    let b = c .before .before .before .before in
+    done (codes-end (signalsOf (b .args .text .now)) (c .before .loop .x) (omega (arith, b .pre .0 .count-is)))
+    (c .before .loop .inv .1)
 
 pub emit-codes-spec : {M : Type 1} → statement M
 emit-codes-spec =
@@ -66,8 +100,9 @@ emit-codes-spec =
     μ-loop
     loop-holds
     narrow-requires
-    mul-emit-signal
-    element-copy-out-emit-signal
+    mul-wider
+    element-copy-out-wider
+    wider-requires
     emit-signal-requires
     add-x
     loop-less

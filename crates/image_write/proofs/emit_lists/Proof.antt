@@ -1,76 +1,155 @@
 -- `image_write::emit_lists` meets its contract. Assumes nothing.
-use Prim.Native.Nat.{ℕ, _-_, _≤_, _<_}
+use Prim.Native.Nat.{ℕ, _+_, _-_, _≤_, _<_}
 use mathlib.Core.List.{List}
-use mathlib.Core.Path.{_≡_, refl}
+use mathlib.Core.Path.{_≡_, sym, subst}
 use native.Mathlib.Omega.{arith}
-use lib.ListN.{length}
 use borrow.Author.Needs.{needs}
+use lib.ListN.{length, getD}
 use Rattle.model.specs.Rules.Image.{joined}
-use Rattle.image_write.specs.Lists.{listBy, listsBy, Runs}
-use Rattle.model.proofs.Left.{Left, starts, room, turn, done}
-use Rattle.image_write.proofs.Listed.{first-run}
-use Rattle.image_write.proofs.Joined.{joinedFrom, joined-starts, joined-step, joined-ends}
+use Rattle.model.specs.Rules.Reads.{due}
+use Rattle.model.specs.Rules.Writing.{Wrote}
+use Rattle.image_write.specs.Cursors.{listsAfter, Pending, Splits}
+use Rattle.image_write.specs.Lists.{rateAt, listBy, listsBy}
+use Rattle.image_write.proofs.Cursors.{pending-same, pending-start, pending-done}
+use Rattle.image_write.proofs.Listed.{listFrom, list-starts, list-step, list-ends}
 use Rattle.image_write.proofs.emit_lists.Statement.{statement}
 use Rattle.image_write.proofs.emit_lists.Tie as tie
 
 abbrev Inv-loop : tie.InvT-loop
-Inv-loop periods order phases n h out₀ to nexts₀ end₀ c₀ out nexts end c =
-    (c ≤ h) × (length nexts ≡ 64) × Runs periods order phases n c nexts ×
-    Left out₀ to (joined (listsBy periods order phases n h)) out end (joinedFrom (listBy periods order phases n) h c)
+Inv-loop periods order phases n h nexts₀ out₀ to i₀ nexts out i =
+    (i ≤ n) × (length nexts ≡ 241) ×
+    Pending (joined (listsBy periods order phases n h)) out₀ to h (λ c. length (listsAfter (listBy periods order phases n) h c))
+    (λ c. listFrom periods order phases n c i) out nexts
 
 abbrev μ-loop : tie.MeasureT-loop
-μ-loop periods order phases n h out₀ to nexts₀ end₀ c₀ out nexts end c = h - c
+μ-loop periods order phases n h nexts₀ out₀ to i₀ nexts out i = n - i
 
--- the lists
-module _ (s : tie.Start Inv-loop μ-loop) where
-  abbrev f : ℕ → List ℕ
-  f = listBy (s .args .periods .now) (s .args .order .now) (s .args .phases .now) (s .args .n)
+-- the signal whose runs are written
+module _ (w : tie.After-wide Inv-loop μ-loop) where
+  abbrev top : tie.At-loop Inv-loop μ-loop
+  top = w .before .before .before
 
-  abbrev h : ℕ
-  h = s .args .h
+  abbrev s : tie.Start Inv-loop μ-loop
+  s = top .before .before
 
-first-runs-requires : tie.Need-first-runs-requires Inv-loop μ-loop
-first-runs-requires c κs = (c .before .pre .0 .0 .few, c .before .pre .0 .0 .below)
+  abbrev lt : top .loop .i < s .args .n
+  lt = w .before .before .loop-test .taken
+
+  abbrev x : ℕ
+  x = getD (s .args .order .now) (top .loop .i) 0
+
+  below : w .wide .result < 64
+  below = omega (arith, w .wide .ensures .0, s .pre .0 .0 .below (top .loop .i) lt)
+
+  timed : getD (s .args .phases .now) (w .wide .result) 0 < getD (s .args .periods .now) (w .wide .result) 0
+  timed =
+      subst (λ (y : ℕ). getD (s .args .phases .now) y 0 < getD (s .args .periods .now) y 0) (sym (w .wide .ensures .0))
+      (s .pre .0 .1 (top .loop .i) lt)
+
+  abbrev left : ℕ → ℕ → List ℕ
+  left i c = listFrom (s .args .periods .now) (s .args .order .now) (s .args .phases .now) (s .args .n) c i
+
+  splits : Splits (rateAt (s .args .periods .now) (s .args .phases .now) (w .wide .result)) x (s .args .h) (left (top .loop .i))
+      (left (top .loop .i + 1))
+  unfolding due
+  splits =
+      subst
+      (λ (y : ℕ).
+      Splits (rateAt (s .args .periods .now) (s .args .phases .now) y) x (s .args .h) (left (top .loop .i))
+      (left (top .loop .i + 1)))
+      (sym (w .wide .ensures .0))
+      (λ c lc.
+      list-step (s .args .periods .now) (s .args .order .now) (s .args .phases .now) (s .args .n) c (top .loop .i) lt .is)
 
 loop-holds : tie.Need-loop-holds Inv-loop μ-loop
 unfolding listsBy
 loop-holds c =
-    let b = c .before .before in (
+    let b = c .before in
+    let f = listBy (b .args .periods .now) (b .args .order .now) (b .args .phases .now) (b .args .n) in (
       omega arith,
-      search needs,
-      record { timed = b .pre .0 .0; next = λ j lt. first-run _ _ (b .pre .0 .1 j lt) (c .first-runs .ensures j lt) },
-      rw (joined-starts (f b) (h b)) starts,
+      b .pre .1 .long,
+      pending-same
+          (λ d lt. sym (list-starts (b .args .periods .now) (b .args .order .now) (b .args .phases .now) (b .args .n) d))
+          (pending-start f (b .args .h) (b .args .nexts .now) (b .pre .1) (b .args .out .now) (b .args .to) (b .pre .2)),
     )
 
-emit-list-requires : tie.Need-emit-list-requires Inv-loop μ-loop
-emit-list-requires c κs =
-    let b = c .before .before .before .before .before .before in
-    let l = c .before .before .before .loop in
-    let lt = c .before .before .loop-test .taken in
-    (l .inv .1, omega (arith, lt, b .pre .0 .2), (_, l .inv .2, room (joined-step (f b) (h b) (l .c) lt) (l .inv .3) (b .pre .1)))
+element-copy-out-x : tie.Need-element-copy-out-x Inv-loop μ-loop
+element-copy-out-x c = omega (arith, c .before .before .before .pre .0 .0 .few)
 
-add-c : tie.Need-add-c Inv-loop μ-loop
-add-c c = omega (arith, c .before .before .before .before .before .loop-test .taken)
+wide-requires : tie.Need-wide-requires Inv-loop μ-loop
+wide-requires c κs = search needs
+
+element-copy-out-emit-runs : tie.Need-element-copy-out-emit-runs Inv-loop μ-loop
+element-copy-out-emit-runs c = below (c .before)
+
+element-copy-out-emit-runs-2 : tie.Need-element-copy-out-emit-runs-2 Inv-loop μ-loop
+element-copy-out-emit-runs-2 c = below (c .before .before)
+
+emit-runs-requires : tie.Need-emit-runs-requires Inv-loop μ-loop
+emit-runs-requires c κs =
+    let w = c .before .before .before .before in
+    let l = top w .loop in (
+      timed w,
+      s w .pre .0 .2,
+      l .inv .1,
+      record {
+        all =
+            joined (listsBy (s w .args .periods .now) (s w .args .order .now) (s w .args .phases .now) (s w .args .n)
+            (s w .args .h));
+        l = s w .args .out .now;
+        after = λ d.
+            length (listsAfter (listBy (s w .args .periods .now) (s w .args .order .now) (s w .args .phases .now) (s w .args .n))
+            (s w .args .h) d);
+        old = left w (l .i);
+        new = left w (l .i + 1);
+        pending = l .inv .2;
+        splits = splits w;
+      },
+    )
+
+add-i : tie.Need-add-i Inv-loop μ-loop
+add-i c =
+    let w = c .before .before .before .before .before .before .before in
+    omega (arith, lt w, s w .pre .0 .0 .few)
 
 loop-less : tie.Need-loop-less Inv-loop μ-loop
-loop-less c = omega (arith, c .before .before .before .before .before .loop-test .taken)
+loop-less c = omega (arith, lt (c .before .before .before .before .before .before .before))
 
 loop-again : tie.Need-loop-again Inv-loop μ-loop
 loop-again c =
-    let b = c .before .before .before .before .before .before .before .before .before in
-    let l = c .before .before .before .before .before .before .loop in
-    let lt = c .before .before .before .before .before .loop-test .taken in
-    let e = c .before .before .emit-list .ensures in
-    let g = e .1 _ (l .inv .2) in
-    (omega (arith, lt), e .0, g .0, turn (joined-step (f b) (h b) (l .c) lt) (l .inv .3) (g .1))
+    let w = c .before .before .before .before .before .before .before in
+    let l = top w .loop in
+    let e = c .before .before .emit-runs .ensures in
+    (omega (arith, lt w), e .0, e .1 _ _ _ (left w (l .i)) (left w (l .i + 1)) (l .inv .2) (splits w))
+
+mul-wider : tie.Need-mul-wider Inv-loop μ-loop
+mul-wider c = omega (arith, c .before .before .before .pre .0 .2)
+
+element-copy-out-wider : tie.Need-element-copy-out-wider Inv-loop μ-loop
+element-copy-out-wider c = omega (arith, c .before .before .before .pre .0 .2)
+
+wider-requires : tie.Need-wider-requires Inv-loop μ-loop
+wider-requires c κs = search needs
+
+add-result : tie.Need-add-result Inv-loop μ-loop
+add-result c =
+    let l = c .before .before .before .loop in
+    omega (arith, c .wider .ensures .0, l .inv .2 .last, l .inv .2 .fits)
 
 same-length : tie.Need-same-length Inv-loop μ-loop
-same-length c = c .before .loop .inv .3 .size
+same-length c = c .before .before .before .loop .inv .2 .size
 
 returns : tie.Need-returns Inv-loop μ-loop
 returns c =
-    let b = c .before .before .before .before in
-    done (joined-ends (f b) (h b) (c .before .loop .c) (omega (arith, c .loop-test .left))) (c .before .loop .inv .3)
+    let l = c .before .before .before .loop in
+    let b = c .before .before .before .before .before in
+    let all = joined (listsBy (b .args .periods .now) (b .args .order .now) (b .args .phases .now) (b .args .n) (b .args .h)) in
+    subst (λ (k : ℕ). Wrote (b .args .out .now) (b .args .to) all (l .out) (b .args .to + k)) (sym (c .wider .ensures .0))
+    (pending-done
+    (λ d lt.
+    list-ends (b .args .periods .now) (b .args .order .now) (b .args .phases .now) (b .args .n) d (l .i)
+    (omega (arith, c .before .before .loop-test .left)))
+    (l .inv .2))
 
 pub emit-lists-spec : {M : Type 1} → statement M
 emit-lists-spec =
@@ -78,11 +157,18 @@ emit-lists-spec =
     (tie.spec
     Inv-loop
     μ-loop
-    first-runs-requires
     loop-holds
-    emit-list-requires
-    add-c
+    element-copy-out-x
+    wide-requires
+    element-copy-out-emit-runs
+    element-copy-out-emit-runs-2
+    emit-runs-requires
+    add-i
     loop-less
     loop-again
+    mul-wider
+    element-copy-out-wider
+    wider-requires
+    add-result
     same-length
     returns)

@@ -1,25 +1,40 @@
 -- `image_write::emit_offsets` meets its contract. Assumes nothing.
 use Prim.Native.Nat.{ℕ, _+_, _-_, _≤_, _<_}
 use mathlib.Core.List.{List}
-use mathlib.Core.Path.{_≡_, refl, ap, _∙_}
+use mathlib.Core.Path.{_≡_, refl, sym, ap, subst, _∙_}
 use native.Mathlib.Omega.{arith}
-use lib.ListN.{length}
+use lib.ListN.{length, getD, set, length-set}
+use lib.Seq.{getD-set-same, getD-set-other}
 use borrow.Author.Needs.{needs}
 use Rattle.model.specs.Rules.Image.{joined, offsets}
 use Rattle.model.specs.Rules.Word.{twoBytes}
+use Rattle.image_write.specs.Cursors.{Stands}
 use Rattle.image_write.specs.Lists.{listBy, listsBy, pairs}
-use Rattle.model.proofs.Left.{Left, parts-length, starts, room, turn, done, wrote-size}
-use Rattle.image_write.proofs.Joined.{joinedFrom, pairsFrom, joined-starts, joined-step, pairs-start, pairs-step, pairs-last}
+use Rattle.model.proofs.Basics.Left.{Left, parts-length, starts, room, turn, done, wrote-size}
+use Rattle.image_write.proofs.Cursors.{Prefix, prefix-start, prefix-stands, prefix-next, starts-more}
+use Rattle.image_write.proofs.Joined.{
+  joinedFrom,
+  pairsFrom,
+  joined-starts,
+  joined-step,
+  joined-ends,
+  pairs-start,
+  pairs-step,
+  pairs-last,
+  lists-most,
+}
 use Rattle.image_write.proofs.emit_offsets.Statement.{statement}
 use Rattle.image_write.proofs.emit_offsets.Tie as tie
 
 abbrev Inv-loop : tie.InvT-loop
-Inv-loop periods order phases n h start out₀ to counts offset₀ end₀ c₀ out offset end c =
-    (c ≤ h) × (offset + length (joinedFrom (listBy periods order phases n) h c) ≡ start + length (joined (listsBy periods order phases n h))) ×
-    Left out₀ to (pairs (offsets start (listsBy periods order phases n h))) out end (pairsFrom (listBy periods order phases n) h offset c)
+Inv-loop periods order phases n h start starts₀ out₀ to counts before₀ end₀ c₀ starts out before end c =
+    let f = listBy periods order phases n in
+    (c ≤ h) × (length starts ≡ 241) × (before + length (joinedFrom f h c) ≡ length (joined (listsBy periods order phases n h))) ×
+    Left out₀ to (pairs (offsets start (listsBy periods order phases n h))) out end (pairsFrom f h (start + before) c) ×
+    Prefix f h c before × ((d : ℕ) → d < c → Stands f h d (getD starts d 0))
 
 abbrev μ-loop : tie.MeasureT-loop
-μ-loop periods order phases n h start out₀ to counts offset₀ end₀ c₀ out offset end c = h - c
+μ-loop periods order phases n h start starts₀ out₀ to counts before₀ end₀ c₀ starts out before end c = h - c
 
 -- the lists
 module _ (s : tie.Start Inv-loop μ-loop) where
@@ -29,13 +44,35 @@ module _ (s : tie.Start Inv-loop μ-loop) where
   abbrev h : ℕ
   h = s .args .h
 
+  abbrev total : ℕ
+  total = length (joined (listsBy (s .args .periods .now) (s .args .order .now) (s .args .phases .now) (s .args .n) h))
+
+  few : total ≤ 15360
+  few =
+      omega (
+        arith,
+        lists-most (s .args .periods .now) (s .args .order .now) (s .args .phases .now) (s .args .n) h (s .pre .1 .0 .few),
+        s .pre .1 .2,
+      )
+
+-- where the loop stands
+module _ (t : tie.At-loop Inv-loop μ-loop) where
+  abbrev start-of : tie.Start Inv-loop μ-loop
+  start-of = t .before .before .before
+
+  so-far : t .loop .before ≤ total start-of
+  so-far = omega (arith, t .loop .inv .2)
+
+  small : t .loop .before < 65536
+  small = omega (arith, so-far, few start-of)
+
 -- where the length of a list is known
 module _ (w : tie.After-widest Inv-loop μ-loop) where
-  abbrev s : tie.Start Inv-loop μ-loop
-  s = w .before .before .before .before .before .before .before .before .before
-
   abbrev at : tie.At-loop Inv-loop μ-loop
   at = w .before .before .before .before .before .before
+
+  abbrev s : tie.Start Inv-loop μ-loop
+  s = start-of at
 
   lt : at .loop .c < h s
   lt = w .before .before .before .before .before .loop-test .taken
@@ -43,40 +80,63 @@ module _ (w : tie.After-widest Inv-loop μ-loop) where
   runs-are : w .widest .result ≡ length (f s (at .loop .c))
   runs-are = w .widest .ensures ∙ at .before .count-runs .ensures .counted (at .loop .c) lt
 
-  further : at .loop .offset + w .widest .result + length (joinedFrom (f s) (h s) (at .loop .c + 1)) ≡
-      s .args .start + length (joined (listsBy (s .args .periods .now) (s .args .order .now) (s .args .phases .now) (s .args .n) (h s)))
-  further = omega (arith, at .loop .inv .1, parts-length (joined-step (f s) (h s) (at .loop .c) lt), runs-are)
+  further : at .loop .before + w .widest .result + length (joinedFrom (f s) (h s) (at .loop .c + 1)) ≡ total s
+  further = omega (arith, at .loop .inv .2, parts-length (joined-step (f s) (h s) (at .loop .c) lt), runs-are)
 
 count-runs-requires : tie.Need-count-runs-requires Inv-loop μ-loop
-count-runs-requires c κs = c .before .pre .0
+count-runs-requires c κs = c .before .pre .1
 
 loop-holds : tie.Need-loop-holds Inv-loop μ-loop
 unfolding listsBy
 loop-holds c =
     let b = c .before .before in
-    (omega arith, ap (λ (l : List ℕ). b .args .start + length l) (joined-starts (f b) (h b)), rw (pairs-start (f b) (h b) (b .args .start)) starts)
+    let z : b .args .start + 0 ≡ b .args .start = omega arith in (
+      omega arith,
+      b .pre .0,
+      omega (arith, ap length (joined-starts (f b) (h b))),
+      rw (z, pairs-start (f b) (h b) (b .args .start)) starts,
+      prefix-start (f b) (h b),
+      λ d lt. absurd (omega arith),
+    )
+
+cast-starts : tie.Need-cast-starts Inv-loop μ-loop
+cast-starts c = omega (arith, small (c .before))
+
+mul-starts : tie.Need-mul-starts Inv-loop μ-loop
+mul-starts c = omega (arith, start-of (c .before) .pre .1 .2)
+
+element-write-starts : tie.Need-element-write-starts Inv-loop μ-loop
+element-write-starts c = omega (arith, start-of (c .before) .pre .1 .2)
+
+add-put-offset : tie.Need-add-put-offset Inv-loop μ-loop
+add-put-offset c = let t = c .before .before in omega (arith, so-far t, start-of t .pre .2)
 
 put-offset-requires : tie.Need-put-offset-requires Inv-loop μ-loop
 unfolding twoBytes
 put-offset-requires c κs =
-    let b = c .before .before .before .before .before in
-    let l = c .before .before .loop in
-    room (pairs-step (f b) (h b) (l .offset) (l .c) (c .before .loop-test .taken)) (l .inv .2) (b .pre .2)
+    let t = c .before .before in
+    let b = start-of t in
+    room (pairs-step (f b) (h b) (b .args .start + t .loop .before) (t .loop .c) (c .before .loop-test .taken))
+    (t .loop .inv .3) (b .pre .3)
 
 mul-widest : tie.Need-mul-widest Inv-loop μ-loop
-mul-widest c = omega (arith, c .before .before .before .before .loop-test .taken, c .before .before .before .before .before .before .before .before .pre .0 .2)
+mul-widest c =
+    let t = c .before .before .before .before in
+    omega (arith, t .loop-test .taken, start-of (t .before) .pre .1 .2)
 
 array-read-widest : tie.Need-array-read-widest Inv-loop μ-loop
-array-read-widest c = omega (arith, c .before .before .before .before .loop-test .taken, c .before .before .before .before .before .before .before .before .pre .0 .2)
+array-read-widest c =
+    let t = c .before .before .before .before in
+    omega (arith, t .loop-test .taken, start-of (t .before) .pre .1 .2)
 
 widest-requires : tie.Need-widest-requires Inv-loop μ-loop
 widest-requires c κs = search needs
 
-add-offset : tie.Need-add-offset Inv-loop μ-loop
-add-offset c = omega (arith, further c, s c .pre .1)
+add-before : tie.Need-add-before Inv-loop μ-loop
+add-before c = omega (arith, further c, few (s c))
 
 add-c : tie.Need-add-c Inv-loop μ-loop
-add-c c = omega (arith, lt c, s c .pre .0 .2)
+add-c c = omega (arith, lt c, s c .pre .1 .2)
 
 loop-less : tie.Need-loop-less Inv-loop μ-loop
 loop-less c = omega (arith, lt c)
@@ -84,27 +144,68 @@ loop-less c = omega (arith, lt c)
 loop-again : tie.Need-loop-again Inv-loop μ-loop
 loop-again c =
     let b = s c in
-    let l = at c .loop in (
+    let l = at c .loop in
+    let e : b .args .start + l .before + length (f b (l .c)) ≡ b .args .start + (l .before + c .widest .result) =
+    omega (arith, runs-are c) in (
       omega (arith, lt c),
+      length-set (l .starts) (l .c) _ ∙ l .inv .1,
       further c,
-      rw (runs-are c) (turn (pairs-step (f b) (h b) (l .offset) (l .c) (lt c)) (l .inv .2) (c .before .before .before .put-offset .ensures)),
+      rw (← e)
+          (turn (pairs-step (f b) (h b) (b .args .start + l .before) (l .c) (lt c)) (l .inv .3)
+          (c .before .before .before .put-offset .ensures)),
+      prefix-next (f b) (h b) (l .c) (l .before) (c .widest .result) (lt c) (runs-are c) (l .inv .4),
+      starts-more (f b) (h b) (l .starts) (l .c) (l .before) (omega (arith, lt c, l .inv .1, b .pre .1 .2))
+          (prefix-stands (f b) (h b) (l .c) (l .before) (lt c) (l .inv .4)) (l .inv .5),
     )
+
+cast-starts-2 : tie.Need-cast-starts-2 Inv-loop μ-loop
+cast-starts-2 c = omega (arith, small (c .before))
+
+mul-starts-2 : tie.Need-mul-starts-2 Inv-loop μ-loop
+mul-starts-2 c = omega (arith, start-of (c .before) .pre .1 .2)
+
+element-write-starts-2 : tie.Need-element-write-starts-2 Inv-loop μ-loop
+element-write-starts-2 c = omega (arith, start-of (c .before) .pre .1 .2)
+
+add-put-offset-2 : tie.Need-add-put-offset-2 Inv-loop μ-loop
+add-put-offset-2 c = let t = c .before .before in omega (arith, so-far t, start-of t .pre .2)
 
 put-offset-requires-2 : tie.Need-put-offset-requires-2 Inv-loop μ-loop
 unfolding twoBytes
 put-offset-requires-2 c κs =
-    let b = c .before .before .before .before .before in
-    let l = c .before .before .loop in
-    room (pairs-last (f b) (h b) (l .offset) (l .c) (omega (arith, c .before .loop-test .left))) (l .inv .2) (b .pre .2)
+    let t = c .before .before in
+    let b = start-of t in
+    room (pairs-last (f b) (h b) (b .args .start + t .loop .before) (t .loop .c) (omega (arith, c .before .loop-test .left)))
+    (t .loop .inv .3) (b .pre .3)
 
 same-length : tie.Need-same-length Inv-loop μ-loop
-same-length c = wrote-size (c .before .before .put-offset2 .ensures) ∙ c .before .before .before .before .before .loop .inv .2 .size
+same-length c =
+    wrote-size (c .before .before .put-offset2 .ensures) ∙ c .before .before .before .before .before .loop .inv .3 .size
 
 returns : tie.Need-returns Inv-loop μ-loop
+unfolding listsBy
 returns c =
-    let b = c .before .before .before .before .before .before .before .before in
-    let l = c .before .before .before .before .before .loop in
-    done refl (turn (pairs-last (f b) (h b) (l .offset) (l .c) (omega (arith, c .before .before .before .before .loop-test .left))) (l .inv .2) (c .before .before .put-offset2 .ensures))
+    let c4 = c .before .before .before .before in
+    let c5 = c4 .before in
+    let t = c5 in
+    let b = start-of t in
+    let l = t .loop in
+    let le : h b ≤ l .c = omega (arith, c4 .loop-test .left) in
+    let room : h b < length (l .starts) = omega (arith, l .inv .1, b .pre .1 .2) in (
+      record {
+        stands = λ d lt.
+            subst (Stands (f b) (h b) d) (sym (getD-set-other (l .starts) (h b) d (l .before) 0 (λ z. omega arith)))
+            (l .inv .5 d (omega arith));
+        last =
+            getD-set-same (l .starts) (h b) (l .before) 0 room ∙
+            omega (arith, l .inv .2, ap length (joined-ends (f b) (h b) (l .c) le));
+        small = omega (arith, few b);
+        long = length-set (l .starts) (h b) _ ∙ l .inv .1;
+      },
+      done refl
+          (turn (pairs-last (f b) (h b) (b .args .start + l .before) (l .c) le) (l .inv .3)
+          (c .before .before .put-offset2 .ensures)),
+    )
 
 pub emit-offsets-spec : {M : Type 1} → statement M
 emit-offsets-spec =
@@ -114,14 +215,22 @@ emit-offsets-spec =
     μ-loop
     count-runs-requires
     loop-holds
+    cast-starts
+    mul-starts
+    element-write-starts
+    add-put-offset
     put-offset-requires
     mul-widest
     array-read-widest
     widest-requires
-    add-offset
+    add-before
     add-c
     loop-less
     loop-again
+    cast-starts-2
+    mul-starts-2
+    element-write-starts-2
+    add-put-offset-2
     put-offset-requires-2
     same-length
     returns)

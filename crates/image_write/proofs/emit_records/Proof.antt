@@ -1,15 +1,26 @@
 -- `image_write::emit_records` meets its contract. Assumes nothing.
 use Prim.Native.Nat.{ℕ, _+_, _-_, _≤_}
 use mathlib.Core.List.{List}
-use mathlib.Core.Path.{_≡_, ap, _∙_}
+use mathlib.Core.Path.{_≡_, sym, ap, _∙_}
 use native.Mathlib.Omega.{arith}
 use lib.ListN.{length, getD}
 use borrow.Author.Needs.{needs}
 use Rattle.model.specs.Rules.Image.{offsets, records}
 use Rattle.model.specs.Rules.Program.{Signal}
 use Rattle.image_write.specs.Codes.{signalsOf, codesFrom}
-use Rattle.model.proofs.Left.{Left, starts, room, turn, done}
-use Rattle.image_write.proofs.Coded.{nth, recordsLeft, records-start, records-next, records-at, records-end, initial-word, record-length, code-start, starts-many}
+use Rattle.model.proofs.Basics.Left.{Left, starts, room, turn, done}
+use Rattle.image_write.proofs.Coded.{
+  nth,
+  recordsLeft,
+  records-start,
+  records-next,
+  records-at,
+  records-end,
+  initial-word,
+  record-length,
+  code-start,
+  starts-many,
+}
 use Rattle.image_write.proofs.emit_records.Statement.{statement}
 use Rattle.image_write.proofs.emit_records.Tie as tie
 
@@ -60,45 +71,65 @@ element-copy-out-wider c = omega (arith, c .before .before .before .before .pre 
 wider-requires : tie.Need-wider-requires Inv-loop μ-loop
 wider-requires c κs = search needs
 
-mul-put-record : tie.Need-mul-put-record Inv-loop μ-loop
-mul-put-record c = omega (arith, s c .pre .0 .few, c .before .before .loop-test .taken)
+mul-wider-2 : tie.Need-mul-wider-2 Inv-loop μ-loop
+mul-wider-2 c = omega (arith, s c .pre .0 .few, c .before .before .loop-test .taken)
 
-element-copy-out-put-record : tie.Need-element-copy-out-put-record Inv-loop μ-loop
-element-copy-out-put-record c = omega (arith, s c .pre .0 .few, c .before .before .loop-test .taken)
+element-copy-out-wider-2 : tie.Need-element-copy-out-wider-2 Inv-loop μ-loop
+element-copy-out-wider-2 c = omega (arith, s c .pre .0 .few, c .before .before .loop-test .taken)
+
+wider-requires-2 : tie.Need-wider-requires-2 Inv-loop μ-loop
+wider-requires-2 c κs = search needs
+
+-- where the signal is declared
+stands : (d : tie.After-wider2 Inv-loop μ-loop) →
+    let w = d .before .before in
+    nth (g (s w)) (x w) .place ≡ d .wider2 .result
+stands d =
+    let w = d .before .before in
+    s w .pre .0 .stands (x w) (w .before .before .loop-test .taken) ∙ sym (d .wider2 .ensures .0)
 
 add-put-record : tie.Need-add-put-record Inv-loop μ-loop
 add-put-record c =
-    let w = c .before in
+    let w = c .before .before in
     omega (arith, starts-at w, code-start (s w .args .start) (g (s w)) (x w) (within w), s w .pre .2, s w .good .0 .1)
 
 put-record-requires : tie.Need-put-record-requires Inv-loop μ-loop
 put-record-requires c κs =
-    let w = c .before .before in
+    let w = c .before .before .before in
     let b = s w in
     let l = w .before .before .before .loop in
+    let lt = w .before .before .loop-test .taken in
     let d = b .pre .0 in (
-      omega (arith, initial-word (b .args .text .now) (nth (g b) (l .x)) (d .spelled (l .x) (omega arith)) .1, d .stands (l .x) (omega arith)),
-      omega (arith, record-length (nth (g b) (l .x) .initial) (getD (at b) (l .x) 0), room (records-next (g b) (at b) (l .x) (omega (arith, d .count-is)) (omega (arith, many b, d .count-is))) (l .inv .1) (b .pre .3)),
+      omega (arith, initial-word (b .args .text .now) (nth (g b) (l .x)) (d .spelled (l .x) lt) .1, stands (c .before)),
+      omega (
+        arith,
+        record-length (nth (g b) (l .x) .initial) (getD (at b) (l .x) 0),
+        room (records-next (g b) (at b) (l .x) (omega (arith, d .count-is)) (omega (arith, many b, d .count-is)))
+            (l .inv .1) (b .pre .3),
+      ),
     )
 
 add-x : tie.Need-add-x Inv-loop μ-loop
 add-x c =
-    let w = c .before .before .before .before .before in
+    let w = c .before .before .before .before .before .before in
     omega (arith, s w .pre .0 .few, w .before .before .loop-test .taken)
 
 loop-less : tie.Need-loop-less Inv-loop μ-loop
-loop-less c = omega (arith, c .before .before .before .before .before .before .before .loop-test .taken)
+loop-less c = omega (arith, c .before .before .before .before .before .before .before .before .loop-test .taken)
 
 loop-again : tie.Need-loop-again Inv-loop μ-loop
 loop-again c =
-    let w = c .before .before .before .before .before in
+    let r = c .before .before .before .before in
+    let w = r .before .before in
     let b = s w in
     let l = w .before .before .before .loop in
     let lt = w .before .before .loop-test .taken in
     let d = b .pre .0 in (
       omega arith,
-      turn (records-at (g b) (at b) (b .args .text .now) (l .x) _ (omega (arith, d .count-is)) (omega (arith, many b, d .count-is)) (d .stands (l .x) lt) (d .spelled (l .x) lt)) (l .inv .1)
-          (rw (starts-at w) at (c .before .before .put-record .ensures)),
+      turn
+          (records-at (g b) (at b) (b .args .text .now) (l .x) _ (omega (arith, d .count-is)) (omega (arith, many b, d .count-is))
+          (stands r) (d .spelled (l .x) lt))
+          (l .inv .1) (rw (starts-at w) at (c .before .before .put-record .ensures)),
     )
 
 same-length : tie.Need-same-length Inv-loop μ-loop
@@ -119,8 +150,9 @@ emit-records-spec =
     mul-wider
     element-copy-out-wider
     wider-requires
-    mul-put-record
-    element-copy-out-put-record
+    mul-wider-2
+    element-copy-out-wider-2
+    wider-requires-2
     add-put-record
     put-record-requires
     add-x

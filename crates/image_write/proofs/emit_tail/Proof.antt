@@ -6,7 +6,7 @@ use lib.ListN.{length}
 use Rattle.model.specs.Rules.Word.{twoBytes}
 use Rattle.image_write.specs.Tail.{entryBy, tailBy}
 use Rattle.image_write.proofs.Joined.{joinedFrom, joined-starts, joined-step, joined-ends}
-use Rattle.model.proofs.Left.{Left, starts, room, turn, done}
+use Rattle.model.proofs.Basics.Left.{Left, starts, room, turn, done}
 use Rattle.image_write.proofs.emit_tail.Statement.{statement}
 use Rattle.image_write.proofs.emit_tail.Tie as tie
 

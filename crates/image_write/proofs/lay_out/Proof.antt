@@ -34,11 +34,19 @@ lists-length-requires c κs =
     (timed (r .prepared), phased (r .prepared), r .hyper)
 
 -- where the code starts
-start-most : (c : tie.After-lists-length) → 4 + 6 * c .before .before .args .tables .signals + 2 * (c .before .before .args .h + 1) + c .lists-length .result < 65536
+start-most : (c : tie.After-lists-length) →
+    4 + 6 * c .before .before .args .tables .signals + 2 * (c .before .before .args .h + 1) + c .lists-length .result < 65536
 start-most c =
     let s = c .before .before in
     let b = few s in
-    omega (arith, c .lists-length .ensures, b .0, b .1, lists-most (s .args .periods .now) (s .args .order .now) (s .args .phases .now) (s .args .tables .signals) (s .args .h) (b .0))
+    omega (
+      arith,
+      c .lists-length .ensures,
+      b .0,
+      b .1,
+      lists-most (s .args .periods .now) (s .args .order .now) (s .args .phases .now) (s .args .tables .signals) (s .args .h)
+          (b .0),
+    )
 
 add-code : tie.Need-add-code
 add-code c = omega (arith, start-most c)

@@ -40,12 +40,24 @@ next : (c : tie.After-run-count Inv-loop μ-loop) → let a = c .before .before 
 next c =
     let s = c .before .before .before .before in
     let l = c .before .before .before .loop in
-    omega (arith, l .inv .1, c .run-count .ensures, length-step (s .args .periods .now) (s .args .order .now) (s .args .phases .now) (s .args .n) (s .args .h) (l .i) (omega arith) (s .pre .1 (l .i) (omega arith)))
+    omega (
+      arith,
+      l .inv .1,
+      c .run-count .ensures,
+      length-step (s .args .periods .now) (s .args .order .now) (s .args .phases .now) (s .args .n) (s .args .h) (l .i)
+          (omega arith) (s .pre .1 (l .i) (omega arith)),
+    )
 
 add-total : tie.Need-add-total Inv-loop μ-loop
 add-total c =
     let s = c .before .before .before .before in
-    omega (arith, next c, lists-most (s .args .periods .now) (s .args .order .now) (s .args .phases .now) (s .args .n) (s .args .h) (s .pre .0 .few), s .pre .2)
+    omega (
+      arith,
+      next c,
+      lists-most (s .args .periods .now) (s .args .order .now) (s .args .phases .now) (s .args .n)
+          (s .args .h) (s .pre .0 .few),
+      s .pre .2,
+    )
 
 add-i : tie.Need-add-i Inv-loop μ-loop
 add-i c = omega (arith, c .before .before .before .before .pre .0 .few)
@@ -59,7 +71,11 @@ loop-again c = (omega arith, next c)
 returns : tie.Need-returns Inv-loop μ-loop
 returns c =
     let a = c .before .before .args in
-    omega (arith, c .before .loop .inv .1, length-ends (a .periods .now) (a .order .now) (a .phases .now) (a .n) (a .h) (c .before .loop .i) (omega arith))
+    omega (
+      arith,
+      c .before .loop .inv .1,
+      length-ends (a .periods .now) (a .order .now) (a .phases .now) (a .n) (a .h) (c .before .loop .i) (omega arith),
+    )
 
 pub lists-length-spec : {M : Type 1} → statement M
 lists-length-spec =

@@ -7,7 +7,7 @@ use native.Mathlib.Omega.{arith}
 use lib.ListN.{length, set, length-set}
 use Rattle.model.specs.Rules.Word.{twoBytes}
 use Rattle.model.specs.Rules.Writing.{Wrote}
-use Rattle.model.proofs.Left.{after, wrote-size}
+use Rattle.model.proofs.Basics.Left.{after, wrote-size}
 use borrow.Author.Needs.{needs}
 use Rattle.image_write.proofs.put_entry.Statement.{statement}
 use Rattle.image_write.proofs.put_entry.Tie as tie

@@ -2,7 +2,7 @@
 use native.Mathlib.Omega.{arith}
 use mathlib.Core.Path.{_∙_}
 use lib.ListN.{length-set}
-use Rattle.model.proofs.Left.{wrote-size}
+use Rattle.model.proofs.Basics.Left.{wrote-size}
 use borrow.Author.Needs.{needs}
 use Rattle.image_write.proofs.put_head.Statement.{statement}
 use Rattle.image_write.proofs.put_head.Tie as tie
@@ -27,7 +27,9 @@ same-length c = wrote-size (c .before .before .put-offset .ensures) ∙ simp len
 
 returns : tie.Need-returns
 returns c =
-    let p = rw (c .before .before .before .before .before .narrow .ensures, c .before .before .before .before .narrow2 .ensures) at (c .before .before .put-offset .ensures) in
+    let c4 = c .before .before .before .before in
+    let c5 = c4 .before in
+    let p = rw (c5 .narrow .ensures, c4 .narrow2 .ensures) at (c .before .before .put-offset .ensures) in
     record { holds = p .holds; ends = omega (arith, p .ends) }
 
 pub put-head-spec : {M : Type 1} → statement M

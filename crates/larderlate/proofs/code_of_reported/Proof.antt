@@ -19,7 +19,8 @@ returns : tie.Need-returns
 returns c = search needs
 
 returns-2 : tie.Need-returns-2
-returns-2 c = c .code-of-fault .ensures ∙ ap (λ x. codeNumber (lengthIn (reportedOf x))) (sym (c .before .before .reported2 .given .1))
+returns-2 c = c .code-of-fault .ensures ∙
+    ap (λ x. codeNumber (lengthIn (reportedOf x))) (sym (c .before .before .reported2 .given .1))
 
 pub code-of-reported-spec : {M : Type 1} → statement M
 code-of-reported-spec =

@@ -1,7 +1,7 @@
 -- `latency_rule::cycle_of` meets its contract. Assumes nothing.
 use Prim.Native.Nat.{_*_, _≤_}
 use native.Mathlib.Omega.{arith}
-use Rattle.latency_rule.proofs.Laws.{times-byte}
+use Rattle.latency_rule.proofs.Hops.{times-byte}
 use borrow.Author.Needs.{needs}
 use Rattle.latency_rule.proofs.cycle_of.Statement.{statement}
 use Rattle.latency_rule.proofs.cycle_of.Tie as tie

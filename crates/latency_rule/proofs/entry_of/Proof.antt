@@ -2,7 +2,7 @@
 use native.Mathlib.Omega.{arith}
 use native.Mathlib.Numerals.{add-one}
 use Rattle.latency_rule.specs.Back.{entryBy}
-use Rattle.latency_rule.proofs.Laws.{times-byte}
+use Rattle.latency_rule.proofs.Hops.{times-byte}
 use borrow.Author.Needs.{needs}
 use Rattle.latency_rule.proofs.entry_of.Statement.{statement}
 use Rattle.latency_rule.proofs.entry_of.Tie as tie
@@ -26,22 +26,27 @@ enum-told-3 : tie.Need-enum-told-3
 enum-told-3 c = search needs
 
 mul-result : tie.Need-mul-result
-mul-result c = let b = c .before .before .before .before in omega (arith, times-byte (b .args .k) (b .args .hop .factor) (b .pre .0) (omega arith))
+mul-result c = let b = c .before .before .before .before in
+    omega (arith, times-byte (b .args .k) (b .args .hop .factor) (b .pre .0) (omega arith))
 
 add-result-2 : tie.Need-add-result-2
-add-result-2 c = let b = c .before .before .before .before in omega (arith, times-byte (b .args .k) (b .args .hop .factor) (b .pre .0) (omega arith))
+add-result-2 c = let b = c .before .before .before .before in
+    omega (arith, times-byte (b .args .k) (b .args .hop .factor) (b .pre .0) (omega arith))
 
 add-result-3 : tie.Need-add-result-3
-add-result-3 c = let b = c .before .before .before .before in omega (arith, times-byte (b .args .k) (b .args .hop .factor) (b .pre .0) (omega arith))
+add-result-3 c = let b = c .before .before .before .before in
+    omega (arith, times-byte (b .args .k) (b .args .hop .factor) (b .pre .0) (omega arith))
 
 enum-told-4 : tie.Need-enum-told-4
 enum-told-4 c = search needs
 
 mul-result-2 : tie.Need-mul-result-2
-mul-result-2 c = let b = c .before .before .before .before in omega (arith, times-byte (b .args .k) (b .args .hop .factor) (b .pre .0) (omega arith))
+mul-result-2 c = let b = c .before .before .before .before in
+    omega (arith, times-byte (b .args .k) (b .args .hop .factor) (b .pre .0) (omega arith))
 
 add-result-4 : tie.Need-add-result-4
-add-result-4 c = let b = c .before .before .before .before in omega (arith, times-byte (b .args .k) (b .args .hop .factor) (b .pre .0) (omega arith))
+add-result-4 c = let b = c .before .before .before .before in
+    omega (arith, times-byte (b .args .k) (b .args .hop .factor) (b .pre .0) (omega arith))
 
 enum-told-5 : tie.Need-enum-told-5
 enum-told-5 c = search needs

@@ -9,9 +9,9 @@ use lib.ListN.{length, set, length-set}
 use Rattle.model.specs.Rules.Machine.{countOf}
 use Rattle.model.specs.Rules.Word.{wordAt}
 use mathlib.Core.List.{List}
-use Rattle.word.proofs.Laws.{kept}
+use Rattle.word.proofs.Locals.{kept}
 use Rattle.image_valid.proofs.Parts.{Head, head, formed}
-use Rattle.machine.proofs.Laws.{begun, begun-none, begun-more, begun-all}
+use Rattle.machine.proofs.Lists.{begun, begun-none, begun-more, begun-all}
 use Rattle.machine.proofs.initial_words.Statement.{statement}
 use Rattle.machine.proofs.initial_words.Tie as tie
 use mathlib.Core.List.{List}
@@ -35,7 +35,8 @@ slice-set-of-state : tie.Need-slice-set-of-state Inv-loop μ-loop
 slice-set-of-state c = omega arith
 
 loop-holds : tie.Need-loop-holds Inv-loop μ-loop
-loop-holds c = let s = c .before in (begun-none (s .args .image .now) (s .args .state .now) (omega (arith, s .pre .2)), refl, omega arith)
+loop-holds c = let s = c .before in
+    (begun-none (s .args .image .now) (s .args .state .now) (omega (arith, s .pre .2)), refl, omega arith)
 
 mul-word-at : tie.Need-mul-word-at Inv-loop μ-loop
 mul-word-at c = omega (arith, top (start (c .before)) .signals)
@@ -64,9 +65,12 @@ loop-again c =
     let s = start l in
     let image = s .args .image .now in
     let x = l .loop .x in
-    let word : toZ w32 (ofZ w32 (c .word-at .result)) ≡ wordAt image (4 + 6 * x) = kept _ (c .word-at .ok) ∙ c .word-at .ensures in
-    let room : x + 1 < length (set (s .args .state .now) 0 (pos 0)) = omega (arith, length-set (s .args .state .now) 0 (pos 0), s .pre .2) in (
-      ap₂ (λ (t : List ℤ) (w : ℤ). set t (x + 1) w) (l .loop .inv .0) word ∙ begun-more image x (set (s .args .state .now) 0 (pos 0)) room,
+    let word : toZ w32 (ofZ w32 (c .word-at .result)) ≡ wordAt image (4 + 6 * x) = kept _ (c .word-at .ok) ∙
+    c .word-at .ensures in
+    let room : x + 1 < length (set (s .args .state .now) 0 (pos 0)) =
+    omega (arith, length-set (s .args .state .now) 0 (pos 0), s .pre .2) in (
+      ap₂ (λ (t : List ℤ) (w : ℤ). set t (x + 1) w) (l .loop .inv .0) word ∙
+          begun-more image x (set (s .args .state .now) 0 (pos 0)) room,
       length-set (l .loop .state) (x + 1) (toZ w32 (ofZ w32 (c .word-at .result))) ∙ l .loop .inv .1,
       omega arith,
     )
@@ -80,7 +84,8 @@ returns c =
     let s = start l in
     let image = s .args .image .now in
     let e : l .loop .x ≡ countOf image = omega (arith, s .pre .1) in
-    l .loop .inv .0 ∙ ap (λ (k : ℕ). begun image k (set (s .args .state .now) 0 (pos 0))) e ∙ begun-all image (s .args .state .now)
+    l .loop .inv .0 ∙ ap (λ (k : ℕ). begun image k (set (s .args .state .now) 0 (pos 0))) e ∙
+    begun-all image (s .args .state .now)
 
 pub initial-words-spec : {M : Type 1} → statement M
 initial-words-spec =

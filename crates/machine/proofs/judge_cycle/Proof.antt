@@ -11,7 +11,7 @@ use lib.ListN.{length, getD}
 use Rattle.model.specs.Rules.Machine.{hyperOf, countOf, wellFormed, isPosition, positionOf}
 use Rattle.image_valid.specs.Lends.{Lends}
 use Rattle.image_valid.proofs.Parts.{head, formed}
-use Rattle.machine.proofs.Laws.{Position, position, no-position}
+use Rattle.machine.proofs.Lists.{Position, position, no-position}
 use Rattle.machine.specs.Runnable.{JudgesCycle}
 use Rattle.machine.proofs.Answers.{cycle-image, cycle-state, cycle-position, cycle-samples}
 use borrow.Author.Needs.{needs}

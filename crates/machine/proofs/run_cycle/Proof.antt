@@ -9,11 +9,21 @@ use lib.IntN.{ℤ, pos, natAbs}
 use lib.ListN.{length, getD, set}
 use mir.Syntax.{w32}
 use mir.Val.{toZ, ofZ}
-use Rattle.model.specs.Rules.Machine.{hyperOf, countOf, listOf, runSignals, countSignals, positionOf, nextPosition, cycleWords, cycleCount}
-use Rattle.model.proofs.Counts.{image-short, lists-inside}
-use Rattle.word.proofs.Laws.{kept}
+use Rattle.model.specs.Rules.Machine.{
+  hyperOf,
+  countOf,
+  listOf,
+  runSignals,
+  countSignals,
+  positionOf,
+  nextPosition,
+  cycleWords,
+  cycleCount,
+}
+use Rattle.model.proofs.Images.Counts.{image-short, lists-inside}
+use Rattle.word.proofs.Locals.{kept}
 use Rattle.image_valid.proofs.Parts.{head, lists, entries, formed}
-use Rattle.machine.proofs.Laws.{Position, stands-at}
+use Rattle.machine.proofs.Lists.{Position, stands-at}
 use Rattle.machine.proofs.run_cycle.Statement.{statement}
 use Rattle.machine.proofs.run_cycle.Tie as tie
 

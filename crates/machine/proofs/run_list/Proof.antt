@@ -18,7 +18,8 @@ listed : (s : tie.Start) → Lists (s .args .image .now)
 listed s = lists _ (formed _ (s .pre .0) .listed)
 
 rises : (o : tie.After-list-offset2) → o .before .list-offset .result ≤ o .list-offset2 .result
-rises o = let s = start o in rw (o .before .list-offset .ensures, o .list-offset2 .ensures) (listed s .rising (s .args .c) (s .pre .1))
+rises o = let s = start o in rw (o .before .list-offset .ensures, o .list-offset2 .ensures)
+    (listed s .rising (s .args .c) (s .pre .1))
 
 shared-slice-read-wide : tie.Need-shared-slice-read-wide
 shared-slice-read-wide c = omega (arith, top (c .before .before) .four)
@@ -27,13 +28,15 @@ wide-requires : tie.Need-wide-requires
 wide-requires c κs = search needs
 
 list-offset-requires : tie.Need-list-offset-requires
-list-offset-requires c κs = let s = c .before .before .before in (formed _ (s .pre .0) .good, c .wide .ensures .0, omega (arith, s .pre .1))
+list-offset-requires c κs = let s = c .before .before .before in
+    (formed _ (s .pre .0) .good, c .wide .ensures .0, omega (arith, s .pre .1))
 
 add-list-offset : tie.Need-add-list-offset
 add-list-offset c = let s = c .before .before .before .before in omega (arith, s .pre .1, top s .hyper)
 
 list-offset-requires-2 : tie.Need-list-offset-requires-2
-list-offset-requires-2 c κs = let s = c .before .before .before .before in (formed _ (s .pre .0) .good, c .before .wide .ensures .0, omega (arith, s .pre .1))
+list-offset-requires-2 c κs = let s = c .before .before .before .before in
+    (formed _ (s .pre .0) .good, c .before .wide .ensures .0, omega (arith, s .pre .1))
 
 sub-result : tie.Need-sub-result
 sub-result c = rises c
@@ -42,7 +45,8 @@ part-result-start : tie.Need-part-result-start
 part-result-start c = rises c
 
 part-result-end : tie.Need-part-result-end
-part-result-end c = let s = start c in rw (c .list-offset2 .ensures) (inside _ (listed s) (s .args .c + 1) (omega (arith, s .pre .1)))
+part-result-end c = let s = start c in
+    rw (c .list-offset2 .ensures) (inside _ (listed s) (s .args .c + 1) (omega (arith, s .pre .1)))
 
 returns : tie.Need-returns
 unfolding listOf

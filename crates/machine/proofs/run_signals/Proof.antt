@@ -9,18 +9,30 @@ use lib.IntN.{ℤ}
 use lib.ListN.{length, take, drop, set, length-set, length-take, length-drop}
 use mir.Syntax.{w32}
 use mir.Val.{toZ, ofZ}
-use Rattle.model.specs.Rules.Machine.{stretch, countOf, codeOffset, headOk, codeOf, codeOk, runCode, runSignals, countCode, countSignals}
+use Rattle.model.specs.Rules.Machine.{
+  stretch,
+  countOf,
+  codeOffset,
+  headOk,
+  codeOf,
+  codeOk,
+  runCode,
+  runSignals,
+  countCode,
+  countSignals,
+}
 use Rattle.model.specs.Rules.Word.{byteAt}
-use Rattle.model.proofs.Counts.{signals-fit}
-use Rattle.word.proofs.Laws.{kept}
+use Rattle.model.proofs.Images.Counts.{signals-fit}
+use Rattle.word.proofs.Locals.{kept}
 use Rattle.image_valid.proofs.Parts.{CodePart, codes, formed}
-use Rattle.machine.proofs.Laws.{signals-next, signals-done, counts-next, counts-done}
+use Rattle.machine.proofs.Lists.{signals-next, signals-done, counts-next, counts-done}
 use Rattle.machine.proofs.run_signals.Statement.{statement}
 use Rattle.machine.proofs.run_signals.Tie as tie
 
 abbrev Inv-loop : tie.InvT-loop
 Inv-loop list image n state₀ samples count total₀ i₀ state total i =
-    (runSignals image (drop i list) samples state ≡ runSignals image list samples state₀) × (length state ≡ length state₀) × (i ≤ length list)
+    (runSignals image (drop i list) samples state ≡ runSignals image list samples state₀) × (length state ≡ length state₀) ×
+    (i ≤ length list)
     × (total + countSignals image (drop i list) ≡ countSignals image list)
 
 abbrev μ-loop : tie.MeasureT-loop
@@ -49,17 +61,28 @@ record Part (image : List ℕ) (n x from to : ℕ) : Type 0 where
   part : stretch image from to ≡ codeOf image x
   short : length (stretch image from to) ≤ length image
 
-part : (image : List ℕ) (n x from to : ℕ) → CodePart image x → n ≡ countOf image → from ≡ codeOffset image x → to ≡ codeOffset image (x + 1) → Part image n x from to
+part : (image : List ℕ) (n x from to : ℕ) → CodePart image x → n ≡ countOf image → from ≡ codeOffset image x →
+    to ≡ codeOffset image (x + 1) → Part image n x from to
 unfolding codeOf
-part image n x from to p e f t = record { ordered = rw (f, t) (p .ordered); within = rw t (p .within); formed = rw (e, f, t) (p .formed); part = rw (f, t); short = simp (length-take, length-drop) (omega arith) }
+part image n x from to p e f t =
+    record {
+      ordered = rw (f, t) (p .ordered);
+      within = rw t (p .within);
+      formed = rw (e, f, t) (p .formed);
+      part =
+          rw (f, t);
+      short = simp (length-take, length-drop) (omega arith);
+    }
 
 this : (o : tie.After-code-offset2 Inv-loop μ-loop)
-    → Part (start (turn o) .args .image .now) (start (turn o) .args .n) (signal o) (o .before .code-offset .result) (o .code-offset2 .result)
+    → Part (start (turn o) .args .image .now) (start (turn o) .args .n) (signal o) (o .before .code-offset .result)
+    (o .code-offset2 .result)
 this o =
     let s = start (turn o) in
     let image = s .args .image .now in
     let own = o .before .before .wide2 .ensures .0 in
-    part _ _ _ _ _ (codes image (formed image (s .pre .0 .0) .coded) (signal o) (rw (← (s .pre .0 .1)) (s .pre .1 .0 (turn o .loop .i) (taken o)))) (s .pre .0 .1)
+    part _ _ _ _ _ (codes image (formed image (s .pre .0 .0) .coded) (signal o)
+    (rw (← (s .pre .0 .1)) (s .pre .1 .0 (turn o .loop .i) (taken o)))) (s .pre .0 .1)
     (o .before .code-offset .ensures ∙ ap (codeOffset image) own)
     (o .code-offset2 .ensures ∙ ap (λ (k : ℕ). codeOffset image (k + 1)) own)
 
@@ -76,13 +99,15 @@ wide-requires-2 : tie.Need-wide-requires-2 Inv-loop μ-loop
 wide-requires-2 c κs = search needs
 
 code-offset-requires : tie.Need-code-offset-requires Inv-loop μ-loop
-code-offset-requires c κs = let l = c .before .before .before in let s = start l in (good s, l .before .wide .ensures .0 ∙ s .pre .0 .1)
+code-offset-requires c κs = let l = c .before .before .before in let s = start l in
+    (good s, l .before .wide .ensures .0 ∙ s .pre .0 .1)
 
 add-code-offset : tie.Need-add-code-offset Inv-loop μ-loop
 add-code-offset c = omega (arith, c .before .wide2 .ensures .1)
 
 code-offset-requires-2 : tie.Need-code-offset-requires-2 Inv-loop μ-loop
-code-offset-requires-2 c κs = let l = c .before .before .before .before in let s = start l in (good s, l .before .wide .ensures .0 ∙ s .pre .0 .1)
+code-offset-requires-2 c κs = let l = c .before .before .before .before in let s = start l in
+    (good s, l .before .wide .ensures .0 ∙ s .pre .0 .1)
 
 sub-run-code : tie.Need-sub-run-code Inv-loop μ-loop
 sub-run-code c = this c .ordered
@@ -97,8 +122,13 @@ run-code-requires : tie.Need-run-code-requires Inv-loop μ-loop
 run-code-requires c κs =
     let o = c .before .before in
     let l = turn o in
-    let s = start l in
-    (this o .formed, omega (arith, l .loop .inv .1, s .pre .1 .1 .0), s .pre .1 .1 .1, s .pre .1 .0 (l .loop .i) (taken o), omega (arith, this o .short, s .pre .1 .1 .2))
+    let s = start l in (
+      this o .formed,
+      omega (arith, l .loop .inv .1, s .pre .1 .1 .0),
+      s .pre .1 .1 .1,
+      s .pre .1 .0 (l .loop .i) (taken o),
+      omega (arith, this o .short, s .pre .1 .1 .2),
+    )
 
 add-w : tie.Need-add-w Inv-loop μ-loop
 add-w c = let o = c .before .before .before .before in omega (arith, o .before .before .wide2 .ensures .1)
@@ -119,11 +149,17 @@ counted : (r : tie.After-run-code Inv-loop μ-loop) → let o = r .before .befor
 counted r = r .run-code .ensures .1 ∙ ap countCode (this (r .before .before .before) .part)
 
 counts : (r : tie.After-run-code Inv-loop μ-loop) → let l = turn (r .before .before .before) in let a = start l .args in
-    l .loop .total + r .run-code .result .count + countSignals (a .image .now) (drop (l .loop .i + 1) (a .list .now)) ≡ countSignals (a .image .now) (a .list .now)
+    l .loop .total + r .run-code .result .count + countSignals (a .image .now) (drop (l .loop .i + 1) (a .list .now)) ≡
+    countSignals (a .image .now) (a .list .now)
 counts r =
     let o = r .before .before .before in
     let l = turn o in
-    omega (arith, counted r, counts-next (start l .args .image .now) (start l .args .list .now) (l .loop .i) (taken o), l .loop .inv .3)
+    omega (
+      arith,
+      counted r,
+      counts-next (start l .args .image .now) (start l .args .list .now) (l .loop .i) (taken o),
+      l .loop .inv .3,
+    )
 
 add-total : tie.Need-add-total Inv-loop μ-loop
 add-total c =
@@ -143,11 +179,15 @@ loop-again c =
     let o = r .before .before .before in
     let l = turn o in
     let a = start l .args in
-    let word : toZ w32 (ofZ w32 (r .run-code .result .word)) ≡ runCode (codeOf (a .image .now) (signal o)) (l .loop .state) (a .samples .now) =
-    kept (r .run-code .result .word) (c .before .struct-told .given .0 .1) ∙ r .run-code .ensures .0 ∙ ap (λ (x : List ℕ). runCode x (l .loop .state) (a .samples .now)) (this o .part) in (
-      ap₂ (λ (k : ℕ) (w : ℤ). runSignals (a .image .now) (drop (l .loop .i + 1) (a .list .now)) (a .samples .now) (set (l .loop .state) (k + 1) w))
+    let word : toZ w32 (ofZ w32 (r .run-code .result .word)) ≡ runCode (codeOf (a .image .now) (signal o)) (l .loop .state)
+    (a .samples .now) =
+    kept (r .run-code .result .word) (c .before .struct-told .given .0 .1) ∙ r .run-code .ensures .0 ∙
+    ap (λ (x : List ℕ). runCode x (l .loop .state) (a .samples .now)) (this o .part) in (
+      ap₂ (λ (k : ℕ) (w : ℤ). runSignals (a .image .now) (drop (l .loop .i + 1) (a .list .now)) (a .samples .now)
+          (set (l .loop .state) (k + 1) w))
           (o .before .before .wide2 .ensures .0) word
-          ∙ sym (signals-next (a .image .now) (a .list .now) (l .loop .i) (a .samples .now) (l .loop .state) (taken o)) ∙ l .loop .inv .0,
+          ∙ sym (signals-next (a .image .now) (a .list .now) (l .loop .i) (a .samples .now) (l .loop .state) (taken o)) ∙
+          l .loop .inv .0,
       simp length-set (l .loop .inv .1),
       omega arith,
       counts r,
@@ -161,7 +201,8 @@ returns c =
     let l = c .before in
     let a = start l .args in (
       omega (arith, counts-done (a .image .now) (a .list .now) (l .loop .i) (c .loop-test .left), l .loop .inv .3),
-      sym (signals-done (a .image .now) (a .list .now) (l .loop .i) (a .samples .now) (l .loop .state) (c .loop-test .left)) ∙ l .loop .inv .0,
+      sym (signals-done (a .image .now) (a .list .now) (l .loop .i) (a .samples .now) (l .loop .state) (c .loop-test .left)) ∙
+          l .loop .inv .0,
     )
 
 pub run-signals-spec : {M : Type 1} → statement M

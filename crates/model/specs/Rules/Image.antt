@@ -12,7 +12,7 @@ use Rattle.model.specs.Rules.Program.{
   constant,
   read,
   binary,
-  negate,
+  unary,
   choose,
   count,
   signalAt,
@@ -23,6 +23,8 @@ use Rattle.model.specs.Rules.Search.{chosen, table, joinFrom}
 use Rattle.model.specs.Rules.Word.{twoBytes, wordBytes}
 use Rattle.model.specs.declared.Binary.{Binary}
 use Rattle.model.specs.declared.Binary.the-variants.{Add, Sub, Mul, Less, Same, Min, Max}
+use Rattle.model.specs.declared.Unary.{Unary}
+use Rattle.model.specs.declared.Unary.the-variants.{Negate}
 
 -- Operators as in the text.
 abbrev pub binaryByte : Binary → ℕ
@@ -34,12 +36,15 @@ binaryByte Same = 0x34
 binaryByte Min = 0x35
 binaryByte Max = 0x36
 
+abbrev pub unaryByte : Unary → ℕ
+unaryByte Negate = 0x38
+
 -- The code of an expression: operands first, operator after. 50 PUSH word, 51 LOAD s for every read.
 unfoldable pub exprCode : Expr → List ℕ
 exprCode (constant w) = 0x50 ∷ wordBytes w
 exprCode (read ρ) = 0x51 ∷ ρ .operands .signal ∷ []
 exprCode (binary operator x y) = exprCode x ++ (exprCode y ++ (binaryByte operator ∷ []))
-exprCode (negate x) = exprCode x ++ (0x38 ∷ [])
+exprCode (unary operator x) = exprCode x ++ (unaryByte operator ∷ [])
 exprCode (choose x y z) = exprCode x ++ (exprCode y ++ (exprCode z ++ (0x3A ∷ [])))
 
 -- The code of signal x: 52 FETCH x for an input; last 5F STORE x.

@@ -1,12 +1,11 @@
 -- Latency (16): how old the first link's element is at a run of the last.
-use Prim.Native.Nat.{ℕ, zero, suc, _+_, _*_, _-_, _/_, _≤_}
+use Prim.Native.Nat.{ℕ, zero, suc, _+_, _*_, _-_, _/_}
 use mathlib.Core.Bool.{Bool, true, false, cond, not}
 use mathlib.Core.List.{List, [], _∷_, map, reverse}
-use mathlib.Core.Path.{_≡_}
 use lib.Dec.{leb, ltb, eqb}
 use lib.ListN.{length}
 use Rattle.model.specs.Rules.Outcome.{Outcome, fault, lowest}
-use Rattle.model.specs.Rules.Program.{Program, Chain, Link, Read, signalAt, bodyReads}
+use Rattle.model.specs.Rules.Program.{Program, Chain, Read, signalAt, bodyReads}
 use Rattle.model.specs.Rules.Reads.{Rate, rateOf, runCycle, uses, settled}
 use Rattle.model.specs.Rules.Schedule.{Schedule}
 use Rattle.model.specs.Rules.Search.{first, isFound, allBelow, joinFrom}
@@ -21,14 +20,14 @@ abbrev pub noRead : Read
 noRead = record { place = 0; kind = Now; operands = record { signal = 0; factor = 1; index = Fixed 0 } }
 
 -- The read of w among the reads of an equation.
-unfoldable pub readOf : ℕ → List Read → Read
-readOf w [] = noRead
-readOf w (ρ ∷ ρs) = cond (eqb (ρ .operands .signal) w) ρ (readOf w ρs)
+unfoldable pub readAmong : ℕ → List Read → Read
+readAmong w [] = noRead
+readAmong w (ρ ∷ ρs) = cond (eqb (ρ .operands .signal) w) ρ (readAmong w ρs)
 
 -- The reads by which one goes back from r through the links before it, the nearest first.
 unfoldable pub readsBack : Program → ℕ → List ℕ → List Read
 readsBack p r [] = []
-readsBack p r (w ∷ ws) = readOf w (bodyReads (signalAt p r .body)) ∷ readsBack p w ws
+readsBack p r (w ∷ ws) = readAmong w (bodyReads (signalAt p r .body)) ∷ readsBack p w ws
 
 -- A chain's signals from the last link to the first.
 abbrev pub backwards : Chain → List ℕ
@@ -68,11 +67,6 @@ module _ (p : Program) (s : Schedule) where
   -- The latency of run k of r over these reads, if the run counts.
   unfoldable pub runLatency : ℕ → List Read → ℕ → Found
   runLatency r ρs k = latencyFrom r k (source r ρs) (back r k ρs)
-
-  -- Backward: every counted run is within the bound. Exists: one is.
-  abbrev pub Timely : Mode → ℕ → List Read → ℕ → Type 0
-  Timely Backward r ρs bound = (k l : ℕ) → runLatency r ρs k ≡ At l → l ≤ bound
-  Timely Exists r ρs bound = (k l : ℕ) × (runLatency r ρs k ≡ At l) × (l ≤ bound)
 
   abbrev pub isLate : ℕ → Found → Bool
   isLate bound (At l) = ltb bound l

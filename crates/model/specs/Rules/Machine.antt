@@ -10,7 +10,7 @@ use Rattle.model.specs.Rules.Image.{recordAt, offsetsAt, listsAt, withTa
 use Rattle.model.specs.Rules.Outcome.{Outcome, accepted, refused, _▷_, provided}
 use Rattle.model.specs.Rules.Search.{allBelow, table}
 use Rattle.model.specs.Rules.Width.{inCode}
-use Rattle.model.specs.Rules.Word.{byteAt, twoAt, wordAt, binaryWord, negWord, ifWord}
+use Rattle.model.specs.Rules.Word.{byteAt, twoAt, wordAt, binaryWord, unaryWord, ifWord}
 use Rattle.model.specs.declared.Binary.the-variants as Binary
 use Rattle.model.specs.declared.Code.{Code}
 use Rattle.model.specs.declared.Code.the-variants as Code
@@ -18,6 +18,7 @@ use Rattle.model.specs.declared.Cycled.{Cycled}
 use Rattle.model.specs.declared.Cycled.the-variants as Cycled
 use Rattle.model.specs.declared.Ran.{Ran}
 use Rattle.model.specs.declared.Ran.the-variants as Ran
+use Rattle.model.specs.declared.Unary.the-variants.{Negate}
 
 -- The operators, by their bytes.
 unfoldable pub operatorCode : ℕ → Code
@@ -29,7 +30,7 @@ operatorCode b =
     (cond (eqb b 0x34) (Code.Binary Binary.Same)
     (cond (eqb b 0x35) (Code.Binary Binary.Min)
     (cond (eqb b 0x36) (Code.Binary Binary.Max)
-    (cond (eqb b 0x38) Code.Negate
+    (cond (eqb b 0x38) (Code.Unary Negate)
     (cond (eqb b 0x3A) Code.If Code.Unknown))))))))
 
 abbrev pub wholeCode : List ℕ → ℕ → ℕ → Code → Code
@@ -85,7 +86,7 @@ commandOk next size n own at height (Code.Load x) = ltb x n && ltb height 32 && 
 commandOk next size n own at height (Code.Fetch x) = eqb x own && ltb height 32 && next (at + inCode 0x52) (height + 1)
 commandOk next size n own at height (Code.Store x) = eqb x own && eqb height 1 && eqb (at + inCode 0x5F) size
 commandOk next size n own at height (Code.Binary operator) = leb 2 height && next (at + inCode 0x30) (height - 1)
-commandOk next size n own at height Code.Negate = leb 1 height && next (at + inCode 0x38) height
+commandOk next size n own at height (Code.Unary operator) = leb 1 height && next (at + inCode 0x38) height
 commandOk next size n own at height Code.If = leb 3 height && next (at + inCode 0x3A) (height - 2)
 
 -- The code from `at` on: `left` bytes hold no more than `left` commands.
@@ -168,7 +169,7 @@ runCommand next state samples at stack (Code.Load x) = next (at + inCode 0x51) (
 runCommand next state samples at stack (Code.Fetch x) = next (at + inCode 0x52) (getD samples x (pos 0) ∷ stack)
 runCommand next state samples at stack (Code.Store x) = getD stack 0 (pos 0)
 runCommand next state samples at stack (Code.Binary operator) = next (at + inCode 0x30) (onTwo (binaryWord operator) stack)
-runCommand next state samples at stack Code.Negate = next (at + inCode 0x38) (onOne negWord stack)
+runCommand next state samples at stack (Code.Unary operator) = next (at + inCode 0x38) (onOne (unaryWord operator) stack)
 runCommand next state samples at stack Code.If = next (at + inCode 0x3A) (onThree ifWord stack)
 
 unfoldable pub runFrom : ℕ → List ℕ → List ℤ → List ℤ → ℕ → List ℤ → ℤ
@@ -189,7 +190,7 @@ countCommand next at (Code.Load x) = suc (next (at + inCode 0x51))
 countCommand next at (Code.Fetch x) = suc (next (at + inCode 0x52))
 countCommand next at (Code.Store x) = 1
 countCommand next at (Code.Binary operator) = suc (next (at + inCode 0x30))
-countCommand next at Code.Negate = suc (next (at + inCode 0x38))
+countCommand next at (Code.Unary operator) = suc (next (at + inCode 0x38))
 countCommand next at Code.If = suc (next (at + inCode 0x3A))
 
 unfoldable pub countFrom : ℕ → List ℕ → ℕ → ℕ

@@ -1,23 +1,24 @@
 -- Programs: their trees, and reading one from its text (refusals 2 to 6).
 use Prim.Native.Nat.{ℕ, zero, suc, _+_}
-use mathlib.Core.Bool.{Bool, true, false, _||_}
+use mathlib.Core.Bool.{Bool, true, false, cond}
 use mathlib.Core.List.{List, [], _∷_, _++_}
 use lib.Dec.{leb, ltb, eqb}
 use lib.IntN.{ℤ, pos}
 use lib.ListN.{length, getD}
 use Rattle.model.specs.Rules.Outcome.{Outcome, accepted, refuse, _▷_, provided, Parsed, parsed}
-use Rattle.model.specs.Rules.Command.{keywordAt, commandAt}
+use Rattle.model.specs.Rules.Command.{declarationAt, operatorAt, isOperator, isSignal}
 use Rattle.model.specs.Rules.Width.{inProgram, inExpression, readWidth}
 use Rattle.model.specs.Rules.Word.{byteAt}
 use Rattle.model.specs.declared.Binary.{Binary}
-use Rattle.model.specs.declared.Command.{Command}
-use Rattle.model.specs.declared.Command.the-variants as Command
-use Rattle.model.specs.declared.Keyword.{Keyword}
-use Rattle.model.specs.declared.Keyword.the-variants as Keyword
+use Rattle.model.specs.declared.Declaration.{Declaration}
+use Rattle.model.specs.declared.Declaration.the-variants as Declaration
 use Rattle.model.specs.declared.Kind.{Kind}
 use Rattle.model.specs.declared.Kind.the-variants.{Now, Last, When, LastWhen, Current}
 use Rattle.model.specs.declared.Mode.{Mode}
+use Rattle.model.specs.declared.Operator.{Operator}
+use Rattle.model.specs.declared.Operator.the-variants as Operator
 use Rattle.model.specs.declared.Sampled.{Sampled}
+use Rattle.model.specs.declared.Unary.{Unary}
 
 -- A read, with the offset at which it stands.
 pub record Read : Type 0 where
@@ -29,7 +30,7 @@ pub data Expr : Type 0 where
   constant : ℤ → Expr
   read : Read → Expr
   binary : Binary → Expr → Expr → Expr
-  negate : Expr → Expr
+  unary : Unary → Expr → Expr
   choose : Expr → Expr → Expr → Expr
 
 -- What a signal is: an input, or an equation with its weight.
@@ -88,21 +89,10 @@ abbrev pub signalAt : Program → ℕ → Signal
 signalAt p s = getD (p .signals) s noSignal
 
 -- 2 and 3, judged at each operator of an expression before its depth and its operands.
-abbrev pub operatorHere : List ℕ → ℕ → Keyword → Outcome (Unit {0})
-operatorHere text at Keyword.Missing = refuse 2 (length text)
-operatorHere text at Keyword.Unknown = refuse 3 at
-operatorHere text at Keyword.End = refuse 3 at
-operatorHere text at Keyword.Input = refuse 3 at
-operatorHere text at Keyword.Equation = refuse 3 at
-operatorHere text at Keyword.Latency = refuse 3 at
-operatorHere text at Keyword.Link = refuse 3 at
-operatorHere text at Keyword.Cap = refuse 3 at
-operatorHere text at Keyword.Tag = refuse 3 at
-operatorHere text at Keyword.Constant = accepted tt
-operatorHere text at (Keyword.Read kind) = accepted tt
-operatorHere text at (Keyword.Binary operator) = accepted tt
-operatorHere text at Keyword.Negate = accepted tt
-operatorHere text at Keyword.If = accepted tt
+unfoldable pub operatorHere : List ℕ → ℕ → Outcome (Unit {0})
+operatorHere text at =
+    provided (ltb at (length text)) 2 (length text) ▷ λ _.
+    provided (isOperator (byteAt text at)) 3 at
 
 -- The least factor of WHEN, LASTWHEN and CURRENT. Texts written before had 1.
 abbrev pub leastFactor : ℕ
@@ -117,34 +107,28 @@ isAllowed least LastWhen x = leb least (x .factor)
 isAllowed least Current x = leb least (x .factor)
 
 -- The expression at `at`, operator first, where `sub` reads an operand.
-unfoldable pub node : ℕ → (ℕ → Outcome (Parsed Expr)) → List ℕ → ℕ → Command → Outcome (Parsed Expr)
-node least sub text at Command.EndsEarly = refuse 2 (length text)
-node least sub text at Command.Unknown = refuse 3 at
-node least sub text at Command.OutOfRange = refuse 5 at
-node least sub text at Command.End = refuse 3 at
-node least sub text at (Command.Input period initial) = refuse 3 at
-node least sub text at (Command.Equation period initial weight) = refuse 3 at
-node least sub text at (Command.Latency mode bound) = refuse 3 at
-node least sub text at (Command.Link signal) = refuse 3 at
-node least sub text at (Command.Cap n) = refuse 3 at
-node least sub text at (Command.Tag label) = refuse 3 at
-node least sub text at (Command.Constant w) = parsed (constant w) (at + inExpression 0x20)
-node least sub text at (Command.Read kind operands) =
+unfoldable pub node : ℕ → (ℕ → Outcome (Parsed Expr)) → List ℕ → ℕ → Operator → Outcome (Parsed Expr)
+node least sub text at Operator.EndsEarly = refuse 2 (length text)
+node least sub text at Operator.Unknown = refuse 3 at
+node least sub text at Operator.OutOfRange = refuse 5 at
+node least sub text at (Operator.Constant w) = parsed (constant w) (at + inExpression 0x20)
+node least sub text at (Operator.Read kind operands) =
     provided (isAllowed least kind operands) 5 at ▷ λ _.
     parsed (read (record { place = at; kind = kind; operands = operands })) (at + readWidth kind)
-node least sub text at (Command.Binary operator) =
+node least sub text at (Operator.Binary operator) =
     sub (at + inExpression 0x30) ▷ λ x. sub (x .next) ▷ λ y.
     parsed (binary operator (x .value) (y .value)) (y .next)
-node least sub text at Command.Negate = sub (at + inExpression 0x38) ▷ λ x. parsed (negate (x .value)) (x .next)
-node least sub text at Command.If =
+node least sub text at (Operator.Unary operator) =
+    sub (at + inExpression 0x38) ▷ λ x. parsed (unary operator (x .value)) (x .next)
+node least sub text at Operator.If =
     sub (at + inExpression 0x3A) ▷ λ x. sub (x .next) ▷ λ y. sub (y .next) ▷ λ z.
     parsed (choose (x .value) (y .value) (z .value)) (z .next)
 
 -- An expression nests at most `depth` deep; a leaf is 1.
 unfoldable pub parseExpr : ℕ → ℕ → List ℕ → ℕ → Outcome (Parsed Expr)
-parseExpr least zero text at = operatorHere text at (keywordAt text at) ▷ λ _. refuse 4 at
+parseExpr least zero text at = operatorHere text at ▷ λ _. refuse 4 at
 parseExpr least (suc depth) text at =
-    operatorHere text at (keywordAt text at) ▷ λ _. node least (λ n. parseExpr least depth text n) text at (commandAt text at)
+    operatorHere text at ▷ λ _. node least (λ n. parseExpr least depth text n) text at (operatorAt text at)
 
 -- The LINKs from `at` on, after those of `links`; `room` more are allowed. A chain ends at the first byte that isn't 13 or
 -- where the text ends.
@@ -158,70 +142,59 @@ parseLinks (suc room) text at links =
       | false ↦ parsed links at
     ]
 
--- The bytes of IN and EQ.
-abbrev pub isSignal : ℕ → Bool
-isSignal b = eqb b 0x10 || eqb b 0x11
-
--- A command with its operands, after those of p; `next` reads on. `label` is that of a TAG directly before it, 0 where there is
+-- A declaration with its operands, after those of p; `next` reads on. `label` is that of a TAG directly before it, 0 where there
+-- is
 -- none; IN and EQ take it.
-unfoldable pub declare : ℕ → (ℕ → ℕ → Program → Outcome Program) → List ℕ → ℕ → ℕ → Program → Command → Outcome Program
-declare least next text at label p Command.EndsEarly = refuse 2 (length text)
-declare least next text at label p Command.Unknown = refuse 3 at
-declare least next text at label p Command.OutOfRange = refuse 5 at
-declare least next text at label p Command.End =
+unfoldable pub declare : ℕ → (ℕ → ℕ → Program → Outcome Program) → List ℕ → ℕ → ℕ → Program → Declaration → Outcome Program
+declare least next text at label p Declaration.EndsEarly = refuse 2 (length text)
+declare least next text at label p Declaration.Unknown = refuse 3 at
+declare least next text at label p Declaration.OutOfRange = refuse 5 at
+declare least next text at label p Declaration.End =
     provided (leb (length text) (at + inProgram 0x00)) 6 (at + inProgram 0x00) ▷ λ _. accepted p
-declare least next text at label p (Command.Input period initial) =
+declare least next text at label p (Declaration.Input period initial) =
     next (at + inProgram 0x10) 0
     (withSignal p (record { place = at; period = period; initial = initial; body = input; label = label }))
-declare least next text at label p (Command.Equation period initial weight) =
+declare least next text at label p (Declaration.Equation period initial weight) =
     parseExpr least 16 text (at + inProgram 0x11) ▷ λ e.
     next (e .next) 0
     (withSignal p (record { place = at; period = period; initial = initial; body = equation weight (e .value); label = label }))
-declare least next text at label p (Command.Latency mode bound) =
+declare least next text at label p (Declaration.Latency mode bound) =
     parseLinks 16 text (at + inProgram 0x12) [] ▷ λ ls.
     provided (leb 2 (length (ls .value))) 5 at ▷ λ _.
     next (ls .next) 0 (withChain p (record { place = at; mode = mode; bound = bound; links = ls .value }))
-declare least next text at label p (Command.Link signal) = refuse 3 at
-declare least next text at label p (Command.Cap n) = next (at + inProgram 0x14) 0 (withCap p n)
+-- A LINK stands after LAT only.
+declare least next text at label p (Declaration.Link signal) = refuse 3 at
+declare least next text at label p (Declaration.Cap n) = next (at + inProgram 0x14) 0 (withCap p n)
 -- A TAG stands directly before IN or EQ: 2 if the text ends after it, 3 if anything else follows.
-declare least next text at label p (Command.Tag given) =
+declare least next text at label p (Declaration.Tag given) =
     provided (ltb (at + inProgram 0x15) (length text)) 2 (length text) ▷ λ _.
     provided (isSignal (byteAt text (at + inProgram 0x15))) 3 at ▷ λ _.
     next (at + inProgram 0x15) given p
-declare least next text at label p (Command.Constant w) = refuse 3 at
-declare least next text at label p (Command.Read kind operands) = refuse 3 at
-declare least next text at label p (Command.Binary operator) = refuse 3 at
-declare least next text at label p Command.Negate = refuse 3 at
-declare least next text at label p Command.If = refuse 3 at
 
 abbrev pub isUnlimited : Limit → Bool
 isUnlimited unlimited = true
 isUnlimited (limit n) = false
 
--- 2, 3, then counts and second CAP, judged at each command before its operands.
-abbrev pub commandHere : List ℕ → ℕ → Program → Keyword → Outcome (Unit {0})
-commandHere text at p Keyword.Missing = refuse 2 (length text)
-commandHere text at p Keyword.Unknown = refuse 3 at
-commandHere text at p Keyword.End = accepted tt
-commandHere text at p Keyword.Input = provided (ltb (count p) 64) 4 at
-commandHere text at p Keyword.Equation = provided (ltb (count p) 64) 4 at
-commandHere text at p Keyword.Latency = provided (ltb (length (p .chains)) 16) 4 at
-commandHere text at p Keyword.Link = refuse 3 at
-commandHere text at p Keyword.Cap = provided (isUnlimited (p .cap)) 5 at
-commandHere text at p Keyword.Tag = accepted tt
-commandHere text at p Keyword.Constant = refuse 3 at
-commandHere text at p (Keyword.Read kind) = refuse 3 at
-commandHere text at p (Keyword.Binary operator) = refuse 3 at
-commandHere text at p Keyword.Negate = refuse 3 at
-commandHere text at p Keyword.If = refuse 3 at
+-- 3, then counts and second CAP: what the byte of a declaration asks for after those of p.
+unfoldable pub roomFor : ℕ → Program → ℕ → Outcome (Unit {0})
+roomFor at p b =
+    cond (eqb b 0x00) (accepted tt)
+    (cond (isSignal b) (provided (ltb (count p) 64) 4 at)
+    (cond (eqb b 0x12) (provided (ltb (length (p .chains)) 16) 4 at)
+    (cond (eqb b 0x14) (provided (isUnlimited (p .cap)) 5 at)
+    (cond (eqb b 0x15) (accepted tt) (refuse 3 at)))))
+
+-- 2, 3, then counts and second CAP, judged at each declaration before its operands.
+unfoldable pub declarationHere : List ℕ → ℕ → Program → Outcome (Unit {0})
+declarationHere text at p = provided (ltb at (length text)) 2 (length text) ▷ λ _. roomFor at p (byteAt text at)
 
 -- The commands from `at` on, after those of p and a TAG's label. Each takes a byte at least, so `left` bytes hold no more than
 -- `left` of them.
 unfoldable pub parseCommands : ℕ → ℕ → List ℕ → ℕ → ℕ → Program → Outcome Program
 parseCommands least zero text at label p = refuse 2 (length text)
 parseCommands least (suc left) text at label p =
-    commandHere text at p (keywordAt text at) ▷ λ _.
-    declare least (λ n l q. parseCommands least left text n l q) text at label p (commandAt text at)
+    declarationHere text at p ▷ λ _.
+    declare least (λ n l q. parseCommands least left text n l q) text at label p (declarationAt text at)
 
 -- A program text whose factors go from `least` on: by the earlier rule from 1, now from 2.
 unfoldable pub parseWith : ℕ → List ℕ → Outcome Program
@@ -235,7 +208,7 @@ unfoldable pub readsOf : Expr → List Read
 readsOf (constant w) = []
 readsOf (read ρ) = ρ ∷ []
 readsOf (binary operator x y) = readsOf x ++ readsOf y
-readsOf (negate x) = readsOf x
+readsOf (unary operator x) = readsOf x
 readsOf (choose x y z) = readsOf x ++ (readsOf y ++ readsOf z)
 
 abbrev pub bodyReads : Body → List Read

@@ -5,17 +5,7 @@ use mathlib.Core.List.{List, [], _∷_, _++_, map}
 use lib.Dec.{ltb, eqb}
 use lib.ListN.{length}
 use Rattle.model.specs.Rules.Outcome.{Outcome, accepted, refuse, fault, _▷_, provided, lowest}
-use Rattle.model.specs.Rules.Program.{
-  Program,
-  Signal,
-  Chain,
-  Link,
-  Read,
-  Body,
-  count,
-  signalAt,
-  bodyReads,
-}
+use Rattle.model.specs.Rules.Program.{Program, Signal, Chain, Link, Read, Body, count, signalAt, bodyReads}
 use Rattle.model.specs.Rules.Search.{first, joinFrom}
 use Rattle.model.specs.declared.Fault.{Fault}
 use Rattle.model.specs.declared.Found.{Found}

@@ -68,14 +68,14 @@ share w r = eqb (w .phase % min (w .period) (r .period)) (r .phase % min (w .per
 unfoldable pub ordered : Kind → Rate → Rate → Bool → Bool
 ordered kind w r before = not (share w r) || Bool·beq before (writerFirst kind)
 
--- How many signals are put before x.
-unfoldable pub place : List ℕ → ℕ → ℕ
-place [] x = 0
-place (y ∷ ys) x = cond (eqb y x) 0 (suc (place ys x))
+-- The rank of x in PUT order: how many signals are put before it.
+unfoldable pub rank : List ℕ → ℕ → ℕ
+rank [] x = 0
+rank (y ∷ ys) x = cond (eqb y x) 0 (suc (rank ys x))
 
 -- Whether w is put before r.
 abbrev pub before : Schedule → ℕ → ℕ → Bool
-before s w r = ltb (place (s .order) w) (place (s .order) r)
+before s w r = ltb (rank (s .order) w) (rank (s .order) r)
 
 -- The index of an open read: the one from 0 to n − 1 that meets its line.
 unfoldable pub settle : Kind → Rate → Rate → ℕ → Found
@@ -87,15 +87,15 @@ lineHolds kind w r n (Fixed i) = line kind w r i
 lineHolds kind w r n Open = isFound (settle kind w r n)
 
 -- The index of a read: its own, or the one settled.
-abbrev pub indexOf : Kind → Rate → Rate → ℕ → Index → ℕ
-indexOf kind w r n (Fixed i) = i
-indexOf kind w r n Open = foundOr 0 (settle kind w r n)
+abbrev pub settledIndex : Kind → Rate → Rate → ℕ → Index → ℕ
+settledIndex kind w r n (Fixed i) = i
+settledIndex kind w r n Open = foundOr 0 (settle kind w r n)
 
 module _ (p : Program) (s : Schedule) where
   -- The index of a read in the equation of r.
   unfoldable pub settled : ℕ → Read → ℕ
   settled r ρ =
-      indexOf (ρ .kind) (rateOf p s (ρ .operands .signal)) (rateOf p s r) (ρ .operands .factor) (ρ .operands .index)
+      settledIndex (ρ .kind) (rateOf p s (ρ .operands .signal)) (rateOf p s r) (ρ .operands .factor) (ρ .operands .index)
 
   -- A read in the equation of r is met if its line and its order both hold.
   unfoldable pub isMet : ℕ → Read → Bool

@@ -16,7 +16,7 @@ use Rattle.model.specs.Rules.Program.{
   constant,
   read,
   binary,
-  negate,
+  unary,
   choose,
   signalAt,
 }
@@ -31,7 +31,7 @@ abbrev pub exprCommands : Expr → ℕ
 exprCommands (constant w) = 1
 exprCommands (read ρ) = 1
 exprCommands (binary operator x y) = exprCommands x + (exprCommands y + 1)
-exprCommands (negate x) = exprCommands x + 1
+exprCommands (unary operator x) = exprCommands x + 1
 exprCommands (choose x y z) = exprCommands x + (exprCommands y + (exprCommands z + 1))
 
 -- The most words that it has on the stack at once: while an operand runs, the values of those before it lie below.
@@ -39,7 +39,7 @@ abbrev pub exprHeight : Expr → ℕ
 exprHeight (constant w) = 1
 exprHeight (read ρ) = 1
 exprHeight (binary operator x y) = max (exprHeight x) (exprHeight y + 1)
-exprHeight (negate x) = exprHeight x
+exprHeight (unary operator x) = exprHeight x
 exprHeight (choose x y z) = max (exprHeight x) (max (exprHeight y + 1) (exprHeight z + 2))
 
 -- The same of a signal's code: FETCH and STORE of an input; an equation's expression, and STORE.

@@ -31,7 +31,8 @@ pub record Put : Type 0 where
   pub phase : ℕ
 
 -- One command after the PUTs of `puts`; `next` reads on. What is read is the PUTs and the offset of END.
-unfoldable pub scheduleCommand : (ℕ → List Put → Outcome (Parsed (List Put))) → List ℕ → ℕ → List Put → ScheduleCommand → Outcome (Parsed (List Put))
+unfoldable pub scheduleCommand : (ℕ → List Put → Outcome (Parsed (List Put))) → List ℕ → ℕ → List Put → ScheduleCommand →
+    Outcome (Parsed (List Put))
 scheduleCommand next text at puts ScheduleCommand.EndsEarly = refuse 11 (length text)
 scheduleCommand next text at puts ScheduleCommand.Unknown = refuse 11 at
 scheduleCommand next text at puts ScheduleCommand.End =

@@ -81,6 +81,10 @@ scriptWidth b =
     -- RUN count
     (cond (eqb b 0x71) (Bytes 2) Unlisted))
 
+abbrev pub isListed : Width → Bool
+isListed (Bytes n) = true
+isListed Unlisted = false
+
 -- How far the command of a listed byte reaches; of another there is no command to go past.
 abbrev pub reach : Width → ℕ
 reach (Bytes n) = n

@@ -1,16 +1,17 @@
 -- Words: the signed 32-bit integers, as numbers of ℤ, and the operators on them.
-use Prim.Native.Nat.{ℕ, suc, _+_, _-_, _*_, _/_, _%_, _^_, _≤_, min}
+use Prim.Native.Nat.{ℕ, suc, _+_, _-_, _*_, _/_, _%_, _^_, _<_, min}
 use mathlib.Core.Bool.{Bool, true, false, cond}
 use mathlib.Core.List.{List, [], _∷_}
-use mathlib.Core.Path.{_≡_}
-use lib.Dec.{eqb, ltb}
-use lib.IntN.{ℤ, pos, negsuc, negℤ, natAbs, _+ℤ_, _-ℤ_, _*ℤ_}
+use lib.Dec.{eqb}
+use lib.IntN.{ℤ, pos, negsuc, negℤ, _+ℤ_, _-ℤ_, _*ℤ_}
 use lib.ListN.{getD}
 use lib.Signed.{ltZ}
 use mir.Syntax.{w32}
 use mir.Val.{toZ}
 use Rattle.model.specs.declared.Binary.{Binary}
 use Rattle.model.specs.declared.Binary.the-variants.{Add, Sub, Mul, Less, Same, Min, Max}
+use Rattle.model.specs.declared.Unary.{Unary}
+use Rattle.model.specs.declared.Unary.the-variants.{Negate}
 
 -- The remainder of z by 2^32, from 0 to 2^32 − 1: also of a negative z.
 unfoldable pub bitsOf : ℤ → ℕ
@@ -20,20 +21,6 @@ bitsOf (negsuc n) = 2 ^ 32 - suc (n % 2 ^ 32)
 -- The word with these 32 bits: m itself, or m − 2^32 from 2^31 on.
 unfoldable pub wordOf : ℕ → ℤ
 wordOf m = toZ w32 m
-
--- A word: from −2147483648 to 2147483647. (negsuc n is −1 − n.)
-abbrev pub IsWord : ℤ → Type 0
-IsWord (pos n) = n ≤ 2147483647
-IsWord (negsuc n) = n ≤ 2147483647
-
-abbrev pub distance : ℤ → ℤ → ℕ
-distance a b = natAbs (a -ℤ b)
-
--- What the nearest word is to the true result z: a word; z itself, where z is one; and no word is nearer to z.
-pub record NearestWord (z w : ℤ) : Type 0 where
-  pub word : IsWord w
-  pub itself : IsWord z → w ≡ z
-  pub none-nearer : (v : ℤ) → IsWord v → distance w z ≤ distance v z
 
 -- The nearest word: `nearest-word` says that it is.
 unfoldable pub nearest : ℤ → ℤ
@@ -51,13 +38,6 @@ mulWord a b = nearest (a *ℤ b)
 
 unfoldable pub negWord : ℤ → ℤ
 negWord a = nearest (negℤ a)
-
--- ADD, SUB, MUL and NEG give the nearest word to the true result.
-pub record NearestResults (a b : ℤ) : Type 0 where
-  pub add : NearestWord (a +ℤ b) (addWord a b)
-  pub sub : NearestWord (a -ℤ b) (subWord a b)
-  pub mul : NearestWord (a *ℤ b) (mulWord a b)
-  pub neg : NearestWord (negℤ a) (negWord a)
 
 -- A test gives 1 or 0.
 abbrev pub bitWord : Bool → ℤ
@@ -96,9 +76,17 @@ binaryWord Same a b = sameWord a b
 binaryWord Min a b = minWord a b
 binaryWord Max a b = maxWord a b
 
+-- The operators with one operand.
+abbrev pub unaryWord : Unary → ℤ → ℤ
+unaryWord Negate a = negWord a
+
 -- Values wider than a byte have the low byte first: two bytes, four bytes, a word.
 abbrev pub byteAt : List ℕ → ℕ → ℕ
 byteAt s at = getD s at 0
+
+-- The elements of a text are bytes.
+abbrev pub AreBytes : List ℕ → Type 0
+AreBytes text = (i : ℕ) → getD text i 0 < 256
 
 unfoldable pub twoAt : List ℕ → ℕ → ℕ
 twoAt s at = byteAt s at + 256 * byteAt s (at + 1)

@@ -5,7 +5,7 @@ use mathlib.Core.Logic.{_⊎_}
 use mathlib.Core.Path.{_≡_}
 use lib.ListN.{length, getD}
 use Rattle.model.specs.Rules.Program.{Program, Read, count, signalAt, bodyReads}
-use Rattle.model.specs.Rules.Reads.{Rate, rateOf, runCycle, place}
+use Rattle.model.specs.Rules.Reads.{Rate, rateOf, runCycle, rank}
 use Rattle.model.specs.Rules.Schedule.{Schedule, phaseOf}
 use Rattle.model.specs.declared.Index.{Index}
 use Rattle.model.specs.declared.Index.the-variants.{Fixed, Open}
@@ -47,7 +47,7 @@ SettlesAt kind w r n Open i = (i < n) × Line kind w r i
 
 -- w is put before r.
 abbrev pub PutBefore : Schedule → ℕ → ℕ → Type 0
-PutBefore s w r = place (s .order) w < place (s .order) r
+PutBefore s w r = rank (s .order) w < rank (s .order) r
 
 -- w is put before r for NOW, WHEN and CURRENT; r is put before w, or is w, for LAST and LASTWHEN.
 abbrev pub PutFor : Kind → Schedule → ℕ → ℕ → Type 0
@@ -70,15 +70,25 @@ module _ (p : Program) (s : Schedule) where
         LineHolds (ρ .kind) (rateOf p s (ρ .operands .signal)) (rateOf p s r) (ρ .operands .factor) (ρ .operands .index)
     pub order : Order (ρ .kind) (ρ .operands .signal) r
 
-  -- Phases are below periods, every read is met, and every signal is put once.
-  pub record Feasible : Type 0 where
+  -- Phases are below periods, and every signal is put once.
+  pub record Ordered : Type 0 where
     pub phases : (x : ℕ) → x < count p → phaseOf s x < signalAt p x .period
-    pub met : (x : ℕ) → x < count p → All (Met x) (bodyReads (signalAt p x .body))
-    pub put : (x : ℕ) → x < count p → place (s .order) x < length (s .order)
-    pub once : (j : ℕ) → j < length (s .order) → place (s .order) (getD (s .order) j 0) ≡ j
+    pub put : (x : ℕ) → x < count p → rank (s .order) x < length (s .order)
+    pub once : (j : ℕ) → j < length (s .order) → rank (s .order) (getD (s .order) j 0) ≡ j
     pub only : (j : ℕ) → j < length (s .order) → getD (s .order) j 0 < count p
+
+  -- And every read is met.
+  pub record Feasible : Type 0 where
+    pub ordered : Ordered
+    pub met : (x : ℕ) → x < count p → All (Met x) (bodyReads (signalAt p x .body))
 
 -- h is a common multiple of all periods.
 pub record Multiple (p : Program) (h : ℕ) : Type 0 where
   pub positive : zero < h
   pub divides : (x : ℕ) → x < count p → signalAt p x .period ∣ h
+
+-- 9: h is the least common multiple of all periods (1 if none), and at most 240.
+pub record Least (p : Program) (h : ℕ) : Type 0 where
+  pub multiple : Multiple p h
+  pub bound : h ≤ 240
+  pub least : (m : ℕ) → Multiple p m → h ≤ m

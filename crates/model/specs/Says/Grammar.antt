@@ -14,7 +14,7 @@ use Rattle.model.specs.Rules.Program.{
   constant,
   read,
   binary,
-  negate,
+  unary,
   choose,
   input,
   equation,
@@ -32,34 +32,38 @@ use Rattle.model.specs.Rules.Program.{
 use Rattle.model.specs.Rules.Schedule.{Put}
 use Rattle.model.specs.Rules.Width.{inProgram, inExpression, inSchedule, readWidth}
 use Rattle.model.specs.Rules.Word.{byteAt}
-use Rattle.model.specs.Says.Written.{Written, PutWritten}
+use Rattle.model.specs.Says.Written.{DeclarationWritten, OperatorWritten, PutWritten}
 use Rattle.model.specs.declared.Binary.{Binary}
-use Rattle.model.specs.declared.Command.the-variants as Command
+use Rattle.model.specs.declared.Declaration.the-variants as Declaration
 use Rattle.model.specs.declared.Kind.{Kind}
 use Rattle.model.specs.declared.Mode.{Mode}
+use Rattle.model.specs.declared.Operator.the-variants as Operator
 use Rattle.model.specs.declared.Sampled.{Sampled}
 use Rattle.model.specs.declared.ScheduleCommand.the-variants as ScheduleCommand
+use Rattle.model.specs.declared.Unary.{Unary}
+use Rattle.model.specs.declared.Operator.{Operator}
 
 -- How deep an expression nests; a leaf is 1.
 abbrev pub depth : Expr → ℕ
 depth (constant w) = 1
 depth (read ρ) = 1
 depth (binary operator x y) = suc (max (depth x) (depth y))
-depth (negate x) = suc (depth x)
+depth (unary operator x) = suc (depth x)
 depth (choose x y z) = suc (max (depth x) (max (depth y) (depth z)))
 
 -- The bytes from `at` up to `next` spell the expression, operator first.
 pub data Spells (least : ℕ) (text : List ℕ) : ℕ → Expr → ℕ → Type 0 where
-  constants : {at : ℕ} {w : ℤ} → Written text at (Command.Constant w) →
+  constants : {at : ℕ} {w : ℤ} → OperatorWritten text at (Operator.Constant w) →
       Spells least text at (constant w) (at + inExpression 0x20)
-  reads : {at : ℕ} {kind : Kind} {x : Sampled} → Written text at (Command.Read kind x) →
+  reads : {at : ℕ} {kind : Kind} {x : Sampled} → OperatorWritten text at (Operator.Read kind x) →
       isAllowed least kind x ≡ true →
       Spells least text at (read (record { place = at; kind = kind; operands = x })) (at + readWidth kind)
-  two : {at m n : ℕ} {operator : Binary} {x y : Expr} → Written text at (Command.Binary operator) →
+  two : {at m n : ℕ} {operator : Binary} {x y : Expr} → OperatorWritten text at (Operator.Binary operator) →
       Spells least text (at + inExpression 0x30) x m → Spells least text m y n → Spells least text at (binary operator x y) n
-  one : {at n : ℕ} {x : Expr} → Written text at Command.Negate → Spells least text (at + inExpression 0x38) x n →
-      Spells least text at (negate x) n
-  three : {at m n o : ℕ} {x y z : Expr} → Written text at Command.If →
+  one : {at n : ℕ} {operator : Unary} {x : Expr} → OperatorWritten text at (Operator.Unary operator) →
+      Spells least text (at + inExpression 0x38) x n →
+      Spells least text at (unary operator x) n
+  three : {at m n o : ℕ} {x y z : Expr} → OperatorWritten text at Operator.If →
       Spells least text (at + inExpression 0x3A) x m → Spells least text m y n → Spells least text n z o →
       Spells least text at (choose x y z) o
 
@@ -79,27 +83,27 @@ IsSignal b = (b ≡ 0x10) ⊎ (b ≡ 0x11)
 -- there is none; IN and EQ take it.
 pub data DeclaresOne (least : ℕ) (text : List ℕ) : ℕ → ℕ → Program → ℕ → ℕ → Program → Type 0 where
   inputs : {at label period : ℕ} {initial : ℤ} {p : Program} → count p < 64 →
-      Written text at (Command.Input period initial) →
+      DeclarationWritten text at (Declaration.Input period initial) →
       DeclaresOne least text at label p (at + inProgram 0x10) 0
       (withSignal p (record { place = at; period = period; initial = initial; body = input; label = label }))
   equations : {at label next period weight : ℕ} {initial : ℤ} {e : Expr} {p : Program} → count p < 64 →
-      Written text at (Command.Equation period initial weight) → Spells least text (at + inProgram 0x11) e next →
+      DeclarationWritten text at (Declaration.Equation period initial weight) → Spells least text (at + inProgram 0x11) e next →
       depth e ≤ 16 →
       DeclaresOne least text at label p next 0
       (withSignal p (record { place = at; period = period; initial = initial; body = equation weight e; label = label }))
   chains : {at label next bound : ℕ} {mode : Mode} {ls : List Link} {p : Program} → length (p .chains) < 16 →
-      Written text at (Command.Latency mode bound) → SpellsLinks text (at + inProgram 0x12) ls next →
+      DeclarationWritten text at (Declaration.Latency mode bound) → SpellsLinks text (at + inProgram 0x12) ls next →
       2 ≤ length ls → length ls ≤ 16 →
       DeclaresOne least text at label p next 0 (withChain p (record { place = at; mode = mode; bound = bound; links = ls }))
-  caps : {at label n : ℕ} {p : Program} → p .cap ≡ unlimited → Written text at (Command.Cap n) →
+  caps : {at label n : ℕ} {p : Program} → p .cap ≡ unlimited → DeclarationWritten text at (Declaration.Cap n) →
       DeclaresOne least text at label p (at + inProgram 0x14) 0 (withCap p n)
-  tags : {at label given : ℕ} {p : Program} → Written text at (Command.Tag given) →
+  tags : {at label given : ℕ} {p : Program} → DeclarationWritten text at (Declaration.Tag given) →
       at + inProgram 0x15 < length text → IsSignal (byteAt text (at + inProgram 0x15)) →
       DeclaresOne least text at label p (at + inProgram 0x15) given p
 
 -- The commands from `at` up to END at `end`, the last byte, make q of p.
 pub data Declares (least : ℕ) (text : List ℕ) : ℕ → ℕ → Program → ℕ → Program → Type 0 where
-  ends : {at label : ℕ} {p : Program} → Written text at Command.End → length text ≤ at + inProgram 0x00 →
+  ends : {at label : ℕ} {p : Program} → DeclarationWritten text at Declaration.End → length text ≤ at + inProgram 0x00 →
       Declares least text at label p at p
   onward : {at label next given end : ℕ} {p q r : Program} → DeclaresOne least text at label p next given q →
       Declares least text next given q end r → Declares least text at label p end r
@@ -122,3 +126,11 @@ pub data SpellsPuts (text : List ℕ) : ℕ → List Put → ℕ → Type 0 wher
 -- A legal schedule text: its PUTs, and the offset of its END.
 abbrev pub LegalSchedule : List ℕ → Parsed (List Put) → Type 0
 LegalSchedule text puts = SpellsPuts text 0 (puts .value) (puts .next)
+
+-- The counts and a second CAP leave room for the command of a byte, after those of p.
+pub data HasRoom (p : Program) (b : ℕ) : Type 0 where
+  end : b ≡ 0x00 → HasRoom p b
+  signal : IsSignal b → count p < 64 → HasRoom p b
+  latency : b ≡ 0x12 → length (p .chains) < 16 → HasRoom p b
+  cap : b ≡ 0x14 → p .cap ≡ unlimited → HasRoom p b
+  tag : b ≡ 0x15 → HasRoom p b

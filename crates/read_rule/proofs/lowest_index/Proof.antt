@@ -1,63 +1,48 @@
 -- `read_rule::lowest_index` meets its contract. Assumes nothing.
+use Prim.Native.Nat.{suc, _+_, _*_, _-_, _/_, _≤_}
+use native.Mathlib.Nat.{mul-le-mul-left, mul-le-mul-right, div-mul-le-self}
 use native.Mathlib.Omega.{arith}
 use borrow.Author.Needs.{needs}
-use Rattle.read_rule.proofs.Laws.{not-before, not-after}
+use borrow.Author.Tests.{lt-leb}
+use Rattle.model.specs.Rules.Reads.{between}
+use Rattle.read_rule.specs.Lines.{numberAt, meetsAt}
 use Rattle.read_rule.proofs.lowest_index.Statement.{statement}
 use Rattle.read_rule.proofs.lowest_index.Tie as tie
-
-enum-told : tie.Need-enum-told
-enum-told c = search needs
-
-enum-told-2 : tie.Need-enum-told-2
-enum-told-2 c = search needs
-
-enum-told-3 : tie.Need-enum-told-3
-enum-told-3 c = search needs
-
-passed-runs-requires : tie.Need-passed-runs-requires
-passed-runs-requires c κs = search needs
-
-enum-told-4 : tie.Need-enum-told-4
-enum-told-4 c = search needs
-
-passed-runs-requires-2 : tie.Need-passed-runs-requires-2
-passed-runs-requires-2 c κs = search needs
-
-enum-told-5 : tie.Need-enum-told-5
-enum-told-5 c = search needs
-
-passed-runs-requires-3 : tie.Need-passed-runs-requires-3
-passed-runs-requires-3 c κs = search needs
 
 returns : tie.Need-returns
 returns c = λ k l. absurd (omega arith)
 
+sub-past : tie.Need-sub-past
+sub-past c = search needs
+
+add-past : tie.Need-add-past
+add-past c = search needs
+
+minus-requires : tie.Need-minus-requires
+minus-requires c κs = search needs
+
+div-result : tie.Need-div-result
+div-result c = search needs
+
 returns-2 : tie.Need-returns-2
-returns-2 c = λ k l. absurd (omega arith)
-
-returns-3 : tie.Need-returns-3
-returns-3 c = λ k l. rw (c .before .enum-told3 .given .1) (not-before k _ _ _ (c .passed-runs .ensures k l))
-
-returns-4 : tie.Need-returns-4
-returns-4 c = λ k l. rw (c .before .enum-told4 .given .1) (not-after k _ _ _ (c .passed-runs2 .ensures k l))
-
-returns-5 : tie.Need-returns-5
-returns-5 c = λ k l. rw (c .before .enum-told5 .given .1) (not-after k _ _ _ (c .passed-runs3 .ensures k l))
+unfolding meetsAt between
+returns-2 c =
+    let e = c .before .before .before .before in
+    let s = e .before .before in
+    let m = c .before .minus in
+    let line = s .args .line in
+    λ k l.
+    let h : suc k ≤ m .result / line .step = omega arith in
+    rw (lt-leb (line .cycle) (numberAt line k)
+    (omega (
+      arith,
+      mul-le-mul-right (line .step) h,
+      div-mul-le-self (m .result) (line .step),
+      mul-le-mul-left k (s .pre .within),
+      m .ensures,
+      e .if1 .left,
+    )))
 
 pub lowest-index-spec : {M : Type 1} → statement M
 lowest-index-spec =
-    tie.close
-    (tie.spec
-    enum-told
-    enum-told-2
-    enum-told-3
-    passed-runs-requires
-    enum-told-4
-    passed-runs-requires-2
-    enum-told-5
-    passed-runs-requires-3
-    returns
-    returns-2
-    returns-3
-    returns-4
-    returns-5)
+    tie.close (tie.spec returns sub-past add-past minus-requires div-result returns-2)

@@ -1,6 +1,6 @@
 -- `replay::call_board` is safe. Assumes nothing.
 use borrow.Author.Needs.{needs}
-use Rattle.replay.proofs.Laws.{taken}
+use Rattle.replay.proofs.Starts.{taken}
 use Rattle.replay.proofs.call_board.Statement.{statement}
 use Rattle.replay.proofs.call_board.Tie as tie
 

@@ -1,6 +1,6 @@
 -- `replay::call_cycle` is safe. Assumes nothing.
 use borrow.Author.Needs.{needs}
-use Rattle.replay.proofs.Laws.{taken}
+use Rattle.replay.proofs.Starts.{taken}
 use Rattle.replay.proofs.call_cycle.Statement.{statement}
 use Rattle.replay.proofs.call_cycle.Tie as tie
 

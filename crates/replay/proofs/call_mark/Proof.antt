@@ -1,6 +1,6 @@
 -- `replay::call_mark` is safe. Assumes nothing.
 use borrow.Author.Needs.{needs}
-use Rattle.replay.proofs.Laws.{taken}
+use Rattle.replay.proofs.Starts.{taken}
 use Rattle.replay.proofs.call_mark.Statement.{statement}
 use Rattle.replay.proofs.call_mark.Tie as tie
 

@@ -1,6 +1,6 @@
 -- `replay::call_reset` is safe. Assumes nothing.
 use borrow.Author.Needs.{needs}
-use Rattle.replay.proofs.Laws.{taken}
+use Rattle.replay.proofs.Starts.{taken}
 use Rattle.replay.proofs.call_reset.Statement.{statement}
 use Rattle.replay.proofs.call_reset.Tie as tie
 

@@ -1,6 +1,6 @@
 -- `replay::compile_next` is safe. Assumes nothing.
 use borrow.Author.Needs.{needs}
-use Rattle.replay.proofs.Laws.{taken}
+use Rattle.replay.proofs.Starts.{taken}
 use Rattle.replay.proofs.compile_next.Statement.{statement}
 use Rattle.replay.proofs.compile_next.Tie as tie
 

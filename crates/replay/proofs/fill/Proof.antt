@@ -1,7 +1,7 @@
 -- `replay::fill` is safe and ends. Assumes nothing.
 use native.Mathlib.Omega.{arith}
 use borrow.Author.Needs.{needs}
-use Rattle.replay.proofs.Laws.{taken}
+use Rattle.replay.proofs.Starts.{taken}
 use Rattle.replay.proofs.fill.Statement.{statement}
 use Rattle.replay.proofs.fill.Tie as tie
 

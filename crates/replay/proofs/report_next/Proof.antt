@@ -1,6 +1,6 @@
 -- `replay::report_next` is safe. Assumes nothing.
 use borrow.Author.Needs.{needs}
-use Rattle.replay.proofs.Laws.{taken}
+use Rattle.replay.proofs.Starts.{taken}
 use Rattle.replay.proofs.report_next.Statement.{statement}
 use Rattle.replay.proofs.report_next.Tie as tie
 

@@ -10,7 +10,8 @@ use Rattle.replay.proofs.trial.Tie as tie
 -- the trial has started
 started : (t : tie.After-enum-told) → let k = t .before .before .before in let a = k .before .before .before .before .args in
     Started (a .program .now) (a .schedule .now) (a .text .now) (k .prepare .result)
-started t = let k = t .before .before .before in is-started _ _ _ (k .prepare .result) (t .enum-told .given .1) (k .prepare .ensures)
+started t = let k = t .before .before .before in
+    is-started _ _ _ (k .prepare .result) (t .enum-told .given .1) (k .prepare .ensures)
 
 prepare-requires : tie.Need-prepare-requires
 prepare-requires c κs = search needs

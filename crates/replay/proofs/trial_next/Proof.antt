@@ -1,6 +1,6 @@
 -- `replay::trial_next` is safe. Assumes nothing.
 use borrow.Author.Needs.{needs}
-use Rattle.replay.proofs.Laws.{taken}
+use Rattle.replay.proofs.Starts.{taken}
 use Rattle.replay.proofs.trial_next.Statement.{statement}
 use Rattle.replay.proofs.trial_next.Tie as tie
 

@@ -9,9 +9,9 @@ use lib.ListN.{length, getD}
 use Rattle.model.specs.Rules.Machine.{codeAt}
 use Rattle.model.specs.Rules.Word.{byteAt, wordAt}
 use Rattle.model.specs.declared.Code.the-variants as Code
-use Rattle.model.proofs.Tests.{by}
-use Rattle.word.proofs.Laws.{kept}
-use Rattle.run_code.proofs.Laws.{within, push-leaf, load-leaf, fetch-leaf}
+use Rattle.model.proofs.Basics.Tests.{by}
+use Rattle.word.proofs.Locals.{kept}
+use Rattle.run_code.proofs.Commands.{within, push-leaf, load-leaf, fetch-leaf}
 use borrow.Author.Needs.{needs}
 use Rattle.run_code.proofs.leaf_word.Statement.{statement}
 use Rattle.run_code.proofs.leaf_word.Tie as tie
@@ -24,11 +24,13 @@ at-push : (t : tie.Then1) → let s = t .before .before .before in let code = s 
     (s .args .at + 5 ≤ length code) × (codeAt code (s .args .at) ≡ Code.Push (wordAt code (s .args .at + 1)))
 at-push t = push-leaf _ _ _ _ (t .before .before .before .pre .2) (t .if1 .taken)
 
-at-load : (t : tie.Then2) → let s = start (t .before .before .before) in let code = s .args .code .now in let x = byteAt code (s .args .at + 1) in
+at-load : (t : tie.Then2) → let s = start (t .before .before .before) in let code = s .args .code .now in let x =
+    byteAt code (s .args .at + 1) in
     (s .args .at + 2 ≤ length code) × (x + 1 < length (s .args .state .now)) × (codeAt code (s .args .at) ≡ Code.Load x)
 at-load t = load-leaf _ _ _ _ (start (t .before .before .before) .pre .2) (t .if2 .taken)
 
-at-fetch : (e : tie.Else2) → let s = start (e .before .before .before) in let code = s .args .code .now in let x = byteAt code (s .args .at + 1) in
+at-fetch : (e : tie.Else2) → let s = start (e .before .before .before) in let code = s .args .code .now in let x =
+    byteAt code (s .args .at + 1) in
     (s .args .at + 2 ≤ length code) × (x < length (s .args .samples .now)) × (codeAt code (s .args .at) ≡ Code.Fetch x)
 at-fetch e =
     let f = e .before .before .before in
@@ -77,7 +79,8 @@ returns-2 : tie.Need-returns-2
 returns-2 c =
     let t = c .before in
     let s = start (t .before .before .before) in
-    kept _ (c .result .given) ∙ ap (λ (x : ℕ). getD (s .args .state .now) (x + 1) (pos 0)) (t .before .wide .ensures .0) ∙ rw (at-load t .2)
+    kept _ (c .result .given) ∙ ap (λ (x : ℕ). getD (s .args .state .now) (x + 1) (pos 0)) (t .before .wide .ensures .0) ∙
+    rw (at-load t .2)
 
 mul-result-2 : tie.Need-mul-result-2
 mul-result-2 c = search needs
@@ -89,7 +92,8 @@ returns-3 : tie.Need-returns-3
 returns-3 c =
     let t = c .before in
     let s = start (t .before .before .before) in
-    kept _ (c .result2 .given) ∙ ap (λ (x : ℕ). getD (s .args .samples .now) x (pos 0)) (t .before .wide .ensures .0) ∙ rw (at-fetch t .2)
+    kept _ (c .result2 .given) ∙ ap (λ (x : ℕ). getD (s .args .samples .now) x (pos 0)) (t .before .wide .ensures .0) ∙
+    rw (at-fetch t .2)
 
 pub leaf-word-spec : {M : Type 1} → statement M
 leaf-word-spec =

@@ -11,10 +11,29 @@ use Rattle.model.specs.Rules.Machine.{operatorCode, codeOk, runFrom, runCode, c
 use Rattle.model.specs.Rules.Word.{byteAt, binaryWord}
 use Rattle.model.specs.declared.Code.{Code}
 use Rattle.model.specs.declared.Code.the-variants as Code
-use Rattle.model.proofs.Counts.{code-most}
+use Rattle.model.specs.declared.Unary.the-variants.{Negate}
+use Rattle.model.proofs.Images.Counts.{code-most}
 use Rattle.run_stack.specs.View.{view}
-use Rattle.word.proofs.Laws.{kept}
-use Rattle.run_code.proofs.Laws.{Goes, Command, Leaf, leaf, leaf-some, moved, shifted, more, store, negate, choose, combine, ended, last, negated, chosen, combined}
+use Rattle.word.proofs.Locals.{kept}
+use Rattle.run_code.proofs.Commands.{
+  Goes,
+  Command,
+  Leaf,
+  leaf,
+  leaf-some,
+  moved,
+  shifted,
+  more,
+  store,
+  negate,
+  choose,
+  combine,
+  ended,
+  last,
+  negated,
+  chosen,
+  combined,
+}
 use Rattle.run_code.proofs.run_code.Statement.{statement}
 use Rattle.run_code.proofs.run_code.Tie as tie
 
@@ -42,13 +61,15 @@ stored l = runCode (code l) (start l .args .state .now) (start l .args .samples 
 abbrev Here : tie.At-loop Inv-loop μ-loop → Code → Type 0
 Here l k =
     let a = start l .args in
-    Command (code l) (a .n) (a .own) (a .state .now) (a .samples .now) (stored l) (countCode (code l)) (l .loop .count) (l .loop .at) (view (l .loop .stack)) (l .loop .stack .height) k
+    Command (code l) (a .n) (a .own) (a .state .now) (a .samples .now) (stored l) (countCode (code l)) (l .loop .count)
+    (l .loop .at) (view (l .loop .stack)) (l .loop .stack .height) k
 
 at-store : (m : tie.At-match-keys1 Inv-loop μ-loop)
-    → let l = m .before .before .before in (l .loop .at + 2 ≤ length (code l)) × Here l (Code.Store (byteAt (code l) (l .loop .at + 1)))
+    → let l = m .before .before .before in (l .loop .at + 2 ≤ length (code l)) ×
+    Here l (Code.Store (byteAt (code l) (l .loop .at + 1)))
 at-store m = store _ _ _ _ _ (m .before .before .loop-test .taken) (m .before .before .before .loop .inv) (m .match .keys1)
 
-at-negate : (m : tie.At-match-keys2 Inv-loop μ-loop) → Here (m .before .before .before) Code.Negate
+at-negate : (m : tie.At-match-keys2 Inv-loop μ-loop) → Here (m .before .before .before) (Code.Unary Negate)
 at-negate m = negate _ _ _ _ _ (m .before .before .loop-test .taken) (m .before .before .before .loop .inv) (m .match .keys2)
 
 at-if : (m : tie.At-match-keys3 Inv-loop μ-loop) → Here (m .before .before .before) Code.If
@@ -60,15 +81,18 @@ other : (j : tie.Joined1 Inv-loop μ-loop) (k : ℕ) → 0x50 ≤ k → k < 0x53
 other j k lo hi e = ⊎-elim (λ t. omega (arith, t .taken)) (λ w. omega (arith, w .1 .left)) (j .if1 .came)
 
 at-binary : (j : tie.Joined1 Inv-loop μ-loop)
-    → let l = j .before .before .before .before in let b = byteAt (code l) (l .loop .at) in (0x30 ≤ b) × (b ≤ 0x36) × Here l (operatorCode b)
+    → let l = j .before .before .before .before in let b = byteAt (code l) (l .loop .at) in (0x30 ≤ b) × (b ≤ 0x36) ×
+    Here l (operatorCode b)
 at-binary j =
     let r = j .before .match .rest in
     let t = j .before .before .before in
-    combine _ _ _ _ _ (t .loop-test .taken) (t .before .loop .inv) (other j 0x50 (omega arith) (omega arith)) (other j 0x51 (omega arith) (omega arith))
+    combine _ _ _ _ _ (t .loop-test .taken) (t .before .loop .inv) (other j 0x50 (omega arith) (omega arith))
+    (other j 0x51 (omega arith) (omega arith))
     (other j 0x52 (omega arith) (omega arith)) (r .0 .0 .1) (r .0 .1) (r .1)
 
 -- the operator is the one that the byte commands
-at-operator : (o : tie.After-operator2 Inv-loop μ-loop) → Here (o .before .before .before .before .before) (Code.Binary (o .operator2 .result))
+at-operator : (o : tie.After-operator2 Inv-loop μ-loop) →
+    Here (o .before .before .before .before .before) (Code.Binary (o .operator2 .result))
 at-operator o = rw (o .operator2 .ensures) at (at-binary (o .before) .2)
 
 -- a leaf
@@ -76,11 +100,13 @@ abbrev turn : tie.Then2 Inv-loop μ-loop → tie.At-loop Inv-loop μ-loop
 turn t = t .before .before .before .before .before
 
 at-leaf : (t : tie.Then2 Inv-loop μ-loop) → let l = turn t in let a = start l .args in
-    Leaf (code l) (a .n) (a .own) (a .state .now) (a .samples .now) (stored l) (countCode (code l)) (l .loop .count) (l .loop .at) (view (l .loop .stack)) (l .loop .stack .height)
+    Leaf (code l) (a .n) (a .own) (a .state .now) (a .samples .now) (stored l) (countCode (code l)) (l .loop .count) (l .loop .at)
+    (view (l .loop .stack)) (l .loop .stack .height)
 at-leaf t =
     let l = turn t in
     let s = start l in
-    leaf _ _ _ _ _ (t .before .before .before .before .loop-test .taken) (l .loop .inv) (s .pre .1) (s .pre .2) (s .pre .3) (t .before .if1 .left) (omega (arith, t .if2 .taken))
+    leaf _ _ _ _ _ (t .before .before .before .before .loop-test .taken) (l .loop .inv) (s .pre .1) (s .pre .2) (s .pre .3)
+    (t .before .if1 .left) (omega (arith, t .if2 .taken))
 
 -- what follows it
 abbrev leaf-of : tie.After-leaf-length Inv-loop μ-loop → tie.Then2 Inv-loop μ-loop
@@ -90,28 +116,35 @@ abbrev Follows : tie.After-leaf-length Inv-loop μ-loop → Code → Type 0
 Follows o k =
     let l = turn (leaf-of o) in
     let a = start l .args in
-    Command (code l) (a .n) (a .own) (a .state .now) (a .samples .now) (stored l) (countCode (code l)) (l .loop .count + 1) (l .loop .at + o .leaf-length .result)
+    Command (code l) (a .n) (a .own) (a .state .now) (a .samples .now) (stored l) (countCode (code l)) (l .loop .count + 1)
+    (l .loop .at + o .leaf-length .result)
     (o .before .leaf-word .result ∷ view (l .loop .stack)) (l .loop .stack .height + 1) k
 
 follows : (o : tie.After-leaf-length Inv-loop μ-loop) → let l = turn (leaf-of o) in let a = start l .args in
-    Goes (code l) (a .n) (a .own) (a .state .now) (a .samples .now) (stored l) (countCode (code l)) (l .loop .count + 1) (l .loop .at + o .leaf-length .result)
+    Goes (code l) (a .n) (a .own) (a .state .now) (a .samples .now) (stored l) (countCode (code l)) (l .loop .count + 1)
+    (l .loop .at + o .leaf-length .result)
     (o .before .leaf-word .result ∷ view (l .loop .stack)) (l .loop .stack .height + 1)
 follows o =
     let l = turn (leaf-of o) in
-    shifted _ _ _ _ _ (ap (λ (k : ℕ). l .loop .at + k) (o .leaf-length .ensures)) (ap (λ (w : ℤ). w ∷ view (l .loop .stack)) (o .before .leaf-word .ensures))
+    shifted _ _ _ _ _ (ap (λ (k : ℕ). l .loop .at + k) (o .leaf-length .ensures))
+    (ap (λ (w : ℤ). w ∷ view (l .loop .stack)) (o .before .leaf-word .ensures))
     (at-leaf (leaf-of o) .next)
 
-inside : (o : tie.After-leaf-length Inv-loop μ-loop) → turn (leaf-of o) .loop .at + o .leaf-length .result < length (code (turn (leaf-of o)))
+inside : (o : tie.After-leaf-length Inv-loop μ-loop) →
+    turn (leaf-of o) .loop .at + o .leaf-length .result < length (code (turn (leaf-of o)))
 inside o = more _ _ _ _ _ (follows o)
 
 then-binary : (t : tie.Then4 Inv-loop μ-loop) → let o = t .before .before .before in
-    let l = turn (leaf-of o) in let b = byteAt (code l) (l .loop .at + o .leaf-length .result) in (0x30 ≤ b) × (b ≤ 0x36) × Follows o (operatorCode b)
+    let l = turn (leaf-of o) in let b = byteAt (code l) (l .loop .at + o .leaf-length .result) in (0x30 ≤ b) × (b ≤ 0x36) ×
+    Follows o (operatorCode b)
 then-binary t =
     let o = t .before .before .before in
-    combine _ _ _ _ _ (inside o) (follows o) (λ e. omega (arith, t .if4 .taken)) (λ e. omega (arith, t .if4 .taken)) (λ e. omega (arith, t .if4 .taken))
+    combine _ _ _ _ _ (inside o) (follows o) (λ e. omega (arith, t .if4 .taken)) (λ e. omega (arith, t .if4 .taken))
+    (λ e. omega (arith, t .if4 .taken))
     (λ e. omega (arith, t .if4 .taken)) (λ e. omega (arith, t .if4 .taken)) (λ e. omega (arith, t .if4 .taken))
 
-then-operator : (o : tie.After-operator Inv-loop μ-loop) → Follows (o .before .before .before .before) (Code.Binary (o .operator .result))
+then-operator : (o : tie.After-operator Inv-loop μ-loop) →
+    Follows (o .before .before .before .before) (Code.Binary (o .operator .result))
 then-operator o = rw (o .operator .ensures) at (then-binary (o .before) .2)
 
 -- no more commands have run than the code has bytes
@@ -152,11 +185,14 @@ pop-requires c κs = (omega (arith, last _ _ _ _ _ (at-store c .1) .0), c .befor
 returns : tie.Need-returns Inv-loop μ-loop
 returns c =
     let p = c .before in
-    let ends = last _ _ _ _ _ (at-store (p .before) .1) in
-    (kept (p .pop .result .word) (c .struct-told .given .0 .1) ∙ sym (ap (λ (s : List ℤ). getD s 0 (pos 0)) (p .pop .ensures .0)) ∙ ends .1, ends .2)
+    let ends = last _ _ _ _ _ (at-store (p .before) .1) in (
+      kept (p .pop .result .word) (c .struct-told .given .0 .1) ∙
+          sym (ap (λ (s : List ℤ). getD s 0 (pos 0)) (p .pop .ensures .0)) ∙ ends .1,
+      ends .2,
+    )
 
-negate-requires : tie.Need-negate-requires Inv-loop μ-loop
-negate-requires c κs = (negated _ _ _ _ _ (at-negate c) .0, c .before .before .before .loop .inv .most)
+unary-requires : tie.Need-unary-requires Inv-loop μ-loop
+unary-requires c κs = (negated _ _ _ _ _ Negate (at-negate c) .0, c .before .before .before .loop .inv .most)
 
 loop-less : tie.Need-loop-less Inv-loop μ-loop
 loop-less c = omega arith
@@ -164,7 +200,7 @@ loop-less c = omega arith
 loop-again : tie.Need-loop-again Inv-loop μ-loop
 loop-again c =
     rw (one (c .before .before .before .before))
-    (moved _ _ _ _ _ (c .negate .ensures .0) (c .negate .ensures .1) (negated _ _ _ _ _ (at-negate (c .before)) .1))
+    (moved _ _ _ _ _ (c .unary .ensures .0) (c .unary .ensures .1) (negated _ _ _ _ _ Negate (at-negate (c .before)) .1))
 
 choose-requires : tie.Need-choose-requires Inv-loop μ-loop
 choose-requires c κs = (chosen _ _ _ _ _ (at-if c) .0, c .before .before .before .loop .inv .most)
@@ -202,7 +238,10 @@ operator-requires : tie.Need-operator-requires Inv-loop μ-loop
 operator-requires c κs = (then-binary c .0, then-binary c .1)
 
 binary-with-requires : tie.Need-binary-with-requires Inv-loop μ-loop
-binary-with-requires c κs = (omega (arith, combined _ _ _ _ _ (then-operator c) .0), turn (leaf-of (c .before .before .before .before)) .loop .inv .most)
+binary-with-requires c κs = (
+  omega (arith, combined _ _ _ _ _ (then-operator c) .0),
+  turn (leaf-of (c .before .before .before .before)) .loop .inv .most,
+)
 
 add-at-3 : tie.Need-add-at-3 Inv-loop μ-loop
 add-at-3 c = omega (arith, inside (c .before .before .before .before .before))
@@ -222,7 +261,9 @@ loop-again-3 c =
     let o = p .before .before .before .before in
     let w = o .before in
     rw (one (turn (leaf-of o)))
-    (moved _ _ _ _ _ (c .binary-with .ensures .0 ∙ ap (λ (z : ℤ). onTwo (binaryWord (p .operator .result)) (z ∷ view (turn (leaf-of o) .loop .stack))) (kept _ (w .leaf-word .ok)))
+    (moved _ _ _ _ _ (c .binary-with .ensures .0 ∙
+    ap (λ (z : ℤ). onTwo (binaryWord (p .operator .result)) (z ∷ view (turn (leaf-of o) .loop .stack)))
+    (kept _ (w .leaf-word .ok)))
     (omega (arith, c .binary-with .ensures .1)) (combined _ _ _ _ _ (then-operator p) .1))
 
 loop-less-4 : tie.Need-loop-less-4 Inv-loop μ-loop
@@ -234,7 +275,9 @@ loop-less-4 c =
 loop-again-4 : tie.Need-loop-again-4 Inv-loop μ-loop
 loop-again-4 c =
     let o = c .before .before .before .before in
-    moved _ _ _ _ _ (c .push .ensures .0 ∙ ap (λ (z : ℤ). z ∷ view (turn (leaf-of o) .loop .stack)) (kept _ (o .before .leaf-word .ok))) (c .push .ensures .1) (follows o)
+    moved _ _ _ _ _ (c .push .ensures .0 ∙
+    ap (λ (z : ℤ). z ∷ view (turn (leaf-of o) .loop .stack)) (kept _ (o .before .leaf-word .ok))) (c .push .ensures .1)
+    (follows o)
 
 operator-requires-2 : tie.Need-operator-requires-2 Inv-loop μ-loop
 operator-requires-2 c κs = (at-binary c .0, at-binary c .1)
@@ -248,7 +291,8 @@ loop-less-5 c = omega arith
 loop-again-5 : tie.Need-loop-again-5 Inv-loop μ-loop
 loop-again-5 c =
     rw (one (c .before .before .before .before .before .before))
-    (moved _ _ _ _ _ (c .binary .ensures .0) (omega (arith, c .binary .ensures .1)) (combined _ _ _ _ _ (at-operator (c .before)) .1))
+    (moved _ _ _ _ _ (c .binary .ensures .0) (omega (arith, c .binary .ensures .1))
+    (combined _ _ _ _ _ (at-operator (c .before)) .1))
 
 returns-3 : tie.Need-returns-3 Inv-loop μ-loop
 returns-3 c = ended _ _ _ _ _ (c .loop-test .left) (c .before .loop .inv)
@@ -267,7 +311,7 @@ run-code-spec =
     add-count
     pop-requires
     returns
-    negate-requires
+    unary-requires
     loop-less
     loop-again
     choose-requires

@@ -1,11 +1,11 @@
 -- `text_command::constant_at` meets its contract. Assumes nothing.
-use Rattle.word.proofs.Laws.{kept}
+use Rattle.word.proofs.Locals.{kept}
 use borrow.Author.Tests.{le-leb, lt-leb}
 use native.Mathlib.Omega.{arith}
 use denote.Ref.{now}
 use lib.ListN.{length}
 use Prim.Native.Nat.{_+_}
-use Rattle.model.specs.Rules.Command.{commandOf}
+use Rattle.model.specs.Rules.Command.{operatorOf}
 use borrow.Author.Needs.{needs}
 use Rattle.text_command.proofs.constant_at.Statement.{statement}
 use Rattle.text_command.proofs.constant_at.Tie as tie
@@ -17,7 +17,7 @@ in-expression-requires : tie.Need-in-expression-requires
 in-expression-requires c κs = search needs
 
 returns : tie.Need-returns
-unfolding commandOf
+unfolding operatorOf
 returns c =
     let a = c .before .before .before .args in
     let s = now (a .text) in
@@ -30,7 +30,7 @@ word-at-requires : tie.Need-word-at-requires
 word-at-requires c κs = search needs
 
 returns-2 : tie.Need-returns-2
-unfolding commandOf
+unfolding operatorOf
 returns-2 c =
     let a = c .before .before .before .before .args in
     let s = now (a .text) in

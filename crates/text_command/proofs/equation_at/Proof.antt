@@ -1,5 +1,5 @@
 -- `text_command::equation_at` meets its contract. Assumes nothing.
-use Rattle.word.proofs.Laws.{kept}
+use Rattle.word.proofs.Locals.{kept}
 use borrow.Author.Tests.{le-leb, lt-leb, not-true, not-false}
 use native.Mathlib.Omega.{arith}
 use denote.Ref.{now}
@@ -7,7 +7,7 @@ use lib.ListN.{length, getD}
 use Prim.Native.Nat.{_+_}
 use mathlib.Core.Path.{_≡_, sym, _∙_}
 use mathlib.Core.Bool.{true, false}
-use Rattle.model.specs.Rules.Command.{commandOf, isPeriod}
+use Rattle.model.specs.Rules.Command.{declarationOf, isPeriod}
 use borrow.Author.Needs.{needs}
 use Rattle.text_command.proofs.equation_at.Statement.{statement}
 use Rattle.text_command.proofs.equation_at.Tie as tie
@@ -16,7 +16,7 @@ sub-left : tie.Need-sub-left
 sub-left c = search needs
 
 returns : tie.Need-returns
-unfolding commandOf
+unfolding declarationOf
 returns c =
     let a = c .before .before .args in
     let s = now (a .text) in
@@ -32,7 +32,7 @@ is-period-requires : tie.Need-is-period-requires
 is-period-requires c κs = search needs
 
 returns-2 : tie.Need-returns-2
-unfolding commandOf
+unfolding declarationOf
 returns-2 c =
     let a = c .before .before .before .before .before .args in
     let s = now (a .text) in
@@ -43,11 +43,14 @@ in-program-requires : tie.Need-in-program-requires
 in-program-requires c κs = search needs
 
 returns-3 : tie.Need-returns-3
-unfolding commandOf
+unfolding declarationOf
 returns-3 c =
-    let a = c .before .before .before .before .before .before .before .args in
+    let c3 = c .before .before .before in
+    let c7 = c3 .before .before .before .before in
+    let a = c7 .args in
     let s = now (a .text) in
-    let n : isPeriod (getD s (a .at + 1) 0) ≡ true = sym (c .before .before .before .is-period .ensures) ∙ not-false _ (c .before .before .if2 .left) in
+    let n : isPeriod (getD s (a .at + 1) 0) ≡ true = sym (c3 .is-period .ensures) ∙
+    not-false _ (c .before .before .if2 .left) in
     rw (le-leb (a .at + 2) (length s) (omega arith), n, lt-leb (a .at + 8) (length s) (omega arith))
 
 add-word-at : tie.Need-add-word-at
@@ -63,12 +66,22 @@ two-at-requires : tie.Need-two-at-requires
 two-at-requires c κs = search needs
 
 returns-4 : tie.Need-returns-4
-unfolding commandOf
+unfolding declarationOf
 returns-4 c =
-    let a = c .before .before .before .before .before .before .before .before .before .args in
+    let c4 = c .before .before .before .before in
+    let c5 = c4 .before in
+    let c9 = c5 .before .before .before .before in
+    let a = c9 .args in
     let s = now (a .text) in
-    let n : isPeriod (getD s (a .at + 1) 0) ≡ true = sym (c .before .before .before .before .before .is-period .ensures) ∙ not-false _ (c .before .before .before .before .if2 .left) in
-    rw (le-leb (a .at + 2) (length s) (omega arith), n, le-leb (a .at + 8) (length s) (omega arith), kept _ (c .before .word-at .ok), c .before .word-at .ensures, c .two-at .ensures)
+    let n : isPeriod (getD s (a .at + 1) 0) ≡ true = sym (c5 .is-period .ensures) ∙ not-false _ (c4 .if2 .left) in
+    rw (
+      le-leb (a .at + 2) (length s) (omega arith),
+      n,
+      le-leb (a .at + 8) (length s) (omega arith),
+      kept _ (c .before .word-at .ok),
+      c .before .word-at .ensures,
+      c .two-at .ensures,
+    )
 
 pub equation-at-spec : {M : Type 1} → statement M
 equation-at-spec =

@@ -60,10 +60,15 @@ is-index-requires c κs = search needs
 returns-3 : tie.Need-returns-3
 unfolding sampledRead
 returns-3 c =
-    let a = c .before .before .before .before .before .before .before .before .before .before .args in
+    let c3 = c .before .before .before in
+    let c8 = c3 .before .before .before .before .before in
+    let c10 = c8 .before .before in
+    let a = c10 .args in
     let s = now (a .text) in
-    let n : isFactor (getD s (a .at + 3) 0) ≡ true = sym (c .before .before .before .is-period .ensures) ∙ not-false _ (c .before .before .if2 .left) in
-    let i : isIndex (getD s (a .at + 2) 0) (getD s (a .at + 3) 0) ≡ false = sym (c .before .is-index .ensures) ∙ not-true _ (c .if3 .taken) in
+    let n : isFactor (getD s (a .at + 3) 0) ≡ true = sym (c3 .is-period .ensures) ∙
+    not-false _ (c .before .before .if2 .left) in
+    let i : isIndex (getD s (a .at + 2) 0) (getD s (a .at + 3) 0) ≡ false = sym (c .before .is-index .ensures) ∙
+    not-true _ (c .if3 .taken) in
     rw (le-leb (a .at + 4) (length s) (omega arith), n, i)
 
 index-of-requires : tie.Need-index-of-requires
@@ -72,10 +77,15 @@ index-of-requires c κs = search needs
 returns-4 : tie.Need-returns-4
 unfolding sampledRead
 returns-4 c =
-    let a = c .before .before .before .before .before .before .before .before .before .before .before .args in
+    let c3 = c .before .before .before in
+    let c4 = c3 .before in
+    let c9 = c4 .before .before .before .before .before in
+    let c11 = c9 .before .before in
+    let a = c11 .args in
     let s = now (a .text) in
-    let n : isFactor (getD s (a .at + 3) 0) ≡ true = sym (c .before .before .before .before .is-period .ensures) ∙ not-false _ (c .before .before .before .if2 .left) in
-    let i : isIndex (getD s (a .at + 2) 0) (getD s (a .at + 3) 0) ≡ true = sym (c .before .before .is-index .ensures) ∙ not-false _ (c .before .if3 .left) in
+    let n : isFactor (getD s (a .at + 3) 0) ≡ true = sym (c4 .is-period .ensures) ∙ not-false _ (c3 .if2 .left) in
+    let i : isIndex (getD s (a .at + 2) 0) (getD s (a .at + 3) 0) ≡ true = sym (c .before .before .is-index .ensures) ∙
+    not-false _ (c .before .if3 .left) in
     rw (le-leb (a .at + 4) (length s) (omega arith), n, i, c .index-of .ensures)
 
 pub sampled-read-spec : {M : Type 1} → statement M

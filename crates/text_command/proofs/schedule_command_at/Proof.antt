@@ -31,7 +31,11 @@ unfolding scheduleCommandAt
 returns-3 c =
     let a = c .before .before .before .before .before .args in
     let s = now (a .text) in
-    rw (lt-ltb (a .at) (length s) (omega arith), ne-eqb (getD s (a .at) 0) 0 (c .before .if2 .left), ne-eqb (getD s (a .at) 0) 64 (c .if3 .taken))
+    rw (
+      lt-ltb (a .at) (length s) (omega arith),
+      ne-eqb (getD s (a .at) 0) 0 (c .before .if2 .left),
+      ne-eqb (getD s (a .at) 0) 64 (c .if3 .taken),
+    )
 
 sub-left : tie.Need-sub-left
 sub-left c = search needs
@@ -42,9 +46,16 @@ in-schedule-requires c κs = search needs
 returns-4 : tie.Need-returns-4
 unfolding scheduleCommandAt
 returns-4 c =
-    let a = c .before .before .before .before .before .before .before .args in
+    let c3 = c .before .before .before in
+    let c7 = c3 .before .before .before .before in
+    let a = c7 .args in
     let s = now (a .text) in
-    rw (lt-ltb (a .at) (length s) (omega arith), ne-eqb (getD s (a .at) 0) 0 (c .before .before .before .if2 .left), eq-eqb (getD s (a .at) 0) 64 (c .before .before .if3 .left), lt-leb (a .at + 3) (length s) (omega arith))
+    rw (
+      lt-ltb (a .at) (length s) (omega arith),
+      ne-eqb (getD s (a .at) 0) 0 (c3 .if2 .left),
+      eq-eqb (getD s (a .at) 0) 64 (c .before .before .if3 .left),
+      lt-leb (a .at + 3) (length s) (omega arith),
+    )
 
 add-t5 : tie.Need-add-t5
 add-t5 c = search needs
@@ -61,9 +72,17 @@ shared-slice-read-t12 c = search needs
 returns-5 : tie.Need-returns-5
 unfolding scheduleCommandAt
 returns-5 c =
-    let a = c .before .before .before .before .before .before .before .before .before .args in
+    let c4 = c .before .before .before .before in
+    let c5 = c4 .before in
+    let c9 = c5 .before .before .before .before in
+    let a = c9 .args in
     let s = now (a .text) in
-    rw (lt-ltb (a .at) (length s) (omega arith), ne-eqb (getD s (a .at) 0) 0 (c .before .before .before .before .before .if2 .left), eq-eqb (getD s (a .at) 0) 64 (c .before .before .before .before .if3 .left), le-leb (a .at + 3) (length s) (omega arith))
+    rw (
+      lt-ltb (a .at) (length s) (omega arith),
+      ne-eqb (getD s (a .at) 0) 0 (c5 .if2 .left),
+      eq-eqb (getD s (a .at) 0) 64 (c4 .if3 .left),
+      le-leb (a .at + 3) (length s) (omega arith),
+    )
 
 pub schedule-command-at-spec : {M : Type 1} → statement M
 schedule-command-at-spec =

@@ -4,7 +4,7 @@ use native.Mathlib.Omega.{arith}
 use denote.Ref.{now}
 use lib.ListN.{length}
 use Prim.Native.Nat.{_+_}
-use Rattle.model.specs.Rules.Command.{commandOf}
+use Rattle.model.specs.Rules.Command.{declarationOf}
 use borrow.Author.Needs.{needs}
 use Rattle.text_command.proofs.tag_at.Statement.{statement}
 use Rattle.text_command.proofs.tag_at.Tie as tie
@@ -16,7 +16,7 @@ in-program-requires : tie.Need-in-program-requires
 in-program-requires c κs = search needs
 
 returns : tie.Need-returns
-unfolding commandOf
+unfolding declarationOf
 returns c =
     let a = c .before .before .before .args in
     let s = now (a .text) in
@@ -29,7 +29,7 @@ two-at-requires : tie.Need-two-at-requires
 two-at-requires c κs = search needs
 
 returns-2 : tie.Need-returns-2
-unfolding commandOf
+unfolding declarationOf
 returns-2 c =
     let a = c .before .before .before .before .args in
     let s = now (a .text) in

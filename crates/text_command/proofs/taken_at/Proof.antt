@@ -38,24 +38,36 @@ add-index-of : tie.Need-add-index-of
 add-index-of c = omega (arith, shape (c .before .before .before .before .before .pre) .wide (c .if1 .left))
 
 shared-slice-read-index-of : tie.Need-shared-slice-read-index-of
-shared-slice-read-index-of c = omega (arith, shape (c .before .before .before .before .before .before .pre) .wide (c .before .if1 .left))
+shared-slice-read-index-of c =
+    omega (arith, shape (c .before .before .before .before .before .before .pre) .wide (c .before .if1 .left))
 
 index-of-requires : tie.Need-index-of-requires
 index-of-requires c κs = search needs
 
 add-t9 : tie.Need-add-t9
-add-t9 c = omega (arith, shape (c .before .before .before .before .before .before .before .pre) .wide (c .before .before .if1 .left))
+add-t9 c = omega (
+  arith,
+  shape (c .before .before .before .before .before .before .before .pre) .wide
+      (c .before .before .if1 .left),
+)
 
 shared-slice-read-t8 : tie.Need-shared-slice-read-t8
 shared-slice-read-t8 c =
-    omega (arith, shape (c .before .before .before .before .before .before .before .before .pre) .wide (c .before .before .before .if1 .left))
+    let c3 = c .before .before .before in
+    let c8 = c3 .before .before .before .before .before in
+    omega (arith, shape (c8 .pre) .wide (c3 .if1 .left))
 
 returns-2 : tie.Need-returns-2
 returns-2 c =
     record {
       is = λ kind x e.
           let h = read-shape _ _ kind x e in
-          rw (c .before .before .before .before .kind-of .ensures, c .before .index-of .ensures, h .kind-is, h .sampled (c .before .before .before .if1 .left));
+          rw (
+            c .before .before .before .before .kind-of .ensures,
+            c .before .index-of .ensures,
+            h .kind-is,
+            h .sampled (c .before .before .before .if1 .left),
+          );
     }
 
 pub taken-at-spec : {M : Type 1} → statement M

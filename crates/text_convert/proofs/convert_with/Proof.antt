@@ -28,8 +28,10 @@ same-length c = search needs
 
 returns : tie.Need-returns
 returns c =
-    convert-refused _ _ (c .before .before .before .before .before .before .before .before .before .before .pre .0) _
-    (read-refused _ _ _ _ (c .before .before .before .before .before .read-program .ensures) (c .before .judged .given .1))
+    let c5 = c .before .before .before .before .before in
+    let c10 = c5 .before .before .before .before .before in
+    convert-refused _ _ (c10 .pre .0) _
+    (read-refused _ _ _ _ (c5 .read-program .ensures) (c .before .judged .given .1))
 
 enum-told : tie.Need-enum-told
 enum-told c = search needs

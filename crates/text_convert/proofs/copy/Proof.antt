@@ -5,7 +5,7 @@ use native.Mathlib.Omega.{arith}
 use mathlib.Core.Path.{_≡_, refl}
 use borrow.Author.Needs.{needs}
 use lib.ListN.{length, getD, take, drop}
-use Rattle.model.proofs.Left.{Left, Parts, starts, room, turn, done}
+use Rattle.model.proofs.Basics.Left.{Left, Parts, starts, room, turn, done}
 use Rattle.text_convert.proofs.Walk.{copy-step, copy-fits, take-none}
 use Rattle.text_convert.proofs.copy.Statement.{statement}
 use Rattle.text_convert.proofs.copy.Tie as tie
@@ -23,11 +23,13 @@ step : (c : tie.After-shared-slice-known Inv-loop μ-loop) → let l = c .before
     Parts (take (l .left) (drop (l .i) text)) (getD text (l .i) 0 ∷ []) (take (l .left - 1) (drop (l .i + 1) text))
 step c = copy-step _ _ _ (omega arith) (c .before .before .loop .inv .0)
 
-space : (c : tie.After-shared-slice-known Inv-loop μ-loop) → c .before .before .loop .end + 1 ≤ length (c .before .before .loop .out)
+space : (c : tie.After-shared-slice-known Inv-loop μ-loop) →
+    c .before .before .loop .end + 1 ≤ length (c .before .before .loop .out)
 space c =
-    let a = c .before .before .before .args in
+    let c3 = c .before .before .before in
+    let a = c3 .args in
     room (step c) (c .before .before .loop .inv .1)
-    (copy-fits (a .text .now) (a .at) (a .n) (a .to) _ (c .before .before .before .pre .0) (c .before .before .before .pre .1))
+    (copy-fits (a .text .now) (a .at) (a .n) (a .to) _ (c3 .pre .0) (c3 .pre .1))
 
 loop-holds : tie.Need-loop-holds Inv-loop μ-loop
 loop-holds c = (omega (arith, c .pre .0), starts)
@@ -51,7 +53,10 @@ loop-less : tie.Need-loop-less Inv-loop μ-loop
 loop-less c = search needs
 
 loop-again : tie.Need-loop-again Inv-loop μ-loop
-loop-again c = (omega (arith, c .before .before .loop .inv .0), turn (step c) (c .before .before .loop .inv .1) (record { holds = refl; ends = refl }))
+loop-again c = (
+  omega (arith, c .before .before .loop .inv .0),
+  turn (step c) (c .before .before .loop .inv .1) (record { holds = refl; ends = refl }),
+)
 
 same-length : tie.Need-same-length Inv-loop μ-loop
 same-length c = c .before .loop .inv .1 .size

@@ -5,7 +5,7 @@ use native.Mathlib.Omega.{arith}
 use borrow.Author.Needs.{needs}
 use lib.ListN.{length}
 use Rattle.model.specs.Rules.Rewrite.{rewriteFrom, rewrite}
-use Rattle.model.proofs.Left.{parts-length}
+use Rattle.model.proofs.Basics.Left.{parts-length}
 use Rattle.text_convert.proofs.Walk.{Turn, turn-of, rewrite-starts, rewrite-ends}
 use Rattle.text_convert.proofs.rewritten_length.Statement.{statement}
 use Rattle.text_convert.proofs.rewritten_length.Tie as tie
@@ -18,19 +18,16 @@ abbrev μ-loop : tie.MeasureT-loop
 μ-loop text at₀ total₀ left₀ at total left = left
 
 -- what the turn does
-now-turn : (c : tie.After-piece-of Inv-loop μ-loop) →
-    Turn (c .before .before .before .before .before .args .text .now) (c .before .before .before .loop .at) (c .before .before .before .loop .left) (c .piece-of .result)
-now-turn c =
-    turn-of _ _ _ (c .before .command-at .result) _ (omega arith) (omega arith) (c .before .command-at .ensures) (c .piece-of .ensures)
+now-turn : (c : tie.After-command-piece Inv-loop μ-loop) →
+    let l = c .before .before in
+    Turn (l .before .before .args .text .now) (l .loop .at) (l .loop .left) (c .command-piece .result)
+now-turn c = turn-of _ _ _ _ (omega arith) (omega arith) (c .command-piece .ensures)
 
 loop-holds : tie.Need-loop-holds Inv-loop μ-loop
 loop-holds c = (omega arith, omega arith, omega (arith, ap length (rewrite-starts (c .before .args .text .now))))
 
-command-at-requires : tie.Need-command-at-requires Inv-loop μ-loop
-command-at-requires c κs = search needs
-
-piece-of-requires : tie.Need-piece-of-requires Inv-loop μ-loop
-piece-of-requires c κs = search needs
+command-piece-requires : tie.Need-command-piece-requires Inv-loop μ-loop
+command-piece-requires c κs = search needs
 
 length-of-requires : tie.Need-length-of-requires Inv-loop μ-loop
 length-of-requires c κs = search needs
@@ -56,12 +53,20 @@ loop-again c =
     let t = now-turn (c .before .before) in
     let e = c .width-of .ensures in
     let f = c .before .length-of .ensures in
-    rw (e, f)
-    (t .inside, omega (arith, t .short), omega (arith, parts-length (t .parts), t .size, c .before .before .before .before .before .loop .inv .2))
+    rw (e, f) (
+      t .inside,
+      omega (arith, t .short),
+      omega (arith, parts-length (t .parts), t .size, c .before .before .before .before .loop .inv .2),
+    )
 
 returns : tie.Need-returns Inv-loop μ-loop
 returns c =
-    omega (arith, c .before .loop .inv .2, ap length (rewrite-ends (c .before .before .before .args .text .now) (c .before .loop .at) (c .before .loop .left) (omega arith)))
+    omega (
+      arith,
+      c .before .loop .inv .2,
+      ap length (rewrite-ends (c .before .before .before .args .text .now) (c .before .loop .at) (c .before .loop .left)
+          (omega arith)),
+    )
 
 pub rewritten-length-spec : {M : Type 1} → statement M
 rewritten-length-spec =
@@ -70,8 +75,7 @@ rewritten-length-spec =
     Inv-loop
     μ-loop
     loop-holds
-    command-at-requires
-    piece-of-requires
+    command-piece-requires
     length-of-requires
     add-total
     width-of-requires

@@ -5,7 +5,7 @@ use native.Mathlib.Omega.{arith}
 use borrow.Author.Needs.{needs}
 use lib.ListN.{length}
 use Rattle.model.specs.Rules.Rewrite.{rewriteFrom, rewrite}
-use Rattle.model.proofs.Left.{Left, starts, room, turn, done}
+use Rattle.model.proofs.Basics.Left.{Left, starts, room, turn, done}
 use Rattle.text_convert.proofs.Walk.{Turn, turn-of, rewrite-starts, rewrite-ends}
 use Rattle.text_convert.proofs.write.Statement.{statement}
 use Rattle.text_convert.proofs.write.Tie as tie
@@ -18,24 +18,23 @@ abbrev μ-loop : tie.MeasureT-loop
 μ-loop text out₀ at₀ to₀ left₀ out at to left = left
 
 -- what the turn does
-now-turn : (c : tie.After-piece-of Inv-loop μ-loop) →
-    Turn (c .before .before .before .before .before .before .args .text .now) (c .before .before .before .loop .at) (c .before .before .before .loop .left) (c .piece-of .result)
-now-turn c =
-    turn-of _ _ _ (c .before .command-at .result) _ (omega arith) (omega arith) (c .before .command-at .ensures) (c .piece-of .ensures)
+now-turn : (c : tie.After-command-piece Inv-loop μ-loop) →
+    let l = c .before .before in
+    Turn (l .before .before .before .args .text .now) (l .loop .at) (l .loop .left) (c .command-piece .result)
+now-turn c = turn-of _ _ _ _ (omega arith) (omega arith) (c .command-piece .ensures)
 
 loop-holds : tie.Need-loop-holds Inv-loop μ-loop
 loop-holds c = (omega arith, rw (rewrite-starts (c .before .before .args .text .now)) starts)
 
-command-at-requires : tie.Need-command-at-requires Inv-loop μ-loop
-command-at-requires c κs = search needs
-
-piece-of-requires : tie.Need-piece-of-requires Inv-loop μ-loop
-piece-of-requires c κs = search needs
+command-piece-requires : tie.Need-command-piece-requires Inv-loop μ-loop
+command-piece-requires c κs = search needs
 
 put-requires : tie.Need-put-requires Inv-loop μ-loop
 put-requires c κs =
+    let c3 = c .before .before .before in
+    let c6 = c3 .before .before .before in
     let t = now-turn (c .before) in
-    (t .inside, rw (← (t .size)) (room (t .parts) (c .before .before .before .before .loop .inv .1) (omega (arith, c .before .before .before .before .before .before .before .pre))))
+    (t .inside, rw (← (t .size)) (room (t .parts) (c3 .loop .inv .1) (omega (arith, c6 .pre))))
 
 width-of-requires : tie.Need-width-of-requires Inv-loop μ-loop
 width-of-requires c κs = search needs
@@ -52,16 +51,19 @@ loop-less c = search needs
 
 loop-again : tie.Need-loop-again Inv-loop μ-loop
 loop-again c =
-    let t = now-turn (c .before .before .before .before .before) in
-    rw (c .width-of .ensures)
-    (t .inside, turn (t .parts) (c .before .before .before .before .before .before .before .before .loop .inv .1) (c .before .before .before .put .ensures))
+    let c3 = c .before .before .before in
+    let c5 = c3 .before .before in
+    let c7 = c5 .before .before in
+    let t = now-turn c5 in
+    rw (c .width-of .ensures) (t .inside, turn (t .parts) (c7 .loop .inv .1) (c3 .put .ensures))
 
 same-length : tie.Need-same-length Inv-loop μ-loop
 same-length c = c .before .loop .inv .1 .size
 
 returns : tie.Need-returns Inv-loop μ-loop
 returns c =
-    done (rewrite-ends (c .before .before .before .before .args .text .now) (c .before .loop .at) (c .before .loop .left) (omega arith))
+    done (rewrite-ends (c .before .before .before .before .args .text .now) (c .before .loop .at) (c .before .loop .left)
+    (omega arith))
     (c .before .loop .inv .1)
 
 pub write-spec : {M : Type 1} → statement M
@@ -71,8 +73,7 @@ write-spec =
     Inv-loop
     μ-loop
     loop-holds
-    command-at-requires
-    piece-of-requires
+    command-piece-requires
     put-requires
     width-of-requires
     add-at

@@ -12,15 +12,15 @@ use borrow.Fn.PlainCycle.{Measures, is, falls, and}
 use Rattle.model.specs.Rules.Outcome.{_▷_, provided, parsed}
 use Rattle.model.specs.Rules.Program.{constant, read, node, parseExpr}
 use Rattle.model.specs.Rules.Width.{readWidth}
-use Rattle.model.specs.declared.Command.{Command}
-use Rattle.model.specs.declared.Command.the-variants as Command
+use Rattle.model.specs.declared.Operator.{Operator}
+use Rattle.model.specs.declared.Operator.the-variants as Operator
 use Rattle.model.specs.declared.Kind.{Kind}
 use Rattle.model.specs.declared.Sampled.{Sampled}
 use Rattle.text_program.specs.Walks.{Room, Walks}
 use Rattle.text_program.specs.declared.Walk.{Walk}
 use Rattle.text_program.specs.declared.Walked.{Walked}
 use Rattle.text_program.specs.declared.Walked.the-variants as Walked
-use Rattle.text_program.proofs.Laws.{width-most}
+use Rattle.text_program.proofs.Parts.{width-most}
 use Rattle.text_program.proofs.Operators.{parse-node, operator-inside, read-allowed}
 use Rattle.text_program.proofs.Walks.{
   walks-refused,
@@ -106,37 +106,41 @@ module _ (t : ℕ) (c : lts.After-operator-from (known t) (given t) own.Post) wh
   room : Room (length text) at count to size
   room = c .before .before .before .before .pre .1
 
-  module _ (o : Command) (e : c .operator-from .result ≡ o) where
+  module _ (o : Operator) (e : c .operator-from .result ≡ o) where
     step : parseExpr least depth text at ≡ node least (λ n. parseExpr least (depth - 1) text n) text at o
     step =
         parse-node least depth text at (c .before .if1 .left) ∙
-        ap (λ (x : Command). node least (λ n. parseExpr least (depth - 1) text n) text at x) (sym (c .operator-from .ensures) ∙ e)
+        ap (λ (x : Operator). node least (λ n. parseExpr least (depth - 1) text n) text at x)
+        (sym (c .operator-from .ensures) ∙ e)
 
-    inside : (Command.EndsEarly ≡ o → ⊥) → at < length text
+    inside : (Operator.EndsEarly ≡ o → ⊥) → at < length text
     inside h = operator-inside least text at (sym (c .operator-from .ensures) ∙ e) h
 
-  constant-inside : {w : ℤ} → c .operator-from .result ≡ Command.Constant w → at + 5 ≤ length text
+  constant-inside : {w : ℤ} → c .operator-from .result ≡ Operator.Constant w → at + 5 ≤ length text
   unfolding node
   constant-inside {w} e = parsed-spans least depth text at (constant w) (at + 5) (step _ e) .inside
 
   -- A read has a factor that is allowed.
-  read-step : {kind : Kind} {x : Sampled} → c .operator-from .result ≡ Command.Read kind x →
+  read-step : {kind : Kind} {x : Sampled} → c .operator-from .result ≡ Operator.Read kind x →
       parseExpr least depth text at ≡ parsed (read (record { place = at; kind = kind; operands = x })) (at + readWidth kind)
   unfolding node _▷_ provided
   read-step e = step _ e ∙ rw (read-allowed least text at (sym (c .operator-from .ensures) ∙ e))
 
-  read-inside : {kind : Kind} {x : Sampled} → c .operator-from .result ≡ Command.Read kind x → at + readWidth kind ≤ length text
+  read-inside : {kind : Kind} {x : Sampled} → c .operator-from .result ≡ Operator.Read kind x → at + readWidth kind ≤ length text
   unfolding node
   read-inside {kind} {x} e =
-      parsed-spans least depth text at (read (record { place = at; kind = kind; operands = x })) (at + readWidth kind) (read-step e) .inside
+      parsed-spans least depth text at (read (record { place = at; kind = kind; operands = x })) (at + readWidth kind)
+      (read-step e) .inside
 
   -- where an operand is read
-  one : {l′ : List ℕ} {r : Walked} {a : Walk} → Walks (parseExpr least (depth - 1) text (at + 1)) (now (c .before .before .before .before .args .reads)) count to l′ r →
+  one : {l′ : List ℕ} {r : Walked} {a : Walk} →
+      Walks (parseExpr least (depth - 1) text (at + 1)) (now (c .before .before .before .before .args .reads)) count to l′ r →
       r ≡ Walked.Next a → Ahead (length text) (length l′) a
   one w e = ahead least text (depth - 1) (room-after 1 room) w e
 
   more : {l l′ : List ℕ} {r : Walked} {a b : Walk} → Ahead (length text) (length l) a →
-      Walks (parseExpr least (depth - 1) text (a .at)) l (a .reads) (a .code) l′ r → r ≡ Walked.Next b → Ahead (length text) (length l′) b
+      Walks (parseExpr least (depth - 1) text (a .at)) l (a .reads) (a .code) l′ r → r ≡ Walked.Next b →
+      Ahead (length text) (length l′) b
   more h w e = ahead least text (depth - 1) (h .left) w e
 
 too-deep-requires : (t : ℕ) → lts.Need-too-deep-requires (known t) (given t) own.Post
@@ -169,59 +173,21 @@ refuse-walk-requires-3 t c κs = search needs
 enum-told-4 : (t : ℕ) → lts.Need-enum-told-4 (known t) (given t) own.Post
 enum-told-4 t c = search needs
 
-refuse-walk-requires-4 : (t : ℕ) → lts.Need-refuse-walk-requires-4 (known t) (given t) own.Post
-refuse-walk-requires-4 t c κs = search needs
-
-enum-told-5 : (t : ℕ) → lts.Need-enum-told-5 (known t) (given t) own.Post
-enum-told-5 t c = search needs
-
-refuse-walk-requires-5 : (t : ℕ) → lts.Need-refuse-walk-requires-5 (known t) (given t) own.Post
-refuse-walk-requires-5 t c κs = search needs
-
-enum-told-6 : (t : ℕ) → lts.Need-enum-told-6 (known t) (given t) own.Post
-enum-told-6 t c = search needs
-
-refuse-walk-requires-6 : (t : ℕ) → lts.Need-refuse-walk-requires-6 (known t) (given t) own.Post
-refuse-walk-requires-6 t c κs = search needs
-
-enum-told-7 : (t : ℕ) → lts.Need-enum-told-7 (known t) (given t) own.Post
-enum-told-7 t c = search needs
-
-refuse-walk-requires-7 : (t : ℕ) → lts.Need-refuse-walk-requires-7 (known t) (given t) own.Post
-refuse-walk-requires-7 t c κs = search needs
-
-enum-told-8 : (t : ℕ) → lts.Need-enum-told-8 (known t) (given t) own.Post
-enum-told-8 t c = search needs
-
-refuse-walk-requires-8 : (t : ℕ) → lts.Need-refuse-walk-requires-8 (known t) (given t) own.Post
-refuse-walk-requires-8 t c κs = search needs
-
-enum-told-9 : (t : ℕ) → lts.Need-enum-told-9 (known t) (given t) own.Post
-enum-told-9 t c = search needs
-
-refuse-walk-requires-9 : (t : ℕ) → lts.Need-refuse-walk-requires-9 (known t) (given t) own.Post
-refuse-walk-requires-9 t c κs = search needs
-
-enum-told-10 : (t : ℕ) → lts.Need-enum-told-10 (known t) (given t) own.Post
-enum-told-10 t c = search needs
-
-refuse-walk-requires-10 : (t : ℕ) → lts.Need-refuse-walk-requires-10 (known t) (given t) own.Post
-refuse-walk-requires-10 t c κs = search needs
-
-enum-told-11 : (t : ℕ) → lts.Need-enum-told-11 (known t) (given t) own.Post
-enum-told-11 t c = search needs
-
 in-expression-requires : (t : ℕ) → lts.Need-in-expression-requires (known t) (given t) own.Post
 in-expression-requires t c κs = search needs
 
 add-moved-on : (t : ℕ) → lts.Need-add-moved-on (known t) (given t) own.Post
-add-moved-on t c = omega (arith, constant-inside t (c .before .before .before) (c .before .enum-told11 .given .1), room t (c .before .before .before) .short, room t (c .before .before .before) .small)
+add-moved-on t c =
+    let c3 = c .before .before .before in
+    omega (arith, constant-inside t c3 (c .before .enum-told4 .given .1), room t c3 .short, room t c3 .small)
 
 in-code-requires : (t : ℕ) → lts.Need-in-code-requires (known t) (given t) own.Post
 in-code-requires t c κs = search needs
 
 add-moved-on-2 : (t : ℕ) → lts.Need-add-moved-on-2 (known t) (given t) own.Post
-add-moved-on-2 t c = omega (arith, constant-inside t (c .before .before .before .before) (c .before .before .enum-told11 .given .1), room t (c .before .before .before .before) .short, room t (c .before .before .before .before) .small)
+add-moved-on-2 t c =
+    let c4 = c .before .before .before .before in
+    omega (arith, constant-inside t c4 (c .before .before .enum-told4 .given .1), room t c4 .short, room t c4 .small)
 
 moved-on-requires : (t : ℕ) → lts.Need-moved-on-requires (known t) (given t) own.Post
 moved-on-requires t c κs = search needs
@@ -230,196 +196,401 @@ enum-known-operator : (t : ℕ) → lts.Need-enum-known-operator (known t) (give
 enum-known-operator t c = search needs
 
 cast-reads : (t : ℕ) → lts.Need-cast-reads (known t) (given t) own.Post
-cast-reads t c = omega (arith, read-inside t (c .before .before .before) (c .before .operator .given .1), read-least (c .before .operator .given .0 .0), width-most (c .before .operator .given .0 .0), room t (c .before .before .before) .short, room t (c .before .before .before) .table, room t (c .before .before .before) .few, room t (c .before .before .before) .small)
+cast-reads t c =
+    let c3 = c .before .before .before in
+    omega (
+      arith,
+      read-inside t c3 (c .before .operator .given .1),
+      read-least (c .before .operator .given .0 .0),
+      width-most (c .before .operator .given .0 .0),
+      room t c3 .short,
+      room t c3 .table,
+      room t c3 .few,
+      room t c3 .small,
+    )
 
 mul-reads : (t : ℕ) → lts.Need-mul-reads (known t) (given t) own.Post
-mul-reads t c = omega (arith, read-inside t (c .before .before .before) (c .before .operator .given .1), read-least (c .before .operator .given .0 .0), width-most (c .before .operator .given .0 .0), room t (c .before .before .before) .short, room t (c .before .before .before) .table, room t (c .before .before .before) .few, room t (c .before .before .before) .small)
+mul-reads t c =
+    let c3 = c .before .before .before in
+    omega (
+      arith,
+      read-inside t c3 (c .before .operator .given .1),
+      read-least (c .before .operator .given .0 .0),
+      width-most (c .before .operator .given .0 .0),
+      room t c3 .short,
+      room t c3 .table,
+      room t c3 .few,
+      room t c3 .small,
+    )
 
 slice-write-reads : (t : ℕ) → lts.Need-slice-write-reads (known t) (given t) own.Post
-slice-write-reads t c = omega (arith, read-inside t (c .before .before .before) (c .before .operator .given .1), read-least (c .before .operator .given .0 .0), width-most (c .before .operator .given .0 .0), room t (c .before .before .before) .short, room t (c .before .before .before) .table, room t (c .before .before .before) .few, room t (c .before .before .before) .small)
+slice-write-reads t c =
+    let c3 = c .before .before .before in
+    omega (
+      arith,
+      read-inside t c3 (c .before .operator .given .1),
+      read-least (c .before .operator .given .0 .0),
+      width-most (c .before .operator .given .0 .0),
+      room t c3 .short,
+      room t c3 .table,
+      room t c3 .few,
+      room t c3 .small,
+    )
 
 of-read-requires : (t : ℕ) → lts.Need-of-read-requires (known t) (given t) own.Post
 of-read-requires t c κs = search needs
 
 add-moved-on-3 : (t : ℕ) → lts.Need-add-moved-on-3 (known t) (given t) own.Post
-add-moved-on-3 t c = omega (arith, read-inside t (c .before .before .before .before) (c .before .before .operator .given .1), read-least (c .before .before .operator .given .0 .0), width-most (c .before .before .operator .given .0 .0), room t (c .before .before .before .before) .short, room t (c .before .before .before .before) .table, room t (c .before .before .before .before) .few, room t (c .before .before .before .before) .small, c .of-read .ensures)
+add-moved-on-3 t c =
+    let c4 = c .before .before .before .before in
+    omega (
+      arith,
+      read-inside t c4 (c .before .before .operator .given .1),
+      read-least (c .before .before .operator .given .0 .0),
+      width-most (c .before .before .operator .given .0 .0),
+      room t c4 .short,
+      room t c4 .table,
+      room t c4 .few,
+      room t c4 .small,
+      c .of-read .ensures,
+    )
 
 add-moved-on-4 : (t : ℕ) → lts.Need-add-moved-on-4 (known t) (given t) own.Post
-add-moved-on-4 t c = omega (arith, read-inside t (c .before .before .before .before) (c .before .before .operator .given .1), read-least (c .before .before .operator .given .0 .0), width-most (c .before .before .operator .given .0 .0), room t (c .before .before .before .before) .short, room t (c .before .before .before .before) .table, room t (c .before .before .before .before) .few, room t (c .before .before .before .before) .small, c .of-read .ensures)
+add-moved-on-4 t c =
+    let c4 = c .before .before .before .before in
+    omega (
+      arith,
+      read-inside t c4 (c .before .before .operator .given .1),
+      read-least (c .before .before .operator .given .0 .0),
+      width-most (c .before .before .operator .given .0 .0),
+      room t c4 .short,
+      room t c4 .table,
+      room t c4 .few,
+      room t c4 .small,
+      c .of-read .ensures,
+    )
 
 in-code-requires-2 : (t : ℕ) → lts.Need-in-code-requires-2 (known t) (given t) own.Post
 in-code-requires-2 t c κs = search needs
 
 add-moved-on-5 : (t : ℕ) → lts.Need-add-moved-on-5 (known t) (given t) own.Post
-add-moved-on-5 t c = omega (arith, read-inside t (c .before .before .before .before .before) (c .before .before .before .operator .given .1), read-least (c .before .before .before .operator .given .0 .0), width-most (c .before .before .before .operator .given .0 .0), room t (c .before .before .before .before .before) .short, room t (c .before .before .before .before .before) .table, room t (c .before .before .before .before .before) .few, room t (c .before .before .before .before .before) .small, c .before .of-read .ensures)
+add-moved-on-5 t c =
+    let c3 = c .before .before .before in
+    let c5 = c3 .before .before in
+    omega (
+      arith,
+      read-inside t c5 (c3 .operator .given .1),
+      read-least (c3 .operator .given .0 .0),
+      width-most (c3 .operator .given .0 .0),
+      room t c5 .short,
+      room t c5 .table,
+      room t c5 .few,
+      room t c5 .small,
+      c .before .of-read .ensures,
+    )
 
 moved-on-requires-2 : (t : ℕ) → lts.Need-moved-on-requires-2 (known t) (given t) own.Post
 moved-on-requires-2 t c κs = search needs
 
-enum-told-12 : (t : ℕ) → lts.Need-enum-told-12 (known t) (given t) own.Post
-enum-told-12 t c = search needs
+enum-told-5 : (t : ℕ) → lts.Need-enum-told-5 (known t) (given t) own.Post
+enum-told-5 t c = search needs
 
 in-expression-requires-2 : (t : ℕ) → lts.Need-in-expression-requires-2 (known t) (given t) own.Post
 in-expression-requires-2 t c κs = search needs
 
 add-first-at : (t : ℕ) → lts.Need-add-first-at (known t) (given t) own.Post
-add-first-at t c = omega (arith, inside t (c .before .before .before) _ (c .before .enum-told12 .given .1) (λ e. let z : _≡_ {A = ℕ} 0 1 = cc in omega arith), room t (c .before .before .before) .short)
+add-first-at t c = omega (
+  arith,
+  inside t (c .before .before .before) _ (c .before .enum-told5 .given .1) (λ e. let z : _≡_ {A = ℕ} 0 1 = cc in omega arith),
+  room t (c .before .before .before) .short,
+)
 
 sub-read-expression : (t : ℕ) → lts.Need-sub-read-expression (known t) (given t) own.Post
 sub-read-expression t c = search needs
 
 read-expression-requires : (t : ℕ) → lts.Need-read-expression-requires (known t) (given t) own.Post
-read-expression-requires t c κs = (omega (arith, c .before .before .before .before .before .if1 .left, c .before .before .before .before .before .before .before .before .pre .0), rw (c .before .in-expression2 .ensures) (room-after 1 (room t (c .before .before .before .before))))
+read-expression-requires t c κs =
+    let c4 = c .before .before .before .before in
+    let c5 = c4 .before in
+    let c8 = c5 .before .before .before in
+    (omega (arith, c5 .if1 .left, c8 .pre .0), rw (c .before .in-expression2 .ensures) (room-after 1 (room t c4)))
 
 enum-known-first : (t : ℕ) → lts.Need-enum-known-first (known t) (given t) own.Post
 enum-known-first t c = search needs
 
-enum-told-13 : (t : ℕ) → lts.Need-enum-told-13 (known t) (given t) own.Post
-enum-told-13 t c = search needs
+enum-told-6 : (t : ℕ) → lts.Need-enum-told-6 (known t) (given t) own.Post
+enum-told-6 t c = search needs
 
 same-length : (t : ℕ) → lts.Need-same-length (known t) (given t) own.Post
 same-length t c = search needs
 
 returns-2 : (t : ℕ) → lts.Need-returns-2 (known t) (given t) own.Post
 unfolding node
-returns-2 t c = rw (step t (c .before .before .before .before .before .before .before .before .before) _ (c .before .before .before .before .before .before .before .enum-told12 .given .1)) (stop _ _ (rw (c .before .before .before .before .before .before .in-expression2 .ensures) at (c .before .before .before .before .read-expression .ensures)) (c .enum-told13 .given .1))
+returns-2 t c =
+    let c4 = c .before .before .before .before in
+    let c6 = c4 .before .before in
+    let c7 = c6 .before in
+    let c9 = c7 .before .before in
+    rw (step t c9 _ (c7 .enum-told5 .given .1)) (stop _ _ (rw (c6 .in-expression2 .ensures) at
+    (c4 .read-expression .ensures)) (c .enum-told6 .given .1))
 
 sub-read-expression-2 : (t : ℕ) → lts.Need-sub-read-expression-2 (known t) (given t) own.Post
 sub-read-expression-2 t c = search needs
 
 read-expression-requires-2 : (t : ℕ) → lts.Need-read-expression-requires-2 (known t) (given t) own.Post
-read-expression-requires-2 t c κs = (omega (arith, c .before .before .before .before .before .before .before .before .before .before .before .before .if1 .left, c .before .before .before .before .before .before .before .before .before .before .before .before .before .before .before .pre .0), one t (c .before .before .before .before .before .before .before .before .before .before .before) (rw (c .before .before .before .before .before .before .before .before .in-expression2 .ensures) at (c .before .before .before .before .before .before .read-expression .ensures)) (c .before .before .first .given .1) .left)
+read-expression-requires-2 t c κs =
+    let c6 = c .before .before .before .before .before .before in
+    let c8 = c6 .before .before in
+    let c11 = c8 .before .before .before in
+    let c12 = c11 .before in
+    let c15 = c12 .before .before .before in (
+      omega (
+        arith,
+        c12 .if1 .left,
+        c15 .pre .0,
+      ),
+      one t c11 (rw (c8 .in-expression2 .ensures) at (c6 .read-expression .ensures)) (c .before .before .first .given .1) .left,
+    )
 
 enum-known-second : (t : ℕ) → lts.Need-enum-known-second (known t) (given t) own.Post
 enum-known-second t c = search needs
 
-enum-told-14 : (t : ℕ) → lts.Need-enum-told-14 (known t) (given t) own.Post
-enum-told-14 t c = search needs
+enum-told-7 : (t : ℕ) → lts.Need-enum-told-7 (known t) (given t) own.Post
+enum-told-7 t c = search needs
 
 same-length-2 : (t : ℕ) → lts.Need-same-length-2 (known t) (given t) own.Post
 same-length-2 t c = search needs
 
 returns-3 : (t : ℕ) → lts.Need-returns-3 (known t) (given t) own.Post
 unfolding node
-returns-3 t c = rw (step t (c .before .before .before .before .before .before .before .before .before .before .before .before .before .before .before .before) _ (c .before .before .before .before .before .before .before .before .before .before .before .before .before .before .enum-told12 .given .1)) (go-on _ _ (rw (c .before .before .before .before .before .before .before .before .before .before .before .before .before .in-expression2 .ensures) at (c .before .before .before .before .before .before .before .before .before .before .before .read-expression .ensures)) (c .before .before .before .before .before .before .before .first .given .1) (λ x m. stop _ _ (c .before .before .before .before .read-expression2 .ensures) (c .enum-told14 .given .1)))
+returns-3 t c =
+    let c4 = c .before .before .before .before in
+    let c7 = c4 .before .before .before in
+    let c11 = c7 .before .before .before .before in
+    let c13 = c11 .before .before in
+    let c14 = c13 .before in
+    let c16 = c14 .before .before in
+    rw (step t c16 _ (c14 .enum-told5 .given .1))
+    (go-on _ _ (rw (c13 .in-expression2 .ensures) at (c11 .read-expression .ensures)) (c7 .first .given .1)
+    (λ x m. stop _ _ (c4 .read-expression2 .ensures) (c .enum-told7 .given .1)))
 
 in-code-requires-3 : (t : ℕ) → lts.Need-in-code-requires-3 (known t) (given t) own.Post
 in-code-requires-3 t c κs = search needs
 
 add-moved-on-6 : (t : ℕ) → lts.Need-add-moved-on-6 (known t) (given t) own.Post
-add-moved-on-6 t c = let h = more t (c .before .before .before .before .before .before .before .before .before .before .before .before .before .before .before .before .before .before .before) (one t (c .before .before .before .before .before .before .before .before .before .before .before .before .before .before .before .before .before .before .before) (rw (c .before .before .before .before .before .before .before .before .before .before .before .before .before .before .before .before .in-expression2 .ensures) at (c .before .before .before .before .before .before .before .before .before .before .before .before .before .before .read-expression .ensures)) (c .before .before .before .before .before .before .before .before .before .before .first .given .1)) (c .before .before .before .before .before .before .before .read-expression2 .ensures) (c .before .before .before .second .given .1) in omega (arith, h .left .short, h .left .small, h .inside)
+add-moved-on-6 t c =
+    let c3 = c .before .before .before in
+    let c7 = c3 .before .before .before .before in
+    let c10 = c7 .before .before .before in
+    let c14 = c10 .before .before .before .before in
+    let c16 = c14 .before .before in
+    let c19 = c16 .before .before .before in
+    let h = more t
+    c19 (one t c19 (rw (c16 .in-expression2 .ensures) at (c14 .read-expression .ensures)) (c10 .first .given .1))
+    (c7 .read-expression2 .ensures) (c3 .second .given .1) in omega (arith, h .left .short, h .left .small, h .inside)
 
 moved-on-requires-3 : (t : ℕ) → lts.Need-moved-on-requires-3 (known t) (given t) own.Post
 moved-on-requires-3 t c κs = search needs
 
-enum-told-15 : (t : ℕ) → lts.Need-enum-told-15 (known t) (given t) own.Post
-enum-told-15 t c = search needs
+enum-told-8 : (t : ℕ) → lts.Need-enum-told-8 (known t) (given t) own.Post
+enum-told-8 t c = search needs
 
 in-expression-requires-3 : (t : ℕ) → lts.Need-in-expression-requires-3 (known t) (given t) own.Post
 in-expression-requires-3 t c κs = search needs
 
 add-operand-at : (t : ℕ) → lts.Need-add-operand-at (known t) (given t) own.Post
-add-operand-at t c = omega (arith, inside t (c .before .before .before) _ (c .before .enum-told15 .given .1) (λ e. let z : _≡_ {A = ℕ} 0 1 = cc in omega arith), room t (c .before .before .before) .short)
+add-operand-at t c = omega (
+  arith,
+  inside t (c .before .before .before) _ (c .before .enum-told8 .given .1) (λ e. let z : _≡_ {A = ℕ} 0 1 = cc in omega arith),
+  room t (c .before .before .before) .short,
+)
 
 sub-read-expression-3 : (t : ℕ) → lts.Need-sub-read-expression-3 (known t) (given t) own.Post
 sub-read-expression-3 t c = search needs
 
 read-expression-requires-3 : (t : ℕ) → lts.Need-read-expression-requires-3 (known t) (given t) own.Post
-read-expression-requires-3 t c κs = (omega (arith, c .before .before .before .before .before .if1 .left, c .before .before .before .before .before .before .before .before .pre .0), rw (c .before .in-expression3 .ensures) (room-after 1 (room t (c .before .before .before .before))))
+read-expression-requires-3 t c κs =
+    let c4 = c .before .before .before .before in
+    let c5 = c4 .before in
+    let c8 = c5 .before .before .before in
+    (omega (arith, c5 .if1 .left, c8 .pre .0), rw (c .before .in-expression3 .ensures) (room-after 1 (room t c4)))
 
 enum-known-operand : (t : ℕ) → lts.Need-enum-known-operand (known t) (given t) own.Post
 enum-known-operand t c = search needs
 
-enum-told-16 : (t : ℕ) → lts.Need-enum-told-16 (known t) (given t) own.Post
-enum-told-16 t c = search needs
+enum-told-9 : (t : ℕ) → lts.Need-enum-told-9 (known t) (given t) own.Post
+enum-told-9 t c = search needs
 
 same-length-3 : (t : ℕ) → lts.Need-same-length-3 (known t) (given t) own.Post
 same-length-3 t c = search needs
 
 returns-4 : (t : ℕ) → lts.Need-returns-4 (known t) (given t) own.Post
 unfolding node
-returns-4 t c = rw (step t (c .before .before .before .before .before .before .before .before .before) _ (c .before .before .before .before .before .before .before .enum-told15 .given .1)) (stop _ _ (rw (c .before .before .before .before .before .before .in-expression3 .ensures) at (c .before .before .before .before .read-expression3 .ensures)) (c .enum-told16 .given .1))
+returns-4 t c =
+    let c4 = c .before .before .before .before in
+    let c6 = c4 .before .before in
+    let c7 = c6 .before in
+    let c9 = c7 .before .before in
+    rw (step t c9 _ (c7 .enum-told8 .given .1)) (stop _ _ (rw (c6 .in-expression3 .ensures) at
+    (c4 .read-expression3 .ensures)) (c .enum-told9 .given .1))
 
 in-code-requires-4 : (t : ℕ) → lts.Need-in-code-requires-4 (known t) (given t) own.Post
 in-code-requires-4 t c κs = search needs
 
 add-moved-on-7 : (t : ℕ) → lts.Need-add-moved-on-7 (known t) (given t) own.Post
-add-moved-on-7 t c = let h = one t (c .before .before .before .before .before .before .before .before .before .before .before .before) (rw (c .before .before .before .before .before .before .before .before .before .in-expression3 .ensures) at (c .before .before .before .before .before .before .before .read-expression3 .ensures)) (c .before .before .before .operand .given .1) in omega (arith, h .left .short, h .left .small, h .inside)
+add-moved-on-7 t c =
+    let c3 = c .before .before .before in
+    let c7 = c3 .before .before .before .before in
+    let c9 = c7 .before .before in
+    let c12 = c9 .before .before .before in
+    let h = one t c12 (rw (c9 .in-expression3 .ensures) at (c7 .read-expression3 .ensures))
+    (c3 .operand .given .1) in omega (arith, h .left .short, h .left .small, h .inside)
 
 moved-on-requires-4 : (t : ℕ) → lts.Need-moved-on-requires-4 (known t) (given t) own.Post
 moved-on-requires-4 t c κs = search needs
 
-enum-told-17 : (t : ℕ) → lts.Need-enum-told-17 (known t) (given t) own.Post
-enum-told-17 t c = search needs
+enum-told-10 : (t : ℕ) → lts.Need-enum-told-10 (known t) (given t) own.Post
+enum-told-10 t c = search needs
 
 in-expression-requires-4 : (t : ℕ) → lts.Need-in-expression-requires-4 (known t) (given t) own.Post
 in-expression-requires-4 t c κs = search needs
 
 add-condition-at : (t : ℕ) → lts.Need-add-condition-at (known t) (given t) own.Post
-add-condition-at t c = omega (arith, inside t (c .before .before .before) _ (c .before .enum-told17 .given .1) (λ e. let z : _≡_ {A = ℕ} 0 1 = cc in omega arith), room t (c .before .before .before) .short)
+add-condition-at t c = omega (
+  arith,
+  inside t (c .before .before .before) _ (c .before .enum-told10 .given .1) (λ e. let z : _≡_ {A = ℕ} 0 1 = cc in omega arith),
+  room t (c .before .before .before) .short,
+)
 
 sub-read-expression-4 : (t : ℕ) → lts.Need-sub-read-expression-4 (known t) (given t) own.Post
 sub-read-expression-4 t c = search needs
 
 read-expression-requires-4 : (t : ℕ) → lts.Need-read-expression-requires-4 (known t) (given t) own.Post
-read-expression-requires-4 t c κs = (omega (arith, c .before .before .before .before .before .if1 .left, c .before .before .before .before .before .before .before .before .pre .0), rw (c .before .in-expression4 .ensures) (room-after 1 (room t (c .before .before .before .before))))
+read-expression-requires-4 t c κs =
+    let c4 = c .before .before .before .before in
+    let c5 = c4 .before in
+    let c8 = c5 .before .before .before in
+    (omega (arith, c5 .if1 .left, c8 .pre .0), rw (c .before .in-expression4 .ensures) (room-after 1 (room t c4)))
 
 enum-known-condition : (t : ℕ) → lts.Need-enum-known-condition (known t) (given t) own.Post
 enum-known-condition t c = search needs
 
-enum-told-18 : (t : ℕ) → lts.Need-enum-told-18 (known t) (given t) own.Post
-enum-told-18 t c = search needs
+enum-told-11 : (t : ℕ) → lts.Need-enum-told-11 (known t) (given t) own.Post
+enum-told-11 t c = search needs
 
 same-length-4 : (t : ℕ) → lts.Need-same-length-4 (known t) (given t) own.Post
 same-length-4 t c = search needs
 
 returns-5 : (t : ℕ) → lts.Need-returns-5 (known t) (given t) own.Post
 unfolding node
-returns-5 t c = rw (step t (c .before .before .before .before .before .before .before .before .before) _ (c .before .before .before .before .before .before .before .enum-told17 .given .1)) (stop _ _ (rw (c .before .before .before .before .before .before .in-expression4 .ensures) at (c .before .before .before .before .read-expression4 .ensures)) (c .enum-told18 .given .1))
+returns-5 t c =
+    let c4 = c .before .before .before .before in
+    let c6 = c4 .before .before in
+    let c7 = c6 .before in
+    let c9 = c7 .before .before in
+    rw (step t c9 _ (c7 .enum-told10 .given .1)) (stop _ _ (rw (c6 .in-expression4 .ensures) at
+    (c4 .read-expression4 .ensures)) (c .enum-told11 .given .1))
 
 sub-read-expression-5 : (t : ℕ) → lts.Need-sub-read-expression-5 (known t) (given t) own.Post
 sub-read-expression-5 t c = search needs
 
 read-expression-requires-5 : (t : ℕ) → lts.Need-read-expression-requires-5 (known t) (given t) own.Post
-read-expression-requires-5 t c κs = (omega (arith, c .before .before .before .before .before .before .before .before .before .before .before .before .if1 .left, c .before .before .before .before .before .before .before .before .before .before .before .before .before .before .before .pre .0), one t (c .before .before .before .before .before .before .before .before .before .before .before) (rw (c .before .before .before .before .before .before .before .before .in-expression4 .ensures) at (c .before .before .before .before .before .before .read-expression4 .ensures)) (c .before .before .condition .given .1) .left)
+read-expression-requires-5 t c κs =
+    let c6 = c .before .before .before .before .before .before in
+    let c8 = c6 .before .before in
+    let c11 = c8 .before .before .before in
+    let c12 = c11 .before in
+    let c15 = c12 .before .before .before in (
+      omega (
+        arith,
+        c12 .if1 .left,
+        c15 .pre .0,
+      ),
+      one t c11 (rw (c8 .in-expression4 .ensures) at (c6 .read-expression4 .ensures))
+          (c .before .before .condition .given .1) .left,
+    )
 
 enum-known-first-2 : (t : ℕ) → lts.Need-enum-known-first-2 (known t) (given t) own.Post
 enum-known-first-2 t c = search needs
 
-enum-told-19 : (t : ℕ) → lts.Need-enum-told-19 (known t) (given t) own.Post
-enum-told-19 t c = search needs
+enum-told-12 : (t : ℕ) → lts.Need-enum-told-12 (known t) (given t) own.Post
+enum-told-12 t c = search needs
 
 same-length-5 : (t : ℕ) → lts.Need-same-length-5 (known t) (given t) own.Post
 same-length-5 t c = search needs
 
 returns-6 : (t : ℕ) → lts.Need-returns-6 (known t) (given t) own.Post
 unfolding node
-returns-6 t c = rw (step t (c .before .before .before .before .before .before .before .before .before .before .before .before .before .before .before .before) _ (c .before .before .before .before .before .before .before .before .before .before .before .before .before .before .enum-told17 .given .1)) (go-on _ _ (rw (c .before .before .before .before .before .before .before .before .before .before .before .before .before .in-expression4 .ensures) at (c .before .before .before .before .before .before .before .before .before .before .before .read-expression4 .ensures)) (c .before .before .before .before .before .before .before .condition .given .1) (λ x m. stop _ _ (c .before .before .before .before .read-expression5 .ensures) (c .enum-told19 .given .1)))
+returns-6 t c =
+    let c4 = c .before .before .before .before in
+    let c7 = c4 .before .before .before in
+    let c11 = c7 .before .before .before .before in
+    let c13 = c11 .before .before in
+    let c14 = c13 .before in
+    let c16 = c14 .before .before in
+    rw (step t c16 _ (c14 .enum-told10 .given .1))
+    (go-on _ _ (rw (c13 .in-expression4 .ensures) at (c11 .read-expression4 .ensures)) (c7 .condition .given .1)
+    (λ x m. stop _ _ (c4 .read-expression5 .ensures) (c .enum-told12 .given .1)))
 
 sub-read-expression-6 : (t : ℕ) → lts.Need-sub-read-expression-6 (known t) (given t) own.Post
 sub-read-expression-6 t c = search needs
 
 read-expression-requires-6 : (t : ℕ) → lts.Need-read-expression-requires-6 (known t) (given t) own.Post
-read-expression-requires-6 t c κs = (omega (arith, c .before .before .before .before .before .before .before .before .before .before .before .before .before .before .before .before .before .before .before .if1 .left, c .before .before .before .before .before .before .before .before .before .before .before .before .before .before .before .before .before .before .before .before .before .before .pre .0), more t (c .before .before .before .before .before .before .before .before .before .before .before .before .before .before .before .before .before .before) (one t (c .before .before .before .before .before .before .before .before .before .before .before .before .before .before .before .before .before .before) (rw (c .before .before .before .before .before .before .before .before .before .before .before .before .before .before .before .in-expression4 .ensures) at (c .before .before .before .before .before .before .before .before .before .before .before .before .before .read-expression4 .ensures)) (c .before .before .before .before .before .before .before .before .before .condition .given .1)) (c .before .before .before .before .before .before .read-expression5 .ensures) (c .before .before .first2 .given .1) .left)
+read-expression-requires-6 t c κs =
+    let c6 = c .before .before .before .before .before .before in
+    let c9 = c6 .before .before .before in
+    let c13 = c9 .before .before .before .before in
+    let c15 = c13 .before .before in
+    let c18 = c15 .before .before .before in
+    let c19 = c18 .before in
+    let c22 = c19 .before .before .before in (
+      omega (arith, c19 .if1 .left, c22 .pre .0),
+      more t c18 (one t c18 (rw (c15 .in-expression4 .ensures) at (c13 .read-expression4 .ensures)) (c9 .condition .given .1))
+          (c6 .read-expression5 .ensures) (c .before .before .first2 .given .1) .left,
+    )
 
 enum-known-second-2 : (t : ℕ) → lts.Need-enum-known-second-2 (known t) (given t) own.Post
 enum-known-second-2 t c = search needs
 
-enum-told-20 : (t : ℕ) → lts.Need-enum-told-20 (known t) (given t) own.Post
-enum-told-20 t c = search needs
+enum-told-13 : (t : ℕ) → lts.Need-enum-told-13 (known t) (given t) own.Post
+enum-told-13 t c = search needs
 
 same-length-6 : (t : ℕ) → lts.Need-same-length-6 (known t) (given t) own.Post
 same-length-6 t c = search needs
 
 returns-7 : (t : ℕ) → lts.Need-returns-7 (known t) (given t) own.Post
 unfolding node
-returns-7 t c = rw (step t (c .before .before .before .before .before .before .before .before .before .before .before .before .before .before .before .before .before .before .before .before .before .before .before) _ (c .before .before .before .before .before .before .before .before .before .before .before .before .before .before .before .before .before .before .before .before .before .enum-told17 .given .1)) (go-on _ _ (rw (c .before .before .before .before .before .before .before .before .before .before .before .before .before .before .before .before .before .before .before .before .in-expression4 .ensures) at (c .before .before .before .before .before .before .before .before .before .before .before .before .before .before .before .before .before .before .read-expression4 .ensures)) (c .before .before .before .before .before .before .before .before .before .before .before .before .before .before .condition .given .1) (λ x m. go-on _ _ (c .before .before .before .before .before .before .before .before .before .before .before .read-expression5 .ensures) (c .before .before .before .before .before .before .before .first2 .given .1) (λ y n. stop _ _ (c .before .before .before .before .read-expression6 .ensures) (c .enum-told20 .given .1))))
+returns-7 t c =
+    let c4 = c .before .before .before .before in
+    let c7 = c4 .before .before .before in
+    let c11 = c7 .before .before .before .before in
+    let c14 = c11 .before .before .before in
+    let c18 = c14 .before .before .before .before in
+    let c20 = c18 .before .before in
+    let c21 = c20 .before in
+    let c23 = c21 .before .before in
+    rw (step t c23 _ (c21 .enum-told10 .given .1))
+    (go-on _ _ (rw (c20 .in-expression4 .ensures) at (c18 .read-expression4 .ensures)) (c14 .condition .given .1)
+    (λ x m. go-on _ _ (c11 .read-expression5 .ensures) (c7 .first2 .given .1)
+    (λ y n. stop _ _ (c4 .read-expression6 .ensures) (c .enum-told13 .given .1))))
 
 in-code-requires-5 : (t : ℕ) → lts.Need-in-code-requires-5 (known t) (given t) own.Post
 in-code-requires-5 t c κs = search needs
 
 add-moved-on-8 : (t : ℕ) → lts.Need-add-moved-on-8 (known t) (given t) own.Post
-add-moved-on-8 t c = let h = more t (c .before .before .before .before .before .before .before .before .before .before .before .before .before .before .before .before .before .before .before .before .before .before .before .before .before .before) (more t (c .before .before .before .before .before .before .before .before .before .before .before .before .before .before .before .before .before .before .before .before .before .before .before .before .before .before) (one t (c .before .before .before .before .before .before .before .before .before .before .before .before .before .before .before .before .before .before .before .before .before .before .before .before .before .before) (rw (c .before .before .before .before .before .before .before .before .before .before .before .before .before .before .before .before .before .before .before .before .before .before .before .in-expression4 .ensures) at (c .before .before .before .before .before .before .before .before .before .before .before .before .before .before .before .before .before .before .before .before .before .read-expression4 .ensures)) (c .before .before .before .before .before .before .before .before .before .before .before .before .before .before .before .before .before .condition .given .1)) (c .before .before .before .before .before .before .before .before .before .before .before .before .before .before .read-expression5 .ensures) (c .before .before .before .before .before .before .before .before .before .before .first2 .given .1)) (c .before .before .before .before .before .before .before .read-expression6 .ensures) (c .before .before .before .second2 .given .1) in omega (arith, h .left .short, h .left .small, h .inside)
+add-moved-on-8 t c =
+    let c3 = c .before .before .before in
+    let c7 = c3 .before .before .before .before in
+    let c10 = c7 .before .before .before in
+    let c14 = c10 .before .before .before .before in
+    let c17 = c14 .before .before .before in
+    let c21 = c17 .before .before .before .before in
+    let c23 = c21 .before .before in
+    let c26 = c23 .before .before .before in
+    let h = more t
+    c26 (more t c26 (one t c26 (rw (c23 .in-expression4 .ensures) at (c21 .read-expression4 .ensures)) (c17 .condition .given .1))
+    (c14 .read-expression5 .ensures) (c10 .first2 .given .1)) (c7 .read-expression6 .ensures) (c3 .second2 .given .1) in
+    omega (arith, h .left .short, h .left .small, h .inside)
 
 moved-on-requires-5 : (t : ℕ) → lts.Need-moved-on-requires-5 (known t) (given t) own.Post
 moved-on-requires-5 t c κs = search needs
@@ -430,71 +601,88 @@ returns-8 t c = walks-refused _ (step t (c .before .before .before) _ (c .before
 
 returns-9 : (t : ℕ) → lts.Need-returns-9 (known t) (given t) own.Post
 unfolding node
-returns-9 t c = walks-refused _ (step t (c .before .before .before) _ (c .before .enum-told2 .given .1)) (c .refuse-walk2 .ensures)
+returns-9 t c = walks-refused _ (step t (c .before .before .before) _ (c .before .enum-told2 .given .1))
+    (c .refuse-walk2 .ensures)
 
 returns-10 : (t : ℕ) → lts.Need-returns-10 (known t) (given t) own.Post
 unfolding node
-returns-10 t c = walks-refused _ (step t (c .before .before .before) _ (c .before .enum-told3 .given .1)) (c .refuse-walk3 .ensures)
+returns-10 t c = walks-refused _ (step t (c .before .before .before) _ (c .before .enum-told3 .given .1))
+    (c .refuse-walk3 .ensures)
 
 returns-11 : (t : ℕ) → lts.Need-returns-11 (known t) (given t) own.Post
 unfolding node
-returns-11 t c = walks-refused _ (step t (c .before .before .before) _ (c .before .enum-told4 .given .1)) (c .refuse-walk4 .ensures)
-
-returns-12 : (t : ℕ) → lts.Need-returns-12 (known t) (given t) own.Post
-unfolding node
-returns-12 t c = walks-refused _ (step t (c .before .before .before) _ (c .before .enum-told5 .given .1)) (c .refuse-walk5 .ensures)
-
-returns-13 : (t : ℕ) → lts.Need-returns-13 (known t) (given t) own.Post
-unfolding node
-returns-13 t c = walks-refused _ (step t (c .before .before .before) _ (c .before .enum-told6 .given .1)) (c .refuse-walk6 .ensures)
-
-returns-14 : (t : ℕ) → lts.Need-returns-14 (known t) (given t) own.Post
-unfolding node
-returns-14 t c = walks-refused _ (step t (c .before .before .before) _ (c .before .enum-told7 .given .1)) (c .refuse-walk7 .ensures)
-
-returns-15 : (t : ℕ) → lts.Need-returns-15 (known t) (given t) own.Post
-unfolding node
-returns-15 t c = walks-refused _ (step t (c .before .before .before) _ (c .before .enum-told8 .given .1)) (c .refuse-walk8 .ensures)
-
-returns-16 : (t : ℕ) → lts.Need-returns-16 (known t) (given t) own.Post
-unfolding node
-returns-16 t c = walks-refused _ (step t (c .before .before .before) _ (c .before .enum-told9 .given .1)) (c .refuse-walk9 .ensures)
-
-returns-17 : (t : ℕ) → lts.Need-returns-17 (known t) (given t) own.Post
-unfolding node
-returns-17 t c = walks-refused _ (step t (c .before .before .before) _ (c .before .enum-told10 .given .1)) (c .refuse-walk10 .ensures)
-
-returns-18 : (t : ℕ) → lts.Need-returns-18 (known t) (given t) own.Post
-unfolding node
-returns-18 t c = rw (step t (c .before .before .before .before .before) _ (c .before .before .before .enum-told11 .given .1)) (walks-constant _ _ (rw (c .before .before .in-expression .ensures, c .before .in-code .ensures) at (c .moved-on .ensures)))
+returns-11 t c = rw (step t (c .before .before .before .before .before) _ (c .before .before .before .enum-told4 .given .1))
+    (walks-constant _ _ (rw (c .before .before .in-expression .ensures, c .before .in-code .ensures) at (c .moved-on .ensures)))
 
 same-length-7 : (t : ℕ) → lts.Need-same-length-7 (known t) (given t) own.Post
 same-length-7 t c = search needs
 
-returns-19 : (t : ℕ) → lts.Need-returns-19 (known t) (given t) own.Post
+returns-12 : (t : ℕ) → lts.Need-returns-12 (known t) (given t) own.Post
 unfolding node
-returns-19 t c = rw (read-step t (c .before .before .before .before .before .before) (c .before .before .before .before .operator .given .1)) (walks-read _ (rw (c .before .before .of-read .ensures, c .before .in-code2 .ensures) at (c .moved-on2 .ensures)))
+returns-12 t c =
+    let c4 = c .before .before .before .before in
+    let c6 = c4 .before .before in
+    rw (read-step t c6 (c4 .operator .given .1))
+    (walks-read _ (rw (c .before .before .of-read .ensures, c .before .in-code2 .ensures) at (c .moved-on2 .ensures)))
 
 same-length-8 : (t : ℕ) → lts.Need-same-length-8 (known t) (given t) own.Post
 same-length-8 t c = search needs
 
-returns-20 : (t : ℕ) → lts.Need-returns-20 (known t) (given t) own.Post
+returns-13 : (t : ℕ) → lts.Need-returns-13 (known t) (given t) own.Post
 unfolding node
-returns-20 t c = rw (step t (c .before .before .before .before .before .before .before .before .before .before .before .before .before .before .before .before .before .before .before .before) _ (c .before .before .before .before .before .before .before .before .before .before .before .before .before .before .before .before .before .before .enum-told12 .given .1)) (go-on _ _ (rw (c .before .before .before .before .before .before .before .before .before .before .before .before .before .before .before .before .before .in-expression2 .ensures) at (c .before .before .before .before .before .before .before .before .before .before .before .before .before .before .before .read-expression .ensures)) (c .before .before .before .before .before .before .before .before .before .before .before .first .given .1) (λ x m. go-on _ _ (c .before .before .before .before .before .before .before .before .read-expression2 .ensures) (c .before .before .before .before .second .given .1) (λ y n. walks-two x m y n _ (rw (c .before .before .in-code3 .ensures) at (c .moved-on3 .ensures)))))
+returns-13 t c =
+    let c4 = c .before .before .before .before in
+    let c8 = c4 .before .before .before .before in
+    let c11 = c8 .before .before .before in
+    let c15 = c11 .before .before .before .before in
+    let c17 = c15 .before .before in
+    let c18 = c17 .before in
+    let c20 = c18 .before .before in
+    rw (step t c20 _ (c18 .enum-told5 .given .1))
+    (go-on _ _ (rw (c17 .in-expression2 .ensures) at (c15 .read-expression .ensures)) (c11 .first .given .1)
+    (λ x m. go-on _ _ (c8 .read-expression2 .ensures) (c4 .second .given .1)
+    (λ y n. walks-two x m y n _ (rw (c .before .before .in-code3 .ensures) at (c .moved-on3 .ensures)))))
 
 same-length-9 : (t : ℕ) → lts.Need-same-length-9 (known t) (given t) own.Post
 same-length-9 t c = search needs
 
-returns-21 : (t : ℕ) → lts.Need-returns-21 (known t) (given t) own.Post
+returns-14 : (t : ℕ) → lts.Need-returns-14 (known t) (given t) own.Post
 unfolding node
-returns-21 t c = rw (step t (c .before .before .before .before .before .before .before .before .before .before .before .before .before) _ (c .before .before .before .before .before .before .before .before .before .before .before .enum-told15 .given .1)) (go-on _ _ (rw (c .before .before .before .before .before .before .before .before .before .before .in-expression3 .ensures) at (c .before .before .before .before .before .before .before .before .read-expression3 .ensures)) (c .before .before .before .before .operand .given .1) (λ x m. walks-one x m (rw (c .before .before .in-code4 .ensures) at (c .moved-on4 .ensures))))
+returns-14 t c =
+    let c4 = c .before .before .before .before in
+    let c8 = c4 .before .before .before .before in
+    let c10 = c8 .before .before in
+    let c11 = c10 .before in
+    let c13 = c11 .before .before in
+    rw (step t c13 _ (c11 .enum-told8 .given .1))
+    (go-on _ _ (rw (c10 .in-expression3 .ensures) at (c8 .read-expression3 .ensures)) (c4 .operand .given .1)
+    (λ x m. walks-one x m _ (rw (c .before .before .in-code4 .ensures) at (c .moved-on4 .ensures))))
 
 same-length-10 : (t : ℕ) → lts.Need-same-length-10 (known t) (given t) own.Post
-same-length-10 t c = search (needs, c .before .before .before .before .before .before .before .before .before .before .before .before .before .before .before .before .before .before .before .before .before .reads4 .given)
+same-length-10 t c =
+    let c5 = c .before .before .before .before .before in
+    let c10 = c5 .before .before .before .before .before in
+    let c15 = c10 .before .before .before .before .before in
+    let c21 = c15 .before .before .before .before .before .before in
+    search (needs, c21 .reads4 .given)
 
-returns-22 : (t : ℕ) → lts.Need-returns-22 (known t) (given t) own.Post
+returns-15 : (t : ℕ) → lts.Need-returns-15 (known t) (given t) own.Post
 unfolding node
-returns-22 t c = rw (step t (c .before .before .before .before .before .before .before .before .before .before .before .before .before .before .before .before .before .before .before .before .before .before .before .before .before .before .before) _ (c .before .before .before .before .before .before .before .before .before .before .before .before .before .before .before .before .before .before .before .before .before .before .before .before .before .enum-told17 .given .1)) (go-on _ _ (rw (c .before .before .before .before .before .before .before .before .before .before .before .before .before .before .before .before .before .before .before .before .before .before .before .before .in-expression4 .ensures) at (c .before .before .before .before .before .before .before .before .before .before .before .before .before .before .before .before .before .before .before .before .before .before .read-expression4 .ensures)) (c .before .before .before .before .before .before .before .before .before .before .before .before .before .before .before .before .before .before .condition .given .1) (λ x m. go-on _ _ (c .before .before .before .before .before .before .before .before .before .before .before .before .before .before .before .read-expression5 .ensures) (c .before .before .before .before .before .before .before .before .before .before .before .first2 .given .1) (λ y n. go-on _ _ (c .before .before .before .before .before .before .before .before .read-expression6 .ensures) (c .before .before .before .before .second2 .given .1) (λ z k. walks-three x m y n z k (rw (c .before .before .in-code5 .ensures) at (c .moved-on5 .ensures))))))
+returns-15 t c =
+    let c4 = c .before .before .before .before in
+    let c8 = c4 .before .before .before .before in
+    let c11 = c8 .before .before .before in
+    let c15 = c11 .before .before .before .before in
+    let c18 = c15 .before .before .before in
+    let c22 = c18 .before .before .before .before in
+    let c24 = c22 .before .before in
+    let c25 = c24 .before in
+    let c27 = c25 .before .before in
+    rw (step t c27 _ (c25 .enum-told10 .given .1))
+    (go-on _ _ (rw (c24 .in-expression4 .ensures) at (c22 .read-expression4 .ensures)) (c18 .condition .given .1)
+    (λ x m. go-on _ _ (c15 .read-expression5 .ensures) (c11 .first2 .given .1)
+    (λ y n. go-on _ _ (c8 .read-expression6 .ensures) (c4 .second2 .given .1)
+    (λ z k. walks-three x m y n z k (rw (c .before .before .in-code5 .ensures) at (c .moved-on5 .ensures))))))
 
 pub +read-expression-spec : {M : Type 1} → statement M
 +read-expression-spec =
@@ -509,20 +697,6 @@ pub +read-expression-spec : {M : Type 1} → statement M
     (enum-told-3 t)
     (refuse-walk-requires-3 t)
     (enum-told-4 t)
-    (refuse-walk-requires-4 t)
-    (enum-told-5 t)
-    (refuse-walk-requires-5 t)
-    (enum-told-6 t)
-    (refuse-walk-requires-6 t)
-    (enum-told-7 t)
-    (refuse-walk-requires-7 t)
-    (enum-told-8 t)
-    (refuse-walk-requires-8 t)
-    (enum-told-9 t)
-    (refuse-walk-requires-9 t)
-    (enum-told-10 t)
-    (refuse-walk-requires-10 t)
-    (enum-told-11 t)
     (in-expression-requires t)
     (add-moved-on t)
     (in-code-requires t)
@@ -538,55 +712,55 @@ pub +read-expression-spec : {M : Type 1} → statement M
     (in-code-requires-2 t)
     (add-moved-on-5 t)
     (moved-on-requires-2 t)
-    (enum-told-12 t)
+    (enum-told-5 t)
     (in-expression-requires-2 t)
     (add-first-at t)
     (sub-read-expression t)
     (read-expression-requires t)
     (enum-known-first t)
-    (enum-told-13 t)
+    (enum-told-6 t)
     (same-length t)
     (returns-2 t)
     (sub-read-expression-2 t)
     (read-expression-requires-2 t)
     (enum-known-second t)
-    (enum-told-14 t)
+    (enum-told-7 t)
     (same-length-2 t)
     (returns-3 t)
     (in-code-requires-3 t)
     (add-moved-on-6 t)
     (moved-on-requires-3 t)
-    (enum-told-15 t)
+    (enum-told-8 t)
     (in-expression-requires-3 t)
     (add-operand-at t)
     (sub-read-expression-3 t)
     (read-expression-requires-3 t)
     (enum-known-operand t)
-    (enum-told-16 t)
+    (enum-told-9 t)
     (same-length-3 t)
     (returns-4 t)
     (in-code-requires-4 t)
     (add-moved-on-7 t)
     (moved-on-requires-4 t)
-    (enum-told-17 t)
+    (enum-told-10 t)
     (in-expression-requires-4 t)
     (add-condition-at t)
     (sub-read-expression-4 t)
     (read-expression-requires-4 t)
     (enum-known-condition t)
-    (enum-told-18 t)
+    (enum-told-11 t)
     (same-length-4 t)
     (returns-5 t)
     (sub-read-expression-5 t)
     (read-expression-requires-5 t)
     (enum-known-first-2 t)
-    (enum-told-19 t)
+    (enum-told-12 t)
     (same-length-5 t)
     (returns-6 t)
     (sub-read-expression-6 t)
     (read-expression-requires-6 t)
     (enum-known-second-2 t)
-    (enum-told-20 t)
+    (enum-told-13 t)
     (same-length-6 t)
     (returns-7 t)
     (in-code-requires-5 t)
@@ -596,18 +770,11 @@ pub +read-expression-spec : {M : Type 1} → statement M
     (returns-9 t)
     (returns-10 t)
     (returns-11 t)
-    (returns-12 t)
-    (returns-13 t)
-    (returns-14 t)
-    (returns-15 t)
-    (returns-16 t)
-    (returns-17 t)
-    (returns-18 t)
     (same-length-7 t)
-    (returns-19 t)
+    (returns-12 t)
     (same-length-8 t)
-    (returns-20 t)
+    (returns-13 t)
     (same-length-9 t)
-    (returns-21 t)
+    (returns-14 t)
     (same-length-10 t)
-    (returns-22 t))
+    (returns-15 t))

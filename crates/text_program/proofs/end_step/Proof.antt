@@ -23,7 +23,8 @@ returns : tie.Need-returns
 unfolding endOf provided
 returns c =
     let a = c .before .before .before .before .args in
-    rw (lt-leb (length (now (a .text))) (a .at + 1) (omega arith)) (rw (c .before .before .in-program .ensures) at (c .refuse-step .ensures))
+    rw (lt-leb (length (now (a .text))) (a .at + 1) (omega arith))
+    (rw (c .before .before .in-program .ensures) at (c .refuse-step .ensures))
 
 returns-2 : tie.Need-returns-2
 unfolding endOf provided

@@ -1,13 +1,15 @@
 -- `text_program::equation_step` meets its contract. Assumes nothing.
+use Prim.Native.Nat.{ℕ, _+_}
 use native.Mathlib.Omega.{arith}
+use mathlib.Core.Path.{_∙_}
+use denote.Ref.{now}
+use lib.ListN.{length}
+use Rattle.model.specs.Rules.Program.{parseExpr}
+use Rattle.text_program.specs.Walks.{Room, Walks}
 use Rattle.text_program.proofs.Walks.{ahead, room-after, equation-next, equation-refused}
 use borrow.Author.Needs.{needs}
 use Rattle.text_program.proofs.equation_step.Statement.{statement}
 use Rattle.text_program.proofs.equation_step.Tie as tie
-use Rattle.text_program.proofs.equation_step.Reads as reads
-use Rattle.text_program.proofs.equation_step.Lts as lts
-use Rattle.text_program.proofs.adds.Reads as adds-reads
-use Rattle.text_program.proofs.read_expression.Reads as read-expression-reads
 
 in-program-requires : tie.Need-in-program-requires
 in-program-requires c κs = search needs
@@ -18,34 +20,52 @@ add-read-expression c = search needs
 read-expression-requires : tie.Need-read-expression-requires
 read-expression-requires c κs = rw (c .before .in-program .ensures) (room-after 8 (c .before .before .before .before .pre .1))
 
-enum-known-reached : tie.Need-enum-known-reached
-enum-known-reached c = search needs
+enum-known-walked : tie.Need-enum-known-walked
+enum-known-walked c = search needs
+
+enum-told : tie.Need-enum-told
+enum-told c = search needs
+
+step-of-walked-requires : tie.Need-step-of-walked-requires
+step-of-walked-requires c κs = search needs
+
+same-length : tie.Need-same-length
+same-length c = search needs
+
+returns : tie.Need-returns
+returns c =
+    let c5 = c .before .before .before .before .before in
+    let c7 = c5 .before .before in
+    let told = c .before .enum-told .given in
+    equation-refused _ (rw (c7 .in-program .ensures) at (c5 .read-expression .ensures)) _
+    (told .1) (c .step-of-walked .ensures _ (told .1))
 
 in-code-requires : tie.Need-in-code-requires
 in-code-requires c κs = search needs
 
 add-adds : tie.Need-add-adds
 add-adds c =
-    let h = ahead _ _ 16 (room-after 8 (c .before .before .before .before .before .before .before .before .before .before .before .before .pre .1)) (rw (c .before .before .before .before .before .before .before .before .before .in-program .ensures) at (c .before .before .before .before .before .before .before .read-expression .ensures)) (c .before .before .before .reached .given .1) in
+    let c3 = c .before .before .before in
+    let c7 = c3 .before .before .before .before in
+    let c9 = c7 .before .before in
+    let c12 = c9 .before .before .before in
+    let h = ahead _ _ 16 (room-after 8 (c12 .pre .1)) (rw (c9 .in-program .ensures) at (c7 .read-expression .ensures))
+    (c3 .walked .given .1) in
     omega (arith, h .left .short, h .left .small, h .inside)
 
 adds-requires : tie.Need-adds-requires
 adds-requires c κs = search needs
 
-enum-known-reached-2 : tie.Need-enum-known-reached-2
-enum-known-reached-2 c = search needs
-
-same-length : tie.Need-same-length
-same-length c = search needs
-
-returns : tie.Need-returns
-returns c = equation-next _ (rw (c .before .before .before .before .before .before .before .before .before .before .in-program .ensures) at (c .before .before .before .before .before .before .before .before .read-expression .ensures)) _ (c .before .before .before .before .reached .given .1) (rw (c .before .before .in-code .ensures) at (c .adds .ensures))
-
 same-length-2 : tie.Need-same-length-2
 same-length-2 c = search needs
 
 returns-2 : tie.Need-returns-2
-returns-2 c = equation-refused _ (rw (c .before .before .before .before .before .before .before .in-program .ensures) at (c .before .before .before .before .before .read-expression .ensures)) _ (c .before .reached2 .given .1)
+returns-2 c =
+    let c4 = c .before .before .before .before in
+    let c8 = c4 .before .before .before .before in
+    let c10 = c8 .before .before in
+    equation-next _ (rw (c10 .in-program .ensures) at (c8 .read-expression .ensures)) _
+    (c4 .walked .given .1) (rw (c .before .before .in-code .ensures) at (c .adds .ensures))
 
 pub equation-step-spec : {M : Type 1} → statement M
 equation-step-spec =
@@ -54,12 +74,13 @@ equation-step-spec =
     in-program-requires
     add-read-expression
     read-expression-requires
-    enum-known-reached
+    enum-known-walked
+    enum-told
+    step-of-walked-requires
+    same-length
+    returns
     in-code-requires
     add-adds
     adds-requires
-    enum-known-reached-2
-    same-length
-    returns
     same-length-2
     returns-2)

@@ -6,9 +6,9 @@ use mathlib.Core.Path.{_≡_, refl, sym, ap, _∙_}
 use Prim.Native.Nat.{ℕ}
 use types.Run.{OneOf, miss}
 use denote.Enum.Declared.{tagOf, declared}
-use Rattle.model.proofs.Command.{enum}
-use Rattle.model.specs.declared.Command.{Command}
-use Rattle.model.specs.declared.Command.the-variants as Command
+use Rattle.model.proofs.Operator.{enum}
+use Rattle.model.specs.declared.Operator.{Operator}
+use Rattle.model.specs.declared.Operator.the-variants as Operator
 use Rattle.text_program.specs.Factors.{restricted, operatorFrom}
 use Rattle.text_program.proofs.operator_from.Statement.{statement}
 use Rattle.text_program.proofs.operator_from.Tie as tie
@@ -25,35 +25,30 @@ is-allowed-requires c κs = search needs
 returns : tie.Need-returns
 unfolding operatorFrom
 returns c =
-    let is = sym (c .before .before .before .before .before .operator-at .ensures) ∙ c .before .before .before .operator .given .1 in
+    let is = sym (c .before .before .before .before .before .operator-at .ensures) ∙
+    c .before .before .before .operator .given .1 in
     rw (is, sym (c .before .is-allowed .ensures) ∙ not-true (c .before .is-allowed .result) (c .if1 .taken))
 
 returns-2 : tie.Need-returns-2
 unfolding operatorFrom
 returns-2 c =
-    let is = sym (c .before .before .before .before .before .operator-at .ensures) ∙ c .before .before .before .operator .given .1 in
+    let is = sym (c .before .before .before .before .before .operator-at .ensures) ∙
+    c .before .before .before .operator .given .1 in
     rw (is, sym (c .before .is-allowed .ensures) ∙ not-false (c .before .is-allowed .result) (c .if1 .left))
 
 -- What is no read is left as it is.
 abbrev others : List ℕ
-others = 0 ∷ 1 ∷ 2 ∷ 3 ∷ 4 ∷ 5 ∷ 6 ∷ 7 ∷ 8 ∷ 9 ∷ 10 ∷ 12 ∷ 13 ∷ 14 ∷ []
+others = 0 ∷ 1 ∷ 2 ∷ 3 ∷ 5 ∷ 6 ∷ 7 ∷ []
 
-left : (least : ℕ) (c : Command) → OneOf others (tagOf (declared enum) c) → c ≡ restricted least c
-left least Command.EndsEarly k = refl
-left least Command.Unknown k = refl
-left least Command.OutOfRange k = refl
-left least Command.End k = refl
-left least (Command.Input period initial) k = refl
-left least (Command.Equation period initial weight) k = refl
-left least (Command.Latency mode bound) k = refl
-left least (Command.Link signal) k = refl
-left least (Command.Cap n) k = refl
-left least (Command.Tag label) k = refl
-left least (Command.Constant w) k = refl
-left least (Command.Read kind x) k = absurd (miss others 11 tt k)
-left least (Command.Binary operator) k = refl
-left least Command.Negate k = refl
-left least Command.If k = refl
+left : (least : ℕ) (c : Operator) → OneOf others (tagOf (declared enum) c) → c ≡ restricted least c
+left least Operator.EndsEarly k = refl
+left least Operator.Unknown k = refl
+left least Operator.OutOfRange k = refl
+left least (Operator.Constant w) k = refl
+left least (Operator.Read kind x) k = absurd (miss others 4 tt k)
+left least (Operator.Binary operator) k = refl
+left least (Operator.Unary operator) k = refl
+left least Operator.If k = refl
 
 returns-3 : tie.Need-returns-3
 unfolding operatorFrom

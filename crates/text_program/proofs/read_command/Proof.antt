@@ -5,16 +5,16 @@ use mathlib.Core.Path.{_≡_, refl, sym, subst, _∙_}
 use lib.ListN.{length}
 use denote.Ref.{now}
 use native.Mathlib.Omega.{arith}
-use Rattle.model.specs.Rules.Command.{keywordAt, commandAt}
+use Rattle.model.specs.Rules.Command.{declarationAt}
 use Rattle.model.specs.Rules.Outcome.{Outcome, accepted, refused}
-use Rattle.model.specs.Rules.Program.{Program, commandHere, declare}
-use Rattle.model.specs.declared.Command.{Command}
-use Rattle.model.specs.declared.Command.the-variants as Command
+use Rattle.model.specs.Rules.Program.{Program, declarationHere, declare}
+use Rattle.model.specs.declared.Declaration.{Declaration}
+use Rattle.model.specs.declared.Declaration.the-variants as Declaration
 use Rattle.model.specs.declared.Fault.{Fault}
 use Rattle.text_program.specs.Steps.{Counts, Stepped}
 use Rattle.text_program.specs.declared.Step.{Step}
 use Rattle.text_program.specs.declared.Step.the-variants as Step
-use Rattle.text_program.proofs.Laws.{here-next, here-refused, command-inside}
+use Rattle.text_program.proofs.Parts.{here-next, here-refused, declaration-inside}
 use Rattle.text_program.proofs.Steps.{
   step-stopped,
   step-refused,
@@ -30,7 +30,7 @@ use Rattle.text_program.proofs.read_command.Statement.{statement}
 use Rattle.text_program.proofs.read_command.Tie as tie
 
 -- where a command is known, and may stand
-module _ (c : tie.After-command-at) where
+module _ (c : tie.After-declaration-at) where
   abbrev start : tie.Start
   start = c .before .before .before .before .before .before
 
@@ -51,66 +51,72 @@ module _ (c : tie.After-command-at) where
       (p : Program) (label : ℕ) → HasSoFar p →
       Stepped least text at label p (now (start .args .reads)) (start .args .count) (start .args .to) l r
 
-  stands : (p : Program) → HasSoFar p → commandHere text at p (keywordAt text at) ≡ accepted tt
-  stands p k = here-next _ _ _ (sym (c .before .enum-told .given .1) ∙ c .before .before .before .command-here .ensures p k)
+  stands : (p : Program) → HasSoFar p → declarationHere text at p ≡ accepted tt
+  stands p k = here-next _ _ _ (sym (c .before .enum-told .given .1) ∙ c .before .before .before .declaration-here .ensures p k)
 
-  module _ {k : Command} (e : c .command-at .result ≡ k) where
-    is : commandAt text at ≡ k
-    is = sym (c .command-at .ensures) ∙ e
+  module _ {k : Declaration} (e : c .declaration-at .result ≡ k) where
+    is : declarationAt text at ≡ k
+    is = sym (c .declaration-at .ensures) ∙ e
 
-    inside : (Command.EndsEarly ≡ k → ⊥) → at < length text
-    inside h = command-inside text at is h
+    inside : (Declaration.EndsEarly ≡ k → ⊥) → at < length text
+    inside h = declaration-inside text at is h
 
     refuses : {f : Fault} {r : Step} → r ≡ Step.Refused f →
-        ((next : ℕ → ℕ → Program → Outcome Program) (label : ℕ) (p : Program) → declare least next text at label p k ≡ refused f) →
+        ((next : ℕ → ℕ → Program → Outcome Program) (label : ℕ) (p : Program) →
+        declare least next text at label p k ≡ refused f) →
         Steps (now (start .args .reads)) r
     refuses q h = λ p label n.
         subst (Stepped least text at label p _ _ _ _) (sym q)
         (step-refused least text at label p _ _ _ (stands p n) k _ is (λ next. h next label p))
 
-command-here-requires : tie.Need-command-here-requires
-command-here-requires c κs = search needs
-
-enum-known-here : tie.Need-enum-known-here
-enum-known-here c = search needs
-
-returns : tie.Need-returns
-returns c = λ p label k.
-    step-stopped _ _ _ label p _ _ _
-    (here-refused _ _ (sym (c .before .here .given .1) ∙ c .before .before .before .command-here .ensures p k))
+declaration-here-requires : tie.Need-declaration-here-requires
+declaration-here-requires c κs = search needs
 
 enum-told : tie.Need-enum-told
 enum-told c = search needs
 
-command-at-requires : tie.Need-command-at-requires
-command-at-requires c κs = search needs
-
 enum-told-2 : tie.Need-enum-told-2
 enum-told-2 c = search needs
 
-refuse-step-requires : tie.Need-refuse-step-requires
-refuse-step-requires c κs = search needs
+step-of-reached-requires : tie.Need-step-of-reached-requires
+step-of-reached-requires c κs = search needs
+
+returns : tie.Need-returns
+returns c = λ p label k.
+    let told = c .before .enum-told2 .given .1 in
+    subst (Stepped _ _ _ label p _ _ _ _) (sym (c .step-of-reached .ensures _ told))
+    (step-stopped _ _ _ label p _ _ _
+    (here-refused _ _ (sym told ∙ c .before .before .before .declaration-here .ensures p k)))
+
+declaration-at-requires : tie.Need-declaration-at-requires
+declaration-at-requires c κs = search needs
 
 enum-told-3 : tie.Need-enum-told-3
 enum-told-3 c = search needs
 
-refuse-step-requires-2 : tie.Need-refuse-step-requires-2
-refuse-step-requires-2 c κs = search needs
+refuse-step-requires : tie.Need-refuse-step-requires
+refuse-step-requires c κs = search needs
 
 enum-told-4 : tie.Need-enum-told-4
 enum-told-4 c = search needs
 
-refuse-step-requires-3 : tie.Need-refuse-step-requires-3
-refuse-step-requires-3 c κs = search needs
+refuse-step-requires-2 : tie.Need-refuse-step-requires-2
+refuse-step-requires-2 c κs = search needs
 
 enum-told-5 : tie.Need-enum-told-5
 enum-told-5 c = search needs
 
-end-step-requires : tie.Need-end-step-requires
-end-step-requires c κs = inside (c .before .before) (c .enum-told5 .given .1) (λ e. let z : _≡_ {A = ℕ} 0 1 = cc in omega arith)
+refuse-step-requires-3 : tie.Need-refuse-step-requires-3
+refuse-step-requires-3 c κs = search needs
 
-enum-known-command : tie.Need-enum-known-command
-enum-known-command c = search needs
+enum-told-6 : tie.Need-enum-told-6
+enum-told-6 c = search needs
+
+end-step-requires : tie.Need-end-step-requires
+end-step-requires c κs = inside (c .before .before) (c .enum-told6 .given .1) (λ e. let z : _≡_ {A = ℕ} 0 1 = cc in omega arith)
+
+enum-known-declaration : tie.Need-enum-known-declaration
+enum-known-declaration c = search needs
 
 in-program-requires : tie.Need-in-program-requires
 in-program-requires c κs = search needs
@@ -118,7 +124,7 @@ in-program-requires c κs = search needs
 add-next : tie.Need-add-next
 add-next c =
     let b = c .before .before .before .before in
-    let i = inside b (c .before .before .command .given .1) (λ e. let z : _≡_ {A = ℕ} 0 1 = cc in omega arith) in
+    let i = inside b (c .before .before .declaration .given .1) (λ e. let z : _≡_ {A = ℕ} 0 1 = cc in omega arith) in
     omega (arith, i, start b .pre .short, start b .pre .small)
 
 in-code-requires : tie.Need-in-code-requires
@@ -132,35 +138,37 @@ add-end c = search needs
 
 add-end-2 : tie.Need-add-end-2
 add-end-2 c =
-    let b = c .before .before .before .before .before .before in
-    let i = inside b (c .before .before .before .before .command .given .1) (λ e. let z : _≡_ {A = ℕ} 0 1 = cc in omega arith) in
+    let c4 = c .before .before .before .before in
+    let c6 = c4 .before .before in
+    let b = c6 in
+    let i = inside b (c4 .declaration .given .1) (λ e. let z : _≡_ {A = ℕ} 0 1 = cc in omega arith) in
     omega (arith, i, start b .pre .short, start b .pre .small)
 
 adds-requires : tie.Need-adds-requires
 adds-requires c κs = search needs
 
-enum-known-command-2 : tie.Need-enum-known-command-2
-enum-known-command-2 c = search needs
+enum-known-declaration-2 : tie.Need-enum-known-declaration-2
+enum-known-declaration-2 c = search needs
 
 equation-step-requires : tie.Need-equation-step-requires
 equation-step-requires c κs =
     let b = c .before .before .before .before in
-    (inside b (c .before .before .command2 .given .1) (λ e. let z : _≡_ {A = ℕ} 0 1 = cc in omega arith), start b .pre)
-
-enum-told-6 : tie.Need-enum-told-6
-enum-told-6 c = search needs
-
-chain-step-requires : tie.Need-chain-step-requires
-chain-step-requires c κs = inside (c .before .before) (c .enum-told6 .given .1) (λ e. let z : _≡_ {A = ℕ} 0 1 = cc in omega arith)
+    (inside b (c .before .before .declaration2 .given .1) (λ e. let z : _≡_ {A = ℕ} 0 1 = cc in omega arith), start b .pre)
 
 enum-told-7 : tie.Need-enum-told-7
 enum-told-7 c = search needs
 
+chain-step-requires : tie.Need-chain-step-requires
+chain-step-requires c κs = inside (c .before .before) (c .enum-told7 .given .1) (λ e. let z : _≡_ {A = ℕ} 0 1 = cc in omega arith)
+
+enum-told-8 : tie.Need-enum-told-8
+enum-told-8 c = search needs
+
 refuse-step-requires-4 : tie.Need-refuse-step-requires-4
 refuse-step-requires-4 c κs = search needs
 
-enum-known-command-3 : tie.Need-enum-known-command-3
-enum-known-command-3 c = search needs
+enum-known-declaration-3 : tie.Need-enum-known-declaration-3
+enum-known-declaration-3 c = search needs
 
 in-program-requires-2 : tie.Need-in-program-requires-2
 in-program-requires-2 c κs = search needs
@@ -168,154 +176,105 @@ in-program-requires-2 c κs = search needs
 add-adds : tie.Need-add-adds
 add-adds c =
     let b = c .before .before .before .before in
-    let i = inside b (c .before .before .command3 .given .1) (λ e. let z : _≡_ {A = ℕ} 0 1 = cc in omega arith) in
+    let i = inside b (c .before .before .declaration3 .given .1) (λ e. let z : _≡_ {A = ℕ} 0 1 = cc in omega arith) in
     omega (arith, i, start b .pre .short, start b .pre .small)
 
 adds-requires-2 : tie.Need-adds-requires-2
 adds-requires-2 c κs = search needs
 
-enum-known-command-4 : tie.Need-enum-known-command-4
-enum-known-command-4 c = search needs
+enum-known-declaration-4 : tie.Need-enum-known-declaration-4
+enum-known-declaration-4 c = search needs
 
 tag-step-requires : tie.Need-tag-step-requires
 tag-step-requires c κs =
-    inside (c .before .before .before) (c .before .command4 .given .1) (λ e. let z : _≡_ {A = ℕ} 0 1 = cc in omega arith)
-
-enum-told-8 : tie.Need-enum-told-8
-enum-told-8 c = search needs
-
-refuse-step-requires-5 : tie.Need-refuse-step-requires-5
-refuse-step-requires-5 c κs = search needs
-
-enum-told-9 : tie.Need-enum-told-9
-enum-told-9 c = search needs
-
-refuse-step-requires-6 : tie.Need-refuse-step-requires-6
-refuse-step-requires-6 c κs = search needs
-
-enum-told-10 : tie.Need-enum-told-10
-enum-told-10 c = search needs
-
-refuse-step-requires-7 : tie.Need-refuse-step-requires-7
-refuse-step-requires-7 c κs = search needs
-
-enum-told-11 : tie.Need-enum-told-11
-enum-told-11 c = search needs
-
-refuse-step-requires-8 : tie.Need-refuse-step-requires-8
-refuse-step-requires-8 c κs = search needs
-
-enum-told-12 : tie.Need-enum-told-12
-enum-told-12 c = search needs
-
-refuse-step-requires-9 : tie.Need-refuse-step-requires-9
-refuse-step-requires-9 c κs = search needs
+    inside (c .before .before .before) (c .before .declaration4 .given .1) (λ e. let z : _≡_ {A = ℕ} 0 1 = cc in omega arith)
 
 returns-2 : tie.Need-returns-2
 unfolding declare
 returns-2 c =
-    refuses (c .before .before .before) (c .before .enum-told2 .given .1) (c .refuse-step .ensures) (λ next label p. refl)
+    refuses (c .before .before .before) (c .before .enum-told3 .given .1) (c .refuse-step .ensures) (λ next label p. refl)
 
 returns-3 : tie.Need-returns-3
 unfolding declare
 returns-3 c =
-    refuses (c .before .before .before) (c .before .enum-told3 .given .1) (c .refuse-step2 .ensures) (λ next label p. refl)
+    refuses (c .before .before .before) (c .before .enum-told4 .given .1) (c .refuse-step2 .ensures) (λ next label p. refl)
 
 returns-4 : tie.Need-returns-4
 unfolding declare
 returns-4 c =
-    refuses (c .before .before .before) (c .before .enum-told4 .given .1) (c .refuse-step3 .ensures) (λ next label p. refl)
+    refuses (c .before .before .before) (c .before .enum-told5 .given .1) (c .refuse-step3 .ensures) (λ next label p. refl)
 
 returns-5 : tie.Need-returns-5
 returns-5 c = λ p label k.
     let b = c .before .before .before in
     subst (Stepped _ _ _ label p _ _ _ _) (sym (c .end-step .ensures))
-    (step-end _ _ _ label p _ _ _ (stands b p k) (is b (c .before .enum-told5 .given .1)))
+    (step-end _ _ _ label p _ _ _ (stands b p k) (is b (c .before .enum-told6 .given .1)))
 
 returns-6 : tie.Need-returns-6
-returns-6 c = λ p label k.
-    let b = c .before .before .before .before .before .before .before in
-    subst (Stepped _ _ _ label p _ _ _ _)
-    (sym
-    (rw (c .before .before .before .in-program .ensures, c .before .before .in-code .ensures, c .before .in-code2 .ensures) at
-    (c .adds .ensures)))
-    (step-input _ _ _ label p _ _ _ (stands b p k) _ _ (is b (c .before .before .before .before .before .command .given .1)))
+returns-6 c =
+    let c3 = c .before .before .before in
+    let c5 = c3 .before .before in
+    let c7 = c5 .before .before in
+    λ p label k.
+    let b = c7 in
+    subst (Stepped _ _ _ label p _ _ _ _) (sym
+    (rw (c3 .in-program .ensures, c .before .before .in-code .ensures, c .before .in-code2 .ensures) at
+    (c .adds .ensures))) (step-input _ _ _ label p _ _ _ (stands b p k) _ _ (is b (c5 .declaration .given .1)))
 
 same-length : tie.Need-same-length
 same-length c = search needs
 
 returns-7 : tie.Need-returns-7
-returns-7 c = λ p label k.
-    let b = c .before .before .before .before .before .before .before in
-    step-equation _ _ _ label p _ _ _ (stands b p k) _ _ _ (is b (c .before .before .before .before .before .command2 .given .1))
+returns-7 c =
+    let c5 = c .before .before .before .before .before in
+    let c7 = c5 .before .before in
+    λ p label k.
+    let b = c7 in
+    step-equation _ _ _ label p _ _ _ (stands b p k) _ _ _ (is b (c5 .declaration2 .given .1))
     (c .before .before .equation-step .ensures)
 
 returns-8 : tie.Need-returns-8
 returns-8 c = λ p label k.
     let b = c .before .before .before in
     subst (Stepped _ _ _ label p _ _ _ _) (sym (c .chain-step .ensures))
-    (step-chain _ _ _ label p _ _ _ (stands b p k) _ _ (is b (c .before .enum-told6 .given .1)))
+    (step-chain _ _ _ label p _ _ _ (stands b p k) _ _ (is b (c .before .enum-told7 .given .1)))
 
 returns-9 : tie.Need-returns-9
 unfolding declare
 returns-9 c =
-    refuses (c .before .before .before) (c .before .enum-told7 .given .1) (c .refuse-step4 .ensures) (λ next label p. refl)
+    refuses (c .before .before .before) (c .before .enum-told8 .given .1) (c .refuse-step4 .ensures) (λ next label p. refl)
 
 returns-10 : tie.Need-returns-10
 returns-10 c = λ p label k.
     let b = c .before .before .before .before .before in
     subst (Stepped _ _ _ label p _ _ _ _) (sym (rw (c .before .in-program2 .ensures) at (c .adds2 .ensures)))
-    (step-cap _ _ _ label p _ _ _ (stands b p k) _ (is b (c .before .before .before .command3 .given .1)))
+    (step-cap _ _ _ label p _ _ _ (stands b p k) _ (is b (c .before .before .before .declaration3 .given .1)))
 
 returns-11 : tie.Need-returns-11
 returns-11 c = λ p label k.
     let b = c .before .before .before .before in
     subst (Stepped _ _ _ label p _ _ _ _) (sym (c .tag-step .ensures))
-    (step-tag _ _ _ label p _ _ _ (stands b p k) _ (is b (c .before .before .command4 .given .1)))
-
-returns-12 : tie.Need-returns-12
-unfolding declare
-returns-12 c =
-    refuses (c .before .before .before) (c .before .enum-told8 .given .1) (c .refuse-step5 .ensures) (λ next label p. refl)
-
-returns-13 : tie.Need-returns-13
-unfolding declare
-returns-13 c =
-    refuses (c .before .before .before) (c .before .enum-told9 .given .1) (c .refuse-step6 .ensures) (λ next label p. refl)
-
-returns-14 : tie.Need-returns-14
-unfolding declare
-returns-14 c =
-    refuses (c .before .before .before) (c .before .enum-told10 .given .1) (c .refuse-step7 .ensures) (λ next label p. refl)
-
-returns-15 : tie.Need-returns-15
-unfolding declare
-returns-15 c =
-    refuses (c .before .before .before) (c .before .enum-told11 .given .1) (c .refuse-step8 .ensures) (λ next label p. refl)
-
-returns-16 : tie.Need-returns-16
-unfolding declare
-returns-16 c =
-    refuses (c .before .before .before) (c .before .enum-told12 .given .1) (c .refuse-step9 .ensures) (λ next label p. refl)
+    (step-tag _ _ _ label p _ _ _ (stands b p k) _ (is b (c .before .before .declaration4 .given .1)))
 
 pub read-command-spec : {M : Type 1} → statement M
 read-command-spec =
     tie.close
     (tie.spec
-    command-here-requires
-    enum-known-here
-    returns
+    declaration-here-requires
     enum-told
-    command-at-requires
     enum-told-2
-    refuse-step-requires
+    step-of-reached-requires
+    returns
+    declaration-at-requires
     enum-told-3
-    refuse-step-requires-2
+    refuse-step-requires
     enum-told-4
-    refuse-step-requires-3
+    refuse-step-requires-2
     enum-told-5
+    refuse-step-requires-3
+    enum-told-6
     end-step-requires
-    enum-known-command
+    enum-known-declaration
     in-program-requires
     add-next
     in-code-requires
@@ -323,28 +282,18 @@ read-command-spec =
     add-end
     add-end-2
     adds-requires
-    enum-known-command-2
+    enum-known-declaration-2
     equation-step-requires
-    enum-told-6
-    chain-step-requires
     enum-told-7
+    chain-step-requires
+    enum-told-8
     refuse-step-requires-4
-    enum-known-command-3
+    enum-known-declaration-3
     in-program-requires-2
     add-adds
     adds-requires-2
-    enum-known-command-4
+    enum-known-declaration-4
     tag-step-requires
-    enum-told-8
-    refuse-step-requires-5
-    enum-told-9
-    refuse-step-requires-6
-    enum-told-10
-    refuse-step-requires-7
-    enum-told-11
-    refuse-step-requires-8
-    enum-told-12
-    refuse-step-requires-9
     returns-2
     returns-3
     returns-4
@@ -355,9 +304,4 @@ read-command-spec =
     returns-8
     returns-9
     returns-10
-    returns-11
-    returns-12
-    returns-13
-    returns-14
-    returns-15
-    returns-16)
+    returns-11)

@@ -8,13 +8,23 @@ use denote.Ref.{now}
 use native.Mathlib.Omega.{arith}
 use borrow.Author.Needs.{needs}
 use Rattle.model.specs.Rules.Program.{Link, parseLinks}
-use Rattle.text_program.proofs.Laws.{linkAt, links-end, links-past, links-many, links-cut, links-more}
+use Rattle.text_program.proofs.Parts.{
+  linkAt,
+  link-missing,
+  link-there,
+  links-end,
+  links-past,
+  links-many,
+  links-cut,
+  links-more,
+}
 use Rattle.text_program.proofs.read_links.Statement.{statement}
 use Rattle.text_program.proofs.read_links.Tie as tie
 
 abbrev Inv-loop : tie.InvT-loop
 Inv-loop text at next₀ count₀ next count =
-    (links : List Link) × (length links ≡ count) × (count ≤ 16) × (parseLinks 16 text at [] ≡ parseLinks (16 - count) text next links)
+    (links : List Link) × (length links ≡ count) × (count ≤ 16) ×
+    (parseLinks 16 text at [] ≡ parseLinks (16 - count) text next links)
 
 abbrev μ-loop : tie.MeasureT-loop
 μ-loop text at next₀ count₀ next count = length text - next
@@ -40,18 +50,37 @@ returns c =
 refuse-links-requires : tie.Need-refuse-links-requires Inv-loop μ-loop
 refuse-links-requires c κs = search needs
 
+-- a LINK, after the test of its byte
+module _ (c : tie.Else2 Inv-loop μ-loop) where
+  abbrev loop : tie.At-loop Inv-loop μ-loop
+  loop = c .before .before .before .before
+
+  abbrev text : List ℕ
+  text = now (loop .before .before .args .text)
+
+  abbrev read : List Link
+  read = loop .loop .inv .0
+
+  more : parseLinks 16 text (loop .before .before .args .at) [] ≡
+      parseLinks (suc (16 - (loop .loop .count + 1))) text (loop .loop .next) read
+  more = loop .loop .inv .3 ∙ ap (λ m. parseLinks m text (loop .loop .next) read) (some (loop .loop .count) (omega arith))
+
 returns-2 : tie.Need-returns-2 Inv-loop μ-loop
 unfolding linksOf
 returns-2 c =
-    let l = c .before .before .before .before .before .loop in
-    let text = now (c .before .before .before .before .before .before .before .args .text) in
-    c .refuse-links .ensures ∙ sym (ap linksOf (l .inv .3 ∙ ap (λ m. parseLinks m text (l .next) (l .inv .0)) (none (l .count) (omega arith)) ∙ links-many text (l .next) (l .inv .0) (c .before .before .if1 .left)))
+    let c5 = c .before .before .before .before .before in
+    let c7 = c5 .before .before in
+    let l = c5 .loop in
+    let text = now (c7 .args .text) in
+    c .refuse-links .ensures ∙ sym (ap linksOf
+    (l .inv .3 ∙ ap (λ m. parseLinks m text (l .next) (l .inv .0)) (none (l .count) (omega arith)) ∙
+    links-many text (l .next) (l .inv .0) (c .before .before .if1 .left)))
 
-sub-left : tie.Need-sub-left Inv-loop μ-loop
-sub-left c = search needs
+link-at-requires : tie.Need-link-at-requires Inv-loop μ-loop
+link-at-requires c κs = search needs
 
-in-program-requires : tie.Need-in-program-requires Inv-loop μ-loop
-in-program-requires c κs = search needs
+enum-told : tie.Need-enum-told Inv-loop μ-loop
+enum-told c = search needs
 
 refuse-links-requires-2 : tie.Need-refuse-links-requires-2 Inv-loop μ-loop
 refuse-links-requires-2 c κs = search needs
@@ -59,30 +88,38 @@ refuse-links-requires-2 c κs = search needs
 returns-3 : tie.Need-returns-3 Inv-loop μ-loop
 unfolding linksOf
 returns-3 c =
-    let l = c .before .before .before .before .before .before .before .loop in
-    let text = now (c .before .before .before .before .before .before .before .before .before .args .text) in
-    c .refuse-links2 .ensures ∙ sym (ap linksOf (l .inv .3 ∙ ap (λ m. parseLinks m text (l .next) (l .inv .0)) (some (l .count) (omega arith)) ∙ links-cut _ text (l .next) (l .inv .0) (c .before .before .before .before .if1 .left) (omega arith)))
+    let b = c .before .before .before in
+    c .refuse-links2 .ensures ∙
+    sym (ap linksOf
+    (more b ∙
+    links-cut _ (text b) (loop b .loop .next) (read b) (b .before .if1 .left)
+    (link-missing (text b) (loop b .loop .next) (c .before .before .link-at .ensures) (c .before .match .keys2))))
 
-in-program-requires-2 : tie.Need-in-program-requires-2 Inv-loop μ-loop
-in-program-requires-2 c κs = search needs
+in-program-requires : tie.Need-in-program-requires Inv-loop μ-loop
+in-program-requires c κs = search needs
+
+-- a LINK that is there
+there : (c : tie.After-enum-told Inv-loop μ-loop) →
+    loop (c .before .before .before) .loop .next + 2 ≤ length (text (c .before .before .before))
+there c = link-there _ _ (c .before .before .link-at .ensures) (c .enum-told .given .1)
 
 add-next : tie.Need-add-next Inv-loop μ-loop
-add-next c = omega arith
+add-next c = omega (arith, there (c .before))
 
 add-count : tie.Need-add-count Inv-loop μ-loop
 add-count c = omega arith
 
 loop-less : tie.Need-loop-less Inv-loop μ-loop
-loop-less c = omega arith
+loop-less c = omega (arith, there (c .before))
 
 loop-again : tie.Need-loop-again Inv-loop μ-loop
 loop-again c =
-    let l = c .before .before .before .before .before .before .before .loop in
-    let text = now (c .before .before .before .before .before .before .before .before .before .args .text) in (
-      l .inv .0 ++ (linkAt text (l .next) ∷ []),
+    let b = c .before .before .before .before in
+    let l = loop b .loop in (
+      l .inv .0 ++ (linkAt (text b) (l .next) ∷ []),
       length-append (l .inv .0) _ ∙ ap (_+ 1) (l .inv .1),
       omega arith,
-      l .inv .3 ∙ rw (c .in-program2 .ensures, some (l .count) (omega arith)) (links-more _ text (l .next) (l .inv .0) (c .before .before .before .before .if1 .left) (omega arith)),
+      more b ∙ rw (c .in-program .ensures) (links-more _ (text b) (l .next) (read b) (b .before .if1 .left) (there (c .before))),
     )
 
 returns-4 : tie.Need-returns-4 Inv-loop μ-loop
@@ -102,11 +139,11 @@ read-links-spec =
     returns
     refuse-links-requires
     returns-2
-    sub-left
-    in-program-requires
+    link-at-requires
+    enum-told
     refuse-links-requires-2
     returns-3
-    in-program-requires-2
+    in-program-requires
     add-next
     add-count
     loop-less

@@ -48,15 +48,18 @@ tablesOf places periods weights labels firsts codes starts lengths signals chain
     }
 
 abbrev Inv-loop : tie.InvT-loop
-Inv-loop least text reads₀ places₀ periods₀ weights₀ labels₀ firsts₀ codes₀ starts₀ lengths₀ signals₀ chains₀ capped₀ limit₀ at₀ label₀
+Inv-loop least text reads₀ places₀ periods₀ weights₀ labels₀ firsts₀ codes₀ starts₀ lengths₀ signals₀ chains₀ capped₀ limit₀ at₀
+    label₀
     count₀ to₀
     reads places periods weights labels firsts codes starts lengths signals chains capped limit at label count to =
     (length reads ≡ length reads₀) ×
-    Reading least text reads (tablesOf places periods weights labels firsts codes starts lengths signals chains capped limit) at label
+    Reading least text reads (tablesOf places periods weights labels firsts codes starts lengths signals chains capped limit) at
+    label
     count to
 
 abbrev μ-loop : tie.MeasureT-loop
-μ-loop least text reads₀ places₀ periods₀ weights₀ labels₀ firsts₀ codes₀ starts₀ lengths₀ signals₀ chains₀ capped₀ limit₀ at₀ label₀
+μ-loop least text reads₀ places₀ periods₀ weights₀ labels₀ firsts₀ codes₀ starts₀ lengths₀ signals₀ chains₀ capped₀ limit₀ at₀
+    label₀
     count₀ to₀
     reads places periods weights labels firsts codes starts lengths signals chains capped limit at label count to =
     length text - at
@@ -102,9 +105,13 @@ module _ (c : tie.After-known-told Inv-loop μ-loop) where
   unfolding Stepped
   added =
       subst
-      (Stepped least text (top .loop .at) (top .loop .label) (reading .program) (top .loop .reads) (top .loop .count) (top .loop .to)
+      (Stepped least text (top .loop .at) (top .loop .label) (reading .program) (top .loop .reads) (top .loop .count)
+      (top .loop .to)
       kept)
       (c .before .step .given .1) (b .read-command .ensures (reading .program) (top .loop .label) (reading .tables .counts))
+
+  place-small : top .loop .at < 65536
+  place-small = omega (arith, inside, b .before .before .before .before .before .before .pre .0)
 
   forward : length text - walk .at < length text - top .loop .at
   forward = omega (arith, added .forward, inside)
@@ -157,6 +164,9 @@ returns c =
 
 enum-known-entry : tie.Need-enum-known-entry Inv-loop μ-loop
 enum-known-entry c = search needs
+
+cast-places : tie.Need-cast-places Inv-loop μ-loop
+cast-places c = omega (arith, place-small (c .before .before .before))
 
 mul-places : tie.Need-mul-places Inv-loop μ-loop
 mul-places c = let f = signal (c .before .before .before) (c .before .entry .given .1) in omega (arith, f .0, f .1, f .2)
@@ -290,6 +300,7 @@ read-program-spec =
     same-length
     returns
     enum-known-entry
+    cast-places
     mul-places
     array-write-places
     array-write-periods

@@ -7,9 +7,9 @@ use denote.Ref.{now}
 use native.Mathlib.Omega.{arith}
 use borrow.Author.Needs.{needs}
 use borrow.Author.Tests.{not-true, not-false}
-use Rattle.model.specs.Rules.Program.{isSignal}
+use Rattle.model.specs.Rules.Command.{isSignal}
 use Rattle.model.specs.Rules.Word.{byteAt}
-use Rattle.text_program.proofs.Laws.{tag-ends, tag-by}
+use Rattle.text_program.proofs.Parts.{tag-ends, tag-by}
 use Rattle.text_program.proofs.tag_step.Statement.{statement}
 use Rattle.text_program.proofs.tag_step.Tie as tie
 

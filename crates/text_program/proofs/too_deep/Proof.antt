@@ -1,7 +1,7 @@
 -- `text_program::too_deep` meets its contract. Assumes nothing.
 use mathlib.Core.Path.{sym, ap, _∙_}
 use Rattle.text_program.specs.Walks.{deepOf}
-use Rattle.text_program.proofs.Laws.{here-next, here-refused}
+use Rattle.text_program.proofs.Parts.{here-next, here-refused}
 use borrow.Author.Needs.{needs}
 use Rattle.text_program.proofs.too_deep.Statement.{statement}
 use Rattle.text_program.proofs.too_deep.Tie as tie
@@ -22,7 +22,8 @@ returns : tie.Need-returns
 unfolding deepOf
 returns c =
     c .refuse-walk .ensures ∙
-    sym (ap (deepOf _) (here-next _ _ _ (sym (c .before .enum-told .given .1) ∙ c .before .before .before .operator-here .ensures)))
+    sym (ap (deepOf _) (here-next _ _ _
+    (sym (c .before .enum-told .given .1) ∙ c .before .before .before .operator-here .ensures)))
 
 returns-2 : tie.Need-returns-2
 unfolding deepOf

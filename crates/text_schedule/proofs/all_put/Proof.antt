@@ -8,17 +8,17 @@ use native.Mathlib.Decide.{decLt}
 use lib.Dec.{eqb}
 use lib.ListN.{getD}
 use borrow.Author.Tests.{eq-eqb, ne-eqb}
-use Rattle.model.proofs.Decide.{true-all}
+use Rattle.model.proofs.Pairs.Decide.{true-all}
 use Rattle.text_schedule.proofs.Puts.{not-all}
 use Rattle.text_schedule.proofs.all_put.Statement.{statement}
 use Rattle.text_schedule.proofs.all_put.Tie as tie
 
 abbrev Inv-loop : tie.InvT-loop
-Inv-loop signals ranks x₀ x =
+Inv-loop ranks signals x₀ x =
     (x ≤ signals) × (signals ≤ 64) × ((y : ℕ) → y < x → not (eqb (getD ranks y 0) 64) ≡ true)
 
 abbrev μ-loop : tie.MeasureT-loop
-μ-loop signals ranks x₀ x = signals - x
+μ-loop ranks signals x₀ x = signals - x
 
 none : (y : ℕ) → y < 0 → ⊥
 none y h = omega arith
@@ -30,12 +30,13 @@ below {P} y x (no q) h f g = subst P (omega arith) g
 loop-holds : tie.Need-loop-holds Inv-loop μ-loop
 loop-holds c = (omega arith, c .pre, λ y h. absurd (none y h))
 
-array-read-if1 : tie.Need-array-read-if1 Inv-loop μ-loop
-array-read-if1 c = omega arith
+element-copy-out-if1 : tie.Need-element-copy-out-if1 Inv-loop μ-loop
+element-copy-out-if1 c = omega arith
 
 returns : tie.Need-returns Inv-loop μ-loop
 unfolding allRanked
-returns c = sym (not-all _ _ (c .before .before .loop .x) (c .before .loop-test .taken) (rw (eq-eqb _ 64 (c .if1 .taken))))
+returns c = sym (not-all _ _ (c .before .before .before .loop .x) (c .before .before .loop-test .taken)
+    (rw (eq-eqb _ 64 (c .if1 .taken))))
 
 add-x : tie.Need-add-x Inv-loop μ-loop
 add-x c = omega arith
@@ -45,7 +46,7 @@ loop-less c = omega arith
 
 loop-again : tie.Need-loop-again Inv-loop μ-loop
 loop-again c =
-    let l = c .before .before .loop in
+    let l = c .before .before .before .loop in
     (omega arith, l .inv .1, λ y h. below y (l .x) (decLt y (l .x)) h (l .inv .2) (rw (ne-eqb _ 64 (c .if1 .left))))
 
 returns-2 : tie.Need-returns-2 Inv-loop μ-loop
@@ -59,7 +60,7 @@ all-put-spec =
     Inv-loop
     μ-loop
     loop-holds
-    array-read-if1
+    element-copy-out-if1
     returns
     add-x
     loop-less

@@ -36,8 +36,10 @@ refuse-end-requires-3 c κs = search needs
 returns : tie.Need-returns
 unfolding endedOf
 returns c =
-    let a = c .before .before .before .before .before .before .args in
-    rw (c .before .before .before .enum-told3 .given .1, lt-leb (length (now (a .text))) (a .at + 1) (omega arith))
+    let c3 = c .before .before .before in
+    let c6 = c3 .before .before .before in
+    let a = c6 .args in
+    rw (c3 .enum-told3 .given .1, lt-leb (length (now (a .text))) (a .at + 1) (omega arith))
     (rw (c .before .before .in-schedule .ensures) at (c .refuse-end3 .ensures))
 
 enum-told-4 : tie.Need-enum-told-4

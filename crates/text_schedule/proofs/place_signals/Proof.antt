@@ -1,43 +1,86 @@
 -- `text_schedule::place_signals` meets its contract. Assumes nothing.
-use Prim.Native.Nat.{_+_, _*_, _-_, _≤_}
-use mathlib.Core.Path.{_≡_, refl, sym, ap, subst, _∙_}
+use Prim.Native.Nat.{ℕ, _+_, _*_, _-_, _≤_, _<_}
+use mathlib.Core.Bool.{false≢true}
 use mathlib.Core.List.{List}
+use mathlib.Core.Path.{_≡_, refl, sym, ap, _∙_}
 use native.Mathlib.Omega.{arith}
 use denote.Ref.{now}
 use lib.ListN.{length}
 use borrow.Author.Needs.{needs}
+use borrow.Author.Tests.{not-true, not-false}
 use Rattle.model.specs.Rules.Outcome.{Parsed, accepted}
 use Rattle.model.specs.Rules.Program.{Program, count}
-use Rattle.model.specs.Rules.Schedule.{Put, parseSchedule, scheduleCommandAt}
+use Rattle.model.specs.Rules.Schedule.{Put, isPut, parseSchedule, scheduleCommandAt}
 use Rattle.model.specs.declared.ScheduleCommand.the-variants as ScheduleCommand
 use Rattle.text_program.specs.Tables.{PeriodsOf}
-use Rattle.text_program.specs.declared.Judged.the-variants as Judged
+use Rattle.basics.specs.declared.Judged.the-variants as Judged
 use Rattle.text_schedule.specs.Slots.{allRanked}
+use Rattle.text_schedule.specs.declared.Slots.{Slots}
 use Rattle.text_schedule.proofs.Endings.{not-put}
-use Rattle.text_schedule.proofs.Puts.{Progress, progress-start, next-put, put-refused, put-fine, placed-missing, placed-all, placed-slots, scheduled-refused, scheduled-fine}
+use Rattle.text_schedule.proofs.Puts.{
+  Progress,
+  unranked,
+  progress-start,
+  next-put,
+  put-refused,
+  put-fine,
+  placed-missing,
+  placed-all,
+  placed-slots,
+  scheduled-refused,
+  scheduled-fine,
+}
 use Rattle.text_schedule.proofs.place_signals.Statement.{statement}
 use Rattle.text_schedule.proofs.place_signals.Tie as tie
 
+abbrev slotsOf : List ℕ → List ℕ → List ℕ → ℕ → Slots
+slotsOf order phases ranks puts = record { puts = puts; order = order; phases = phases; ranks = ranks }
+
 abbrev Inv-loop : tie.InvT-loop
-Inv-loop text end signals periods slots₀ at₀ slots at =
-    (at ≡ 3 * slots .puts) × (at ≤ end + 2) × (signals ≤ 64) × (end ≤ 192) ×
+Inv-loop text end signals periods order₀ phases₀ ranks₀ puts₀ at₀ order phases ranks puts at =
+    (at ≡ 3 * puts) × (at ≤ end + 2) × (signals ≤ 64) × (end ≤ 192) ×
     ((p : Program) (o : Parsed (List Put)) → count p ≡ signals → PeriodsOf p periods → parseSchedule text ≡ accepted o →
-    o .next ≡ end → Progress text p o at slots)
+    o .next ≡ end → Progress text p o at (slotsOf order phases ranks puts))
 
 abbrev μ-loop : tie.MeasureT-loop
-μ-loop text end signals periods slots₀ at₀ slots at = end - at
+μ-loop text end signals periods order₀ phases₀ ranks₀ puts₀ at₀ order phases ranks puts at = end - at
 
--- the PUT that the code has found
-is-put : (c : tie.After-command Inv-loop μ-loop) →
-    scheduleCommandAt (now (c .before .before .before .before .before .before .before .args .text)) (c .before .before .before .before .loop .at) ≡
-    ScheduleCommand.Put (c .command .given .0 .0) (c .command .given .0 .1 .0)
-is-put c = sym (c .before .before .schedule-command-at .ensures) ∙ c .command .given .1
+-- the PUT that is judged, and the tables before it
+module _ (c : tie.After-judge-put Inv-loop μ-loop) where
+  abbrev put-at : tie.After-command Inv-loop μ-loop
+  put-at = c .before .before .before
 
-new-requires : tie.Need-new-requires Inv-loop μ-loop
-new-requires c κs = search needs
+  abbrev top : tie.At-loop Inv-loop μ-loop
+  top = put-at .before .before .before .before
+
+  abbrev slots : Slots
+  slots = slotsOf (top .loop .order) (top .loop .phases) (top .loop .ranks) (top .loop .puts)
+
+  is-put : scheduleCommandAt (now (top .before .before .args .text)) (top .loop .at) ≡
+      ScheduleCommand.Put (put-at .command .given .0 .0) (put-at .command .given .0 .1 .0)
+  is-put = sym (put-at .before .before .schedule-command-at .ensures) ∙ put-at .command .given .1
+
+  declared : c .judge-put .result ≡ Judged.Fine → put-at .command .given .0 .0 < 64
+  declared e = omega (arith, c .judge-put .ensures slots refl .declared e, top .loop .inv .2)
 
 loop-holds : tie.Need-loop-holds Inv-loop μ-loop
-loop-holds c = (omega arith, omega arith, c .before .before .pre .0, c .before .before .pre .1, λ p o n per e z. progress-start _ p o _ e (c .new .ensures))
+unfolding isPut
+loop-holds c = (
+  omega arith,
+  omega arith,
+  c .before .pre .0,
+  c .before .pre .1,
+  λ p o n per e z.
+      progress-start _ p o _ e
+      (record {
+        puts-are = refl;
+        order-is = λ j h. absurd (omega arith);
+        unput = λ x lt e. unranked x lt;
+        ranks-are = λ x lt e. absurd (false≢true e);
+        phases-are = λ x lt e. absurd (false≢true e);
+        space = (refl, refl, refl);
+      }),
+)
 
 schedule-command-at-requires : tie.Need-schedule-command-at-requires Inv-loop μ-loop
 schedule-command-at-requires c κs = search needs
@@ -45,13 +88,17 @@ schedule-command-at-requires c κs = search needs
 enum-known-command : tie.Need-enum-known-command Inv-loop μ-loop
 enum-known-command c = search needs
 
+unplaced-requires : tie.Need-unplaced-requires Inv-loop μ-loop
+unplaced-requires c κs = search needs
+
 returns : tie.Need-returns Inv-loop μ-loop
 returns c =
-    let l = c .before .before .before .loop in
+    let m = c .before in
+    let l = m .before .before .before .loop in
     λ p o n per e z.
     let g = l .inv .4 p o n per e z in
     let q = next-put (g .spelled) (omega arith) in
-    absurd (not-put _ (q .signal) (q .phase) (c .match .keys2) (c .before .schedule-command-at .ensures ∙ q .command))
+    absurd (not-put _ (q .signal) (q .phase) (m .match .keys2) (m .before .schedule-command-at .ensures ∙ q .command))
 
 judge-put-requires : tie.Need-judge-put-requires Inv-loop μ-loop
 judge-put-requires c κs = omega arith
@@ -62,20 +109,50 @@ enum-told c = search needs
 enum-told-2 : tie.Need-enum-told-2 Inv-loop μ-loop
 enum-told-2 c = search needs
 
+unplaced-requires-2 : tie.Need-unplaced-requires-2 Inv-loop μ-loop
+unplaced-requires-2 c κs = search needs
+
 returns-2 : tie.Need-returns-2 Inv-loop μ-loop
 returns-2 c =
-    let l = c .before .before .before .before .before .before .before .before .loop in
+    let told = c .before .enum-told2 .given .1 in
+    let j = c .before .before .before in
+    let l = top j .loop in
     λ p o n per e z.
     let g = l .inv .4 p o n per e z in
+    let few : length (g .done) < 64 = omega (arith, g .after .puts-are) in
     scheduled-refused p _ _ _
-    (put-refused _ p o (l .at) _ _ (l .slots) g (omega arith) (is-put (c .before .before .before .before)) _
-    (sym (c .enum-told2 .given .1) ∙ c .before .before .judge-put .ensures .judged p (g .done) n per (g .after) (omega (arith, g .after .puts-are))))
-    (c .enum-told2 .given .1)
+    (put-refused _ p o (l .at) _ _ (slots j) g (omega arith) (is-put j) _
+    (sym told ∙ j .judge-put .ensures (slots j) refl .judged p (g .done) n per (g .after) few))
+    (c .unplaced2 .ensures ∙ told)
 
-with-put-requires : tie.Need-with-put-requires Inv-loop μ-loop
-with-put-requires c κs =
-    let l = c .before .before .before .before .before .before .before .before .loop in
-    (omega arith, omega (arith, c .before .before .judge-put .ensures .declared (c .enum-told .given .1)))
+wide-requires : tie.Need-wide-requires Inv-loop μ-loop
+wide-requires c κs = search needs
+
+-- the entries that the PUT is written to
+module _ (c : tie.After-wide Inv-loop μ-loop) where
+  abbrev judged-at : tie.After-judge-put Inv-loop μ-loop
+  judged-at = c .before .before .before
+
+  signal-low : c .wide .result < 64
+  signal-low = omega (arith, c .wide .ensures .0, declared judged-at (c .before .enum-told .given .1))
+
+  puts-few : top judged-at .loop .puts < 64
+  puts-few = let l = top judged-at in omega (arith, l .loop .inv .0, l .loop .inv .3)
+
+array-write-order : tie.Need-array-write-order Inv-loop μ-loop
+array-write-order c = puts-few c
+
+array-write-phases : tie.Need-array-write-phases Inv-loop μ-loop
+array-write-phases c = signal-low c
+
+cast-ranks : tie.Need-cast-ranks Inv-loop μ-loop
+cast-ranks c = omega (arith, puts-few c)
+
+array-write-ranks : tie.Need-array-write-ranks Inv-loop μ-loop
+array-write-ranks c = signal-low c
+
+add-puts : tie.Need-add-puts Inv-loop μ-loop
+add-puts c = omega (arith, puts-few c)
 
 in-schedule-requires : tie.Need-in-schedule-requires Inv-loop μ-loop
 in-schedule-requires c κs = search needs
@@ -88,50 +165,60 @@ loop-less c = omega arith
 
 loop-again : tie.Need-loop-again Inv-loop μ-loop
 loop-again c =
-    let l = c .before .before .before .before .before .before .before .before .before .before .loop in (
-      rw (c .before .with-put .ensures) (omega arith),
+    let w = c .before in
+    let j = judged-at w in
+    let l = top j .loop in
+    let told = w .before .enum-told .given .1 in (
+      omega arith,
       omega arith,
       l .inv .2,
       l .inv .3,
       λ p o n per e z.
           let g = l .inv .4 p o n per e z in
-          rw (c .in-schedule .ensures)
-          (subst (Progress _ p o _) (sym (c .before .with-put .ensures))
-          (put-fine _ p o (l .at) _ _ (l .slots) g (omega arith) (is-put (c .before .before .before .before .before .before))
-          (omega (arith, c .before .before .before .before .judge-put .ensures .declared (c .before .before .enum-told .given .1)))
-          (omega (arith, g .after .puts-are))
-          (sym (c .before .before .enum-told .given .1) ∙ c .before .before .before .before .judge-put .ensures .judged p (g .done) n per (g .after) (omega (arith, g .after .puts-are))))),
+          let few : length (g .done) < 64 = omega (arith, g .after .puts-are, puts-few w) in
+          rw (c .in-schedule .ensures, w .wide .ensures .0)
+          (put-fine _ p o (l .at) _ _ (slots j) g (omega arith) (is-put j) (declared j told) few
+          (sym told ∙ j .judge-put .ensures (slots j) refl .judged p (g .done) n per (g .after) few)),
     )
 
 all-put-requires : tie.Need-all-put-requires Inv-loop μ-loop
 all-put-requires c κs = omega arith
 
-returns-3 : tie.Need-returns-3 Inv-loop μ-loop
-returns-3 c =
-    let l = c .before .before .before .before .loop in
-    λ p o n per e z.
-    let g = l .inv .4 p o n per e z in
-    let past : o .next ≤ l .at = omega arith in
-    let few : count p ≤ 64 = omega arith in
-    let fit : length (g .done) ≤ 64 = omega (arith, g .after .puts-are) in
-    let all = ap (allRanked _) n ∙ sym (c .before .all-put .ensures) ∙ c .if1 .taken in
-    scheduled-fine p _ _ _ (placed-all _ p o (l .at) (l .slots) g past few fit all) refl
-    (placed-slots _ p o (l .at) (l .slots) g past few fit all)
-
 refuse-requires : tie.Need-refuse-requires Inv-loop μ-loop
 refuse-requires c κs = search needs
 
-returns-4 : tie.Need-returns-4 Inv-loop μ-loop
-returns-4 c =
-    let l = c .before .before .before .before .before .loop in
+unplaced-requires-3 : tie.Need-unplaced-requires-3 Inv-loop μ-loop
+unplaced-requires-3 c κs = search needs
+
+returns-3 : tie.Need-returns-3 Inv-loop μ-loop
+returns-3 c =
+    let a = c .before .before .before in
+    let l = a .before .before .before .loop in
     λ p o n per e z.
     let g = l .inv .4 p o n per e z in
     let past : o .next ≤ l .at = omega arith in
     let few : count p ≤ 64 = omega arith in
     let fit : length (g .done) ≤ 64 = omega (arith, g .after .puts-are) in
-    let missing = ap (allRanked _) n ∙ sym (c .before .before .all-put .ensures) ∙ c .before .if1 .left in
-    scheduled-refused p _ _ _ (placed-missing _ p o (l .at) (l .slots) g past few fit missing)
-    (c .refuse .ensures ∙ ap (λ x. Judged.Refused (record { number = 12; place = x })) (sym z))
+    let missing = ap (allRanked _) n ∙ sym (a .all-put .ensures) ∙
+    not-true (a .all-put .result) (c .before .before .if1 .taken) in
+    scheduled-refused p _ _ _
+    (placed-missing _ p o (l .at) (slotsOf (l .order) (l .phases) (l .ranks) (l .puts)) g past few fit missing)
+    (c .unplaced3 .ensures ∙ c .before .refuse .ensures ∙
+    ap (λ x. Judged.Refused (record { number = 12; place = x })) (sym z))
+
+returns-4 : tie.Need-returns-4 Inv-loop μ-loop
+returns-4 c =
+    let a = c .before in
+    let l = a .before .before .before .loop in
+    λ p o n per e z.
+    let g = l .inv .4 p o n per e z in
+    let past : o .next ≤ l .at = omega arith in
+    let few : count p ≤ 64 = omega arith in
+    let fit : length (g .done) ≤ 64 = omega (arith, g .after .puts-are) in
+    let all = ap (allRanked _) n ∙ sym (a .all-put .ensures) ∙ not-false (a .all-put .result) (c .if1 .left) in
+    let t = slotsOf (l .order) (l .phases) (l .ranks) (l .puts) in
+    scheduled-fine p _ _ _ (placed-all _ p o (l .at) t g past few fit all) refl
+    (placed-slots _ p o (l .at) t g past few fit all)
 
 pub place-signals-spec : {M : Type 1} → statement M
 place-signals-spec =
@@ -139,21 +226,28 @@ place-signals-spec =
     (tie.spec
     Inv-loop
     μ-loop
-    new-requires
     loop-holds
     schedule-command-at-requires
     enum-known-command
+    unplaced-requires
     returns
     judge-put-requires
     enum-told
     enum-told-2
+    unplaced-requires-2
     returns-2
-    with-put-requires
+    wide-requires
+    array-write-order
+    array-write-phases
+    cast-ranks
+    array-write-ranks
+    add-puts
     in-schedule-requires
     add-at
     loop-less
     loop-again
     all-put-requires
-    returns-3
     refuse-requires
+    unplaced-requires-3
+    returns-3
     returns-4)

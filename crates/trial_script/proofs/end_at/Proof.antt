@@ -38,7 +38,8 @@ unfolding endingAt provided
 returns c =
     let t = c .before .before .before in
     let a = t .before .before .before .args in
-    rw (t .enum-told3 .given .1, lt-leb (length (a .text .now)) (a .at + 1) (omega arith)) (rw (c .before .before .in-script .ensures) at (c .refused3 .ensures))
+    rw (t .enum-told3 .given .1, lt-leb (length (a .text .now)) (a .at + 1) (omega arith))
+    (rw (c .before .before .in-script .ensures) at (c .refused3 .ensures))
 
 enum-told-4 : tie.Need-enum-told-4
 enum-told-4 c = search needs

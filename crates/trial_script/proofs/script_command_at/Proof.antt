@@ -9,7 +9,7 @@ use denote.Ref.{now}
 use lib.ListN.{length, getD}
 use Rattle.model.specs.Rules.Script.{scriptCommandAt}
 use Rattle.model.specs.declared.ScriptCommand.the-variants as ScriptCommand
-use Rattle.word.proofs.Laws.{kept}
+use Rattle.word.proofs.Locals.{kept}
 use Rattle.trial_script.proofs.script_command_at.Statement.{statement}
 use Rattle.trial_script.proofs.script_command_at.Tie as tie
 

@@ -44,8 +44,11 @@ same-length c = search needs
 
 returns-4 : tie.Need-returns-4
 unfolding altered
-returns-4 c = let s = c .before .before .before .before .before .before in
-    let o = c .before .before .before .before in
+returns-4 c =
+    let c4 = c .before .before .before .before in
+    let c6 = c4 .before .before in
+    let s = c6 in
+    let o = c4 in
     rw (o .command .given .1)
     (c .before .store .ensures ∙ ap (λ (w : ℤ). set (s .args .samples .now) (o .command .given .0 .0) w)
     (toZ-ofZ (search needs)))

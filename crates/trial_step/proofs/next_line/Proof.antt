@@ -121,10 +121,12 @@ same-length-7 c = search needs
 returns-3 : tie.Need-returns-3
 unfolding Stepped
 returns-3 c =
-    let o = c .before .before .before .before .before .before .before .before in
+    let c3 = c .before .before .before in
+    let c8 = c3 .before .before .before .before .before in
+    let o = c8 in
     let k = o .before .before .before in
     lined (o .sought .given .0 .0) (o .sought .given .0 .1 .0) (seek-start k .pre .0) (sought-runnable k) (cycle-calls o)
-    (c .before .before .before .print-cycle2 .ensures)
+    (c3 .print-cycle2 .ensures)
 
 pub next-line-spec : {M : Type 1} → statement M
 next-line-spec =

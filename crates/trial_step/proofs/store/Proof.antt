@@ -1,5 +1,5 @@
 -- `trial_step::store` meets its contract. Assumes nothing.
-use Rattle.word.proofs.Laws.{kept}
+use Rattle.word.proofs.Locals.{kept}
 use lib.Seq.{set-out}
 use lib.ListN.{length, set}
 use lib.IntN.{ℤ}

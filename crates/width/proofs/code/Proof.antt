@@ -59,14 +59,16 @@ returns-8 c =
 
 returns-9 : tie.Need-returns-9
 returns-9 c =
-    let b = c .before .before .before .before .before .args .byte in
+    let c4 = c .before .before .before .before in
+    let c5 = c4 .before in
+    let b = c5 .args .byte in
     simp (
       over b 0x30 0x36 (omega arith) (omega arith),
       more b 0x38 (omega arith),
       more b 0x3A (omega arith),
       more b 0x50 (omega arith),
       over b 0x51 0x52 (omega arith) (omega arith),
-      ne-eqb b 0x5F (c .before .before .before .before .match .rest .1),
+      ne-eqb b 0x5F (c4 .match .rest .1),
     )
 
 pub code-spec : {M : Type 1} → statement M

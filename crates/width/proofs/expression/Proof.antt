@@ -62,8 +62,10 @@ returns-8 c =
 
 returns-9 : tie.Need-returns-9
 returns-9 c =
-    let b = c .before .before .before .before .before .before .args .byte in
-    let no = c .before .before .before .before .before .match .rest in
+    let c5 = c .before .before .before .before .before in
+    let c6 = c5 .before in
+    let b = c6 .args .byte in
+    let no = c5 .match .rest in
     simp (
       more b 0x20 (omega arith),
       over b 0x21 0x22 (omega arith) (omega arith),

@@ -1,6 +1,6 @@
 use borrow.Author.Needs.{needs}
 use Rattle.model.specs.Rules.Word.{addWord, subWord, mulWord, lessWord, sameWord, minWord, maxWord}
-use Rattle.word.proofs.Laws.{of-two}
+use Rattle.word.proofs.Locals.{of-two}
 use Rattle.word.proofs.binary.Statement.{statement}
 use Rattle.word.proofs.binary.Tie as tie
 

@@ -1,7 +1,7 @@
 use Rattle.word.proofs.bits.Statement.{statement}
 use Rattle.word.proofs.bits.Tie as tie
 use native.Mathlib.Omega.{arith}
-use Rattle.word.proofs.Laws.{minus, plus, Minus, Plus}
+use Rattle.word.proofs.Locals.{minus, plus, Minus, Plus}
 use borrow.Author.Needs.{sfits-of}
 
 m : (c : tie.Then1) → Minus (c .before .args .w)

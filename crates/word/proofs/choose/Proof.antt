@@ -3,7 +3,7 @@ use mathlib.Core.Path.{sym, ap, _∙_}
 use lib.IntN.{pos}
 use mir.Facts.{toZ-ofZ, sfits-lit}
 use Rattle.model.specs.Rules.Word.{ifWord}
-use Rattle.word.proofs.Laws.{test-same, test-other}
+use Rattle.word.proofs.Locals.{test-same, test-other}
 use Rattle.word.proofs.choose.Statement.{statement}
 use Rattle.word.proofs.choose.Tie as tie
 

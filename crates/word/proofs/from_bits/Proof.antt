@@ -8,7 +8,7 @@ use mir.Facts.{toZ-ofZ, sfits-toZ}
 use Rattle.model.specs.Rules.Word.{wordOf}
 use Rattle.word.proofs.from_bits.Statement.{statement}
 use Rattle.word.proofs.from_bits.Tie as tie
-use Rattle.word.proofs.Laws.{high}
+use Rattle.word.proofs.Locals.{high}
 
 is : (c : tie.Else1) → negsuc 0 -ℤ toZ w32 (4294967295 - c .before .args .u) ≡ toZ w32 (c .before .args .u)
 is c = high (c .before .args .u) (c .if1 .left) (c .before .fits .u .fits)

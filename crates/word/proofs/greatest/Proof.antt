@@ -2,7 +2,7 @@ use Rattle.word.proofs.greatest.Statement.{statement}
 use Rattle.word.proofs.greatest.Tie as tie
 use mir.Facts.{toZ-ofZ}
 use Rattle.model.specs.Rules.Word.{maxWord}
-use Rattle.word.proofs.Laws.{test}
+use Rattle.word.proofs.Locals.{test}
 
 returns : tie.Need-returns
 unfolding maxWord

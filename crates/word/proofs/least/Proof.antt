@@ -2,7 +2,7 @@ use Rattle.word.proofs.least.Statement.{statement}
 use Rattle.word.proofs.least.Tie as tie
 use mir.Facts.{toZ-ofZ}
 use Rattle.model.specs.Rules.Word.{minWord}
-use Rattle.word.proofs.Laws.{test}
+use Rattle.word.proofs.Locals.{test}
 
 returns : tie.Need-returns
 unfolding minWord

@@ -1,7 +1,7 @@
 use Rattle.word.proofs.less.Statement.{statement}
 use Rattle.word.proofs.less.Tie as tie
 use Rattle.model.specs.Rules.Word.{lessWord, bitWord}
-use Rattle.word.proofs.Laws.{test}
+use Rattle.word.proofs.Locals.{test}
 use mathlib.Core.Path.{sym, ap}
 
 returns : tie.Need-returns

@@ -2,7 +2,7 @@
 use mathlib.Core.Path.{_∙_}
 use mir.Facts.{toZ-ofZ}
 use borrow.Author.Needs.{sfits-of}
-use Rattle.word.proofs.Laws.{kept}
+use Rattle.word.proofs.Locals.{kept}
 use Rattle.word.proofs.Results.{below, above, within}
 use Rattle.word.proofs.nearest.Statement.{statement}
 use Rattle.word.proofs.nearest.Tie as tie

@@ -4,7 +4,7 @@ use lib.IntN.{+ℤ-idl}
 use mir.Facts.{toZ-ofZ}
 use borrow.Author.Needs.{needs}
 use Rattle.model.specs.Rules.Word.{nearest, negWord}
-use Rattle.word.proofs.Laws.{kept}
+use Rattle.word.proofs.Locals.{kept}
 use Rattle.word.proofs.Results.{wide-fits, wide-back, minus-fits}
 use Rattle.word.proofs.neg.Statement.{statement}
 use Rattle.word.proofs.neg.Tie as tie

@@ -3,7 +3,7 @@ use native.Mathlib.Omega.{arith}
 use native.Mathlib.Numerals.{towards-suc}
 use lib.ListN.{length-set}
 use Rattle.model.specs.Rules.Word.{wordBytes, fourBytes}
-use Rattle.word.proofs.Laws.{of-local}
+use Rattle.word.proofs.Locals.{of-local}
 use Rattle.word.proofs.put_word.Statement.{statement}
 use Rattle.word.proofs.put_word.Tie as tie
 

@@ -2,7 +2,7 @@ use Rattle.word.proofs.same.Statement.{statement}
 use Rattle.word.proofs.same.Tie as tie
 use mathlib.Core.Path.{sym, ap}
 use Rattle.model.specs.Rules.Word.{sameWord, bitWord}
-use Rattle.word.proofs.Laws.{test-same, test-other}
+use Rattle.word.proofs.Locals.{test-same, test-other}
 
 returns : tie.Need-returns
 unfolding sameWord

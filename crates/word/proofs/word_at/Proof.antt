@@ -1,7 +1,7 @@
 use borrow.Author.Needs.{needs}
 use mathlib.Core.Path.{ap, _∙_}
 use Rattle.model.specs.Rules.Word.{wordOf, wordAt}
-use Rattle.word.proofs.Laws.{kept}
+use Rattle.word.proofs.Locals.{kept}
 use Rattle.word.proofs.word_at.Statement.{statement}
 use Rattle.word.proofs.word_at.Tie as tie
 

@@ -6,8 +6,8 @@ use lib.ListN.{getD}
 use mir.Syntax.{w32}
 use mir.Val.{toZ, ofZ}
 use Rattle.model.specs.Rules.Word.{binaryWord}
-use Rattle.word.proofs.Laws.{kept}
-use Rattle.run_stack.proofs.Laws.{view-two}
+use Rattle.word.proofs.Locals.{kept}
+use Rattle.run_stack.proofs.Words.{view-two}
 use borrow.Author.Needs.{needs}
 use Rattle.run_stack.proofs.Stack.binary.Statement.{statement}
 use Rattle.run_stack.proofs.Stack.binary.Tie as tie
@@ -30,7 +30,8 @@ returns c =
     let first = getD (a .self .below) (a .self .height - 1) (pos 0) in
     let w : toZ w32 (ofZ w32 (c .binary .result)) ≡ binaryWord (a .operator) first (a .self .top) =
     kept (c .binary .result) (c .binary .ok) ∙ c .binary .ensures ∙
-    ap₂ (binaryWord (a .operator)) (kept first (c .before .before .first .given)) (kept (a .self .top) (c .before .struct-told .given .0 .1)) in
+    ap₂ (binaryWord (a .operator)) (kept first (c .before .before .first .given))
+    (kept (a .self .top) (c .before .struct-told .given .0 .1)) in
     (rw w (view-two (binaryWord (a .operator)) (a .self .top) (a .self .below) (a .self .height) (search needs)), search needs)
 
 pub binary-spec : {M : Type 1} → statement M

@@ -4,8 +4,8 @@ use mir.Syntax.{w32}
 use mir.Val.{toZ, ofZ}
 use mir.Facts.{toZ-ofZ}
 use Rattle.model.specs.Rules.Word.{binaryWord}
-use Rattle.word.proofs.Laws.{kept}
-use Rattle.run_stack.proofs.Laws.{view-with}
+use Rattle.word.proofs.Locals.{kept}
+use Rattle.run_stack.proofs.Words.{view-with}
 use borrow.Author.Needs.{needs}
 use Rattle.run_stack.proofs.Stack.binary_with.Statement.{statement}
 use Rattle.run_stack.proofs.Stack.binary_with.Tie as tie

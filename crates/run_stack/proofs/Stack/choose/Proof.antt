@@ -6,8 +6,8 @@ use lib.ListN.{getD}
 use mir.Syntax.{w32}
 use mir.Val.{toZ, ofZ}
 use Rattle.model.specs.Rules.Word.{ifWord}
-use Rattle.word.proofs.Laws.{kept}
-use Rattle.run_stack.proofs.Laws.{view-three}
+use Rattle.word.proofs.Locals.{kept}
+use Rattle.run_stack.proofs.Words.{view-three}
 use borrow.Author.Needs.{needs}
 use Rattle.run_stack.proofs.Stack.choose.Statement.{statement}
 use Rattle.run_stack.proofs.Stack.choose.Tie as tie
@@ -35,13 +35,14 @@ choose-requires c κs = search needs
 
 returns : tie.Need-returns
 returns c =
-    let a = c .before .before .before .before .before .before .args in
+    let c3 = c .before .before .before in
+    let c6 = c3 .before .before .before in
+    let a = c6 .args in
     let condition = getD (a .self .below) (a .self .height - 2) (pos 0) in
     let then = getD (a .self .below) (a .self .height - 2 + 1) (pos 0) in
     let w : toZ w32 (ofZ w32 (c .choose .result)) ≡ ifWord condition then (a .self .top) =
-    kept (c .choose .result) (c .choose .ok) ∙ c .choose .ensures ∙
-    rw (
-      kept condition (c .before .before .before .condition .given),
+    kept (c .choose .result) (c .choose .ok) ∙ c .choose .ensures ∙ rw (
+      kept condition (c3 .condition .given),
       kept then (c .before .before .then .given),
       kept (a .self .top) (c .before .struct-told .given .0 .1),
     ) in

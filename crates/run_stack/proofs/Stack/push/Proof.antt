@@ -3,8 +3,8 @@ use mathlib.Core.Path.{_≡_, refl}
 use mir.Syntax.{w32}
 use mir.Val.{toZ, ofZ}
 use mir.Facts.{toZ-ofZ}
-use Rattle.word.proofs.Laws.{kept}
-use Rattle.run_stack.proofs.Laws.{view-push}
+use Rattle.word.proofs.Locals.{kept}
+use Rattle.run_stack.proofs.Words.{view-push}
 use borrow.Author.Needs.{needs}
 use Rattle.run_stack.proofs.Stack.push.Statement.{statement}
 use Rattle.run_stack.proofs.Stack.push.Tie as tie

@@ -1,0 +1,484 @@
+//! The library's calls against the reference, on random and damaged inputs.
+//!
+//!     differential [COUNT [SEED]]
+//!
+//! Each of COUNT rounds lends one pair to compile and to report, a program text of the earlier rule to convert, and then images, states
+//! and samples to reset, cycle and tail, and makes calls of a board. After each call the answers and all that was lent must be equal. It
+//! stops at the first difference with the bytes lent. Round r depends on the seed and on r alone.
+mod board;
+#[path = "../cases/generate.rs"]
+mod generate;
+// The benchmark uses the rest of these.
+#[allow(dead_code)]
+#[path = "../cases/images.rs"]
+mod images;
+#[path = "../library.rs"]
+mod library;
+#[path = "../cases/random.rs"]
+mod random;
+// A trial is compared by a program of its own.
+#[allow(dead_code)]
+#[path = "../reference/mod.rs"]
+mod reference;
+
+use generate::{Pair, Shape, Twist};
+use random::Random;
+use reference::{Board, Outcome};
+use std::process::exit;
+
+const COUNT: u64 = 200_000;
+const SEED: u64 = 20_260_101;
+/// Every image fits, with its tail.
+const IMAGE_BYTES: usize = 24_678;
+/// The refusals of the paper.
+const NUMBERS: [usize; 24] = [1, 2, 3, 4, 5, 6, 7, 8, 9, 10, 11, 12, 13, 14, 15, 16, 17, 20, 21, 22, 23, 26, 27, 28];
+/// One more than the highest.
+const TOP: usize = 29;
+
+/// How many answers of each number a call gave.
+#[derive(Default)]
+struct Seen {
+    compile: [u64; TOP],
+    report: [u64; TOP],
+    reset: [u64; TOP],
+    cycle: [u64; TOP],
+    tail: [u64; TOP],
+    convert: [u64; TOP],
+    load: [u64; TOP],
+    mark: [u64; TOP],
+    turn: [u64; TOP],
+    /// What the runs of turns answered.
+    run: [u64; TOP],
+}
+
+impl Seen {
+    fn calls(&self) -> [&[u64; TOP]; 10] {
+        [&self.compile, &self.report, &self.reset, &self.cycle, &self.tail, &self.convert, &self.load, &self.mark, &self.turn, &self.run]
+    }
+}
+
+fn hexadecimal(bytes: &[u8]) -> String {
+    bytes.iter().map(|byte| format!("{byte:02X}")).collect::<Vec<_>>().join(" ")
+}
+
+fn count(seen: &mut [u64; TOP], answer: u64) {
+    seen[(answer >> 32) as usize] += 1;
+}
+
+/// Prints the call that differs and stops.
+fn differ(round: u64, call: &str, lent: &[String], library: u64, reference: u64, kept: bool) -> ! {
+    println!("round {round}: {call} differs");
+    lent.iter().for_each(|line| println!("  {line}"));
+    for (name, answer) in [("library", library), ("reference", reference)] {
+        println!("  {name}: number {}, value {}", answer >> 32, answer as u32);
+    }
+    println!("  what was lent is {} after both", if kept { "equal" } else { "not equal" });
+    exit(1);
+}
+
+/// What is lent to the calls of a board, on one side.
+#[derive(Clone)]
+struct Lent {
+    record: library::Record,
+    images: Vec<u8>,
+    state: Vec<i32>,
+    outcome: [u32; 3],
+}
+
+/// L, by bytes 2-3.
+fn stated(image: &[u8]) -> usize {
+    u16::from_le_bytes([image[2], image[3]]).into()
+}
+
+struct Round<'a> {
+    number: u64,
+    random: Random,
+    seen: &'a mut Seen,
+    buffers: &'a mut [Vec<u8>; 2],
+}
+
+impl Round<'_> {
+    /// A legal pair, one with a fault put in, or one of them damaged.
+    fn pair(&mut self) -> Pair {
+        let random = &mut self.random;
+        let shape = Shape::any(random);
+        let twist = Twist::any(random);
+        let mut pair = generate::pair(random, &shape, twist);
+        let answer = reference::compile(&pair.program, &pair.schedule, &mut self.buffers[0]);
+        let number = answer.map_or_else(|(number, _)| number, |_| 0);
+        if number != pair.expected {
+            println!("round {}: the reference gives {number}, but {} was put in", self.number, pair.expected);
+            println!("  program: {}", hexadecimal(&pair.program));
+            println!("  schedule: {}", hexadecimal(&pair.schedule));
+            exit(1);
+        }
+        self.spoil(&mut pair);
+        pair
+    }
+
+    /// Leaves two pairs in five as they are.
+    fn spoil(&mut self, pair: &mut Pair) {
+        let random = &mut self.random;
+        match random.below(20) {
+            0..=7 => {}
+            8..=10 => generate::reschedule(random, &mut pair.schedule),
+            11..=13 => (0..1 + random.below(3)).for_each(|_| generate::mistake(random, &mut pair.program)),
+            14..=16 => (0..1 + random.below(3)).for_each(|_| random.damage(&mut pair.program)),
+            17 => (0..1 + random.below(3)).for_each(|_| random.damage(&mut pair.schedule)),
+            18 => {
+                random.damage(&mut pair.program);
+                random.damage(&mut pair.schedule);
+            }
+            _ => self.lengthen(pair),
+        }
+    }
+
+    /// Bytes after END, up to the bound of a text or past it.
+    fn lengthen(&mut self, pair: &mut Pair) {
+        let over = self.random.below(2);
+        match self.random.below(4) {
+            0 => pair.program.resize(pair.program.len().max(generate::PROGRAM_BYTES + over), 0),
+            1 => pair.schedule.resize(pair.schedule.len().max(193 + over), 0x40),
+            2 => pair.program = (0..self.random.below(40)).map(|_| self.random.byte()).collect(),
+            _ => pair.schedule = (0..self.random.below(40)).map(|_| self.random.byte()).collect(),
+        }
+    }
+
+    /// Compiles the pair by both into equal buffers. Yields the image of an accepted pair.
+    fn compile(&mut self, pair: &Pair) -> Option<Vec<u8>> {
+        let [ours, other] = &mut *self.buffers;
+        let result = reference::compile(&pair.program, &pair.schedule, other);
+        let image = result.ok().map(|length| other[..length].to_vec());
+        let length = match &image {
+            None => self.random.below(100),
+            Some(image) => match self.random.below(8) {
+                0 => image.len() - 1,
+                1 => self.random.below(image.len()),
+                2 => image.len(),
+                3 => IMAGE_BYTES,
+                _ => image.len() + self.random.below(64),
+            },
+        };
+        let fill = self.random.next() as u8;
+        ours[..length].fill(fill);
+        other[..length].fill(fill);
+        let library = library::compile(&pair.program, &pair.schedule, &mut ours[..length]);
+        let reference = reference::answer(reference::compile(&pair.program, &pair.schedule, &mut other[..length]));
+        let kept = ours[..length] == other[..length];
+        if library != reference || !kept {
+            let program = format!("program: {}", hexadecimal(&pair.program));
+            let schedule = format!("schedule: {}", hexadecimal(&pair.schedule));
+            let buffer = format!("image buffer: {length} bytes of {fill:02X}");
+            differ(self.number, "compile", &[program, schedule, buffer], library, reference, kept);
+        }
+        count(&mut self.seen.compile, library);
+        image
+    }
+
+    /// Reports on the pair by both into equal counts.
+    fn report(&mut self, pair: &Pair) {
+        let (fill, old) = (self.random.next() as u32, [0; 2].map(|_| self.random.next() as usize));
+        let (mut ours, mut other, mut told) = ([fill; 240], [fill; 240], old);
+        let library = library::report(&pair.program, &pair.schedule, &mut ours, &mut told);
+        let sizes = reference::report(&pair.program, &pair.schedule, &mut other);
+        let reference = reference::answer(sizes.map(|sizes| sizes.length));
+        let kept = ours == other && told == sizes.map_or(old, |sizes| [sizes.written, sizes.stack]);
+        if library != reference || !kept {
+            let program = format!("program: {}", hexadecimal(&pair.program));
+            let schedule = format!("schedule: {}", hexadecimal(&pair.schedule));
+            differ(self.number, "report", &[program, schedule, format!("counts of {fill}, sizes {old:?}")], library, reference, kept);
+        }
+        count(&mut self.seen.report, library);
+    }
+
+    /// Converts a text of the earlier rule by both into equal buffers, and compiles what comes of an accepted one.
+    fn convert(&mut self) {
+        let random = &mut self.random;
+        let shape = Shape { least: 1, ..Shape::any(random) };
+        let twist = Twist::any(random);
+        let mut pair = generate::pair(random, &shape, twist);
+        if random.one_in(3) {
+            (0..1 + random.below(3)).for_each(|_| generate::mistake(random, &mut pair.program));
+        }
+        let [ours, other] = &mut *self.buffers;
+        let length = match reference::convert(&pair.program, other) {
+            Ok(length) => length + random.below(8) - random.below(4).min(length),
+            Err(_) => random.below(100),
+        };
+        let fill = random.next() as u8;
+        ours[..length].fill(fill);
+        other[..length].fill(fill);
+        let library = library::convert(&pair.program, &mut ours[..length]);
+        let result = reference::convert(&pair.program, &mut other[..length]);
+        let reference = reference::answer(result);
+        let kept = ours[..length] == other[..length];
+        if library != reference || !kept {
+            let program = format!("program: {}", hexadecimal(&pair.program));
+            differ(self.number, "convert", &[program, format!("result: {length} bytes of {fill:02X}")], library, reference, kept);
+        }
+        count(&mut self.seen.convert, library);
+        if let Ok(length) = result {
+            pair.program = ours[..length].to_vec();
+            self.compile(&pair);
+        }
+    }
+
+    /// A state for the image: mostly long enough and at a position of the hypercycle.
+    fn state(&mut self, image: &[u8]) -> Vec<i32> {
+        let random = &mut self.random;
+        let [hypercycle, signals] = [0, 1].map(|at| image.get(at).copied().unwrap_or(0));
+        let words = match random.below(8) {
+            0 => random.below(usize::from(signals) + 2),
+            1 => random.below(80),
+            _ => usize::from(signals) + 1 + random.below(3),
+        };
+        let mut state = random.words(words);
+        if let Some(position) = state.first_mut() {
+            *position = match random.below(8) {
+                0 => random.pick(&[-1, hypercycle.into(), i32::from(hypercycle) + 1, i32::MIN, i32::MAX]),
+                1 => random.word(),
+                _ => random.below(usize::from(hypercycle).max(1)) as i32,
+            };
+        }
+        state
+    }
+
+    /// Samples for the image: mostly enough.
+    fn samples(&mut self, image: &[u8]) -> Vec<i32> {
+        let signals = usize::from(image.get(1).copied().unwrap_or(0));
+        let words = if self.random.one_in(12) { self.random.below(signals + 1) } else { signals + self.random.below(3) };
+        self.random.words(words)
+    }
+
+    fn reset(&mut self, image: &[u8], state: &mut Vec<i32>) {
+        let before = state.clone();
+        let mut other = state.clone();
+        let library = library::reset(image, state);
+        let reference = reference::answer(reference::reset(image, &mut other).map(|()| 0));
+        if library != reference || *state != other {
+            let lent = [format!("image: {}", hexadecimal(image)), format!("state: {before:?}")];
+            differ(self.number, "reset", &lent, library, reference, *state == other);
+        }
+        count(&mut self.seen.reset, library);
+    }
+
+    fn tail(&mut self, image: &[u8]) {
+        let old = self.random.next() as usize;
+        let mut start = old;
+        let library = library::tail(image, &mut start);
+        let tail = reference::tail(image);
+        let reference = reference::answer(tail.map(<[u8]>::len));
+        let kept = start == tail.map_or(old, |tail| image.len() - tail.len());
+        if library != reference || !kept {
+            differ(self.number, "tail", &[format!("image: {}", hexadecimal(image))], library, reference, kept);
+        }
+        count(&mut self.seen.tail, library);
+    }
+
+    fn cycle(&mut self, image: &[u8], state: &mut Vec<i32>) {
+        let samples = self.samples(image);
+        let before = state.clone();
+        let mut other = state.clone();
+        let library = library::cycle(image, state, &samples);
+        let reference = reference::answer(reference::cycle(image, &mut other, &samples).map(|commands| commands as usize));
+        if library != reference || *state != other {
+            let [state_words, samples] = [format!("state: {before:?}"), format!("samples: {samples:?}")];
+            let lent = [format!("image: {}", hexadecimal(image)), state_words, samples];
+            differ(self.number, "cycle", &lent, library, reference, *state == other);
+        }
+        count(&mut self.seen.cycle, library);
+    }
+
+    /// Cycles from any state, then a reset and a list of cycles: now and then through more than two hypercycles.
+    fn calls(&mut self, image: &[u8]) {
+        self.tail(image);
+        let mut state = self.state(image);
+        self.cycle(image, &mut state);
+        self.reset(image, &mut state);
+        let hypercycle = usize::from(image.first().copied().unwrap_or(0));
+        let cycles = if self.random.one_in(32) { 2 * hypercycle + 3 } else { self.random.below(4) };
+        for _ in 0..cycles {
+            self.cycle(image, &mut state);
+        }
+    }
+
+    /// Puts another tail after the image, or none, or one a byte too long or short; or leaves it.
+    fn retail(&mut self, image: &mut Vec<u8>) {
+        let tail = 4 * usize::from(image[1]);
+        let bytes = match self.random.below(8) {
+            0..=2 => return,
+            3 | 4 => 0,
+            5 => tail + 1,
+            6 => tail.saturating_sub(1),
+            _ => tail,
+        };
+        image.truncate(stated(image));
+        image.extend((0..bytes).map(|_| self.random.byte()));
+    }
+
+    /// Compares a call of the board: the answers, the record and the state after both.
+    fn compare(&mut self, call: &str, library: u64, reference: u64, ours: &Lent, other: &Lent) {
+        let kept = ours.record == other.record && ours.state == other.state && ours.outcome == other.outcome;
+        if library != reference || !kept {
+            let records = [&ours.record, &other.record].map(|record| format!("record after: {record:?}"));
+            let outcomes = format!("outcomes: {:?} and {:?}", ours.outcome, other.outcome);
+            let lent = [format!("images: {}", hexadecimal(&ours.images)), records.join("; "), outcomes];
+            differ(self.number, call, &lent, library, reference, kept);
+        }
+    }
+
+    fn load(&mut self, ours: &mut Lent, other: &mut Lent, place: usize, start: usize, size: usize) {
+        let library = library::board_load(&mut ours.record, &ours.images, &mut ours.state, place, start, size);
+        let mut board = board::of_words(&other.record);
+        let result = board.load(&other.images, &mut other.state, place, start, size);
+        if result.is_ok() {
+            board::store(&mut other.record, &board, place);
+        }
+        self.compare(&format!("load {place} {start} {size}"), library, reference::answer(result.map(|()| 0)), ours, other);
+        count(&mut self.seen.load, library);
+    }
+
+    fn mark(&mut self, ours: &mut Lent, other: &mut Lent, place: usize) {
+        let library = library::board_mark(&mut ours.record, place);
+        let mut board = board::of_words(&other.record);
+        let result = board.mark(place);
+        if result.is_ok() {
+            other.record[4 * place] = board::flags(&board.places[place]);
+        }
+        self.compare(&format!("mark {place}"), library, reference::answer(result.map(|()| 0)), ours, other);
+        count(&mut self.seen.mark, library);
+    }
+
+    fn turn(&mut self, ours: &mut Lent, other: &mut Lent) {
+        let words = if self.random.one_in(16) { self.random.below(256) } else { 256 + self.random.below(3) };
+        let samples = self.random.words(words);
+        let library = library::board_turn(&mut ours.record, &ours.images, &mut ours.state, &samples, &mut ours.outcome);
+        let mut board = board::of_words(&other.record);
+        let result = board.turn(&other.images, &mut other.state, &samples);
+        if let Ok(outcome) = result {
+            other.outcome = outcome.words();
+            if outcome != Outcome::Idle {
+                board::store(&mut other.record, &board, other.outcome[1] as usize);
+                self.seen.run[if other.outcome[0] == 2 { other.outcome[2] as usize } else { 0 }] += 1;
+            }
+        }
+        self.compare("turn", library, reference::answer(result.map(|_| 0)), ours, other);
+        count(&mut self.seen.turn, library);
+    }
+
+    /// Four images in one buffer, with bytes between them, and where each starts.
+    fn buffer(&mut self, image: &[u8]) -> (Vec<u8>, [(usize, usize); 4]) {
+        let mut images = vec![];
+        let stretches = [0; 4].map(|_| {
+            images.resize(images.len() + self.random.below(5), 0xAA);
+            let own = if self.random.one_in(3) { images::foreign_image(&mut self.random) } else { image.to_vec() };
+            let start = images.len();
+            images.extend_from_slice(&own);
+            (start, own.len())
+        });
+        (images, stretches)
+    }
+
+    /// A board in use: loads, marks, turns and changes from outside.
+    fn board(&mut self, image: &[u8]) {
+        let (images, stretches) = self.buffer(image);
+        let words = if self.random.one_in(16) { self.random.below(260) } else { 260 + self.random.below(3) };
+        let mut record = library::board_new();
+        assert_eq!(record, board::words_of(&Board::default()));
+        if self.random.one_in(4) {
+            record = record.map(|_| if self.random.one_in(3) { self.random.next() as usize } else { self.random.below(8) });
+        }
+        let outcome = [self.random.next() as u32; 3];
+        let mut ours = Lent { record, images, state: self.random.words(words), outcome };
+        let mut other = ours.clone();
+        for (place, (start, size)) in stretches.into_iter().enumerate() {
+            self.load(&mut ours, &mut other, place, start, size);
+        }
+        for _ in 0..4 + self.random.below(24) {
+            match self.random.below(16) {
+                0 => {
+                    let (start, size) = self.random.pick(&stretches);
+                    let off = self.random.pick(&[(0, 0), (0, 1), (usize::MAX, 1), (1, usize::MAX), (usize::MAX, usize::MAX)]);
+                    let place = self.random.below(6);
+                    self.load(&mut ours, &mut other, place, start.wrapping_add(off.0), size.wrapping_add(off.1));
+                }
+                1 => self.change(&mut ours, &mut other),
+                2..=8 => {
+                    let place = self.random.below(5);
+                    self.mark(&mut ours, &mut other, place);
+                }
+                _ => self.turn(&mut ours, &mut other),
+            }
+        }
+    }
+
+    /// The images or the state change from outside.
+    fn change(&mut self, ours: &mut Lent, other: &mut Lent) {
+        match self.random.below(3) {
+            0 => self.random.damage(&mut ours.images),
+            1 => ours.images.truncate(self.random.below(ours.images.len() + 1)),
+            _ => {
+                let at = self.random.below(ours.state.len().max(1));
+                if let Some(word) = ours.state.get_mut(at / 65 * 65) {
+                    *word = self.random.word();
+                }
+            }
+        }
+        other.images.clone_from(&ours.images);
+        other.state.clone_from(&ours.state);
+    }
+
+    /// One pair, then its image or one from elsewhere, whole and damaged.
+    fn run(&mut self) {
+        let pair = self.pair();
+        let own = self.compile(&pair);
+        self.report(&pair);
+        self.convert();
+        let mut image = own.unwrap_or_else(|| images::foreign_image(&mut self.random));
+        self.retail(&mut image);
+        self.calls(&image);
+        self.board(&image);
+        if self.random.one_in(2) {
+            image.truncate(stated(&image));
+        }
+        for _ in 0..1 + self.random.below(2) {
+            self.random.damage(&mut image);
+        }
+        if self.random.one_in(2) {
+            images::set_length(&mut image);
+        }
+        self.calls(&image);
+    }
+}
+
+fn print_seen(seen: &Seen) -> bool {
+    println!("number    compile     report      reset      cycle       tail    convert       load       mark       turn        run");
+    let mut all = true;
+    for number in [0].into_iter().chain(NUMBERS) {
+        let row = seen.calls().map(|counts| counts[number]);
+        println!("{number:>6} {}", row.map(|count| format!("{count:>10}")).join(" "));
+        all &= row.iter().sum::<u64>() > 0;
+    }
+    let totals = seen.calls().map(|counts| counts.iter().sum::<u64>());
+    println!(" calls {}", totals.map(|total| format!("{total:>10}")).join(" "));
+    all && seen.calls().iter().zip(totals).all(|(counts, total)| counts[0] * 4 >= total)
+}
+
+fn main() {
+    let mut arguments = std::env::args().skip(1).map(|argument| argument.parse().expect("a number"));
+    let rounds = arguments.next().unwrap_or(COUNT);
+    let seed = arguments.next().unwrap_or(SEED);
+    println!("{rounds} rounds from seed {seed}");
+    let mut seen = Seen::default();
+    let mut buffers = [vec![0; IMAGE_BYTES], vec![0; IMAGE_BYTES]];
+    for number in 0..rounds {
+        let random = Random(Random(seed ^ number << 32).next());
+        Round { number, random, seen: &mut seen, buffers: &mut buffers }.run();
+    }
+    let covered = print_seen(&seen);
+    println!("no difference");
+    if !covered {
+        println!("but not every number was seen, or fewer than one call in four did its job: take more rounds");
+        exit(1);
+    }
+}

@@ -1,0 +1,2 @@
+-- What a check answers, from its definition.
+pub mod Judgement

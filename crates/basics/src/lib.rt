@@ -1,0 +1,35 @@
+// What several crates share: numbers by their width, and what a check answers.
+use model::Fault;
+ghost use mathlib.Core.Path.{_≡_};
+ghost use Prim.Native.Nat.{_<_};
+ghost use Rattle.model.specs.declared.Fault.{Fault};
+
+// What a check answers.
+pub enum Judged {
+    Fine,
+    Refused(Fault),
+}
+
+// The refusal of a number at a place.
+pub fn refuse(number: u8, place: usize) -> Judged
+    ensures { λ r. ⌜ r ≡ Judged.Refused (record { number = number; place = place }) ⌝ }
+{
+    Judged::Refused(Fault {
+        number: number,
+        place: place,
+    })
+}
+
+// A byte as a number.
+pub fn wide(byte: u8) -> usize
+    ensures { λ r. ⌜ (r ≡ byte) × (r < 256) ⌝ }
+{
+    byte as usize
+}
+
+// An entry of a table as a number.
+pub fn wider(entry: u16) -> usize
+    ensures { λ r. ⌜ (r ≡ entry) × (r < 65536) ⌝ }
+{
+    entry as usize
+}

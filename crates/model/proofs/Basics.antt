@@ -1,0 +1,5 @@
+-- Tests, lists, outcomes, and parts of a buffer.
+pub mod Tests
+pub mod All
+pub mod Outcomes
+pub mod Left

@@ -1,0 +1,3 @@
+-- Scripts and decimals.
+pub mod Scripts
+pub mod Decimals

@@ -1,0 +1,7 @@
+-- Rates, reads, chains, and what an accepted pair keeps.
+pub mod Rate
+pub mod Lines
+pub mod Decide
+pub mod Hypercycle
+pub mod Links
+pub mod Verdict

@@ -1,0 +1,61 @@
+-- `read_rule::candidates_of` meets its contract. Assumes nothing.
+use mathlib.Core.Path.{sym}
+use native.Mathlib.Omega.{arith}
+use borrow.Author.Needs.{needs}
+use Rattle.model.specs.Rules.Search.{first}
+use Rattle.read_rule.proofs.Searches.{search-one, search-from}
+use Rattle.read_rule.proofs.candidates_of.Statement.{statement}
+use Rattle.read_rule.proofs.candidates_of.Tie as tie
+
+lowest-index-requires : tie.Need-lowest-index-requires
+lowest-index-requires c κs = search needs
+
+enum-known-index : tie.Need-enum-known-index
+enum-known-index c = search needs
+
+wide-requires : tie.Need-wide-requires
+wide-requires c κs = search needs
+
+wide-requires-2 : tie.Need-wide-requires-2
+wide-requires-2 c κs = search needs
+
+add-t9 : tie.Need-add-t9
+add-t9 c = search needs
+
+enum-told : tie.Need-enum-told
+enum-told c = search needs
+
+wide-requires-3 : tie.Need-wide-requires-3
+wide-requires-3 c κs = search needs
+
+returns : tie.Need-returns
+returns c =
+    let i = c .before .before .before .index .given in
+    let e = c .before .wide .ensures .0 in
+    record {
+      few = omega (arith, c .wide2 .ensures .1);
+      finds = rw (i .1, c .wide2 .ensures .0, e) (search-one _ _);
+    }
+
+returns-2 : tie.Need-returns-2
+unfolding first
+returns-2 c =
+    let m = c .before .before .before in
+    record {
+      few = omega (arith, c .wide3 .ensures .1);
+      finds = rw (c .before .enum-told .given .1, c .wide3 .ensures .0) (sym (search-from _ _ _ (m .lowest-index .ensures)));
+    }
+
+pub candidates-of-spec : {M : Type 1} → statement M
+candidates-of-spec =
+    tie.close
+    (tie.spec
+    lowest-index-requires
+    enum-known-index
+    wide-requires
+    wide-requires-2
+    add-t9
+    enum-told
+    wide-requires-3
+    returns
+    returns-2)

@@ -1,0 +1,178 @@
+-- `read_rule::line_of` meets its contract. Assumes nothing.
+use Prim.Native.Nat.{ℕ, _≤_}
+use mathlib.Core.Bool.{Bool, true, false, cond}
+use native.Mathlib.Omega.{arith}
+use borrow.Author.Needs.{needs}
+use Rattle.read_rule.specs.Lines.{lineOf}
+use Rattle.read_rule.proofs.line_of.Statement.{statement}
+use Rattle.read_rule.proofs.line_of.Tie as tie
+
+stride-within : (plain : Bool) (period : ℕ) → cond plain 0 period ≤ cond plain 256 period
+stride-within true period = omega arith
+stride-within false period = omega arith
+
+-- what the calls have made, and how small it is
+module _ (c : tie.After-either6) where
+  abbrev stride-at : tie.After-either5
+  stride-at = c .before .before .before
+
+  abbrev step-at : tie.After-either4
+  step-at = stride-at .before
+
+  abbrev cycle-at : tie.After-either3
+  cycle-at = step-at .before
+
+  abbrev start-at : tie.After-either2
+  start-at = cycle-at .before .before .before
+
+  abbrev period-at : tie.After-either
+  period-at = start-at .before .before .before
+
+  abbrev flags-at : tie.After-is-current
+  flags-at = period-at .before .before .before
+
+  period-small : period-at .either .result ≤ 256
+  period-small =
+      period-at .either .ensures .1 (omega (arith, period-at .before .before .wide .ensures .1))
+      (omega (arith, period-at .before .wide2 .ensures .1))
+
+  start-small : start-at .either2 .result ≤ 256
+  start-small =
+      start-at .either2 .ensures .1 (omega (arith, start-at .before .before .wide3 .ensures .1))
+      (omega (arith, start-at .before .wide4 .ensures .1))
+
+  cycle-small : cycle-at .either3 .result ≤ 256
+  cycle-small =
+      cycle-at .either3 .ensures .1 (omega (arith, cycle-at .before .before .wide5 .ensures .1))
+      (omega (arith, cycle-at .before .wide6 .ensures .1))
+
+  step-small : step-at .either4 .result ≤ 256
+  step-small = step-at .either4 .ensures .1 (omega arith) period-small
+
+  stride-small : stride-at .either5 .result ≤ 256
+  stride-small = stride-at .either5 .ensures .1 (omega arith) period-small
+
+  ahead-small : c .either6 .result ≤ 256
+  ahead-small = c .either6 .ensures .1 (omega (arith, c .before .minus .ensures, step-small)) (omega arith)
+
+is-plain-requires : tie.Need-is-plain-requires
+is-plain-requires c κs = search needs
+
+is-current-requires : tie.Need-is-current-requires
+is-current-requires c κs = search needs
+
+wide-requires : tie.Need-wide-requires
+wide-requires c κs = search needs
+
+wide-requires-2 : tie.Need-wide-requires-2
+wide-requires-2 c κs = search needs
+
+either-requires : tie.Need-either-requires
+either-requires c κs = search needs
+
+wide-requires-3 : tie.Need-wide-requires-3
+wide-requires-3 c κs = search needs
+
+wide-requires-4 : tie.Need-wide-requires-4
+wide-requires-4 c κs = search needs
+
+either-requires-2 : tie.Need-either-requires-2
+either-requires-2 c κs = search needs
+
+wide-requires-5 : tie.Need-wide-requires-5
+wide-requires-5 c κs = search needs
+
+wide-requires-6 : tie.Need-wide-requires-6
+wide-requires-6 c κs = search needs
+
+either-requires-3 : tie.Need-either-requires-3
+either-requires-3 c κs = search needs
+
+either-requires-4 : tie.Need-either-requires-4
+either-requires-4 c κs = search needs
+
+either-requires-5 : tie.Need-either-requires-5
+either-requires-5 c κs = search needs
+
+is-before-requires : tie.Need-is-before-requires
+is-before-requires c κs = search needs
+
+minus-requires : tie.Need-minus-requires
+minus-requires c κs = search needs
+
+either-requires-6 : tie.Need-either-requires-6
+either-requires-6 c κs = search needs
+
+add-t13 : tie.Need-add-t13
+add-t13 c = omega (arith, start-small c, ahead-small c)
+
+returns : tie.Need-returns
+unfolding lineOf
+returns c =
+    let l = stride-at c in
+    let p = step-at c in
+    let y = cycle-at c in
+    let t = start-at c in
+    let d = period-at c in
+    let f = flags-at c in
+    record {
+      is =
+          cc (
+            c .either6 .ensures .0,
+            c .before .minus .ensures,
+            c .before .before .is-before .ensures,
+            l .either5 .ensures .0,
+            p .either4 .ensures .0,
+            y .either3 .ensures .0,
+            y .before .wide6 .ensures .0,
+            y .before .before .wide5 .ensures .0,
+            t .either2 .ensures .0,
+            t .before .wide4 .ensures .0,
+            t .before .before .wide3 .ensures .0,
+            d .either .ensures .0,
+            d .before .wide2 .ensures .0,
+            d .before .before .wide .ensures .0,
+            f .is-current .ensures,
+            f .before .is-plain .ensures,
+          );
+      small =
+          record {
+            first-small = omega (arith, start-small c, ahead-small c);
+            stride-small = stride-small c;
+            step-small = step-small c;
+            cycle-small = cycle-small c;
+            ahead-small = ahead-small c;
+            within =
+                omega (
+                  arith,
+                  l .either5 .ensures .0,
+                  p .either4 .ensures .0,
+                  stride-within (f .before .is-plain .result) (d .either .result),
+                );
+          };
+      read-byte = omega (arith, t .before .wide4 .ensures);
+      reader-byte = omega (arith, t .before .before .wide3 .ensures);
+    }
+
+pub line-of-spec : {M : Type 1} → statement M
+line-of-spec =
+    tie.close
+    (tie.spec
+    is-plain-requires
+    is-current-requires
+    wide-requires
+    wide-requires-2
+    either-requires
+    wide-requires-3
+    wide-requires-4
+    either-requires-2
+    wide-requires-5
+    wide-requires-6
+    either-requires-3
+    either-requires-4
+    either-requires-5
+    is-before-requires
+    minus-requires
+    either-requires-6
+    add-t13
+    returns)

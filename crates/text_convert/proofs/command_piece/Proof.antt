@@ -1,0 +1,66 @@
+-- `text_convert::command_piece` meets its contract. Assumes nothing.
+use Prim.Native.Nat.{ℕ}
+use mathlib.Core.Path.{sym, _∙_}
+use borrow.Author.Tests.{le-ltb}
+use lib.ListN.{List·getD-eq-default}
+use Rattle.model.specs.Rules.Command.{declarationAt}
+use Rattle.model.specs.Rules.Rewrite.{commandAt}
+use borrow.Author.Needs.{needs}
+use Rattle.text_convert.proofs.command_piece.Statement.{statement}
+use Rattle.text_convert.proofs.command_piece.Tie as tie
+
+returns : tie.Need-returns
+unfolding commandAt declarationAt
+returns c = rw (List·getD-eq-default {A = ℕ} _ 0 (c .if1 .taken), le-ltb _ _ (c .if1 .taken))
+
+shared-slice-read-expression : tie.Need-shared-slice-read-expression
+shared-slice-read-expression c = search needs
+
+expression-requires : tie.Need-expression-requires
+expression-requires c κs = search needs
+
+enum-told : tie.Need-enum-told
+enum-told c = search needs
+
+operator-at-requires : tie.Need-operator-at-requires
+operator-at-requires c κs = search needs
+
+operator-piece-requires : tie.Need-operator-piece-requires
+operator-piece-requires c κs = search needs
+
+enum-told-2 : tie.Need-enum-told-2
+enum-told-2 c = search needs
+
+declaration-at-requires : tie.Need-declaration-at-requires
+declaration-at-requires c κs = search needs
+
+declaration-width-requires : tie.Need-declaration-width-requires
+declaration-width-requires c κs = search needs
+
+returns-2 : tie.Need-returns-2
+unfolding commandAt
+returns-2 c =
+    let w = sym (c .before .before .before .before .expression .ensures) ∙ c .before .before .enum-told .given .1 in
+    rw (w, ← (c .before .operator-at .ensures)) (c .operator-piece .ensures)
+
+returns-3 : tie.Need-returns-3
+unfolding commandAt
+returns-3 c =
+    let w = sym (c .before .before .before .before .expression .ensures) ∙ c .before .before .enum-told2 .given .1 in
+    rw (w, ← (c .before .declaration-at .ensures), c .declaration-width .ensures)
+
+pub command-piece-spec : {M : Type 1} → statement M
+command-piece-spec =
+    tie.close
+    (tie.spec
+    returns
+    shared-slice-read-expression
+    expression-requires
+    enum-told
+    operator-at-requires
+    operator-piece-requires
+    enum-told-2
+    declaration-at-requires
+    declaration-width-requires
+    returns-2
+    returns-3)

@@ -1,0 +1,119 @@
+-- `text_program::declaration_here` meets its contract. Assumes nothing.
+use Prim.Native.Nat.{ℕ, _<_}
+use borrow.Author.Needs.{needs}
+use borrow.Author.Tests.{lt-ltb, le-ltb, ne-eqb}
+use denote.Ref.{now}
+use lib.ListN.{length}
+use mathlib.Core.List.{List}
+use mathlib.Core.Path.{_≡_, sym, ap, _∙_}
+use Rattle.model.specs.Rules.Outcome.{_▷_, provided}
+use Rattle.model.specs.Rules.Program.{Program, roomFor, declarationHere}
+use Rattle.model.specs.Rules.Word.{byteAt}
+use Rattle.text_program.specs.Results.{hereOf}
+use Rattle.text_program.proofs.declaration_here.Statement.{statement}
+use Rattle.text_program.proofs.declaration_here.Tie as tie
+
+of-byte : (text : List ℕ) (at : ℕ) (p : Program) → at < length text → declarationHere text at p ≡ roomFor at p (byteAt text at)
+unfolding declarationHere provided _▷_
+of-byte text at p lt = rw (lt-ltb at (length text) lt)
+
+-- the text at hand, after the test of its length
+module _ (c : tie.Else1) where
+  abbrev text : List ℕ
+  text = now (c .before .before .args .text)
+
+  abbrev at : ℕ
+  at = c .before .before .args .at
+
+  inside : (p : Program) → hereOf at (declarationHere text at p) ≡ hereOf at (roomFor at p (byteAt text at))
+  inside p = ap (hereOf at) (of-byte text at p (c .if1 .left))
+
+refuse-requires : tie.Need-refuse-requires
+refuse-requires c κs = search needs
+
+returns : tie.Need-returns
+unfolding hereOf declarationHere provided _▷_
+returns c = λ p k. rw (le-ltb _ _ (c .before .if1 .taken)) (c .refuse .ensures)
+
+shared-slice-read-byte : tie.Need-shared-slice-read-byte
+shared-slice-read-byte c = search needs
+
+judge-requires : tie.Need-judge-requires
+judge-requires c κs = search needs
+
+judge-requires-2 : tie.Need-judge-requires-2
+judge-requires-2 c κs = search needs
+
+judge-requires-3 : tie.Need-judge-requires-3
+judge-requires-3 c κs = search needs
+
+judge-requires-4 : tie.Need-judge-requires-4
+judge-requires-4 c κs = search needs
+
+refuse-requires-2 : tie.Need-refuse-requires-2
+refuse-requires-2 c κs = search needs
+
+returns-2 : tie.Need-returns-2
+unfolding hereOf roomFor
+returns-2 c = λ p k. sym (inside (c .before .before) p ∙ rw (c .match .keys1))
+
+returns-3 : tie.Need-returns-3
+unfolding roomFor
+returns-3 c = λ p k.
+    (rw (← k .signals-are) at (c .judge .ensures)) ∙ sym (inside (c .before .before .before) p ∙ rw (c .before .match .keys2))
+
+returns-4 : tie.Need-returns-4
+unfolding roomFor
+returns-4 c = λ p k.
+    (rw (← k .signals-are) at (c .judge2 .ensures)) ∙ sym (inside (c .before .before .before) p ∙ rw (c .before .match .keys3))
+
+returns-5 : tie.Need-returns-5
+unfolding roomFor
+returns-5 c = λ p k.
+    (rw (← k .chains-are) at (c .judge3 .ensures)) ∙ sym (inside (c .before .before .before) p ∙ rw (c .before .match .keys4))
+
+returns-6 : tie.Need-returns-6
+unfolding roomFor
+returns-6 c = λ p k.
+    (rw (← k .cap-is) at (c .judge4 .ensures)) ∙ sym (inside (c .before .before .before) p ∙ rw (c .before .match .keys5))
+
+returns-7 : tie.Need-returns-7
+unfolding hereOf roomFor
+returns-7 c = λ p k. sym (inside (c .before .before) p ∙ rw (c .match .keys6))
+
+returns-8 : tie.Need-returns-8
+unfolding hereOf roomFor
+returns-8 c = λ p k.
+    let e = c .before .before .before in
+    let b = byteAt (text e) (at e) in
+    let no = c .before .match .rest in
+    c .refuse2 .ensures ∙
+    sym (inside e p ∙
+    simp (
+      ne-eqb b 0x00 (no .0 .0 .0 .0 .0 .1),
+      ne-eqb b 0x10 (no .0 .0 .0 .0 .1),
+      ne-eqb b 0x11 (no .0 .0 .0 .1),
+      ne-eqb b 0x12 (no .0 .0 .1),
+      ne-eqb b 0x14 (no .0 .1),
+      ne-eqb b 0x15 (no .1),
+    ))
+
+pub declaration-here-spec : {M : Type 1} → statement M
+declaration-here-spec =
+    tie.close
+    (tie.spec
+    refuse-requires
+    returns
+    shared-slice-read-byte
+    judge-requires
+    judge-requires-2
+    judge-requires-3
+    judge-requires-4
+    refuse-requires-2
+    returns-2
+    returns-3
+    returns-4
+    returns-5
+    returns-6
+    returns-7
+    returns-8)

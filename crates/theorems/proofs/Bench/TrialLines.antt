@@ -1,0 +1,237 @@
+-- The lines of a bench trial: their number, and their words, which are those that the streams give. Assumes nothing.
+use Prim.Native.Nat.{ℕ, zero, suc, _+_, _-_, _/_, _≤_, _<_}
+use mathlib.Core.Bool.{Bool, true, false, cond}
+use mathlib.Core.List.{List, [], _∷_, _++_}
+use mathlib.Core.Path.{_≡_, refl, sym, ap, subst, _∙_}
+use native.Mathlib.Omega.{arith}
+use borrow.Author.Tests.{ltb-true, ltb-false, leb-true, leb-false, lt-ltb, le-ltb, eqb-true, eqb-false}
+use lib.Dec.{leb, ltb, eqb}
+use lib.IntN.{ℤ, pos}
+use lib.ListN.{length, getD, take, drop, set, replicate, length-take, length-drop, length-set, length-replicate}
+use lib.Seq.{getD-take, getD-drop, ext-getD}
+use Rattle.model.specs.Says.Feasible.{Feasible, Multiple}
+use Rattle.model.specs.Says.Calls.{Call, reset, cycle, callOf, after}
+use Rattle.model.specs.Rules.Compile.{pairOf}
+use Rattle.model.specs.Rules.Decimal.{lineOf}
+use Rattle.model.specs.Rules.Image.{imageOf}
+use Rattle.model.specs.Rules.Outcome.{accepted}
+use Rattle.model.specs.Rules.Program.{Program, count, signalAt}
+use Rattle.model.specs.Rules.Reads.{rateOf, runCycle, settled}
+use Rattle.model.specs.Rules.Schedule.{Schedule, phaseOf}
+use Rattle.model.specs.Rules.Script.{Action, alter, run, scriptOf, callsFrom, noSamples, callsOf, cyclesOf}
+use Rattle.model.specs.Rules.Trial.{signalsOf, linesFrom, startOf}
+use Rattle.model.specs.Rules.Word.{AreBytes}
+use Rattle.theorems.specs.Held.{stateBy, logBy, lentAt, Supplied, Holds}
+use Rattle.theorems.specs.Streams.{Satisfies}
+use Rattle.theorems.specs.Trials.{heldAt, wordsAfter, samplesAt, inputsOf}
+use Rattle.model.proofs.Images.Bounds.{Bounded}
+use Rattle.model.proofs.Bench.Scripts.{calls-count, lines-count}
+use Rattle.model.proofs.Images.Stretches.{image-count, table-length, table-at}
+use Rattle.model.proofs.Pairs.Verdict.{pair-accepted, pair-multiple, pair-bounded}
+use Rattle.theorems.proofs.Streams.OnBytes.{list-shown, calls-hold}
+use Rattle.theorems.proofs.Pairs.Exact.{accepted-exactly}
+use Rattle.theorems.proofs.Streams.Lists.{logOf}
+use Rattle.theorems.proofs.Bench.Trials.{Tried}
+
+lines-from : (image : List ℕ) (k : ℕ) (state : List ℤ) (cs : List Call) (j : ℕ) → j < length cs →
+    getD (linesFrom image k state cs) j [] ≡ lineOf (k + j) (signalsOf image (after image state (take (suc j) cs)))
+unfolding linesFrom after
+lines-from image k state [] j h = absurd (omega arith)
+lines-from image k state (c ∷ cs) zero h =
+    let e : k ≡ k + 0 = omega arith in ap (λ (n : ℕ). lineOf n (signalsOf image (callOf image state c .left))) e
+lines-from image k state (c ∷ cs) (suc j) h =
+    let e : suc k + j ≡ k + suc j = omega arith in
+    lines-from image (suc k) (callOf image state c .left) cs j (omega arith) ∙
+    ap (λ (n : ℕ). lineOf n (signalsOf image (after image (callOf image state c .left) (take (suc j) cs)))) e
+
+pub line-at : (image : List ℕ) (state : List ℤ) (cs : List Call) (j : ℕ) → j < length cs →
+    getD (linesFrom image 0 state cs) j [] ≡ lineOf j (signalsOf image (after image state (take (suc j) cs)))
+line-at image state cs j h =
+    let e : 0 + j ≡ j = omega arith in
+    lines-from image 0 state cs j h ∙ ap (λ (n : ℕ). lineOf n (signalsOf image (after image state (take (suc j) cs)))) e
+
+abbrev pub Full : ℕ → List Call → Type 0
+Full n [] = Unit {0}
+Full n (reset ∷ cs) = ⊥
+Full n (cycle samples ∷ cs) = (n ≤ length samples) × Full n cs
+
+full-replicate : (n k : ℕ) (samples : List ℤ) (cs : List Call) → n ≤ length samples → Full n cs →
+    Full n (replicate k (cycle samples) ++ cs)
+full-replicate n zero samples cs h f = f
+full-replicate n (suc k) samples cs h f = (h, full-replicate n k samples cs h f)
+
+full-take : (n k : ℕ) (cs : List Call) → Full n cs → Full n (take k cs)
+full-take n zero cs f = tt
+full-take n (suc k) [] f = tt
+full-take n (suc k) (reset ∷ cs) f = absurd f
+full-take n (suc k) (cycle samples ∷ cs) (h, f) = (h, full-take n k cs f)
+
+pub full-calls : (n : ℕ) (samples : List ℤ) (actions : List Action) → n ≤ length samples → Full n (callsFrom samples actions)
+unfolding callsFrom
+full-calls n samples [] h = tt
+full-calls n samples (alter at x w ∷ actions) h = full-calls n (set samples x w) actions (omega (arith, length-set samples x w))
+full-calls n samples (run k ∷ actions) h =
+    full-replicate n k samples (callsFrom samples actions) h (full-calls n samples actions h)
+
+-- The log of such a list: its length, and the samples of each call.
+module _ (p : Program) where
+  log-length : (log : List (List ℤ)) (cs : List Call) → Full (count p) cs → length (logOf p log cs) ≡ length log + length cs
+  log-length log [] f = omega arith
+  log-length log (reset ∷ cs) f = absurd f
+  log-length log (cycle samples ∷ cs) (h, f) =
+      ap (λ (b : Bool). length (logOf p (cond b log (samples ∷ log)) cs)) (le-ltb (length samples) (count p) h) ∙
+      log-length (samples ∷ log) cs f ∙ omega arith
+
+  -- what was lent before the list, or in it
+  unfoldable lentIn : List (List ℤ) → List Call → ℕ → List ℤ
+  lentIn log cs t = cond (ltb t (length log)) (lentAt log t) (samplesAt cs (t - length log))
+
+  lent-next : (log : List (List ℤ)) (samples : List ℤ) (cs : List Call) (t : ℕ) → lentIn (samples ∷ log) cs t ≡
+      lentIn log (cycle samples ∷ cs) t
+  unfolding lentIn lentAt samplesAt
+  lent-next log samples cs t = go (ltb t (length log)) refl (eqb t (length log)) refl
+    where
+      go : (a : Bool) → ltb t (length log) ≡ a → (b : Bool) → eqb t (length log) ≡ b →
+          cond (ltb t (suc (length log))) (cond b samples (lentAt log t)) (samplesAt cs (t - suc (length log))) ≡
+          cond a (lentAt log t) (samplesAt (cycle samples ∷ cs) (t - length log))
+      go true p true q = let l = ltb-true t (length log) p in let e = eqb-true t (length log) q in absurd (omega arith)
+      go true p false q = let l = ltb-true t (length log) p in rw (lt-ltb t (suc (length log)) (omega arith))
+      go false p true q =
+          let e = eqb-true t (length log) q in
+          let z : t - length log ≡ 0 = omega arith in
+          rw (lt-ltb t (suc (length log)) (omega arith), z)
+      go false p false q =
+          let l = ltb-false t (length log) p in
+          let n = eqb-false t (length log) q in
+          let k : t - length log ≡ suc (t - suc (length log)) = omega arith in
+          rw (le-ltb t (suc (length log)) (omega arith), k)
+
+  lent-in : (log : List (List ℤ)) (cs : List Call) (t : ℕ) → Full (count p) cs → t < length log + length cs →
+      lentAt (logOf p log cs) t ≡ lentIn log cs t
+  unfolding lentIn
+  lent-in log [] t f h = sym (last log t (omega arith))
+    where
+      last : (log : List (List ℤ)) (t : ℕ) → t < length log → lentIn log [] t ≡ lentAt log t
+      last log t l = ap (λ (b : Bool). cond b (lentAt log t) (samplesAt [] (t - length log))) (lt-ltb t (length log) l)
+  lent-in log (reset ∷ cs) t f h = absurd f
+  lent-in log (cycle samples ∷ cs) t (le, f) h =
+      ap (λ (b : Bool). lentAt (logOf p (cond b log (samples ∷ log)) cs) t) (le-ltb (length samples) (count p) le) ∙
+      lent-in (samples ∷ log) cs t f (omega arith) ∙ lent-next log samples cs t
+
+  lent-at : (cs : List Call) (t : ℕ) → Full (count p) cs → t < length cs → lentAt (logOf p [] cs) t ≡ samplesAt cs t
+  unfolding lentIn
+  lent-at cs t f h =
+      let z : t - 0 ≡ t = omega arith in
+      lent-in [] cs t f (omega arith) ∙
+      ap (λ (b : Bool). cond b (lentAt [] t) (samplesAt cs (t - 0))) (le-ltb t 0 (omega arith)) ∙ ap (samplesAt cs) z
+
+samples-take : (cs : List Call) (k t : ℕ) → t < k → samplesAt (take k cs) t ≡ samplesAt cs t
+unfolding samplesAt
+samples-take cs zero t h = absurd (omega arith)
+samples-take [] (suc k) t h = refl
+samples-take (reset ∷ cs) (suc k) zero h = refl
+samples-take (cycle samples ∷ cs) (suc k) zero h = refl
+samples-take (reset ∷ cs) (suc k) (suc t) h = samples-take cs k t (omega arith)
+samples-take (cycle samples ∷ cs) (suc k) (suc t) h = samples-take cs k t (omega arith)
+
+module _ (p : Program) (s : Schedule) (h : ℕ) (acc : Feasible p s) (whole : Multiple p h) (bounded : Bounded p s h)
+    (old : List ℤ) (long : count p < length old) (cs : List Call) (full : Full (count p) cs) (j : ℕ) (lt : j < length cs) where
+  first : List Call
+  first = take (suc j) cs
+
+  first-length : length first ≡ suc j
+  unfolding first
+  first-length = simp length-take (omega arith)
+
+  first-full : Full (count p) first
+  unfolding first
+  first-full = full-take (count p) (suc j) cs full
+
+  log-is : logBy (imageOf p s h) old first ≡ logOf p [] first
+  log-is = list-shown p s h acc whole bounded old long first .logs
+
+  log-size : length (logBy (imageOf p s h) old first) ≡ suc j
+  log-size = ap length log-is ∙ log-length p [] first first-full ∙ omega (arith, first-length)
+
+  -- the samples of the script's calls supply the inputs
+  supplied : Supplied p s (logBy (imageOf p s h) old first) (inputsOf p s cs)
+  unfolding first
+  supplied x k lx input below =
+      let t = runCycle (rateOf p s x) k in
+      let early : t < suc j = omega (arith, log-size) in
+      ap (λ (l : List ℤ). getD l x (pos 0))
+      (sym (ap (λ (log : List (List ℤ)). lentAt log t) log-is ∙ lent-at p first t first-full
+      (omega (arith, first-length)) ∙ samples-take cs (suc j) t early))
+
+  module _ (X : ℕ → ℕ → ℤ) (sat : Satisfies p (settled p s) (inputsOf p s cs) X) where
+    pub holds : Holds p s h X old (suc j) (stateBy (imageOf p s h) old (take (suc j) cs))
+    unfolding first
+    holds =
+        subst (λ (n : ℕ). Holds p s h X old n (stateBy (imageOf p s h) old first)) log-size
+        (calls-hold p s h acc whole bounded old long first (inputsOf p s cs) X supplied sat)
+
+    word-at : (x : ℕ) → x < count p → getD (stateBy (imageOf p s h) old (take (suc j) cs)) (suc x) (pos 0) ≡
+        heldAt p s X (suc j) x
+    word-at x lx = go (leb (suc j) (phaseOf s x)) refl
+      where
+        go : (b : Bool) → leb (suc j) (phaseOf s x) ≡ b → getD (stateBy (imageOf p s h) old (take (suc j) cs)) (suc x) (pos 0) ≡
+            cond b (signalAt p x .initial) (X x (suc ((suc j - 1 - phaseOf s x) / signalAt p x .period)))
+        go true e = holds .initial x lx (leb-true (suc j) (phaseOf s x) e)
+        go false e = holds .element x lx (leb-false (suc j) (phaseOf s x) e)
+
+    -- The words of line j.
+    pub words-are : signalsOf (imageOf p s h) (stateBy (imageOf p s h) old (take (suc j) cs)) ≡ wordsAfter p s X (suc j)
+    words-are =
+        let state = stateBy (imageOf p s h) old (take (suc j) cs) in
+        let size : length (take (count p) (drop 1 state)) ≡
+        count p = simp (length-take, length-drop) (omega (arith, holds .size)) in
+        ap (λ (n : ℕ). take n (drop 1 state)) (image-count p s h) ∙
+        ext-getD (pos 0) (take (count p) (drop 1 state)) (wordsAfter p s X (suc j))
+        (size ∙ sym (table-length (count p) (heldAt p s X (suc j))))
+        (λ x lx. let below : x < count p = omega (arith, size) in
+        getD-take (count p) (drop 1 state) x (pos 0) below ∙ getD-drop 1 state x (pos 0) ∙
+        ap (λ (k : ℕ). getD state k (pos 0)) (one x) ∙ word-at x below ∙
+        sym (table-at (count p) (heldAt p s X (suc j)) x (pos 0) below))
+      where
+        one : (x : ℕ) → 1 + x ≡ suc x
+        one x = omega arith
+
+-- A trial that is accepted prints as many lines as the RUNs say, and line j has the words that the streams give after j + 1
+-- cycles, the inputs being those that the SETs supply.
+module _ (program schedule text : List ℕ) (bytes : AreBytes program) (lines : List (List ℕ))
+    (tried : Tried program schedule text lines)
+  where
+    abbrev p : Program
+    p = tried .pair .program
+
+    abbrev s : Schedule
+    s = tried .pair .schedule
+
+    abbrev h : ℕ
+    h = tried .pair .hypercycle
+
+    accepts : pairOf program schedule ≡ accepted (tried .pair)
+    accepts = accepted-exactly program schedule (tried .pair) .1 (tried .legal)
+
+    bounded : Bounded p s h
+    bounded = pair-bounded program schedule _ accepts bytes
+
+    pub tried-count : length lines ≡ cyclesOf (scriptOf text .actions)
+    tried-count =
+        ap length (tried .lines-are) ∙ lines-count (imageOf p s h) 0 (startOf (imageOf p s h)) (callsOf text) ∙
+        calls-count noSamples (scriptOf text .actions)
+
+    pub tried-line : (X : ℕ → ℕ → ℤ) → Satisfies p (settled p s) (inputsOf p s (callsOf text)) X → (j : ℕ) → j < length lines →
+        getD lines j [] ≡ lineOf j (wordsAfter p s X (suc j))
+    tried-line X sat j lt =
+        let image = imageOf p s h in
+        let inside : j < length (callsOf text) =
+        omega (arith, ap length (tried .lines-are), lines-count image 0 (startOf image) (callsOf text)) in
+        let long : count p < length (replicate 65 (pos 0)) = omega (arith, bounded .signals, length-replicate 65 (pos 0)) in
+        let full : Full (count p) (callsOf text) =
+        full-calls (count p) noSamples (scriptOf text .actions) (omega (arith, bounded .signals, length-replicate 64 (pos 0))) in
+        ap (λ (ls : List (List ℕ)). getD ls j []) (tried .lines-are) ∙
+        line-at image (startOf image) (callsOf text) j inside ∙
+        ap (lineOf j)
+        (words-are p s h (pair-accepted program schedule _ accepts) (pair-multiple program schedule _ accepts) bounded
+        (replicate 65 (pos 0)) long (callsOf text) full j inside X sat)

@@ -1,0 +1,325 @@
+-- Compile, reset and cycle do their job, and are refused with each number at its place, exactly under the stated conditions.
+-- Assumes nothing.
+use Prim.Native.Nat.{ℕ, _+_, _≤_, _<_}
+use mathlib.Core.Bool.{true, false≢true}
+use mathlib.Core.List.{List, _++_}
+use mathlib.Core.Logic.{_↔_}
+use mathlib.Core.Path.{_≡_, refl, sym, ap, ap₂, subst, _∙_}
+use native.Mathlib.Omega.{arith}
+use borrow.Author.Tests.{leb-true, leb-false, ltb-true, ltb-false, le-leb, lt-ltb}
+use lib.Dec.{leb, ltb}
+use lib.IntN.{ℤ, pos, negsuc}
+use lib.ListN.{length, getD, drop}
+use Rattle.model.specs.Rules.Compile.{Pair, pairOf, verdictOf, compileOf}
+use Rattle.model.specs.Rules.Image.{writtenOf}
+use Rattle.model.specs.Rules.Machine.{
+  Job,
+  effect,
+  hyperOf,
+  countOf,
+  statedLength,
+  imagePart,
+  lentOk,
+  isPosition,
+  resetWords,
+  cycleWords,
+  cycleCount,
+  resetOf,
+  cycleOf,
+}
+use Rattle.model.specs.Rules.Outcome.{Outcome, accepted, refused, fault, _▷_, provided}
+use Rattle.theorems.specs.Conditions.{LegalPair}
+use Rattle.theorems.specs.Exactness.{
+  Exactly,
+  sizeOf,
+  Compiles,
+  CompileRefusedAt,
+  Usable,
+  Resets,
+  ResetRefusedAt,
+  Positioned,
+  Cycles,
+  CycleRefusedAt,
+}
+use Rattle.theorems.specs.WellFormed.{WellLent}
+use Rattle.model.specs.declared.Fault.{Fault}
+use Rattle.model.proofs.Basics.Outcomes.{accepted≢refused, accepted-same, accepted-then, refused-then, then-then}
+use Rattle.model.proofs.Images.Tails.{lent-ok, lent-formed, lent-bears, part-is, written-length}
+use Rattle.theorems.proofs.Pairs.Exact.{pair-judged}
+use Rattle.theorems.proofs.Images.FormedExactly.{well-formed-exactly}
+use Rattle.theorems.proofs.Pairs.Judged.{
+  Judged,
+  Only,
+  provided-judged,
+  Answers,
+  answers-then,
+  answers-accepted,
+  answers-refused,
+}
+
+-- Steps whose answer has its condition, where each condition gives its answer.
+both-ways : {A : Type 0} {Q : A → Type 0} {R : Fault → Type 0} (o : Outcome A) → Answers Q R o →
+    ((a : A) → Q a → o ≡ accepted a) → ((f : Fault) → R f → o ≡ refused f) → Judged Q R o
+both-ways {Q = Q} {R = R} o h f g =
+    record {
+      accepts = λ a. (answers-accepted Q R o a h, f a);
+      refuses = λ f. (answers-refused Q R o f h, g f);
+    }
+
+-- What a job that is done yields and leaves.
+abbrev Does : {A : Type 0} → (ℕ → List A → Type 0) → Job A → Type 0
+Does Done j = Done (j .yields) (j .leaves)
+
+-- The steps of a call, judged, are the call.
+module _ {A : Type 0} (lent : List A) (Done : ℕ → List A → Type 0) (Refused : Fault → Type 0) where
+  exactly : (o : Outcome (Job A)) → Judged (Does Done) Refused o → Exactly lent Done Refused (effect lent o)
+  exactly o h = record { done = done o h; refuses = refuses o h }
+    where
+      done : (o : Outcome (Job A)) → Judged (Does Done) Refused o → (n : ℕ) (left : List A) →
+          ((effect lent o .answer ≡ accepted n) × (effect lent o .left ≡ left)) ↔ Done n left
+      done (accepted j) h n left = (
+        λ e. subst (λ k. Done n k) (e .1)
+            (subst (λ (k : ℕ). Done k (j .leaves)) (accepted-same _ n (e .0)) (h .accepts j .0 refl)),
+        λ d. let e = accepted-same _ _ (h .accepts (record { yields = n; leaves = left }) .1 d) in
+            (ap (λ k. accepted (k .yields)) e, ap (λ k. k .leaves) e),
+      )
+      done (refused f) h n left = (
+        λ e. absurd (accepted≢refused _ n f (e .0) refl),
+        λ d. absurd (accepted≢refused _ _ f (h .accepts (record { yields = n; leaves = left }) .1 d) refl),
+      )
+
+      refuses : (o : Outcome (Job A)) → Judged (Does Done) Refused o → (g : Fault) (left : List A) →
+          ((effect lent o .answer ≡ refused g) × (effect lent o .left ≡ left)) ↔ (Refused g × (left ≡ lent))
+      refuses (accepted j) h g left = (
+        λ e. absurd (accepted≢refused _ (j .yields) g refl (e .0)),
+        λ d. absurd (accepted≢refused _ j g refl (h .refuses g .1 (d .0))),
+      )
+      refuses (refused f) h g left = (
+        λ e. let q : f ≡ g = cc (e .0) in (h .refuses g .0 (ap refused q), sym (e .1)),
+        λ d. let e = h .refuses g .1 (d .0) in let q : f ≡ g = cc e in (ap refused q, sym (d .1)),
+      )
+
+-- Compile.
+module _ (program schedule buffer : List ℕ) where
+  abbrev written : Pair → List ℕ
+  written q = writtenOf (q .program) (q .schedule) (q .hypercycle)
+
+  abbrev compileDone : ℕ → List ℕ → Type 0
+  compileDone = Compiles program schedule buffer
+
+  abbrev compileRefused : Fault → Type 0
+  compileRefused = CompileRefusedAt program schedule buffer
+
+  -- What follows an accepted pair.
+  abbrev writes : Pair → Outcome (Job ℕ)
+  writes q =
+      provided (leb (length (written q)) (length buffer)) 17 (length (written q)) ▷ λ _.
+      accepted (record { yields = length (written q); leaves = written q ++ drop (length (written q)) buffer })
+
+  size : (q : Pair) → length (written q) ≡ sizeOf q
+  size q = written-length (q .program) (q .schedule) (q .hypercycle)
+
+  space-judged : (q : Pair) →
+      Judged (λ u. sizeOf q ≤ length buffer) (Only 17 (sizeOf q) (length buffer < sizeOf q))
+      (provided (leb (length (written q)) (length buffer)) 17 (length (written q)))
+  space-judged q =
+      rw (size q)
+      (provided-judged _ 17 (sizeOf q) (sizeOf q ≤ length buffer) (length buffer < sizeOf q) (leb-true _ _, le-leb _ _)
+      (leb-false _ _) (λ l h. omega arith))
+
+  compile-answers : Answers (Does compileDone) compileRefused (pairOf program schedule ▷ writes)
+  compile-answers =
+      answers-then _ compileRefused _ _ (pair-judged program schedule) (λ g f. CompileRefusedAt.pair f) (λ q legal.
+      answers-then _ compileRefused _ _ (space-judged q) (λ g f. space legal f) (λ u fits.
+      record { pair = q; legal = legal; is = size q; fits = omega (arith, size q); leaves = refl }))
+    where
+      space : {q : Pair} {f : Fault} → LegalPair program schedule q → Only 17 (sizeOf q) (length buffer < sizeOf q) f →
+          compileRefused f
+      space legal (Only.only h) = CompileRefusedAt.space legal h
+
+  compile-done : (j : Job ℕ) → compileDone (j .yields) (j .leaves) → pairOf program schedule ▷ writes ≡ accepted j
+  compile-done j d =
+      let q = d .pair in
+      let same : length (written q) ≡ j .yields = size q ∙ sym (d .is) in
+      accepted-then _ _ _ (pair-judged program schedule .accepts q .1 (d .legal)) ∙
+      accepted-then _ _ _ (space-judged q .accepts tt .1 (omega (arith, d .is, d .fits))) ∙
+      ap₂ (λ (n : ℕ) (l : List ℕ). accepted (record { yields = n; leaves = l })) same
+      (ap (λ (n : ℕ). written q ++ drop n buffer) same ∙ sym (d .leaves))
+
+  compile-refused : {f : Fault} → compileRefused f → pairOf program schedule ▷ writes ≡ refused f
+  compile-refused (CompileRefusedAt.pair r) = refused-then _ _ _ (pair-judged program schedule .refuses _ .1 r)
+  compile-refused (CompileRefusedAt.space {q = q} legal lt) =
+      accepted-then _ _ _ (pair-judged program schedule .accepts q .1 legal) ∙
+      refused-then _ _ _ (space-judged q .refuses (fault 17 (sizeOf q)) .1 (Only.only lt))
+
+  -- Compile does its job, or is refused by 1 to 17, exactly under its condition.
+  pub compile-exactly : Exactly buffer compileDone compileRefused (compileOf program schedule buffer)
+  unfolding compileOf verdictOf _▷_
+  compile-exactly =
+      subst (λ o. Exactly buffer compileDone compileRefused (effect buffer o))
+      (sym (then-then (pairOf program schedule) (λ q. accepted (written q)) _))
+      (exactly buffer compileDone compileRefused _ (both-ways _ compile-answers compile-done (λ g r. compile-refused r)))
+
+-- Reset and cycle.
+module _ (lent : List ℕ) (state : List ℤ) where
+  abbrev own : List ℕ
+  own = imagePart lent
+
+  -- What is lent bears one image: its first L bytes.
+  lent-image : {image : List ℕ} → WellLent lent image → own ≡ image
+  lent-image {image} w = part-is (well-formed-exactly image .1 (w .formed)) (w .bears)
+
+  lent-judged : Judged (λ u. WellLent lent own) (Only 20 0 ((image : List ℕ) → ¬ WellLent lent image))
+      (provided (lentOk lent) 20 0)
+  lent-judged =
+      provided-judged _ 20 0 (WellLent lent own) ((image : List ℕ) → ¬ WellLent lent image) (forth, back)
+      (λ e image w. false≢true (sym e ∙ back w)) (λ none w. none own w)
+    where
+      forth : lentOk lent ≡ true → WellLent lent own
+      forth e =
+          record {
+            formed = well-formed-exactly own .0 (lent-formed lent e);
+            tail = drop (statedLength lent) lent;
+            bears = lent-bears lent e;
+          }
+
+      back : {image : List ℕ} → WellLent lent image → lentOk lent ≡ true
+      back {image} w = lent-ok (well-formed-exactly image .1 (w .formed)) (w .bears)
+
+  state-judged : Judged (λ u. countOf own + 1 ≤ length state) (Only 21 0 (length state < countOf own + 1))
+      (provided (ltb (countOf own) (length state)) 21 0)
+  state-judged =
+      provided-judged _ 21 0 (countOf own + 1 ≤ length state) (length state < countOf own + 1)
+      (λ e. omega (arith, ltb-true (countOf own) (length state) e), λ le. lt-ltb (countOf own) (length state) (omega arith))
+      (λ e. omega (arith, ltb-false (countOf own) (length state) e))
+      (λ l h. omega arith)
+
+  -- The steps that both calls begin with, before the job.
+  abbrev checked : Outcome (Job ℤ) → Outcome (Job ℤ)
+  checked o = provided (lentOk lent) 20 0 ▷ λ _. provided (ltb (countOf own) (length state)) 21 0 ▷ λ _. o
+
+  checked-answers : (Q : Job ℤ → Type 0) (R : Fault → Type 0) (o : Outcome (Job ℤ)) →
+      ((f : Fault) → ResetRefusedAt lent state f → R f) → (Usable lent state own → Answers Q R o) → Answers Q R (checked o)
+  checked-answers Q R o r g =
+      answers-then Q R _ _ lent-judged (λ g f. r g (unformed f)) (λ u lends.
+      answers-then Q R _ _ state-judged (λ g f. r g (short lends f)) (λ v long. g (record { lends = lends; long = long })))
+    where
+      unformed : {f : Fault} → Only 20 0 ((image : List ℕ) → ¬ WellLent lent image) f → ResetRefusedAt lent state f
+      unformed (Only.only h) = ResetRefusedAt.unformed h
+
+      short : {f : Fault} → WellLent lent own → Only 21 0 (length state < countOf own + 1) f → ResetRefusedAt lent state f
+      short lends (Only.only h) = ResetRefusedAt.short lends h
+
+  usable-passes : (o : Outcome (Job ℤ)) → Usable lent state own → checked o ≡ o
+  usable-passes o h =
+      accepted-then _ _ _ (lent-judged .accepts tt .1 (h .lends)) ∙ accepted-then _ _ _ (state-judged .accepts tt .1 (h .long))
+
+  checked-refuses : {f : Fault} (o : Outcome (Job ℤ)) → ResetRefusedAt lent state f → checked o ≡ refused f
+  checked-refuses o (ResetRefusedAt.unformed none) = refused-then _ _ _ (lent-judged .refuses (fault 20 0) .1 (Only.only none))
+  checked-refuses o (ResetRefusedAt.short lends lt) =
+      let same = lent-image lends in
+      accepted-then _ _ _ (lent-judged .accepts tt .1 (subst (λ (i : List ℕ). WellLent lent i) (sym same) lends)) ∙
+      refused-then _ _ _
+      (state-judged .refuses (fault 21 0) .1 (Only.only (subst (λ (i : List ℕ). length state < countOf i + 1) (sym same) lt)))
+
+  usable-own : {image : List ℕ} → Usable lent state image → Usable lent state own
+  usable-own h = subst (λ (i : List ℕ). Usable lent state i) (sym (lent-image (h .lends))) h
+
+  reset-done : (j : Job ℤ) → Resets lent state (j .yields) (j .leaves) →
+      checked (accepted (record { yields = 0; leaves = resetWords own state })) ≡ accepted j
+  reset-done j d =
+      usable-passes _ (usable-own (d .usable)) ∙
+      ap₂ (λ (n : ℕ) (l : List ℤ). accepted (record { yields = n; leaves = l })) (sym (d .is))
+      (ap (λ (i : List ℕ). resetWords i state) (lent-image (d .usable .lends)) ∙ sym (d .leaves))
+
+  -- A reset does its job, or is refused by 20 or 21, exactly under its condition.
+  pub reset-exactly : Exactly state (Resets lent state) (ResetRefusedAt lent state) (resetOf lent state)
+  unfolding resetOf
+  reset-exactly =
+      exactly state (Resets lent state) (ResetRefusedAt lent state) _
+      (both-ways _
+      (checked-answers _ _ _ (λ g r. r) (λ usable. record { image = own; usable = usable; is = refl; leaves = refl }))
+      reset-done (λ g r. checked-refuses _ r))
+
+  position-judged : Judged (λ u. Positioned lent state own) (Only 22 0 (¬ Positioned lent state own))
+      (provided (isPosition (hyperOf own) (getD state 0 (pos 0))) 22 0)
+  position-judged =
+      provided-judged _ 22 0 (Positioned lent state own) (¬ Positioned lent state own)
+      (forth (getD state 0 (pos 0)) refl, back) (λ e p. false≢true (sym e ∙ back p)) (λ h. h)
+    where
+      forth : (w : ℤ) → getD state 0 (pos 0) ≡ w → isPosition (hyperOf own) w ≡ true → Positioned lent state own
+      forth (pos c) e t = record { position = c; stands = e; below = ltb-true c (hyperOf own) t }
+      forth (negsuc c) e t = absurd (false≢true t)
+
+      back : Positioned lent state own → isPosition (hyperOf own) (getD state 0 (pos 0)) ≡ true
+      back p = rw (p .stands) (lt-ltb (p .position) (hyperOf own) (p .below))
+
+  module _ (samples : List ℤ) where
+    abbrev cycleDone : ℕ → List ℤ → Type 0
+    cycleDone = Cycles lent state samples
+
+    abbrev cycleRefused : Fault → Type 0
+    cycleRefused = CycleRefusedAt lent state samples
+
+    samples-judged : Judged (λ u. countOf own ≤ length samples) (Only 23 0 (length samples < countOf own))
+        (provided (leb (countOf own) (length samples)) 23 0)
+    samples-judged =
+        provided-judged _ 23 0 (countOf own ≤ length samples) (length samples < countOf own) (leb-true _ _, le-leb _ _)
+        (leb-false _ _) (λ l h. omega arith)
+
+    abbrev ran : Job ℤ
+    ran = record { yields = cycleCount own state; leaves = cycleWords own state samples }
+
+    -- The steps of a cycle after 21.
+    abbrev runs : Outcome (Job ℤ)
+    runs =
+        provided (isPosition (hyperOf own) (getD state 0 (pos 0))) 22 0 ▷ λ _.
+        provided (leb (countOf own) (length samples)) 23 0 ▷ λ _.
+        accepted ran
+
+    runs-answers : Usable lent state own → Answers (Does cycleDone) cycleRefused runs
+    runs-answers usable =
+        answers-then _ cycleRefused _ _ position-judged (λ g f. outside f) (λ u positioned.
+        answers-then _ cycleRefused _ _ samples-judged (λ g f. unsampled positioned f) (λ v sampled.
+        record { image = own; usable = usable; positioned = positioned; sampled = sampled; is = refl; leaves = refl }))
+      where
+        outside : {f : Fault} → Only 22 0 (¬ Positioned lent state own) f → cycleRefused f
+        outside (Only.only h) = CycleRefusedAt.outside usable h
+
+        unsampled : {f : Fault} → Positioned lent state own → Only 23 0 (length samples < countOf own) f → cycleRefused f
+        unsampled positioned (Only.only h) = CycleRefusedAt.unsampled usable positioned h
+
+    cycle-done : (j : Job ℤ) → cycleDone (j .yields) (j .leaves) → checked runs ≡ accepted j
+    cycle-done j d =
+        let same = lent-image (d .usable .lends) in
+        usable-passes runs (usable-own (d .usable)) ∙
+        accepted-then _ _ _
+        (position-judged .accepts tt .1 (subst (λ (i : List ℕ). Positioned lent state i) (sym same) (d .positioned))) ∙
+        accepted-then _ _ _
+        (samples-judged .accepts tt .1 (subst (λ (i : List ℕ). countOf i ≤ length samples) (sym same) (d .sampled))) ∙
+        ap₂ (λ (n : ℕ) (l : List ℤ). accepted (record { yields = n; leaves = l }))
+        (ap (λ (i : List ℕ). cycleCount i state) same ∙ sym (d .is))
+        (ap (λ (i : List ℕ). cycleWords i state samples) same ∙ sym (d .leaves))
+
+    cycle-refused : {f : Fault} → cycleRefused f → checked runs ≡ refused f
+    cycle-refused (CycleRefusedAt.unready r) = checked-refuses runs r
+    cycle-refused (CycleRefusedAt.outside usable none) =
+        let same = lent-image (usable .lends) in
+        usable-passes runs (usable-own usable) ∙
+        refused-then _ _ _
+        (position-judged .refuses (fault 22 0) .1 (Only.only (subst (λ (i : List ℕ). ¬ Positioned lent state i) (sym same) none)))
+    cycle-refused (CycleRefusedAt.unsampled usable positioned lt) =
+        let same = lent-image (usable .lends) in
+        usable-passes runs (usable-own usable) ∙
+        accepted-then _ _ _
+        (position-judged .accepts tt .1 (subst (λ (i : List ℕ). Positioned lent state i) (sym same) positioned)) ∙
+        refused-then _ _ _
+        (samples-judged .refuses (fault 23 0) .1 (Only.only (subst (λ (i : List ℕ). length samples < countOf i) (sym same) lt)))
+
+    -- A cycle does its job, or is refused by 20 to 23, exactly under its condition.
+    pub cycle-exactly : Exactly state cycleDone cycleRefused (cycleOf lent state samples)
+    unfolding cycleOf
+    cycle-exactly =
+        exactly state cycleDone cycleRefused _
+        (both-ways _ (checked-answers _ cycleRefused runs (λ g r. CycleRefusedAt.unready r) runs-answers) cycle-done
+        (λ g r. cycle-refused r))

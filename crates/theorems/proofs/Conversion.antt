@@ -1,0 +1,5 @@
+-- The converter: on trees, on bytes, and twice.
+pub mod Converted
+pub mod Rewritten
+pub mod Unchanged
+pub mod Conversions

@@ -1,0 +1,283 @@
+-- The test of an image decides the paper's sentence on well-formed images. Assumes nothing.
+use Prim.Native.Nat.{ℕ, zero, suc, _+_, _-_, _≤_, _<_}
+use mathlib.Core.Bool.{Bool, true, false, _&&_, false≢true, and-eq-true-iff}
+use mathlib.Core.List.{List}
+use mathlib.Core.Logic.{_↔_}
+use mathlib.Core.Path.{_≡_, refl, sym, ap, subst}
+use native.Mathlib.Decide.{decLt}
+use native.Mathlib.Omega.{arith}
+use borrow.Author.Tests.{leb-true, ltb-true, eqb-true, le-leb, lt-ltb, le-ltb, eq-eqb}
+use lib.Dec.{leb, ltb}
+use lib.ListN.{length}
+use Rattle.theorems.specs.Height.{Changes}
+use Rattle.model.specs.Rules.Image.{listsAt}
+use Rattle.model.specs.Rules.Machine.{
+  codeAt,
+  hyperOf,
+  countOf,
+  listOffset,
+  codeOffset,
+  codeOf,
+  commandOk,
+  codeOkFrom,
+  codeOk,
+  headOk,
+  listsOk,
+  entriesOk,
+  codesOk,
+  wellFormed,
+}
+use Rattle.model.specs.Rules.Search.{allBelow}
+use Rattle.theorems.specs.WellFormed.{BeforeStore, FormedFrom, WellFormed}
+use Rattle.model.specs.Rules.Word.{byteAt}
+use Rattle.model.specs.Says.Written.{CodeWritten, CodeWhole}
+use Rattle.model.specs.declared.Code.{Code}
+use Rattle.model.specs.declared.Code.the-variants as Code
+use Rattle.model.proofs.Pairs.Decide.{all-true, true-all}
+use Rattle.model.proofs.Texts.Written.{code-written}
+
+-- A test at another height, which is the same.
+at-height : (next : ℕ → ℕ → Bool) {at height after : ℕ} → height ≡ after → next at height ≡ true → next at after ≡ true
+at-height next {at} e t = subst (λ (k : ℕ). next at k ≡ true) e t
+
+-- One code.
+module _ (n own : ℕ) (code : List ℕ) where
+  abbrev From : ℕ → ℕ → Type 0
+  From at height = FormedFrom n own code at height
+
+  written : {at : ℕ} {c : Code} → codeAt code at ≡ c → CodeWhole c → CodeWritten code at c
+  written {at} {c} e whole = code-written code at c .0 (e, whole)
+
+  -- A command that passes, where what follows is formed.
+  command-formed : (next : ℕ → ℕ → Bool) → ((a h : ℕ) → h ≤ 32 → next a h ≡ true → From a h) → (at height : ℕ) → height ≤ 32 →
+      (c : Code) → codeAt code at ≡ c → commandOk next (length code) n own at height c ≡ true → From at height
+  unfolding commandOk
+  command-formed next go at height le Code.EndsEarly e h = absurd (false≢true h)
+  command-formed next go at height le Code.Unknown e h = absurd (false≢true h)
+  command-formed next go at height le (Code.Push w) e h =
+      let t = and-eq-true-iff _ _ .0 h in
+      let room : suc height ≤ 32 = omega (arith, ltb-true height 32 (t .0)) in
+      FormedFrom.onward (written e tt) tt Changes.push room (go _ _ room (at-height next (omega arith) (t .1)))
+  command-formed next go at height le (Code.Load x) e h =
+      let t = and-eq-true-iff _ _ .0 h in
+      let u = and-eq-true-iff _ _ .0 (t .0) in
+      let room : suc height ≤ 32 = omega (arith, ltb-true height 32 (u .1)) in
+      FormedFrom.onward (written e tt) (ltb-true x n (u .0)) Changes.load room (go _ _ room (at-height next (omega arith) (t .1)))
+  command-formed next go at height le (Code.Fetch x) e h =
+      let t = and-eq-true-iff _ _ .0 h in
+      let u = and-eq-true-iff _ _ .0 (t .0) in
+      let room : suc height ≤ 32 = omega (arith, ltb-true height 32 (u .1)) in
+      FormedFrom.onward (written e tt) (eqb-true x own (u .0)) Changes.fetch room
+      (go _ _ room (at-height next (omega arith) (t .1)))
+  command-formed next go at height le (Code.Store x) e h =
+      let t = and-eq-true-iff _ _ .0 h in
+      let u = and-eq-true-iff _ _ .0 (t .0) in
+      subst (λ (k : ℕ). From at k) (sym (eqb-true height 1 (u .1)))
+      (FormedFrom.store (subst (λ (y : ℕ). CodeWritten code at (Code.Store y)) (eqb-true x own (u .0)) (written e tt))
+      (eqb-true _ _ (t .1)))
+  command-formed next go at zero le (Code.Binary operator) e h = absurd (false≢true h)
+  command-formed next go at (suc zero) le (Code.Binary operator) e h = absurd (false≢true h)
+  command-formed next go at (suc (suc k)) le (Code.Binary operator) e h =
+      FormedFrom.onward (written e tt) tt (Changes.binary {height = k}) (omega arith)
+      (go _ _ (omega arith) (at-height next {height = suc (suc k) - 1} (omega arith)
+      (and-eq-true-iff (leb 2 (suc (suc k))) _ .0 h .1)))
+  command-formed next go at zero le (Code.Unary operator) e h = absurd (false≢true h)
+  command-formed next go at (suc k) le (Code.Unary operator) e h =
+      FormedFrom.onward (written e tt) tt Changes.unary le (go _ _ le (and-eq-true-iff (leb 1 (suc k)) _ .0 h .1))
+  command-formed next go at zero le Code.If e h = absurd (false≢true h)
+  command-formed next go at (suc zero) le Code.If e h = absurd (false≢true h)
+  command-formed next go at (suc (suc zero)) le Code.If e h = absurd (false≢true h)
+  command-formed next go at (suc (suc (suc k))) le Code.If e h =
+      FormedFrom.onward (written e tt) tt (Changes.choose {height = k}) (omega arith)
+      (go _ _ (omega arith) (at-height next {height = suc (suc (suc k)) - 2} (omega arith)
+      (and-eq-true-iff (leb 3 (suc (suc (suc k)))) _ .0 h .1)))
+
+  from-formed : (left at height : ℕ) → height ≤ 32 → codeOkFrom left code n own at height ≡ true → From at height
+  unfolding codeOkFrom
+  from-formed zero at height le h = absurd (false≢true h)
+  from-formed (suc left) at height le h =
+      command-formed (λ a k. codeOkFrom left code n own a k) (λ a k l t. from-formed left a k l t) at height le (codeAt code at)
+      refl h
+
+  -- And the other way round.
+  change-ok : {c : Code} {width height after : ℕ} (next : ℕ → ℕ → Bool) (at : ℕ) → Changes c width height after →
+      BeforeStore n own c → after ≤ 32 → next (at + width) after ≡ true → commandOk next (length code) n own at height c ≡ true
+  unfolding commandOk
+  change-ok next at (Changes.push {height}) a le t = rw (lt-ltb height 32 (omega arith)) (at-height next (omega arith) t)
+  change-ok next at (Changes.load {height} {x}) a le t =
+      rw (lt-ltb x n a, lt-ltb height 32 (omega arith)) (at-height next (omega arith) t)
+  change-ok next at (Changes.fetch {height} {x}) a le t =
+      rw (eq-eqb x own a, lt-ltb height 32 (omega arith)) (at-height next (omega arith) t)
+  change-ok next at (Changes.binary {height}) a le t =
+      rw (le-leb 2 (suc (suc height)) (omega arith)) (at-height next (omega arith) t)
+  change-ok next at (Changes.unary {height}) a le t = rw (le-leb 1 (suc height) (omega arith)) t
+  change-ok next at (Changes.choose {height}) a le t =
+      rw (le-leb 3 (suc (suc (suc height))) (omega arith)) (at-height next (omega arith) t)
+
+  width-some : {c : Code} {width height after : ℕ} → Changes c width height after → 1 ≤ width
+  width-some Changes.push = omega arith
+  width-some Changes.load = omega arith
+  width-some Changes.fetch = omega arith
+  width-some Changes.binary = omega arith
+  width-some Changes.unary = omega arith
+  width-some Changes.choose = omega arith
+
+  inside : {at : ℕ} {c : Code} → CodeWritten code at c → at < length code
+  inside (CodeWritten.push le e) = omega arith
+  inside (CodeWritten.load le e) = omega arith
+  inside (CodeWritten.fetch le e) = omega arith
+  inside (CodeWritten.store le e) = omega arith
+  inside (CodeWritten.binary operator le e) = omega arith
+  inside (CodeWritten.unary operator le e) = omega arith
+  inside (CodeWritten.choose le e) = omega arith
+
+  formed-from : {at height : ℕ} → From at height → (left : ℕ) → length code ≤ at + left →
+      codeOkFrom left code n own at height ≡ true
+  unfolding codeOkFrom commandOk
+  formed-from (FormedFrom.store w ends) zero le = absurd (omega (arith, inside w))
+  formed-from (FormedFrom.store {at = at} w ends) (suc left) le =
+      rw (code-written code at _ .1 w .0, eq-eqb own own refl, eq-eqb _ _ ends)
+  formed-from (FormedFrom.onward w a ch room rest) zero le = absurd (omega (arith, inside w))
+  formed-from (FormedFrom.onward {at = at} {c = c} w a ch room rest) (suc left) le =
+      rw (code-written code at c .1 w .0)
+      (change-ok (λ a k. codeOkFrom left code n own a k) at ch a room (formed-from rest left (omega (arith, width-some ch))))
+
+  code-exactly : (codeOk code n own ≡ true) ↔ From 0 0
+  unfolding codeOk
+  code-exactly = (λ h. from-formed (length code) 0 0 (omega arith) h, λ f. formed-from f (length code) (omega arith))
+
+-- What rises step by step rises.
+rises : (f : ℕ → ℕ) (n : ℕ) → ((c : ℕ) → c < n → f c ≤ f (c + 1)) → (k : ℕ) → k ≤ n → f k ≤ f n
+rises f zero up k le = let z : k ≡ 0 = omega arith in rw z (omega arith)
+rises f (suc n) up k le = go (decLt k (suc n)) (rises f n (λ c lt. up c (omega arith)) k)
+  where
+    go : Dec (k < suc n) → (k ≤ n → f k ≤ f n) → f k ≤ f (suc n)
+    go (yes lt) ih =
+        let next : f (n + 1) ≡ f (suc n) = ap f (omega arith) in
+        omega (arith, ih (omega arith), up n (omega arith), next)
+    go (no lt) ih = let z : k ≡ suc n = omega arith in rw z (omega arith)
+
+-- The whole image.
+module _ (image : List ℕ) where
+  abbrev n : ℕ
+  n = countOf image
+
+  abbrev h : ℕ
+  h = hyperOf image
+
+  -- The end of the last code is the image's.
+  last-code : codeOffset image n ≡ length image
+  unfolding codeOffset
+  last-code = rw (le-ltb n n (omega arith))
+
+  -- The four parts of the test.
+  parts : wellFormed image ≡ true →
+      (headOk image ≡ true) × (listsOk image ≡ true) × (entriesOk image ≡ true) × (codesOk image ≡ true)
+  unfolding wellFormed
+  parts t = go (headOk image) (listsOk image) refl refl t
+    where
+      go : (a b : Bool) → headOk image ≡ a → listsOk image ≡ b →
+          elim a [ true ↦ elim b [ true ↦ entriesOk image && codesOk image | false ↦ false ] | false ↦ false ] ≡ true →
+          (headOk image ≡ true) × (listsOk image ≡ true) × (entriesOk image ≡ true) × (codesOk image ≡ true)
+      go true true e f t = let both = and-eq-true-iff _ _ .0 t in (e, f, both .0, both .1)
+      go true false e f t = absurd (false≢true t)
+      go false b e f t = absurd (false≢true t)
+
+  test-formed : wellFormed image ≡ true → WellFormed image
+  unfolding headOk listsOk entriesOk codesOk
+  test-formed t =
+      let p = parts t in
+      let a = and-eq-true-iff _ (leb (listsAt n h) (length image)) .0 (p .0) in
+      let b = and-eq-true-iff _ _ .0 (a .0) in
+      let c = and-eq-true-iff _ _ .0 (b .0) in
+      let d = and-eq-true-iff _ _ .0 (c .0) in
+      let e = and-eq-true-iff (leb 4 (length image)) _ .0 (d .0) in
+      let k = and-eq-true-iff _ _ .0 (p .1) in
+      let l = and-eq-true-iff _ _ .0 (k .0) in
+      let m = and-eq-true-iff _ _ .0 (l .0) in
+      let start = eqb-true _ _ (m .0) in
+      let codes-at = eqb-true _ _ (l .1) in
+      record {
+        stated = eqb-true _ _ (e .1);
+        hyper-some = leb-true _ _ (d .1);
+        hyper-most = leb-true _ _ (c .1);
+        signals = leb-true _ _ (b .1);
+        lists-start = start;
+        lists-rise = λ c lt. leb-true _ _ (all-true h _ (m .1) c lt);
+        codes-start = codes-at;
+        codes-rise = λ x lt. leb-true _ _ (and-eq-true-iff _ _ .0 (code x (p .3) lt .0) .0);
+        codes-end = last-code;
+        entries = λ i from to. entry i (p .2) start codes-at from to;
+        codes = λ x lt. code-exactly n x (codeOf image x) .0 (code x (p .3) lt .1);
+      }
+    where
+      code : (x : ℕ) → codesOk image ≡ true → x < n →
+          ((leb (codeOffset image x) (codeOffset image (x + 1)) && leb (codeOffset image (x + 1)) (length image)) ≡ true) ×
+          (codeOk (codeOf image x) n x ≡ true)
+      code x t lt = and-eq-true-iff _ _ .0 (all-true n _ t x lt)
+
+      entry : (i : ℕ) →
+          allBelow (codeOffset image 0 - listsAt n h) (λ j. ltb (byteAt image (listsAt n h + j)) n) ≡ true →
+          listOffset image 0 ≡ listsAt n h → listOffset image h ≡ codeOffset image 0 → listOffset image 0 ≤ i →
+          i < listOffset image h → byteAt image i < n
+      entry i t start codes-at from to =
+          let j = i - listsAt n h in
+          let same : listsAt n h + j ≡ i = omega arith in
+          subst (λ (k : ℕ). byteAt image k < n) same
+          (ltb-true (byteAt image (listsAt n h + j)) n (all-true _ _ t j (omega arith)))
+
+  module _ (w : WellFormed image) where
+    code-within : (x : ℕ) → x ≤ n → codeOffset image x ≤ length image
+    code-within x le = omega (arith, rises (codeOffset image) n (w .codes-rise) x le, w .codes-end)
+
+    pub lists-within : listsAt n h ≤ length image
+    lists-within =
+        omega (
+          arith,
+          w .lists-start,
+          rises (listOffset image) h (w .lists-rise) 0 (omega arith),
+          w .codes-start,
+          code-within 0 (omega arith),
+        )
+
+    entry-below : (i : ℕ) → i < codeOffset image 0 - listsAt n h → byteAt image (listsAt n h + i) < n
+    entry-below i lt = w .entries (listsAt n h + i) (omega (arith, w .lists-start)) (omega (arith, w .codes-start))
+
+    head-ok : headOk image ≡ true
+    unfolding headOk
+    head-ok =
+        rw (
+          le-leb 4 (length image) (omega (arith, lists-within)),
+          eq-eqb _ _ (w .stated),
+          le-leb 1 h (w .hyper-some),
+          le-leb h 240 (w .hyper-most),
+          le-leb n 64 (w .signals),
+        ) (le-leb (listsAt n h) (length image) lists-within)
+
+    lists-ok : listsOk image ≡ true
+    unfolding listsOk
+    lists-ok =
+        rw (
+          eq-eqb _ _ (w .lists-start),
+          true-all h _ (λ c lt. le-leb _ _ (w .lists-rise c lt)),
+          eq-eqb _ _ (w .codes-start),
+        ) (le-leb _ _ (code-within 0 (omega arith)))
+
+    entries-ok : entriesOk image ≡ true
+    unfolding entriesOk
+    entries-ok = true-all (codeOffset image 0 - listsAt n h) _ (λ i lt. lt-ltb _ _ (entry-below i lt))
+
+    codes-ok : codesOk image ≡ true
+    unfolding codesOk
+    codes-ok =
+        true-all n _ (λ x lt.
+        rw (le-leb _ _ (w .codes-rise x lt), le-leb _ _ (code-within (x + 1) (omega arith)))
+        (code-exactly n x (codeOf image x) .1 (w .codes x lt)))
+
+    formed-test : wellFormed image ≡ true
+    unfolding wellFormed
+    formed-test = rw (head-ok, wellFormed) (rw lists-ok (rw (entries-ok, codes-ok)))
+
+  -- The test passes exactly the images that are well formed by the paper.
+  pub well-formed-exactly : (wellFormed image ≡ true) ↔ WellFormed image
+  well-formed-exactly = (test-formed, formed-test)

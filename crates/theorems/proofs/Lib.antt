@@ -1,0 +1,10 @@
+-- The theorems that only promises cite, and the paper's examples.
+pub mod Nearest
+pub mod Texts
+pub mod Pairs
+pub mod Images
+pub mod Streams
+pub mod Calls
+pub mod Conversion
+pub mod Bench
+pub mod Examples

@@ -1,0 +1,46 @@
+-- The nearest word is what its name says, and ADD, SUB, MUL and NEG give it. Assumes nothing.
+use Prim.Native.Nat.{ℕ, zero, suc, _+_, _-_, _≤_}
+use mathlib.Core.Path.{_≡_, ap}
+use native.Mathlib.Omega.{arith}
+use lib.IntN.{ℤ, pos, negsuc, natAbs, negℤ, _+ℤ_, _-ℤ_, _*ℤ_}
+use Rattle.model.specs.Rules.Word.{nearest, addWord, subWord, mulWord, negWord}
+use Rattle.theorems.specs.Nearest.{IsWord, distance, NearestWord, NearestResults}
+use Rattle.model.proofs.Basics.Tests.{sub-by}
+
+-- How far two numbers are apart: with one sign, and with two.
+apart-pos : (m n : ℕ) → distance (pos m) (pos n) ≡ m - n + (n - m)
+apart-pos m zero = omega arith
+apart-pos m (suc n) = sub-by m (suc n) (λ z. natAbs z ≡ m - suc n + (suc n - m)) (λ h. omega arith) (λ h. omega arith)
+
+apart-neg : (m n : ℕ) → distance (negsuc m) (negsuc n) ≡ m - n + (n - m)
+apart-neg m n = sub-by (suc n) (suc m) (λ z. natAbs z ≡ m - n + (n - m)) (λ h. omega arith) (λ h. omega arith)
+
+apart-below : (m n : ℕ) → distance (negsuc m) (pos n) ≡ suc m + n
+apart-below m zero = sub-by 0 (suc m) (λ z. natAbs z ≡ suc m + 0) (λ h. omega arith) (λ h. omega arith)
+apart-below m (suc n) = omega arith
+
+apart-above : (m n : ℕ) → distance (pos m) (negsuc n) ≡ suc m + n
+apart-above m n = omega arith
+
+none-nearer : (z v : ℤ) → IsWord v → distance (nearest z) z ≤ distance v z
+unfolding nearest
+none-nearer (pos n) (pos k) h = simp apart-pos (omega arith)
+none-nearer (pos n) (negsuc k) h = simp (apart-pos, apart-below) (omega arith)
+none-nearer (negsuc n) (pos k) h = simp (apart-neg, apart-above) (omega arith)
+none-nearer (negsuc n) (negsuc k) h = simp apart-neg (omega arith)
+
+nearest-is : (z : ℤ) → NearestWord z (nearest z)
+unfolding nearest
+nearest-is (pos n) = record { word = omega arith; itself = λ h. ap pos (omega arith); none-nearer = none-nearer (pos n) }
+nearest-is (negsuc n) =
+    record { word = omega arith; itself = λ h. ap negsuc (omega arith); none-nearer = none-nearer (negsuc n) }
+
+pub nearest-word : (a b : ℤ) → NearestResults a b
+unfolding addWord subWord mulWord negWord
+nearest-word a b =
+    record {
+      add = nearest-is (a +ℤ b);
+      sub = nearest-is (a -ℤ b);
+      mul = nearest-is (a *ℤ b);
+      neg = nearest-is (negℤ a);
+    }

@@ -1,0 +1,9 @@
+-- Pairs: each refusal exactly under its condition, the latency over all runs.
+pub mod Faults
+pub mod Judged
+pub mod JudgedPuts
+pub mod Window
+pub mod Latency
+pub mod JudgedRuns
+pub mod Settled
+pub mod Exact

@@ -1,0 +1,21 @@
+-- The statements that judge the definitions: the paper's words over all bytes, runs and calls.
+pub mod Nearest
+pub mod Enums
+pub mod Stops
+pub mod Reach
+pub mod Latency
+pub mod Conditions
+pub mod Refusals
+pub mod Height
+pub mod WellFormed
+pub mod Images
+pub mod Streams
+pub mod Held
+pub mod Lists
+pub mod Exactness
+pub mod Convert
+pub mod Conversion
+pub mod Decimals
+pub mod TrialRefusals
+pub mod Trials
+pub mod Examples

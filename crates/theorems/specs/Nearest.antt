@@ -1,0 +1,26 @@
+-- What the nearest word to a number is, and that the operators give it.
+use Prim.Native.Nat.{ℕ, _≤_}
+use mathlib.Core.Path.{_≡_}
+use lib.IntN.{ℤ, pos, negsuc, negℤ, natAbs, _+ℤ_, _-ℤ_, _*ℤ_}
+use Rattle.model.specs.Rules.Word.{addWord, subWord, mulWord, negWord}
+
+-- A word: from −2147483648 to 2147483647. (negsuc n is −1 − n.)
+abbrev pub IsWord : ℤ → Type 0
+IsWord (pos n) = n ≤ 2147483647
+IsWord (negsuc n) = n ≤ 2147483647
+
+abbrev pub distance : ℤ → ℤ → ℕ
+distance a b = natAbs (a -ℤ b)
+
+-- What the nearest word is to the true result z: a word; z itself, where z is one; and no word is nearer to z.
+pub record NearestWord (z w : ℤ) : Type 0 where
+  pub word : IsWord w
+  pub itself : IsWord z → w ≡ z
+  pub none-nearer : (v : ℤ) → IsWord v → distance w z ≤ distance v z
+
+-- ADD, SUB, MUL and NEG give the nearest word to the true result.
+pub record NearestResults (a b : ℤ) : Type 0 where
+  pub add : NearestWord (a +ℤ b) (addWord a b)
+  pub sub : NearestWord (a -ℤ b) (subWord a b)
+  pub mul : NearestWord (a *ℤ b) (mulWord a b)
+  pub neg : NearestWord (negℤ a) (negWord a)
