@@ -18,9 +18,11 @@ within : (c : tie.After-record-at) → let s = c .before .before in
     (c .record-at .result ≤ 400)
 within c =
     let s = c .before .before in
-    let h = head _ (s .pre .0) in
-    ( omega (arith, h .signals, h .hyper, h .fixed, c .record-at .ensures), omega (arith, h .hyper),
-      omega (arith, h .signals, c .record-at .ensures) )
+    let h = head _ (s .pre .0) in (
+      omega (arith, h .signals, h .hyper, h .fixed, c .record-at .ensures),
+      omega (arith, h .hyper),
+      omega (arith, h .signals, c .record-at .ensures),
+    )
 
 mul-offset-at : tie.Need-mul-offset-at
 mul-offset-at c = omega (arith, within c .1)

@@ -67,8 +67,15 @@ returns c =
     record {
       is = λ kind x e.
           let h = read-shape _ _ kind x e in
-          rw (c .select2 .ensures, c .before .before .index-of .ensures, c3 .select .ensures,
-              c .before .before .before .before .before .index-place .ensures, c6 .kind-of .ensures, h .kind-is, read-is _ _ h);
+          rw (
+            c .select2 .ensures,
+            c .before .before .index-of .ensures,
+            c3 .select .ensures,
+            c .before .before .before .before .before .index-place .ensures,
+            c6 .kind-of .ensures,
+            h .kind-is,
+            read-is _ _ h,
+          );
     }
 
 pub taken-at-spec : {M : Type 1} → statement M
