@@ -20,6 +20,17 @@ pub fn greater(a: usize, b: usize) -> usize
     if a < b { b } else { a }
 }
 
+// A constant or a read: one command, one word.
+fn leaf(next: usize) -> Measure
+    ensures { λ r. ⌜ (r .next ≡ next) × (r .commands ≡ 1) × (r .height ≡ 1) ⌝ }
+{
+    Measure {
+        next: next,
+        commands: 1,
+        height: 1,
+    }
+}
+
 // One expression and what follows it. While the second runs the value of the first lies below.
 fn joined(first: Measure, second: Measure) -> Measure
     requires { ⌜ (first .commands ≤ 65535) × (second .commands ≤ 65535) × (second .height ≤ 65535) ⌝ }
@@ -55,22 +66,8 @@ fn measure_expression(text: &[u8], at: usize, depth: usize) -> Measure
 {
     let decoded = text_command::operator_at(text, at);
     match decoded {
-        Operator::Constant(_) => {
-            let next = at + width::in_expression(0x20);
-            Measure {
-                next: next,
-                commands: 1,
-                height: 1,
-            }
-        }
-        Operator::Read(kind, _) => {
-            let next = at + width::of_read(kind);
-            Measure {
-                next: next,
-                commands: 1,
-                height: 1,
-            }
-        }
+        Operator::Constant(_) => leaf(at + width::in_expression(0x20)),
+        Operator::Read(kind, _) => leaf(at + width::of_read(kind)),
         Operator::Binary(_) => {
             let first = measure_expression(text, at + width::in_expression(0x30), depth - 1);
             let second = measure_expression(text, first.next, depth - 1);

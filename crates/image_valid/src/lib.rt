@@ -30,7 +30,7 @@ pub fn list_offset(image: &[u8], n: usize, c: usize) -> usize
     requires { ⌜ (headOk (now image) ≡ true) × (n ≡ countOf (now image)) × (c ≤ hyperOf (now image)) ⌝ }
     ensures { λ r. ⌜ r ≡ listOffset (now (image .entry)) c ⌝ }
 {
-    offset_at(image, 4 + 6 * n + 2 * c)
+    offset_at(image, image_layout::record_at(n) + 2 * c)
 }
 
 // Where the code of signal x starts, and that of signal x - 1 ends.
@@ -39,7 +39,7 @@ pub fn code_offset(image: &[u8], n: usize, x: usize) -> usize
     ensures { λ r. ⌜ r ≡ codeOffset (now (image .entry)) x ⌝ }
 {
     if x < n {
-        offset_at(image, 8 + 6 * x)
+        offset_at(image, image_layout::record_at(x) + 4)
     } else {
         image.len()
     }
@@ -66,7 +66,7 @@ fn head_ok(image: &[u8]) -> bool
     if 64 < n {
         return false;
     }
-    4 + 6 * n + 2 * (h + 1) <= image.len()
+    image_layout::lists_at(n, h) <= image.len()
 }
 
 // Every list starts where the one before ended, the first after the offsets, and the code after the last.
@@ -75,7 +75,7 @@ fn lists_ok(image: &[u8], n: usize, h: usize) -> bool
     ensures { λ r. ⌜ r ≡ listsOk (now (image .entry)) ⌝ }
 {
     let mut last = list_offset(image, n, 0);
-    if last != 4 + 6 * n + 2 * (h + 1) {
+    if last != image_layout::lists_at(n, h) {
         return false;
     }
     let mut c: usize = 0;
@@ -115,7 +115,7 @@ fn entries_ok(image: &[u8], n: u8, h: usize) -> bool
     ensures { λ r. ⌜ r ≡ entriesOk (now (image .entry)) ⌝ }
 {
     let count = basics::wide(n);
-    let start = 4 + 6 * count + 2 * (h + 1);
+    let start = image_layout::lists_at(count, h);
     let end = code_offset(image, count, 0);
     if n == 0 {
         return start == end;

@@ -255,7 +255,7 @@ pub fn lay_out(
 {
     let n = tables.signals;
     let codes = tables.codes;
-    let lists = 4 + 6 * n + 2 * (h + 1);
+    let lists = image_layout::lists_at(n, h);
     let runs = lists_length(periods, order, phases, n, h);
     let code = lists + runs;
     let size = basics::wider(codes[n]);

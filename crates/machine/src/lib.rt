@@ -86,7 +86,7 @@ fn initial_words(image: &[u8], n: usize, state: &mut [i32])
     state[0] = 0;
     let mut x: usize = 0;
     while x < n {
-        let w = word::word_at(image, 4 + 6 * x);
+        let w = word::word_at(image, image_layout::record_at(x));
         x = x + 1;
         state[x] = w;
     }

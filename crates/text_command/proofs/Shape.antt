@@ -1,8 +1,11 @@
 -- The bytes of a read. Assumes nothing.
 use Prim.Native.Nat.{ℕ, _+_, _≤_, _<_}
+use mathlib.Core.Bool.{Bool, true, false, cond}
 use mathlib.Core.List.{List}
-use mathlib.Core.Path.{_≡_, refl}
+use mathlib.Core.Path.{_≡_, refl, sym}
 use native.Mathlib.Omega.{arith}
+use borrow.Author.Tests.{ltb-true, ltb-false}
+use lib.Dec.{ltb}
 use lib.ListN.{length}
 use Rattle.model.specs.Rules.Command.{indexOf, operatorAt}
 use Rattle.model.specs.Rules.Word.{byteAt}
@@ -66,3 +69,37 @@ module _ {text : List ℕ} {at : ℕ} where
 pub read-shape : (text : List ℕ) (at : ℕ) (kind : Kind) (x : Sampled) → operatorAt text at ≡ Operator.Read kind x →
     Shape text at kind x
 read-shape text at kind x e = shape-of (operator-written text at (Operator.Read kind x) .0 (e, tt))
+
+-- A read by whether it is plain, without a case for each: where its index stands, and its operands.
+abbrev pub isPlain : List ℕ → ℕ → Bool
+isPlain text at = ltb (byteAt text at) 0x23
+
+abbrev pub indexPlace : List ℕ → ℕ → ℕ
+indexPlace text at = at + cond (isPlain text at) 0 2
+
+module _ (text : List ℕ) (at : ℕ) {kind : Kind} {x : Sampled} (h : Shape text at kind x) where
+  pub place-inside : indexPlace text at + 2 ≤ length text
+  place-inside = go (isPlain text at) refl
+    where
+      go : (p : Bool) → isPlain text at ≡ p → at + cond p 0 2 + 2 ≤ length text
+      go true e = omega (arith, h .inside)
+      go false e = omega (arith, h .wide (ltb-false _ _ e))
+
+  pub read-is :
+      record {
+        signal = byteAt text (at + 1);
+        factor = cond (isPlain text at) 1 (byteAt text (indexPlace text at + 1));
+        index = indexOf (cond (isPlain text at) 0 (byteAt text (indexPlace text at)));
+      } ≡ x
+  read-is = go (isPlain text at) refl
+    where
+      go : (p : Bool) → isPlain text at ≡ p →
+          record {
+            signal = byteAt text (at + 1);
+            factor = cond p 1 (byteAt text (at + cond p 0 2 + 1));
+            index = indexOf (cond p 0 (byteAt text (at + cond p 0 2)));
+          } ≡ x
+      go true e = sym (h .plain (ltb-true _ _ e))
+      go false e =
+          let q : at + 2 + 1 ≡ at + 3 = omega arith in
+          rw q (sym (h .sampled (ltb-false _ _ e)))

@@ -8,6 +8,7 @@ use model::Operator;
 use model::Sampled;
 use model::ScheduleCommand;
 use model::Unary;
+ghost use mathlib.Core.Bool.{cond};
 ghost use mathlib.Core.Path.{_≡_};
 ghost use Prim.Native.Nat.{_<_};
 ghost use lib.ListN.{length};
@@ -304,7 +305,21 @@ pub struct Taken {
     pub operands: Sampled,
 }
 
-// The read that stands at an offset of an accepted text.
+// One of two bytes: a choice that takes no branch.
+fn select(first: bool, a: u8, b: u8) -> u8
+    ensures { λ r. ⌜ r ≡ cond first a b ⌝ }
+{
+    if first { a } else { b }
+}
+
+// How far behind its first byte the index of a read stands; of NOW and LAST, which have none, the byte itself is looked at.
+fn index_place(plain: bool) -> usize
+    ensures { λ r. ⌜ r ≡ cond plain 0 2 ⌝ }
+{
+    if plain { 0 } else { 2 }
+}
+
+// The read that stands at an offset of an accepted text. Kinds come mixed, so nothing branches by them.
 pub fn taken_at(text: &[u8], at: usize) -> Taken
     requires { ⌜ ReadStands (now text) at ⌝ }
     ensures { λ r. ⌜ ReadTaken (now (text .entry)) at r ⌝ }
@@ -312,22 +327,15 @@ pub fn taken_at(text: &[u8], at: usize) -> Taken
     let byte = text[at];
     let signal = text[at + 1];
     let kind = kind_of(byte);
-    if byte < 0x23 {
-        return Taken {
-            kind: kind,
-            operands: Sampled {
-                signal: signal,
-                factor: 1,
-                index: Index::Fixed(0),
-            },
-        };
-    }
-    let index = index_of(text[at + 2]);
+    let plain = byte < 0x23;
+    let place = at + index_place(plain);
+    let index = index_of(select(plain, 0, text[place]));
+    let factor = select(plain, 1, text[place + 1]);
     Taken {
         kind: kind,
         operands: Sampled {
             signal: signal,
-            factor: text[at + 3],
+            factor: factor,
             index: index,
         },
     }

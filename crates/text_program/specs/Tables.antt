@@ -4,7 +4,7 @@ use mathlib.Core.Bool.{Bool, true, false, cond}
 use mathlib.Core.List.{List, []}
 use mathlib.Core.Path.{_≡_}
 use lib.ListN.{length, getD}
-use Rattle.model.specs.Rules.Outcome.{Outcome, accepted, refused}
+use Rattle.model.specs.Rules.Outcome.{Outcome, accepted, refused, fault}
 use Rattle.model.specs.Rules.Image.{signalCode}
 use Rattle.model.specs.Rules.Program.{
   Program,
@@ -100,7 +100,7 @@ pub record SlotsOf (p : Program) (s : Schedule) (order phases ranks : List ℕ) 
 
 -- The judgement of a step that adds nothing.
 unfoldable pub judgedOf : Step → Judged
-judgedOf (Step.Adds e n) = Judged.Fine
+judgedOf (Step.Adds e w) = Judged.Refused (fault 3 (w .at))
 judgedOf Step.End = Judged.Fine
 judgedOf (Step.Refused f) = Judged.Refused f
 

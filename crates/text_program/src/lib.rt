@@ -1,4 +1,4 @@
-// Texts to tables: what stands where in a program and a schedule, or the first fault.
+// Program texts to tables: what stands where, or the first fault.
 use basics::Judged;
 use model::Declaration;
 use model::Fault;
@@ -494,19 +494,19 @@ pub struct ProgramRead {
     pub tables: Tables,
 }
 
-// The judgement at a step that adds nothing.
+// The judgement at a step that adds nothing. One that adds is none: no caller asks.
 fn judged_at(step: Step) -> Judged
     ensures { λ r. ⌜ r ≡ judgedOf step ⌝ }
 {
     match step {
-        Step::Adds(_, _) => Judged::Fine,
+        Step::Adds(_, walk) => basics::refuse(3, walk.at),
         Step::End => Judged::Fine,
         Step::Refused(fault) => Judged::Refused(fault),
     }
 }
 
-// Reads a program text whose factors go from `least` on to its END: 2 to 6, or the tables of the program that it is. Keeps the offset of each read in `reads`, which has
-// an entry for each two bytes of the text.
+// Reads a program text whose factors go from `least` on to its END: 2 to 6, or the tables of the program that it is. Keeps the offset
+// of each read in `reads`, which has an entry for each two bytes of the text.
 pub fn read_program(least: u8, text: &[u8], reads: &mut [u16]) -> ProgramRead
     requires { ⌜ (length (now text) ≤ 8192) × (length (now text) ≤ 2 * length (now reads)) ⌝ }
     ensures { λ r. ⌜ ProgramReads (parseWith least (now (text .entry))) (now (reads .exit)) r ⌝ }

@@ -1,4 +1,4 @@
-// Schedule texts to tables: the signals in PUT order, and by signal its phase and its place in that order.
+// Schedule texts to tables: the signals in PUT order, and by signal its phase and its rank in that order.
 use basics::Judged;
 use model::Fault;
 use model::ScheduleCommand;

@@ -34,6 +34,7 @@ use Rattle.image_measure.proofs.measure_expression.Kinds as kinds
 use Rattle.image_measure.proofs.+measure_expression.Lts-measure_expression as lts
 use Rattle.text_command.proofs.operator_at.Reads as operator-at-reads
 use Rattle.image_measure.proofs.joined.Reads as joined-reads
+use Rattle.image_measure.proofs.leaf.Reads as leaf-reads
 use Rattle.image_measure.proofs.operated.Reads as operated-reads
 use Rattle.width.proofs.in_expression.Reads as in-expression-reads
 use Rattle.width.proofs.of_read.Reads as of-read-reads
@@ -55,6 +56,8 @@ known t = (
   operator-at-reads.Learnt,
   in-expression-reads.Asked,
   in-expression-reads.Learnt,
+  leaf-reads.Asked,
+  leaf-reads.Learnt,
   of-read-reads.Asked,
   of-read-reads.Learnt,
   below t,
@@ -104,12 +107,15 @@ enum-told t c = search needs
 in-expression-requires : (t : ℕ) → lts.Need-in-expression-requires (known t) (given t) own.Post
 in-expression-requires t c κs = search needs
 
-add-next : (t : ℕ) → lts.Need-add-next (known t) (given t) own.Post
-add-next t c = omega (
+add-leaf : (t : ℕ) → lts.Need-add-leaf (known t) (given t) own.Post
+add-leaf t c = omega (
   arith,
   inside t (c .before .before .before) _ (c .before .enum-told .given .1),
   short t (c .before .before .before),
 )
+
+leaf-requires : (t : ℕ) → lts.Need-leaf-requires (known t) (given t) own.Post
+leaf-requires t c κs = search needs
 
 enum-known-decoded : (t : ℕ) → lts.Need-enum-known-decoded (known t) (given t) own.Post
 enum-known-decoded t c = search needs
@@ -117,13 +123,16 @@ enum-known-decoded t c = search needs
 of-read-requires : (t : ℕ) → lts.Need-of-read-requires (known t) (given t) own.Post
 of-read-requires t c κs = search needs
 
-add-next-2 : (t : ℕ) → lts.Need-add-next-2 (known t) (given t) own.Post
-add-next-2 t c = omega (
+add-leaf-2 : (t : ℕ) → lts.Need-add-leaf-2 (known t) (given t) own.Post
+add-leaf-2 t c = omega (
   arith,
   inside t (c .before .before .before .before) _ (c .before .before .decoded .given .1),
   c .of-read .ensures,
   short t (c .before .before .before .before),
 )
+
+leaf-requires-2 : (t : ℕ) → lts.Need-leaf-requires-2 (known t) (given t) own.Post
+leaf-requires-2 t c κs = search needs
 
 enum-told-2 : (t : ℕ) → lts.Need-enum-told-2 (known t) (given t) own.Post
 enum-told-2 t c = search needs
@@ -326,12 +335,18 @@ operated-requires-3 t c κs = let s = three t (c .before .before) in
 
 returns : (t : ℕ) → lts.Need-returns (known t) (given t) own.Post
 returns t c =
-    measures-leaf _ (is t (c .before .before .before) _ (c .before .enum-told .given .1)) refl
-    (ap (λ (k : ℕ). at t (c .before .before .before) + k) (c .in-expression .ensures)) refl refl
+    let c4 = c .before .before .before .before in
+    measures-leaf _ (is t c4 _ (c .before .before .enum-told .given .1)) refl
+    (c .leaf .ensures .0 ∙ ap (λ (k : ℕ). at t c4 + k) (c .before .in-expression .ensures)) (c .leaf .ensures .1)
+    (c .leaf .ensures .2)
 
 returns-2 : (t : ℕ) → lts.Need-returns-2 (known t) (given t) own.Post
-returns-2 t c = measures-leaf _ (is t (c .before .before .before .before) _ (c .before .before .decoded .given .1)) refl
-    (ap (λ (k : ℕ). at t (c .before .before .before .before) + k) (c .of-read .ensures)) refl refl
+returns-2 t c =
+    let c3 = c .before .before .before in
+    let c5 = c3 .before .before in
+    measures-leaf _ (is t c5 _ (c3 .decoded .given .1)) refl
+    (c .leaf2 .ensures .0 ∙ ap (λ (k : ℕ). at t c5 + k) (c .before .of-read .ensures)) (c .leaf2 .ensures .1)
+    (c .leaf2 .ensures .2)
 
 returns-3 : (t : ℕ) → lts.Need-returns-3 (known t) (given t) own.Post
 returns-3 t c =
@@ -374,10 +389,12 @@ pub +measure-expression-spec : {M : Type 1} → statement M
     (operator-at-requires t)
     (enum-told t)
     (in-expression-requires t)
-    (add-next t)
+    (add-leaf t)
+    (leaf-requires t)
     (enum-known-decoded t)
     (of-read-requires t)
-    (add-next-2 t)
+    (add-leaf-2 t)
+    (leaf-requires-2 t)
     (enum-told-2 t)
     (in-expression-requires-2 t)
     (add-measure-expression t)

@@ -10,36 +10,30 @@ use Rattle.image_valid.proofs.entries_ok.Statement.{statement}
 use Rattle.image_valid.proofs.entries_ok.Tie as tie
 
 abbrev start : tie.After-code-offset → tie.Start
-start o = o .before .before .before
+start o = o .before .before .before .before
 
 listed : (s : tie.Start) → Lists (s .args .image .now)
 listed s = lists _ (s .pre .1)
 
 -- where the lists start
-begins : (w : tie.After-wide) → let s = w .before .before in
-    4 + 6 * w .wide .result + 2 * (s .args .h + 1) ≡ listsAt (countOf (s .args .image .now)) (hyperOf (s .args .image .now))
-begins w = let s = w .before .before in rw (w .wide .ensures .0, s .pre .2, s .pre .3)
+begins : (a : tie.After-lists-at) → let image = a .before .before .before .args .image .now in
+    a .lists-at .result ≡ listsAt (countOf image) (hyperOf image)
+begins a =
+    let w = a .before in
+    let s = w .before .before in
+    rw (a .lists-at .ensures, w .wide .ensures .0, s .pre .2, s .pre .3)
 
-holds : (o : tie.After-code-offset) → 4 + 6 * o .before .wide .result + 2 * (start o .args .h + 1) ≤ o .code-offset .result
+holds : (o : tie.After-code-offset) → o .before .lists-at .result ≤ o .code-offset .result
 holds o = rw (begins (o .before), o .code-offset .ensures) (room _ (listed (start o)))
 
 wide-requires : tie.Need-wide-requires
 wide-requires c κs = search needs
 
-mul-start : tie.Need-mul-start
-mul-start c = search needs
-
-add-start : tie.Need-add-start
-add-start c = search needs
-
-add-start-2 : tie.Need-add-start-2
-add-start-2 c = let s = c .before .before in omega (arith, s .pre .3, head _ (s .pre .0) .hyper, c .wide .ensures .1)
-
-mul-start-2 : tie.Need-mul-start-2
-mul-start-2 c = let s = c .before .before in omega (arith, s .pre .3, head _ (s .pre .0) .hyper, c .wide .ensures .1)
-
-add-start-3 : tie.Need-add-start-3
-add-start-3 c = let s = c .before .before in omega (arith, s .pre .3, head _ (s .pre .0) .hyper, c .wide .ensures .1)
+lists-at-requires : tie.Need-lists-at-requires
+lists-at-requires c κs =
+    let s = c .before .before in
+    let h = head _ (s .pre .0) in
+    (omega (arith, c .wide .ensures .0, s .pre .2, h .signals), omega (arith, s .pre .3, h .hyper))
 
 code-offset-requires : tie.Need-code-offset-requires
 code-offset-requires c κs = search needs
@@ -76,11 +70,7 @@ entries-ok-spec =
     tie.close
     (tie.spec
     wide-requires
-    mul-start
-    add-start
-    add-start-2
-    mul-start-2
-    add-start-3
+    lists-at-requires
     code-offset-requires
     returns
     sub-greatest

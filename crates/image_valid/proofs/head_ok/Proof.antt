@@ -76,25 +76,13 @@ returns-5 c =
       lt-leb _ 64 (c .if5 .taken),
     )
 
-mul-result : tie.Need-mul-result
-mul-result c = search needs
-
-add-result : tie.Need-add-result
-add-result c = search needs
-
-add-result-2 : tie.Need-add-result-2
-add-result-2 c = search needs
-
-mul-result-2 : tie.Need-mul-result-2
-mul-result-2 c = search needs
-
-add-result-3 : tie.Need-add-result-3
-add-result-3 c = search needs
+lists-at-requires : tie.Need-lists-at-requires
+lists-at-requires c κs = search needs
 
 returns-6 : tie.Need-returns-6
 unfolding headOk
 returns-6 c =
-    let w2 = c .before .before .before in
+    let w2 = c .before .before .before .before in
     let w1 = w2 .before .before in
     let e2 = w1 .before .before in
     let o = e2 .before in
@@ -103,9 +91,10 @@ returns-6 c =
       eq-eqb _ _ (sym (o .stated-length .ensures) ∙ e2 .if2 .left),
       ← (w1 .wide .ensures .0),
       ← (w2 .wide2 .ensures .0),
-      le-leb 1 _ (c .before .before .if3 .left),
-      le-leb _ 240 (c .before .if4 .left),
-      le-leb _ 64 (c .if5 .left),
+      le-leb 1 _ (c .before .before .before .if3 .left),
+      le-leb _ 240 (c .before .before .if4 .left),
+      le-leb _ 64 (c .before .if5 .left),
+      ← (c .lists-at .ensures),
     )
 
 pub head-ok-spec : {M : Type 1} → statement M
@@ -122,9 +111,5 @@ head-ok-spec =
     returns-3
     returns-4
     returns-5
-    mul-result
-    add-result
-    add-result-2
-    mul-result-2
-    add-result-3
+    lists-at-requires
     returns-6)

@@ -25,16 +25,16 @@ abbrev μ-loop : tie.MeasureT-loop
 μ-loop image n h last₀ c₀ last c = h - c
 
 abbrev start : tie.At-loop Inv-loop μ-loop → tie.Start Inv-loop μ-loop
-start l = l .before .before .before .before
+start l = l .before .before .before .before .before
 
 -- where the lists start
-starts : (s : tie.Start Inv-loop μ-loop)
-    → 4 + 6 * s .args .n + 2 * (s .args .h + 1) ≡ listsAt (countOf (s .args .image .now)) (hyperOf (s .args .image .now))
-starts s = rw (s .pre .1, s .pre .2)
+starts : (a : tie.After-lists-at Inv-loop μ-loop) → let image = a .before .before .before .args .image .now in
+    a .lists-at .result ≡ listsAt (countOf image) (hyperOf image)
+starts a = let s = a .before .before .before in rw (a .lists-at .ensures, s .pre .1, s .pre .2)
 
-first : (e : tie.Else1 Inv-loop μ-loop) → let image = e .before .before .before .args .image .now in
+first : (e : tie.Else1 Inv-loop μ-loop) → let image = e .before .before .before .before .args .image .now in
     eqb (listOffset image 0) (listsAt (countOf image) (hyperOf image)) ≡ true
-first e = eq-eqb _ _ (sym (e .before .list-offset .ensures) ∙ e .if1 .left ∙ starts (e .before .before .before))
+first e = eq-eqb _ _ (sym (e .before .before .list-offset .ensures) ∙ e .if1 .left ∙ starts (e .before))
 
 -- after the loop: the last list ends here
 done : (a : tie.After-loop Inv-loop μ-loop) → a .before .loop .c ≡ hyperOf (start (a .before) .args .image .now)
@@ -51,41 +51,28 @@ ends a = a .before .loop .inv .2 ∙ ap (listOffset (start (a .before) .args .im
 list-offset-requires : tie.Need-list-offset-requires Inv-loop μ-loop
 list-offset-requires c κs = (c .before .pre .0, c .before .pre .1, omega arith)
 
-mul-if1 : tie.Need-mul-if1 Inv-loop μ-loop
-mul-if1 c = let s = c .before .before in
-    omega (arith, s .pre .1, s .pre .2, head _ (s .pre .0) .signals, head _ (s .pre .0) .hyper)
-
-add-if1 : tie.Need-add-if1 Inv-loop μ-loop
-add-if1 c = let s = c .before .before in
-    omega (arith, s .pre .1, s .pre .2, head _ (s .pre .0) .signals, head _ (s .pre .0) .hyper)
-
-add-if1-2 : tie.Need-add-if1-2 Inv-loop μ-loop
-add-if1-2 c = let s = c .before .before in
-    omega (arith, s .pre .1, s .pre .2, head _ (s .pre .0) .signals, head _ (s .pre .0) .hyper)
-
-mul-if1-2 : tie.Need-mul-if1-2 Inv-loop μ-loop
-mul-if1-2 c = let s = c .before .before in
-    omega (arith, s .pre .1, s .pre .2, head _ (s .pre .0) .signals, head _ (s .pre .0) .hyper)
-
-add-if1-3 : tie.Need-add-if1-3 Inv-loop μ-loop
-add-if1-3 c = let s = c .before .before in
-    omega (arith, s .pre .1, s .pre .2, head _ (s .pre .0) .signals, head _ (s .pre .0) .hyper)
+lists-at-requires : tie.Need-lists-at-requires Inv-loop μ-loop
+lists-at-requires c κs =
+    let s = c .before .before in
+    let h = head _ (s .pre .0) in
+    (omega (arith, s .pre .1, h .signals), omega (arith, s .pre .2, h .hyper))
 
 returns : tie.Need-returns Inv-loop μ-loop
 unfolding listsOk
 returns c =
-    let o = c .before in
+    let a = c .before in
+    let o = a .before in
     let s = o .before .before in
-    rw (ne-eqb (listOffset (s .args .image .now) 0) _ (λ e. c .if1 .taken (o .list-offset .ensures ∙ e ∙ sym (starts s))))
+    rw (ne-eqb (listOffset (s .args .image .now) 0) _ (λ e. c .if1 .taken (o .list-offset .ensures ∙ e ∙ sym (starts a))))
 
 loop-holds : tie.Need-loop-holds Inv-loop μ-loop
-loop-holds c = (all-none _, omega arith, c .before .list-offset .ensures)
+loop-holds c = (all-none _, omega arith, c .before .before .list-offset .ensures)
 
 add-list-offset : tie.Need-add-list-offset Inv-loop μ-loop
 add-list-offset c = omega arith
 
 list-offset-requires-2 : tie.Need-list-offset-requires-2 Inv-loop μ-loop
-list-offset-requires-2 c κs = let s = c .before .before .before .before .before in
+list-offset-requires-2 c κs = let s = c .before .before .before .before .before .before in
     (s .pre .0, s .pre .1, omega (arith, s .pre .2))
 
 returns-2 : tie.Need-returns-2 Inv-loop μ-loop
@@ -154,11 +141,7 @@ lists-ok-spec =
     Inv-loop
     μ-loop
     list-offset-requires
-    mul-if1
-    add-if1
-    add-if1-2
-    mul-if1-2
-    add-if1-3
+    lists-at-requires
     returns
     loop-holds
     add-list-offset

@@ -13,35 +13,23 @@ use Rattle.image_write.proofs.lay_out.Tie as tie
 few : (s : tie.Start) → (s .args .tables .signals ≤ 64) × (s .args .h ≤ 240)
 few s = (declared (s .pre .1 .prepared) .few, s .pre .1 .hyper)
 
-mul-lists : tie.Need-mul-lists
-mul-lists c = omega (arith, few (c .before) .0)
-
-add-lists : tie.Need-add-lists
-add-lists c = omega (arith, few (c .before) .0)
-
-add-lists-2 : tie.Need-add-lists-2
-add-lists-2 c = omega (arith, few (c .before) .1)
-
-mul-lists-2 : tie.Need-mul-lists-2
-mul-lists-2 c = omega (arith, few (c .before) .1)
-
-add-lists-3 : tie.Need-add-lists-3
-add-lists-3 c = let b = few (c .before) in omega (arith, b .0, b .1)
+lists-at-requires : tie.Need-lists-at-requires
+lists-at-requires c κs = few (c .before)
 
 lists-length-requires : tie.Need-lists-length-requires
 lists-length-requires c κs =
-    let r = c .before .pre .1 in
+    let r = c .before .before .pre .1 in
     (timed (r .prepared), phased (r .prepared), r .hyper)
 
 -- where the code starts
-start-most : (c : tie.After-lists-length) →
-    4 + 6 * c .before .before .args .tables .signals + 2 * (c .before .before .args .h + 1) + c .lists-length .result < 65536
+start-most : (c : tie.After-lists-length) → c .before .lists-at .result + c .lists-length .result < 65536
 start-most c =
-    let s = c .before .before in
+    let s = c .before .before .before in
     let b = few s in
     omega (
       arith,
       c .lists-length .ensures,
+      c .before .lists-at .ensures,
       b .0,
       b .1,
       lists-most (s .args .periods .now) (s .args .order .now) (s .args .phases .now) (s .args .tables .signals) (s .args .h)
@@ -52,10 +40,10 @@ add-code : tie.Need-add-code
 add-code c = omega (arith, start-most c)
 
 mul-wider : tie.Need-mul-wider
-mul-wider c = omega (arith, few (c .before .before) .0)
+mul-wider c = omega (arith, few (c .before .before .before) .0)
 
 array-read-wider : tie.Need-array-read-wider
-array-read-wider c = omega (arith, few (c .before .before) .0)
+array-read-wider c = omega (arith, few (c .before .before .before) .0)
 
 wider-requires : tie.Need-wider-requires
 wider-requires c κs = search needs
@@ -64,32 +52,29 @@ add-end : tie.Need-add-end
 add-end c = omega (arith, start-most (c .before), c .wider .ensures .1)
 
 mul-written : tie.Need-mul-written
-mul-written c = omega (arith, few (c .before .before .before) .0)
+mul-written c = omega (arith, few (c .before .before .before .before) .0)
 
 add-written : tie.Need-add-written
-add-written c = omega (arith, start-most (c .before), c .wider .ensures .1, few (c .before .before .before) .0)
+add-written c = omega (arith, start-most (c .before), c .wider .ensures .1, few (c .before .before .before .before) .0)
 
 returns : tie.Need-returns
 returns c =
-    let s = c .before .before .before in
+    let s = c .before .before .before .before in
+    let a = c .before .before .lists-at .ensures in
     let e = c .before .lists-length .ensures in
     λ text p q r.
     record {
-      lists-at = sym (lists-by r (s .args .h));
-      code-at = ap (λ (n : ℕ). listsAt (s .args .tables .signals) (s .args .h) + n) e ∙ sym (code-by r (s .args .h));
-      ends = omega (arith, length-by r (s .args .h), e, c .wider .ensures .0, code-size r);
-      tail-ends = omega (arith, length-by r (s .args .h), e, c .wider .ensures .0, code-size r, count-is r);
+      lists-at = a ∙ sym (lists-by r (s .args .h));
+      code-at = rw a (ap (λ (n : ℕ). listsAt (s .args .tables .signals) (s .args .h) + n) e ∙ sym (code-by r (s .args .h)));
+      ends = omega (arith, length-by r (s .args .h), a, e, c .wider .ensures .0, code-size r);
+      tail-ends = omega (arith, length-by r (s .args .h), a, e, c .wider .ensures .0, code-size r, count-is r);
     }
 
 pub lay-out-spec : {M : Type 1} → statement M
 lay-out-spec =
     tie.close
     (tie.spec
-    mul-lists
-    add-lists
-    add-lists-2
-    mul-lists-2
-    add-lists-3
+    lists-at-requires
     lists-length-requires
     add-code
     mul-wider

@@ -38,35 +38,34 @@ loop-holds : tie.Need-loop-holds Inv-loop μ-loop
 loop-holds c = let s = c .before in
     (begun-none (s .args .image .now) (s .args .state .now) (omega (arith, s .pre .2)), refl, omega arith)
 
-mul-word-at : tie.Need-mul-word-at Inv-loop μ-loop
-mul-word-at c = omega (arith, top (start (c .before)) .signals)
-
-add-word-at : tie.Need-add-word-at Inv-loop μ-loop
-add-word-at c = omega (arith, top (start (c .before)) .signals)
+record-at-requires : tie.Need-record-at-requires Inv-loop μ-loop
+record-at-requires c κs = omega (arith, top (start (c .before)) .signals, start (c .before) .pre .1)
 
 word-at-requires : tie.Need-word-at-requires Inv-loop μ-loop
-word-at-requires c κs = let s = start (c .before) in omega (arith, s .pre .1, top s .fixed)
+word-at-requires c κs =
+    let s = start (c .before .before) in
+    omega (arith, s .pre .1, top s .fixed, c .record-at .ensures)
 
 add-x : tie.Need-add-x Inv-loop μ-loop
-add-x c = omega (arith, top (start (c .before .before)) .signals)
+add-x c = omega (arith, top (start (c .before .before .before)) .signals)
 
 mul-w : tie.Need-mul-w Inv-loop μ-loop
-mul-w c = omega (arith, top (start (c .before .before)) .signals)
+mul-w c = omega (arith, top (start (c .before .before .before)) .signals)
 
 slice-set-from-w : tie.Need-slice-set-from-w Inv-loop μ-loop
-slice-set-from-w c = let l = c .before .before in omega (arith, long l, start l .pre .2)
+slice-set-from-w c = let l = c .before .before .before in omega (arith, long l, start l .pre .2)
 
 loop-less : tie.Need-loop-less Inv-loop μ-loop
 loop-less c = omega arith
 
 loop-again : tie.Need-loop-again Inv-loop μ-loop
 loop-again c =
-    let l = c .before .before in
+    let l = c .before .before .before in
     let s = start l in
     let image = s .args .image .now in
     let x = l .loop .x in
     let word : toZ w32 (ofZ w32 (c .word-at .result)) ≡ wordAt image (4 + 6 * x) = kept _ (c .word-at .ok) ∙
-    c .word-at .ensures in
+    c .word-at .ensures ∙ ap (wordAt image) (c .before .record-at .ensures) in
     let room : x + 1 < length (set (s .args .state .now) 0 (pos 0)) =
     omega (arith, length-set (s .args .state .now) 0 (pos 0), s .pre .2) in (
       ap₂ (λ (t : List ℤ) (w : ℤ). set t (x + 1) w) (l .loop .inv .0) word ∙
@@ -95,8 +94,7 @@ initial-words-spec =
     μ-loop
     slice-set-of-state
     loop-holds
-    mul-word-at
-    add-word-at
+    record-at-requires
     word-at-requires
     add-x
     mul-w

@@ -1,12 +1,12 @@
 -- `text_command::taken_at` meets its contract. Assumes nothing.
 use Prim.Native.Nat.{ℕ}
 use mathlib.Core.List.{List}
-use mathlib.Core.Path.{sym, _∙_}
+use mathlib.Core.Path.{sym, ap, _∙_}
 use native.Mathlib.Omega.{arith}
 use denote.Ref.{now}
-use Rattle.text_command.specs.Operator.{ReadStands}
-use Rattle.text_command.proofs.Shape.{Shape, read-shape}
 use borrow.Author.Needs.{needs}
+use Rattle.text_command.specs.Operator.{ReadStands}
+use Rattle.text_command.proofs.Shape.{Shape, read-shape, place-inside, read-is}
 use Rattle.text_command.proofs.taken_at.Statement.{statement}
 use Rattle.text_command.proofs.taken_at.Tie as tie
 
@@ -26,47 +26,55 @@ shared-slice-read-signal c = omega (arith, shape (c .before .before .before .pre
 kind-of-requires : tie.Need-kind-of-requires
 kind-of-requires c κs = search needs
 
-returns : tie.Need-returns
-returns c =
-    record {
-      is = λ kind x e.
-          let h = read-shape _ _ kind x e in
-          rw (c .before .kind-of .ensures, h .kind-is, h .plain (c .if1 .taken));
-    }
+index-place-requires : tie.Need-index-place-requires
+index-place-requires c κs = search needs
 
-add-index-of : tie.Need-add-index-of
-add-index-of c = omega (arith, shape (c .before .before .before .before .before .pre) .wide (c .if1 .left))
+add-place : tie.Need-add-place
+add-place c =
+    let c5 = c .before .before .before .before .before in
+    omega (arith, place-inside _ _ (shape (c5 .pre)), c .index-place .ensures)
 
-shared-slice-read-index-of : tie.Need-shared-slice-read-index-of
-shared-slice-read-index-of c =
-    omega (arith, shape (c .before .before .before .before .before .before .pre) .wide (c .before .if1 .left))
+shared-slice-read-select : tie.Need-shared-slice-read-select
+shared-slice-read-select c =
+    let c6 = c .before .before .before .before .before .before in
+    omega (arith, place-inside _ _ (shape (c6 .pre)), c .before .index-place .ensures)
+
+select-requires : tie.Need-select-requires
+select-requires c κs = search needs
 
 index-of-requires : tie.Need-index-of-requires
 index-of-requires c κs = search needs
 
-add-t9 : tie.Need-add-t9
-add-t9 c = omega (
-  arith,
-  shape (c .before .before .before .before .before .before .before .pre) .wide
-      (c .before .before .if1 .left),
-)
-
-shared-slice-read-t8 : tie.Need-shared-slice-read-t8
-shared-slice-read-t8 c =
+add-select : tie.Need-add-select
+add-select c =
     let c3 = c .before .before .before in
     let c8 = c3 .before .before .before .before .before in
-    omega (arith, shape (c8 .pre) .wide (c3 .if1 .left))
+    omega (arith, place-inside _ _ (shape (c8 .pre)), c3 .index-place .ensures)
 
-returns-2 : tie.Need-returns-2
-returns-2 c =
+shared-slice-read-select-2 : tie.Need-shared-slice-read-select-2
+shared-slice-read-select-2 c =
+    let c4 = c .before .before .before .before in
+    let c9 = c4 .before .before .before .before .before in
+    omega (arith, place-inside _ _ (shape (c9 .pre)), c4 .index-place .ensures)
+
+select-requires-2 : tie.Need-select-requires-2
+select-requires-2 c κs = search needs
+
+returns : tie.Need-returns
+returns c =
+    let c3 = c .before .before .before in
+    let c6 = c3 .before .before .before in
     record {
       is = λ kind x e.
           let h = read-shape _ _ kind x e in
           rw (
-            c .before .before .before .before .kind-of .ensures,
-            c .before .index-of .ensures,
+            c .select2 .ensures,
+            c .before .before .index-of .ensures,
+            c3 .select .ensures,
+            c .before .before .before .before .before .index-place .ensures,
+            c6 .kind-of .ensures,
             h .kind-is,
-            h .sampled (c .before .before .before .if1 .left),
+            read-is _ _ h,
           );
     }
 
@@ -78,10 +86,12 @@ taken-at-spec =
     add-signal
     shared-slice-read-signal
     kind-of-requires
-    returns
-    add-index-of
-    shared-slice-read-index-of
+    index-place-requires
+    add-place
+    shared-slice-read-select
+    select-requires
     index-of-requires
-    add-t9
-    shared-slice-read-t8
-    returns-2)
+    add-select
+    shared-slice-read-select-2
+    select-requires-2
+    returns)
