@@ -21,9 +21,6 @@ use generate::Pair;
 use rows::{image_of, images_of, long_chains, measure, open_reads, print, program_a, program_of, row, Row, ROUNDS};
 use std::hint::black_box;
 
-/// The flags of a place that a turn takes.
-const LOADED_AND_DUE: usize = 3;
-
 fn compile_row(name: &str, pair: &Pair) -> Row {
     let image = image_of(pair);
     let length = image.len();
@@ -89,7 +86,7 @@ fn cycle_row(name: &str, image: &[u8]) -> Row {
 }
 
 /// A turn of a board whose other places are idle, against a cycle of the same image, both by the library. That both leave the same
-/// words is seen before: what is measured looks at no more than the answer.
+/// words is seen before; what is measured marks the place and reads which one was taken, as a caller does.
 fn turn_row(name: &str, image: &[u8]) -> Row {
     let samples: Vec<i32> = (0..256).map(|sample| sample % 64 * 77 - 5).collect();
     let other_samples = samples.clone();
@@ -106,8 +103,9 @@ fn turn_row(name: &str, image: &[u8]) -> Row {
         assert_eq!((&state[..65], record[3]), (&other[..], turn));
     }
     let turn = move || {
-        record[0] = LOADED_AND_DUE;
-        assert!(library::board_turn(&mut record, black_box(&lent), &mut state, &samples, &mut outcome) == 0);
+        record[0] |= 2;
+        assert_eq!(library::board_turn(&mut record, black_box(&lent), &mut state, &samples, &mut outcome), 0);
+        assert_eq!(outcome[..2], [1, 0]);
     };
     let cycle = move || assert!(library::cycle(black_box(&other_lent), &mut other, &other_samples[..64]) < 1 << 32);
     row(format!("turn {name}"), image.len(), [Box::new(turn), Box::new(cycle)])
