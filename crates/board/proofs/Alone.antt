@@ -111,7 +111,7 @@ module _ (b : Board) (images : List ℕ) (state samples : List ℤ) (k : ℕ) wh
   abbrev words : List ℤ
   words = placeWords k state
 
-  abbrev run : List ℕ → Effect ℤ
+  abbrev run : List ℕ → Effect ℕ ℤ
   run image = cycleOf image words (placeSamples k samples)
 
   pub run-is : (n : ℕ) → runOf b images state samples k .answer ≡ accepted n →
@@ -216,11 +216,11 @@ module _ (k : ℕ) (lt : k < 4) (s : Scene) where
           Leaves k s (turn samples)
       took-own le (accepted n) h e =
           stepped (placeSamples k samples) n
-          (sym (ap (λ (x : Effect ℤ). x .answer) (run-is (s .board) (s .images) (s .state) samples k n h)) ∙ h) (rw e (stays k))
+          (sym (ap (λ (x : Effect ℕ ℤ). x .answer) (run-is (s .board) (s .images) (s .state) samples k n h)) ∙ h) (rw e (stays k))
           (rw e (image-same (s .board) (takenAt (s .board) k) (s .images) k (stays k)))
           (rw e
           (words-own k (s .state) (runBy s samples k .left) lt le (run-length (s .board) (s .images) (s .state) samples k lt le) ∙
-          ap (λ (x : Effect ℤ). x .left) (run-is (s .board) (s .images) (s .state) samples k n h)))
+          ap (λ (x : Effect ℕ ℤ). x .left) (run-is (s .board) (s .images) (s .state) samples k n h)))
           (λ es. step es e ∙
           ap (λ (t : Bool). cond t (cycle (placeSamples k samples) ∷ ownCycles k (afterEvent s (turn samples)) es)
           (ownCycles k (afterEvent s (turn samples)) es)) (eq-eqb k k refl))

@@ -51,10 +51,10 @@ abbrev pub turnAnswer : BoardEffect Yield → Outcome Yield
 turnAnswer c = c .answer
 
 -- The reset of a load, and the run of a turn that takes place k.
-abbrev pub resetBy : Scene → ℕ → ℕ → ℕ → Effect ℤ
+abbrev pub resetBy : Scene → ℕ → ℕ → ℕ → Effect ℕ ℤ
 resetBy s k start size = resetIn (s .images) start size (placeWords k (s .state))
 
-abbrev pub runBy : Scene → List ℤ → ℕ → Effect ℤ
+abbrev pub runBy : Scene → List ℤ → ℕ → Effect ℕ ℤ
 runBy s samples k = runOf (s .board) (s .images) (s .state) samples k
 
 pub data LoadCase (s : Scene) (k start size : ℕ) : Type 0 where

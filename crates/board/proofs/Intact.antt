@@ -99,7 +99,7 @@ module _ (b : Board) (images : List ℕ) (state samples : List ℤ) (k : ℕ) (l
   abbrev own : List ℤ
   own = placeSamples k samples
 
-  abbrev run : List ℕ → Effect ℤ
+  abbrev run : List ℕ → Effect ℕ ℤ
   run im = cycleOf im words own
 
   long : 64 < length words
@@ -230,7 +230,7 @@ load-leaves-place s k start size n four a = go (load-case s k start size)
     go (load-does lt w m h e) =
         let old = placeWords k (s .state) in
         let le = leb-true 260 (length (s .state)) w in
-        let reset : List ℕ → Effect ℤ = λ im. resetOf im old in
+        let reset : List ℕ → Effect ℕ ℤ = λ im. resetOf im old in
         let inside = accepted-inside (s .images) start size old reset m h in
         let ran = accepted-runs (s .images) start size old reset m h in
         let answered : resetOf image old .answer ≡ accepted m = sym (ap answerOf ran) ∙ h in

@@ -40,21 +40,21 @@ use Rattle.machine.proofs.Runnable.{stays-runnable, reset-runnable}
 use Rattle.board.specs.Board.{onStretch}
 use Rattle.board.specs.Events.{RunFault, bad-image, bad-position}
 
-abbrev pub answerOf : Effect ℤ → Outcome ℕ
+abbrev pub answerOf : Effect ℕ ℤ → Outcome ℕ
 answerOf e = e .answer
 
-abbrev pub leftOf : Effect ℤ → List ℤ
+abbrev pub leftOf : Effect ℕ ℤ → List ℤ
 leftOf e = e .left
 
 -- a refused call changes nothing
-abbrev pub kept : Fault → List ℤ → Effect ℤ
+abbrev pub kept : Fault → List ℤ → Effect ℕ ℤ
 kept f words = record { answer = refused f; left = words }
 
 pub never : {A : Type 0} (a : A) (f : Fault) → _≡_ {A = Outcome A} (accepted a) (refused f) → ⊥
 never a f e = let z : _≡_ {A = ℕ} 0 1 = cc in omega arith
 
 -- what a call hands back, once its definition is known
-pub gives-effect : {e r : Effect ℤ} {a : Outcome ℕ} {s : List ℤ} → e ≡ r → a ≡ r .answer → s ≡ r .left →
+pub gives-effect : {e r : Effect ℕ ℤ} {a : Outcome ℕ} {s : List ℤ} → e ≡ r → a ≡ r .answer → s ≡ r .left →
     (a ≡ e .answer) × (s ≡ e .left)
 gives-effect q x z = (x ∙ sym (ap answerOf q), z ∙ sym (ap leftOf q))
 
@@ -158,15 +158,15 @@ pub reset-length : (image : List ℕ) (words : List ℤ) → length (resetOf ima
 reset-length image words = go (reset-case image words)
   where
     go : ResetCase image words → length (resetOf image words .left) ≡ length words
-    go (reset-stays f e) = ap (λ (x : Effect ℤ). length (x .left)) e
-    go (reset-does w lt e) = ap (λ (x : Effect ℤ). length (x .left)) e ∙ reset-words-length (imagePart image) words lt
+    go (reset-stays f e) = ap (λ (x : Effect ℕ ℤ). length (x .left)) e
+    go (reset-does w lt e) = ap (λ (x : Effect ℕ ℤ). length (x .left)) e ∙ reset-words-length (imagePart image) words lt
 
 pub cycle-of-length : (image : List ℕ) (words samples : List ℤ) → length (cycleOf image words samples .left) ≡ length words
 cycle-of-length image words samples = go (cycle-case image words samples)
   where
     go : CycleCase image words samples → length (cycleOf image words samples .left) ≡ length words
-    go (cycle-stays f n e) = ap (λ (x : Effect ℤ). length (x .left)) e
-    go (cycle-does w r) = ap (λ (x : Effect ℤ). length (x .left)) (cycle-runs image words samples w r) ∙
+    go (cycle-stays f n e) = ap (λ (x : Effect ℕ ℤ). length (x .left)) e
+    go (cycle-does w r) = ap (λ (x : Effect ℕ ℤ). length (x .left)) (cycle-runs image words samples w r) ∙
         cycle-length (imagePart image) words samples
 
 pub reset-keeps : (words : List ℤ) (image : List ℕ) (f : Fault) → resetOf image words .answer ≡ refused f →
@@ -264,7 +264,7 @@ cycle-fault image words samples long many f h = go (cycle-case image words sampl
         absurd (never (cycleCount (imagePart image) words) f (sym (ap answerOf (cycle-runs image words samples w r)) ∙ h))
 
 -- On a stretch of the images: 27 outside them, and else what the call makes of the image there.
-module _ (images : List ℕ) (start size : ℕ) (words : List ℤ) (run : List ℕ → Effect ℤ) where
+module _ (images : List ℕ) (start size : ℕ) (words : List ℤ) (run : List ℕ → Effect ℕ ℤ) where
   pub outside-27 : leb (start + size) (length images) ≡ false → onStretch images start size words run ≡ kept (fault 27 0) words
   unfolding onStretch
   outside-27 e = rw e
@@ -289,8 +289,8 @@ module _ (images : List ℕ) (start size : ℕ) (words : List ℤ) (run : List �
     where
       go : (t : Bool) → leb (start + size) (length images) ≡ t →
           length (onStretch images start size words run .left) ≡ length words
-      go true e = ap (λ (x : Effect ℤ). length (x .left)) (inside-runs e) ∙ keeps (stretch images start (start + size))
-      go false e = ap (λ (x : Effect ℤ). length (x .left)) (outside-27 e)
+      go true e = ap (λ (x : Effect ℕ ℤ). length (x .left)) (inside-runs e) ∙ keeps (stretch images start (start + size))
+      go false e = ap (λ (x : Effect ℕ ℤ). length (x .left)) (outside-27 e)
 
   -- A call that is not refused lies inside.
   pub accepted-inside : (n : ℕ) → onStretch images start size words run .answer ≡ accepted n →

@@ -8,7 +8,7 @@ use lib.IntN.{ℤ}
 use lib.ListN.{length, getD, take, drop, set}
 use Rattle.model.specs.Rules.Machine.{Effect, stretch, resetOf, cycleOf}
 use Rattle.model.specs.Rules.Outcome.{Outcome, accepted, refused, refuse, _▷_, provided}
-use Rattle.model.specs.Rules.Search.{first}
+use Rattle.model.specs.Rules.Search.{firstBelow}
 use Rattle.model.specs.declared.Found.{Found}
 use Rattle.model.specs.declared.Found.the-variants.{At, Nowhere}
 use Rattle.board.specs.declared.Board.{Board}
@@ -72,19 +72,19 @@ placeFound b Nowhere = Nowhere
 
 -- The next due place in this order.
 unfoldable pub nextDue : Board → Found
-nextDue b = placeFound b (first 4 (dueAfter b))
+nextDue b = placeFound b (firstBelow 4 (dueAfter b))
 
 -- A reset or a cycle on a place's words, its image a stretch of the lent buffer: 27 if the stretch lies outside, else what it
 -- makes of the image.
-unfoldable pub onStretch : List ℕ → ℕ → ℕ → List ℤ → (List ℕ → Effect ℤ) → Effect ℤ
+unfoldable pub onStretch : List ℕ → ℕ → ℕ → List ℤ → (List ℕ → Effect ℕ ℤ) → Effect ℕ ℤ
 onStretch images start size words run =
     cond (leb (start + size) (length images)) (run (stretch images start (start + size)))
     (record { answer = refuse 27 0; left = words })
 
-abbrev pub resetIn : List ℕ → ℕ → ℕ → List ℤ → Effect ℤ
+abbrev pub resetIn : List ℕ → ℕ → ℕ → List ℤ → Effect ℕ ℤ
 resetIn images start size words = onStretch images start size words (λ image. resetOf image words)
 
-abbrev pub cycleIn : List ℕ → ℕ → ℕ → List ℤ → List ℤ → Effect ℤ
+abbrev pub cycleIn : List ℕ → ℕ → ℕ → List ℤ → List ℤ → Effect ℕ ℤ
 cycleIn images start size words samples = onStretch images start size words (λ image. cycleOf image words samples)
 
 -- What a call answers, and the record and the state that it leaves.
@@ -129,10 +129,10 @@ pub data Yield : Type 0 where
   took : ℕ → Outcome ℕ → Yield
 
 -- The run of a place: one cycle of its image, words and samples.
-abbrev pub runIn : List ℕ → ℕ → ℕ → List ℤ → List ℤ → ℕ → Effect ℤ
+abbrev pub runIn : List ℕ → ℕ → ℕ → List ℤ → List ℤ → ℕ → Effect ℕ ℤ
 runIn images start size state samples k = cycleIn images start size (placeWords k state) (placeSamples k samples)
 
-unfoldable pub runOf : Board → List ℕ → List ℤ → List ℤ → ℕ → Effect ℤ
+unfoldable pub runOf : Board → List ℕ → List ℤ → List ℤ → ℕ → Effect ℕ ℤ
 runOf b images state samples k = runIn images (placeAt b k .start) (placeAt b k .size) state samples k
 
 -- A turn runs the next due place and clears its mark; a run that is refused does the same and leaves the state.

@@ -13,7 +13,7 @@ use Rattle.model.proofs.Pairs.Links.{read-of}
 use Rattle.model.specs.Rules.Program.{Program, Read, count, signalAt}
 use Rattle.model.specs.Rules.Reads.{Rate, rateOf, line, settle}
 use Rattle.model.specs.Rules.Schedule.{Schedule, phaseOf}
-use Rattle.model.specs.Rules.Search.{first}
+use Rattle.model.specs.Rules.Search.{firstBelow}
 use Rattle.model.specs.declared.Found.{Found}
 use Rattle.model.specs.declared.Found.the-variants.{At, Nowhere}
 use Rattle.model.specs.declared.Kind.{Kind}
@@ -26,9 +26,9 @@ use Rattle.check_latency.specs.Timely.{ByteFound, Known}
 -- A settled index is below its factor.
 pub settle-byte : (kind : Kind) (w r : Rate) (n : ℕ) → n < 256 → ByteFound (settle kind w r n)
 unfolding settle
-settle-byte kind w r n lt = go (first n (line kind w r)) refl
+settle-byte kind w r n lt = go (firstBelow n (line kind w r)) refl
   where
-    go : (f : Found) → first n (line kind w r) ≡ f → ByteFound f
+    go : (f : Found) → firstBelow n (line kind w r) ≡ f → ByteFound f
     go (At i) e = let h = is-first n (line kind w r) (At i) e in omega arith
     go Nowhere e = tt
 

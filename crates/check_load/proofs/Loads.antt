@@ -13,7 +13,7 @@ use Rattle.model.specs.Rules.Outcome.{Outcome, accepted, refused}
 use Rattle.model.specs.Rules.Program.{Program, Limit, unlimited, limit, count, signalAt, weightOf}
 use Rattle.model.specs.Rules.Reads.{due, rateOf}
 use Rattle.model.specs.Rules.Schedule.{Schedule, phaseOf}
-use Rattle.model.specs.Rules.Search.{sum, table, tableFrom, first, firstFrom}
+use Rattle.model.specs.Rules.Search.{sum, table, tableFrom, firstBelow, firstFrom}
 use Rattle.model.specs.declared.Found.{Found}
 use Rattle.model.specs.declared.Found.the-variants.{At, Nowhere}
 use Rattle.text_program.specs.Tables.{PeriodsOf, WeightsOf, capOf}
@@ -82,11 +82,11 @@ judged-found Nowhere = refl
 
 pub judged-load : (p : Program) (s : Schedule) (periods phases weights : List ℕ) (h m : ℕ) → PeriodsOf p periods →
     WeightsOf p weights → PhasesOf p s phases → p .cap ≡ limit m →
-    judgementOf (loaded p s h) ≡ judgedAt (first h (λ c. ltb m (loadIn periods phases weights (count p) c)))
+    judgementOf (loaded p s h) ≡ judgedAt (firstBelow h (λ c. ltb m (loadIn periods phases weights (count p) c)))
 unfolding loaded
 judged-load p s periods phases weights h m hp hw hf e =
-    judged-found (first h (λ c. isOver (p .cap) (load p s c))) ∙
-    ap (λ f. judgedAt (first h f))
+    judged-found (firstBelow h (λ c. isOver (p .cap) (load p s c))) ∙
+    ap (λ f. judgedAt (firstBelow h f))
     (fun-ext (λ c. ap (λ l. isOver l (load p s c)) e ∙ ap (ltb m) (load-is p s periods phases weights hp hw hf c)))
 
 -- With no CAP no cycle is over it.
@@ -96,9 +96,9 @@ never-found i zero = refl
 never-found i (suc n) = never-found (suc i) n
 
 pub judged-free : (p : Program) (s : Schedule) (h : ℕ) → p .cap ≡ unlimited → judgementOf (loaded p s h) ≡ Judged.Fine
-unfolding loaded first
+unfolding loaded firstBelow
 judged-free p s h e =
-    judged-found (first h (λ c. isOver (p .cap) (load p s c))) ∙
+    judged-found (firstBelow h (λ c. isOver (p .cap) (load p s c))) ∙
     ap (λ f. judgedAt (firstFrom 0 h f)) (fun-ext (λ c. ap (λ l. isOver l (load p s c)) e)) ∙ ap judgedAt (never-found 0 h)
 
 -- Searches by tests that are the same below n.
@@ -116,11 +116,11 @@ over loads m c = ltb m (getD loads c 0)
 
 pub judged-capped : (p : Program) (s : Schedule) (periods phases weights loads : List ℕ) (n h m : ℕ) (capped : Bool) (f : Found) →
     capped ≡ true → count p ≡ n → PeriodsOf p periods → WeightsOf p weights → PhasesOf p s phases → p .cap ≡ capOf capped m →
-    LoadsOf periods phases weights n h loads → first h (over loads m) ≡ f → judgedAt f ≡ judgementOf (loaded p s h)
-unfolding first
+    LoadsOf periods phases weights n h loads → firstBelow h (over loads m) ≡ f → judgedAt f ≡ judgementOf (loaded p s h)
+unfolding firstBelow
 judged-capped p s periods phases weights loads n h m capped f t e hp hw hf cap l g =
     sym (judged-load p s periods phases weights h m hp hw hf (cap ∙ ap (λ b. capOf b m) t) ∙
-    ap (λ k. judgedAt (first h (λ c. ltb m (loadIn periods phases weights k c)))) e ∙
+    ap (λ k. judgedAt (firstBelow h (λ c. ltb m (loadIn periods phases weights k c)))) e ∙
     ap judgedAt (first-same 0 h _ _ (λ x lt. ap (ltb m) (sym (l (0 + x) (omega arith)))) ∙ g))
 
 pub judged-uncapped : (p : Program) (s : Schedule) (h m : ℕ) (capped : Bool) → capped ≡ false → p .cap ≡ capOf capped m →

@@ -8,7 +8,7 @@ ghost use lib.ListN.{length, getD};
 ghost use Rattle.model.specs.Rules.Load.{loaded};
 ghost use Rattle.model.specs.Rules.Program.{Program, count};
 ghost use Rattle.model.specs.Rules.Schedule.{Schedule};
-ghost use Rattle.model.specs.Rules.Search.{first};
+ghost use Rattle.model.specs.Rules.Search.{firstBelow};
 ghost use Rattle.basics.specs.Judgement.{judgementOf};
 ghost use Rattle.text_program.specs.Tables.{PeriodsOf, WeightsOf, capOf};
 ghost use Rattle.check_load.specs.Load.{LoadsOf, Raised, PhasesOf};
@@ -51,7 +51,7 @@ fn loads_of(
 // The lowest cycle below the hypercycle whose load is over the limit.
 fn first_over(loads: &[u32; 240], limit: u32, hypercycle: usize) -> Found
     requires { ⌜ hypercycle ≤ 240 ⌝ }
-    ensures { λ r. ⌜ r ≡ first hypercycle (λ c. ltb limit (getD (now (loads .entry)) c 0)) ⌝ }
+    ensures { λ r. ⌜ r ≡ firstBelow hypercycle (λ c. ltb limit (getD (now (loads .entry)) c 0)) ⌝ }
 {
     let mut cycle: usize = 0;
     while cycle < hypercycle {

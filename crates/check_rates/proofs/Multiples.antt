@@ -11,7 +11,7 @@ use lib.Seq.{drop-cons}
 use Rattle.model.specs.Rules.Outcome.{accepted, refuse}
 use Rattle.model.specs.Rules.Program.{Program, Signal, noSignal}
 use Rattle.model.specs.Rules.Rates.{isMultiple, hypercycleOf, hypercycle}
-use Rattle.model.specs.Rules.Search.{firstFrom, first}
+use Rattle.model.specs.Rules.Search.{firstFrom, firstBelow}
 use Rattle.model.specs.declared.Found.{Found}
 use Rattle.model.specs.declared.Found.the-variants.{At}
 
@@ -42,7 +42,7 @@ module _ (p : Program) where
   leftFrom h = firstFrom h (240 - h) (λ k. isMultiple (p .signals) (suc k))
 
   pub cycle-start : hypercycle p ≡ hypercycleOf (leftFrom 0)
-  unfolding hypercycle first leftFrom
+  unfolding hypercycle firstBelow leftFrom
   cycle-start = refl
 
   pub cycle-here : (h : ℕ) → h < 240 → isMultiple (p .signals) (h + 1) ≡ true → hypercycleOf (leftFrom h) ≡ accepted (h + 1)

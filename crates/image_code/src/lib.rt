@@ -4,11 +4,11 @@ use model::Operator;
 use model::Unary;
 ghost use mathlib.Core.Path.{_≡_};
 ghost use mathlib.Core.List.{[], _∷_};
-ghost use Prim.Native.Nat.{_+_, _≤_, _<_};
+ghost use Prim.Native.Nat.{_+_, _^_, _≤_, _<_};
 ghost use lib.ListN.{length};
 ghost use Rattle.model.specs.Rules.Image.{binaryByte, unaryByte};
 ghost use Rattle.model.specs.Rules.Width.{inCode};
-ghost use Rattle.model.specs.Rules.Word.{wordBytes};
+ghost use Rattle.model.specs.Rules.Word.{byteAt, wordBytes};
 ghost use Rattle.image_code.specs.Code.{Puts, Room, Emits, SignalRoom, EmitsSignal};
 
 // Where the text goes on, and where the code ends.
@@ -82,15 +82,25 @@ fn put_operator(out: &mut [u8], operands: Emitted, code: u8) -> Emitted
 }
 
 // Writes the code of the expression at `at`, which nests at most `depth` deep, from `to` on.
-pub fn emit_expression(text: &[u8], at: usize, depth: usize, out: &mut [u8], to: usize) -> Emitted
-    requires { ⌜ Room depth (now text) at (length (now out)) to ⌝ }
-    ensures { λ r. ⌜ Emits (now (text .entry)) at (now (out .entry)) to (now (out .exit)) (r .next) (r .end) ⌝ }
+// The slices go by reference to them, so that no level of the recursion copies them. `counted` is what the type of a slice
+// says and that of a reference to one does not; `same`: the slice is not exchanged for another.
+pub fn emit_expression(
+    text: &&[u8],
+    at: usize,
+    depth: usize,
+    out: &mut &mut [u8],
+    to: usize,
+) -> Emitted
+    requires { ⌜ Room depth (now (now text)) at (length (now (now out))) to ⌝ }
+    requires counted { ⌜ length (now (now text)) < 2 ^ 64 ⌝ }
+    ensures same { λ _. ⌜ now (out .exit) .name ≡ now (out .entry) .name ⌝ }
+    ensures { λ r. ⌜ Emits (now (now (text .entry))) at (now (now (out .entry))) to (now (now (out .exit))) (r .next) (r .end) ⌝ }
 {
-    let decoded = text_command::operator_at(text, at);
+    let decoded = text_command::operator_at(*text, at);
     match decoded {
-        Operator::Constant(w) => put_push(out, to, w, at + width::in_expression(0x20)),
+        Operator::Constant(w) => put_push(*out, to, w, at + width::in_expression(0x20)),
         Operator::Read(kind, operands) => put_access(
-            out,
+            *out,
             to,
             0x51,
             operands.signal,
@@ -99,7 +109,7 @@ pub fn emit_expression(text: &[u8], at: usize, depth: usize, out: &mut [u8], to:
         Operator::Binary(operator) => {
             let first = emit_expression(text, at + width::in_expression(0x30), depth - 1, out, to);
             let second = emit_expression(text, first.next, depth - 1, out, first.end);
-            put_operator(out, second, binary_byte(operator))
+            put_operator(*out, second, binary_byte(operator))
         }
         Operator::Unary(operator) => {
             let operand = emit_expression(
@@ -109,7 +119,7 @@ pub fn emit_expression(text: &[u8], at: usize, depth: usize, out: &mut [u8], to:
                 out,
                 to,
             );
-            put_operator(out, operand, unary_byte(operator))
+            put_operator(*out, operand, unary_byte(operator))
         }
         Operator::If => {
             let condition = emit_expression(
@@ -121,10 +131,33 @@ pub fn emit_expression(text: &[u8], at: usize, depth: usize, out: &mut [u8], to:
             );
             let first = emit_expression(text, condition.next, depth - 1, out, condition.end);
             let second = emit_expression(text, first.next, depth - 1, out, first.end);
-            put_operator(out, second, 0x3A)
+            put_operator(*out, second, 0x3A)
         }
         _ => Emitted { next: at, end: to },
     }
+}
+
+// Writes the code of the signal x, an equation declared at `place`, from `to` on. Says in `end` where it ends.
+// It takes the slice and gives it back, so that it can lend a reference to it.
+fn emit_equation<'a>(
+    text: &[u8],
+    place: usize,
+    x: u8,
+    out: &'a mut [u8],
+    to: usize,
+    end: &mut usize,
+) -> &'a mut [u8]
+    requires { ⌜ SignalRoom (now text) place x (length (now out)) to ⌝ }
+    requires { ⌜ byteAt (now text) place ≡ 0x11 ⌝ }
+    ensures same { λ r. ⌜ r .name ≡ out .entry .name ⌝ }
+    ensures { λ r. ⌜ EmitsSignal (now (text .entry)) place x (now (out .entry)) to (now r) (now (end .exit)) ⌝ }
+{
+    let mut all = out;
+    let value = emit_expression(&text, place + width::in_program(0x11), 16, &mut all, to);
+    let back = all;
+    let code = put_access(back, value.end, 0x5F, x, place);
+    *end = code.end;
+    back
 }
 
 // Writes the code of the signal x, declared at `place`, from `to` on. Says where it ends.
@@ -133,9 +166,9 @@ pub fn emit_signal(text: &[u8], place: usize, x: u8, out: &mut [u8], to: usize) 
     ensures { λ r. ⌜ EmitsSignal (now (text .entry)) place x (now (out .entry)) to (now (out .exit)) r ⌝ }
 {
     if text[place] == 0x11 {
-        let value = emit_expression(text, place + width::in_program(0x11), 16, out, to);
-        let code = put_access(out, value.end, 0x5F, x, place);
-        return code.end;
+        let mut end = to;
+        emit_equation(text, place, x, out, to, &mut end);
+        return end;
     }
     let sample = put_access(out, to, 0x52, x, place);
     let code = put_access(out, sample.end, 0x5F, x, place);

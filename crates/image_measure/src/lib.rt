@@ -59,12 +59,13 @@ fn operated(operands: Measure) -> Measure
     }
 }
 
-// Measures the expression at `at`, which nests at most `depth` deep.
-fn measure_expression(text: &[u8], at: usize, depth: usize) -> Measure
-    requires { ⌜ Nests depth (now text) at × (length (now text) ≤ 8192) ⌝ }
-    ensures { λ r. ⌜ Measures (now (text .entry)) at r ⌝ }
+// Measures the expression at `at`, which nests at most `depth` deep. The text goes by a reference to its slice, which no level of the
+// recursion has to copy.
+fn measure_expression(text: &&[u8], at: usize, depth: usize) -> Measure
+    requires { ⌜ Nests depth (now (now text)) at × (length (now (now text)) ≤ 8192) ⌝ }
+    ensures { λ r. ⌜ Measures (now (now (text .entry))) at r ⌝ }
 {
-    let decoded = text_command::operator_at(text, at);
+    let decoded = text_command::operator_at(*text, at);
     match decoded {
         Operator::Constant(_) => leaf(at + width::in_expression(0x20)),
         Operator::Read(kind, _) => leaf(at + width::of_read(kind)),
@@ -106,7 +107,7 @@ pub fn measure_signal(text: &[u8], place: usize) -> Work
     ensures { λ r. ⌜ WorkOf (now (text .entry)) place r ⌝ }
 {
     if text[place] == 0x11 {
-        let value = measure_expression(text, place + width::in_program(0x11), 16);
+        let value = measure_expression(&text, place + width::in_program(0x11), 16);
         let total = value.commands + 1;
         let commands = total as u16;
         return Work {

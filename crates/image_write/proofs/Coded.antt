@@ -110,7 +110,7 @@ starts-many k start (σ ∷ signals) = ap suc (starts-many (suc k) (start + leng
 module _ (p : Program) (table : List ℕ) (s : Sums codeIn p table) where
   pub code-sum : (x : ℕ) → x ≤ count p →
       getD table x 0 + length (codesLeft (p .signals) x) ≡ length (joined (codesFrom 0 (p .signals)))
-  code-sum zero le = omega (arith, s .first, ap length (codes-start (p .signals)))
+  code-sum zero le = omega (arith, s .from-zero, ap length (codes-start (p .signals)))
   code-sum (suc x) le =
       let n = rw (add-one x) at (parts-length (codes-next (p .signals) x (omega arith))) in
       omega (arith, s .rises x (omega arith), n, code-sum x (omega arith))

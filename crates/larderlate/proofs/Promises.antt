@@ -21,6 +21,7 @@ use Rattle.model.specs.Rules.Decimal.{natural, decimal}
 use Rattle.model.specs.Rules.Image.{lengthOf, imageOf, tailOf, writtenOf, writtenLength}
 use Rattle.model.specs.Rules.Latency.{readsBack, backwards, back, source, latencyOf}
 use Rattle.model.specs.Rules.Machine.{
+  Effect,
   effect,
   isPosition,
   hyperOf,
@@ -39,7 +40,7 @@ use Rattle.model.specs.Rules.Outcome.{Outcome, accepted, refused, refuse, fault
 use Rattle.model.specs.Rules.Program.{Program, Chain, Read, count, parseWith, parseProgram}
 use Rattle.model.specs.Rules.Rates.{hypercycle}
 use Rattle.model.specs.Rules.Reads.{rateOf, runCycle, settled}
-use Rattle.model.specs.Rules.Report.{highest, toldOf, reportOf}
+use Rattle.model.specs.Rules.Report.{highest, needsOf, reportOf}
 use Rattle.model.specs.Rules.Rewrite.{rewrite, convertOf}
 use Rattle.model.specs.Rules.Schedule.{Schedule, scheduleCommandAt}
 use Rattle.model.specs.Rules.Script.{Action, noSamples, callsFrom, cyclesOf}
@@ -209,16 +210,19 @@ pub call-code : (lent : List ℕ) (state : List ℤ) (c : Call) (f : Fault) → 
 call-code lent state c f e = small-code f (omega (arith, places-zero lent state c f e))
 
 pub report-exactly : (program schedule counts : List ℕ) → ReportsExactly program schedule counts
-unfolding reportOf
+unfolding reportOf _▷_
 report-exactly program schedule counts =
     record { refuses = refuses (pairOf program schedule); tells = tells (pairOf program schedule) }
   where
-    refuses : (o : Outcome Pair) (f : Fault) → (toldOf counts o .answer ≡ refused f) ↔ (o ≡ refused f)
+    told : Outcome Pair → Effect Sizes ℕ
+    told o = effect counts (o ▷ λ q. accepted (needsOf q))
+
+    refuses : (o : Outcome Pair) (f : Fault) → (told o .answer ≡ refused f) ↔ (o ≡ refused f)
     refuses (accepted q) f =
         ((λ e. let z : _≡_ {A = ℕ} 0 1 = cc in absurd (omega arith)), (λ e. let z : _≡_ {A = ℕ} 0 1 = cc in absurd (omega arith)))
     refuses (refused g) f = ((λ e. let same : g ≡ f = cc in ap refused same), (λ e. let same : g ≡ f = cc in ap refused same))
 
-    tells : (o : Outcome Pair) (sizes : Sizes) → toldOf counts o .answer ≡ accepted sizes → (q : Pair) × (o ≡ accepted q) ×
+    tells : (o : Outcome Pair) (sizes : Sizes) → told o .answer ≡ accepted sizes → (q : Pair) × (o ≡ accepted q) ×
         (sizes .length ≡ length (imageOf (q .program) (q .schedule) (q .hypercycle))) ×
         (sizes .written ≡ length (writtenOf (q .program) (q .schedule) (q .hypercycle)))
     tells (accepted q) sizes e =
@@ -244,12 +248,7 @@ report-code program schedule counts bytes f e =
 
 pub report-keeps : (program schedule counts : List ℕ) (f : Fault) → reportOf program schedule counts .answer ≡ refused f →
     reportOf program schedule counts .left ≡ counts
-unfolding reportOf
-report-keeps program schedule counts f = go (pairOf program schedule)
-  where
-    go : (o : Outcome Pair) → toldOf counts o .answer ≡ refused f → toldOf counts o .left ≡ counts
-    go (accepted q) e = let z : _≡_ {A = ℕ} 0 1 = cc in absurd (omega arith)
-    go (refused g) e = refl
+report-keeps = Refused.report-keeps
 
 -- Whatever a cycle is lent, its count has 32 bits.
 pub count-small : (lent : List ℕ) (state samples : List ℤ) → AreBytes lent → (n : ℕ) →
@@ -434,7 +433,7 @@ module _ (program schedule : List ℕ) (bytes : AreBytes program) (p : Program) 
       }
 
   pub one-report : Reports program schedule p s h (imageOf p s h)
-  unfolding reportOf
+  unfolding reportOf _▷_
   one-report =
       record {
         told = λ counts. rw (e, image-length p s h);

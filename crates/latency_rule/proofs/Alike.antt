@@ -7,7 +7,7 @@ use native.Mathlib.Omega.{arith}
 use lib.ListN.{getD}
 use Rattle.model.specs.Rules.Latency.{onward, latencyOf}
 use Rattle.model.specs.Rules.Reads.{Rate}
-use Rattle.model.specs.Rules.Search.{firstFrom, first, isFound, allBelow}
+use Rattle.model.specs.Rules.Search.{firstFrom, firstBelow, isFound, allBelow}
 use Rattle.model.specs.declared.Found.{Found}
 use Rattle.model.specs.declared.Found.the-variants.{At, Nowhere}
 use Rattle.model.specs.declared.Kind.{Kind}
@@ -87,7 +87,7 @@ module _ (hops : List Hop) where
 
     timely-alike : (from w : ℕ) → n ≤ from → (mode : Mode) (bound : ℕ) →
         timelyBy mode bound hops n last source from 1 ≡ timelyBy mode bound hops n last source from (suc w)
-    unfolding timelyBy first
+    unfolding timelyBy firstBelow
     timely-alike from w g Backward bound =
         let l = alike-latency .0 in
         let t : (i : ℕ) → not (lateBy bound (runLatencyBy hops n last source (from + i))) ≡ not (lateBy bound (At l)) =

@@ -11,7 +11,7 @@ use Rattle.model.specs.Rules.Latency.{onward, used, back, source, latencyFrom, 
 use Rattle.model.specs.Rules.Program.{Program, Read, count, signalAt}
 use Rattle.model.specs.Rules.Reads.{rateOf, runCycle, stored, before, settled}
 use Rattle.model.specs.Rules.Schedule.{Schedule, phaseOf}
-use Rattle.model.specs.Rules.Search.{first, isFound, allBelow}
+use Rattle.model.specs.Rules.Search.{firstBelow, isFound, allBelow}
 use Rattle.model.specs.declared.Found.{Found}
 use Rattle.model.specs.declared.Found.the-variants.{At, Nowhere}
 use Rattle.model.specs.declared.Mode.{Mode}
@@ -74,7 +74,7 @@ module _ (p : Program) (s : Schedule) where
       ap (allBelow window)
       (λ j i. not ((late-is bound (runLatency p s r ρs (from + i)) ∙ ap (lateBy bound) (run-is hops r (from + i) ρs h)) j))
   timely-is Exists bound from window hops r ρs h =
-      ap (λ t. isFound (first window t))
+      ap (λ t. isFound (firstBelow window t))
       (λ j i. (in-time-is bound (runLatency p s r ρs (from + i)) ∙ ap (inTimeBy bound) (run-is hops r (from + i) ρs h)) j)
 
   module _ (acc : Feasible p s) where

@@ -7,7 +7,7 @@ use lib.Dec.{leb, ltb}
 use lib.ListN.{getD}
 use Rattle.model.specs.Rules.Latency.{onward, latencyOf}
 use Rattle.model.specs.Rules.Reads.{Rate, uses}
-use Rattle.model.specs.Rules.Search.{first, isFound, allBelow}
+use Rattle.model.specs.Rules.Search.{firstBelow, isFound, allBelow}
 use Rattle.model.specs.declared.Found.{Found}
 use Rattle.model.specs.declared.Found.the-variants.{At, Nowhere}
 use Rattle.model.specs.declared.Kind.{Kind}
@@ -66,7 +66,7 @@ unfoldable pub timelyBy : Mode → ℕ → List Hop → ℕ → Rate → Rate �
 timelyBy Backward bound hops n last source from window =
     allBelow window (λ i. not (lateBy bound (runLatencyBy hops n last source (from + i))))
 timelyBy Exists bound hops n last source from window =
-    isFound (first window (λ i. inTimeBy bound (runLatencyBy hops n last source (from + i))))
+    isFound (firstBelow window (λ i. inTimeBy bound (runLatencyBy hops n last source (from + i))))
 
 -- Whether a read is of an equal period.
 abbrev pub isPlain : Kind → Bool

@@ -7,7 +7,7 @@ ghost use mathlib.Core.Path.{_≡_};
 ghost use mathlib.Core.Bool.{not};
 ghost use Prim.Native.Nat.{ℕ, _+_, _*_, _-_, _/_, _≤_, _<_};
 ghost use lib.ListN.{getD};
-ghost use Rattle.model.specs.Rules.Search.{first, isFound, allBelow};
+ghost use Rattle.model.specs.Rules.Search.{firstBelow, isFound, allBelow};
 ghost use Rattle.model.specs.Rules.Reads.{runCycle};
 ghost use Rattle.read_rule.specs.Reads.{rateIn};
 ghost use Rattle.latency_rule.specs.Back.{entryBy, backBy, Sound, Small, SmallFound, runLatencyBy, lateBy, inTimeBy, timelyBy, isPlain, allPlain, Decide};
@@ -139,7 +139,7 @@ fn one_in_time(
     window: usize,
 ) -> bool
     requires { ⌜ (count ≤ 15) × Sound hops count × ((i : ℕ) → i < window → Small hops count (from + i)) × (from + window ≤ 1000000) ⌝ }
-    ensures { λ r. ⌜ r ≡ isFound (first window (λ i. inTimeBy bound (runLatencyBy hops count (rateIn last) (rateIn source) (from + i)))) ⌝ }
+    ensures { λ r. ⌜ r ≡ isFound (firstBelow window (λ i. inTimeBy bound (runLatencyBy hops count (rateIn last) (rateIn source) (from + i)))) ⌝ }
 {
     let mut i: usize = 0;
     while i < window {

@@ -24,20 +24,20 @@ use Rattle.model.proofs.Images.Tails.{part-is, lent-ok, bears-itself}
 use Rattle.image_valid.specs.Lends.{Lends}
 
 -- a refusal leaves the state as it was
-abbrev pub refusal : ℕ → List ℤ → Effect ℤ
+abbrev pub refusal : ℕ → List ℤ → Effect ℕ ℤ
 refusal number state = record { answer = refuse number 0; left = state }
 
-abbrev pub done : ℕ → List ℤ → Effect ℤ
+abbrev pub done : ℕ → List ℤ → Effect ℕ ℤ
 done n state = record { answer = accepted n; left = state }
 
 -- what a call that was refused, or has done its job, hands back
-pub gives-refusal : {e : Effect ℤ} {number : ℕ} {state : List ℤ} {a : Outcome ℕ} → e ≡ refusal number state → a ≡ refuse number 0
+pub gives-refusal : {e : Effect ℕ ℤ} {number : ℕ} {state : List ℤ} {a : Outcome ℕ} → e ≡ refusal number state → a ≡ refuse number 0
     → (a ≡ e .answer) × (state ≡ e .left)
-gives-refusal q h = (h ∙ sym (ap (λ (e : Effect ℤ). e .answer) q), sym (ap (λ (e : Effect ℤ). e .left) q))
+gives-refusal q h = (h ∙ sym (ap (λ (e : Effect ℕ ℤ). e .answer) q), sym (ap (λ (e : Effect ℕ ℤ). e .left) q))
 
-pub gives-done : {e : Effect ℤ} {m n : ℕ} {state after : List ℤ} → e ≡ done n state → m ≡ n → after ≡ state
+pub gives-done : {e : Effect ℕ ℤ} {m n : ℕ} {state after : List ℤ} → e ≡ done n state → m ≡ n → after ≡ state
     → (accepted m ≡ e .answer) × (after ≡ e .left)
-gives-done q k h = (ap accepted k ∙ sym (ap (λ (e : Effect ℤ). e .answer) q), h ∙ sym (ap (λ (e : Effect ℤ). e .left) q))
+gives-done q k h = (ap accepted k ∙ sym (ap (λ (e : Effect ℕ ℤ). e .answer) q), h ∙ sym (ap (λ (e : Effect ℕ ℤ). e .left) q))
 
 -- The image in what is lent is judged, and run.
 module _ {lent image : List ℕ} (l : Lends lent image) (state : List ℤ) where

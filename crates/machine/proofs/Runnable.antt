@@ -57,7 +57,7 @@ module _ {image : List ℕ} {state samples : List ℤ} (r : Runnable image state
   pub cycle-leaves : callOf image state (cycle samples) .left ≡ cycleWords image state samples
   unfolding callOf
   cycle-leaves =
-      ap (λ (e : Effect ℤ). e .left)
+      ap (λ (e : Effect ℕ ℤ). e .left)
       (cycle-done (lends-itself (r .formed)) state samples (r .formed) (lt-ltb (countOf image) (length state) (r .long))
       (r .position)
       (le-leb (countOf image) (length samples) (r .enough)))

@@ -9,7 +9,7 @@ use borrow.Author.Tests.{leb-true, le-leb, eqb-true, eq-eqb}
 use lib.Dec.{leb, eqb}
 use Rattle.model.specs.Says.Feasible.{Between, PeriodRule, Line}
 use Rattle.model.specs.Rules.Reads.{Rate, between, line, settle, share, runCycle}
-use Rattle.model.specs.Rules.Search.{first}
+use Rattle.model.specs.Rules.Search.{firstBelow}
 use Rattle.model.specs.declared.Found.{Found}
 use Rattle.model.specs.declared.Found.the-variants.{At, Nowhere}
 use Rattle.model.specs.declared.Index.{Index}
@@ -67,7 +67,7 @@ module _ (w r : Timing) (bw : w .phase < 256) (br : r .phase < 256) where
       foundOn (lineOf kind w r) n index ≡ indexBy kind (rateIn w) (rateIn r) n index
   unfolding settle
   found-is kind n (Fixed i) = rw (meets-line kind i)
-  found-is kind n Open = λ j. first n (λ i. meets-line kind i j)
+  found-is kind n Open = λ j. firstBelow n (λ i. meets-line kind i j)
 
 -- The line holds at the index found.
 pub index-line : (kind : Kind) (w r : Rate) (n i : ℕ) (index : Index) → indexBy kind w r n index ≡ At i → Line kind w r i

@@ -4,7 +4,7 @@ use mathlib.Core.Bool.{Bool, true, false, cond}
 use mathlib.Core.Path.{_≡_}
 use Rattle.model.specs.Says.Feasible.{PeriodRule}
 use Rattle.model.specs.Rules.Reads.{between}
-use Rattle.model.specs.Rules.Search.{firstFrom, first}
+use Rattle.model.specs.Rules.Search.{firstFrom, firstBelow}
 use Rattle.model.specs.declared.Found.{Found}
 use Rattle.model.specs.declared.Found.the-variants.{At, Nowhere}
 use Rattle.model.specs.declared.Index.{Index}
@@ -52,7 +52,7 @@ module _ (kind : Kind) (w r : Timing) where
   unfoldable pub lineOf : Line
   lineOf =
       record {
-        first = cond (isCurrent kind) (r .phase) (w .phase) + aheadIn;
+        origin = cond (isCurrent kind) (r .phase) (w .phase) + aheadIn;
         stride = cond (isPlain kind) 0 periodIn;
         step = stepIn;
         cycle = cond (isCurrent kind) (w .phase) (r .phase);
@@ -61,7 +61,7 @@ module _ (kind : Kind) (w r : Timing) where
 
 -- Its numbers are small, so that nothing overflows.
 pub record SmallLine (l : Line) : Type 0 where
-  pub first-small : l .first ≤ 512
+  pub origin-small : l .origin ≤ 512
   pub stride-small : l .stride ≤ 256
   pub step-small : l .step ≤ 256
   pub cycle-small : l .cycle ≤ 256
@@ -77,7 +77,7 @@ pub record LineFor (kind : Kind) (w r : Timing) (l : Line) : Type 0 where
 
 -- The number of an index on a line, and whether the index meets it.
 abbrev pub numberAt : Line → ℕ → ℕ
-numberAt l i = l .first + i * l .stride
+numberAt l i = l .origin + i * l .stride
 
 unfoldable pub meetsAt : Line → ℕ → Bool
 meetsAt l i = between (l .cycle) (numberAt l i) (l .cycle + l .step)
@@ -85,7 +85,7 @@ meetsAt l i = between (l .cycle) (numberAt l i) (l .cycle + l .step)
 -- The index of a read by its line.
 abbrev pub foundOn : Line → ℕ → Index → Found
 foundOn l n (Fixed i) = cond (meetsAt l i) (At i) Nowhere
-foundOn l n Open = first n (meetsAt l)
+foundOn l n Open = firstBelow n (meetsAt l)
 
 -- A search through the candidates finds it.
 pub record CandidatesOf (l : Line) (sampled : Sampled) (r : Candidates) : Type 0 where

@@ -76,11 +76,11 @@ fn wants_first(kind: Kind) -> bool
 }
 
 // One form for the lines of the five reads, so that no branch is taken by the kind: index i meets it where the number
-// first + i * stride is one of the `step` from `cycle` on. For LAST, LASTWHEN and CURRENT these numbers are cycles of runs, for NOW
+// origin + i * stride is one of the `step` from `cycle` on. For LAST, LASTWHEN and CURRENT these numbers are cycles of runs, for NOW
 // and WHEN the cycles just before the next run, `ahead` after the run. Every index of NOW and LAST has the same number, and a step
 // that is over any phase.
 struct Line {
-    first: usize,
+    origin: usize,
     stride: usize,
     step: usize,
     cycle: usize,
@@ -106,7 +106,7 @@ fn line_of(kind: Kind, w: Timing, r: Timing) -> Line
     let stride = either(plain, 0, period);
     let ahead = either(is_before(kind), minus(step, 1), 0);
     Line {
-        first: start + ahead,
+        origin: start + ahead,
         stride: stride,
         step: step,
         cycle: cycle,
@@ -119,7 +119,7 @@ fn number_at(line: Line, index: usize) -> usize
     requires { ⌜ SmallLine line × (index ≤ 256) ⌝ }
     ensures { λ r. ⌜ r ≡ numberAt line index ⌝ }
 {
-    line.first + index * line.stride
+    line.origin + index * line.stride
 }
 
 fn meets(line: Line, index: usize) -> bool
@@ -142,7 +142,7 @@ fn lowest_index(line: Line) -> usize
         return 0;
     }
     let past = line.cycle + (line.step - 1);
-    minus(past, line.first) / line.step
+    minus(past, line.origin) / line.step
 }
 
 // The candidates for the index of a read: those from `from` on that are below `to`.

@@ -3,12 +3,14 @@ use Prim.Native.Nat.{ℕ}
 use mathlib.Core.Bool.{cond}
 use mathlib.Core.List.{List}
 use mathlib.Core.Path.{_≡_}
-use lib.Dec.{eqb}
+use lib.Dec.{eqb, leb}
 use Rattle.model.specs.Rules.Command.{operatorAt}
+use Rattle.model.specs.Rules.Program.{isAllowed}
 use Rattle.model.specs.declared.Binary.{Binary}
 use Rattle.model.specs.declared.Binary.the-variants as Binary
 use Rattle.model.specs.declared.Kind.{Kind}
 use Rattle.model.specs.declared.Kind.the-variants.{Now, Last, When, LastWhen, Current}
+use Rattle.model.specs.declared.Operator.{Operator}
 use Rattle.model.specs.declared.Operator.the-variants as Operator
 use Rattle.model.specs.declared.Sampled.{Sampled}
 use Rattle.text_command.specs.declared.Taken.{Taken}
@@ -25,6 +27,25 @@ binaryOf b =
     (cond (eqb b 0x32) Binary.Mul
     (cond (eqb b 0x33) Binary.Less
     (cond (eqb b 0x34) Binary.Same (cond (eqb b 0x35) Binary.Min Binary.Max)))))
+
+-- A read with a factor below the least one is outside its range.
+abbrev pub restricted : ℕ → Operator → Operator
+restricted least Operator.EndsEarly = Operator.EndsEarly
+restricted least Operator.Unknown = Operator.Unknown
+restricted least Operator.OutOfRange = Operator.OutOfRange
+restricted least (Operator.Constant w) = Operator.Constant w
+restricted least (Operator.Read kind x) = cond (isAllowed least kind x) (Operator.Read kind x) Operator.OutOfRange
+restricted least (Operator.Binary operator) = Operator.Binary operator
+restricted least (Operator.Unary operator) = Operator.Unary operator
+restricted least Operator.If = Operator.If
+
+-- The operator at an offset of an expression whose factors go from a least one on.
+unfoldable pub operatorFrom : ℕ → List ℕ → ℕ → Operator
+operatorFrom least text at = restricted least (operatorAt text at)
+
+-- The reads of a kind have a factor in the text, which the least one bounds.
+abbrev pub Bounded : ℕ → Kind → Type 0
+Bounded least kind = (x : Sampled) → isAllowed least kind x ≡ leb least (x .factor)
 
 -- A read stands at `at`, and this is it.
 pub record ReadStands (text : List ℕ) (at : ℕ) : Type 0 where

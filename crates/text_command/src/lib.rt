@@ -15,7 +15,7 @@ ghost use lib.ListN.{length};
 ghost use Rattle.model.specs.Rules.Command.{isPeriod, isIndex, indexOf, modeOf, declarationOf, declarationAt};
 ghost use Rattle.model.specs.Rules.Command.{plainRead, sampledRead, operatorOf, operatorAt};
 ghost use Rattle.model.specs.Rules.Schedule.{scheduleCommandAt};
-ghost use Rattle.text_command.specs.Operator.{kindOf, binaryOf, ReadStands, ReadTaken};
+ghost use Rattle.text_command.specs.Operator.{kindOf, binaryOf, Bounded, restricted, operatorFrom, ReadStands, ReadTaken};
 
 fn is_period(n: u8) -> bool
     ensures { λ r. ⌜ r ≡ isPeriod n ⌝ }
@@ -189,10 +189,10 @@ fn plain_read(kind: Kind, text: &[u8], at: usize) -> Operator
     )
 }
 
-// WHEN, LASTWHEN and CURRENT.
-fn sampled_read(kind: Kind, text: &[u8], at: usize) -> Operator
-    requires { ⌜ at < length (now text) ⌝ }
-    ensures { λ r. ⌜ r ≡ sampledRead kind (now (text .entry)) at ⌝ }
+// WHEN, LASTWHEN and CURRENT, whose factors go from `least` on.
+fn sampled_read(least: u8, kind: Kind, text: &[u8], at: usize) -> Operator
+    requires { ⌜ (at < length (now text)) × Bounded least kind ⌝ }
+    ensures { λ r. ⌜ r ≡ restricted least (sampledRead kind (now (text .entry)) at) ⌝ }
 {
     let left = text.len() - at;
     if left < width::in_expression(0x23) {
@@ -205,6 +205,9 @@ fn sampled_read(kind: Kind, text: &[u8], at: usize) -> Operator
         return Operator::OutOfRange;
     }
     if !is_index(place, factor) {
+        return Operator::OutOfRange;
+    }
+    if factor < least {
         return Operator::OutOfRange;
     }
     let index = index_of(place);
@@ -259,9 +262,10 @@ fn binary_of(byte: u8) -> Binary
     }
 }
 
-// The operator at an offset of an expression, with its operands. What acts alike is one arm, and its callers take it in.
-pub fn operator_at(text: &[u8], at: usize) -> Operator
-    ensures { λ r. ⌜ r ≡ operatorAt (now (text .entry)) at ⌝ }
+// The operator at an offset of an expression whose factors go from `least` on, with its operands. What acts alike is one arm, and its
+// callers take it in.
+pub fn operator_from(least: u8, text: &[u8], at: usize) -> Operator
+    ensures { λ r. ⌜ r ≡ operatorFrom least (now (text .entry)) at ⌝ }
 {
     if text.len() <= at {
         return Operator::EndsEarly;
@@ -270,12 +274,19 @@ pub fn operator_at(text: &[u8], at: usize) -> Operator
     match byte {
         0x20 => constant_at(text, at),
         0x21 | 0x22 => plain_read(kind_of(byte), text, at),
-        0x23 | 0x24 | 0x25 => sampled_read(kind_of(byte), text, at),
+        0x23 | 0x24 | 0x25 => sampled_read(least, kind_of(byte), text, at),
         0x30 | 0x31 | 0x32 | 0x33 | 0x34 | 0x35 | 0x36 => Operator::Binary(binary_of(byte)),
         0x38 => Operator::Unary(Unary::Negate),
         0x3A => Operator::If,
         _ => Operator::Unknown,
     }
+}
+
+// The operator at an offset of an expression, whatever its factors.
+pub fn operator_at(text: &[u8], at: usize) -> Operator
+    ensures { λ r. ⌜ r ≡ operatorAt (now (text .entry)) at ⌝ }
+{
+    operator_from(1, text, at)
 }
 
 // What stands at an offset of the schedule text.

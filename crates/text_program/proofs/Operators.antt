@@ -21,7 +21,7 @@ use Rattle.model.specs.declared.Operator.the-variants as Operator
 use Rattle.model.specs.declared.Sampled.{Sampled}
 use Rattle.model.proofs.Texts.Picks.{operator-byte}
 use Rattle.model.proofs.Texts.Written.{operator-cut, operator-unknown}
-use Rattle.text_program.specs.Factors.{restricted, operatorFrom}
+use Rattle.text_command.specs.Operator.{restricted, operatorFrom}
 
 module _ (least : ℕ) (sub : ℕ → Outcome (Parsed Expr)) (text : List ℕ) (at : ℕ) where
   -- An operator that may not stand here is refused as its decoding says.

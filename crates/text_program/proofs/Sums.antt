@@ -55,7 +55,7 @@ module _ (f : ℕ → Signal → ℕ) {p : Program} {table : List ℕ} (s : Sums
       Sums f (withSignal p x) (set table (k + 1) m)
   sums-more x k n m c room at e =
       record {
-        first = getD-set-other table (k + 1) 0 m 0 (λ z. omega arith) ∙ s .first;
+        from-zero = getD-set-other table (k + 1) 0 m 0 (λ z. omega arith) ∙ s .from-zero;
         rises = λ y lt. go y (decLt y k) (omega (arith, signal-count p x));
       }
     where

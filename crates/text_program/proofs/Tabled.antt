@@ -186,7 +186,7 @@ module _ {least : ℕ} {text reads : List ℕ} {t : Tables} {at label n to : ℕ
   chain-reads c q none =
       let h = r .reads-are in
       record {
-        sums = record { first = h .sums .first; rises = h .sums .rises };
+        sums = record { from-zero = h .sums .from-zero; rises = h .sums .rises };
         stand = λ x j lx lj.
             ap (λ (l : List ℕ). getD l (getD (t .firsts) x 0 + j) 0) (m .holds ∙ ap (sets reads n) none) ∙ h .stand x j lx lj;
         fits = omega (arith, h .fits, same-size);
@@ -213,7 +213,7 @@ module _ {least : ℕ} {text reads : List ℕ} {t : Tables} {at label n to : ℕ
               periods = h .periods;
               weights = h .weights;
               labels = h .labels;
-              codes = record { first = h .codes .first; rises = h .codes .rises };
+              codes = record { from-zero = h .codes .from-zero; rises = h .codes .rises };
               starts =
                   one-more (λ x. x .place) noChain (p .chains) (c .chain) (t .starts) (t .chains) at (h .counts .chains-are)
                   (omega (arith, s .starts, c .room, h .counts .chains-are)) (c .stands) (h .starts);
@@ -272,7 +272,7 @@ module _ {least : ℕ} {text reads : List ℕ} {t : Tables} {at label n to : ℕ
               periods = h .periods;
               weights = h .weights;
               labels = h .labels;
-              codes = record { first = h .codes .first; rises = h .codes .rises };
+              codes = record { from-zero = h .codes .from-zero; rises = h .codes .rises };
               starts = h .starts;
               lengths = h .lengths;
               cap = refl;
@@ -280,7 +280,7 @@ module _ {least : ℕ} {text reads : List ℕ} {t : Tables} {at label n to : ℕ
             };
         reads-are =
             record {
-              sums = record { first = g .sums .first; rises = g .sums .rises };
+              sums = record { from-zero = g .sums .from-zero; rises = g .sums .rises };
               stand = λ x j lx lj.
                   ap (λ (l : List ℕ). getD l (getD (t .firsts) x 0 + j) 0) (m .holds ∙ ap (sets reads n) (b .1)) ∙
                   g .stand x j lx lj;
@@ -516,7 +516,7 @@ starts-empty least text reads t short table s no-signals no-chains no-cap first 
             periods = λ x lt. absurd (omega arith);
             weights = λ x lt. absurd (omega arith);
             labels = λ x lt. absurd (omega arith);
-            codes = record { first = code; rises = λ x lt. absurd (omega arith) };
+            codes = record { from-zero = code; rises = λ x lt. absurd (omega arith) };
             starts = λ x lt. absurd (omega arith);
             lengths = λ x lt. absurd (omega arith);
             cap = rw no-cap;
@@ -524,7 +524,7 @@ starts-empty least text reads t short table s no-signals no-chains no-cap first 
           };
       reads-are =
           record {
-            sums = record { first = first; rises = λ x lt. absurd (omega arith) };
+            sums = record { from-zero = first; rises = λ x lt. absurd (omega arith) };
             stand = λ x j lx lj. absurd (omega arith);
             fits = omega (arith, first);
           };

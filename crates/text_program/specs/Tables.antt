@@ -53,7 +53,7 @@ LabelsOf p labels = (x : ℕ) → x < count p → getD labels x 0 ≡ signalAt p
 
 -- A table of where the parts of the signals start, one after another, and last where they end; a part has so many entries.
 pub record Sums (f : ℕ → Signal → ℕ) (p : Program) (table : List ℕ) : Type 0 where
-  pub first : getD table 0 0 ≡ 0
+  pub from-zero : getD table 0 0 ≡ 0
   pub rises : (x : ℕ) → x < count p → getD table (suc x) 0 ≡ getD table x 0 + f x (signalAt p x)
 
 -- The number of reads of a signal, and the length of its code.

@@ -2,9 +2,7 @@
 use basics::Judged;
 use model::Declaration;
 use model::Fault;
-use model::Kind;
 use model::Operator;
-use model::Sampled;
 use model::Width;
 ghost use mathlib.Core.Path.{_≡_};
 ghost use mathlib.Core.List.{[]};
@@ -13,10 +11,9 @@ ghost use lib.Dec.{leb};
 ghost use lib.ListN.{length};
 ghost use Rattle.model.specs.Rules.Command.{isSignal};
 ghost use Rattle.model.specs.Rules.Outcome.{provided};
-ghost use Rattle.model.specs.Rules.Program.{Program, operatorHere, isAllowed, parseExpr, parseLinks, declarationHere, parseWith};
+ghost use Rattle.model.specs.Rules.Program.{Program, operatorHere, parseExpr, parseLinks, declarationHere, parseWith};
 ghost use Rattle.model.specs.Rules.Width.{inProgram};
 ghost use Rattle.model.specs.declared.Fault.{Fault};
-ghost use Rattle.text_program.specs.Factors.{operatorFrom};
 ghost use Rattle.text_program.specs.Results.{hereOf, linksOf, chainOf, tagOf, endOf};
 ghost use Rattle.text_program.specs.Steps.{Counts, Stepped};
 ghost use Rattle.text_program.specs.Tables.{judgedOf, ProgramReads};
@@ -95,51 +92,24 @@ fn too_deep(text: &[u8], at: usize) -> Walked
     }
 }
 
-// Whether a text whose factors go from `least` on may have a read. NOW and LAST have none in the text.
-fn is_allowed(least: u8, kind: Kind, operands: Sampled) -> bool
-    ensures { λ r. ⌜ r ≡ isAllowed least kind operands ⌝ }
-{
-    let factor = operands.factor;
-    match kind {
-        Kind::Now => true,
-        Kind::Last => true,
-        Kind::When => least <= factor,
-        Kind::LastWhen => least <= factor,
-        Kind::Current => least <= factor,
-    }
-}
-
-// The operator at `at`, where factors go from `least` on.
-fn operator_from(least: u8, text: &[u8], at: usize) -> Operator
-    ensures { λ r. ⌜ r ≡ operatorFrom least (now (text .entry)) at ⌝ }
-{
-    let operator = text_command::operator_at(text, at);
-    if let Operator::Read(kind, operands) = operator {
-        if !is_allowed(least, kind, operands) {
-            return Operator::OutOfRange;
-        }
-    }
-    operator
-}
-
 // Reads the expression at `at`, which may nest `depth` deep. Keeps the offset of each of its reads in `reads`, from `count` on, and
-// counts the bytes of its code, from `to` on.
+// counts the bytes of its code, from `to` on. The text goes by a reference to its slice, which no level of the recursion has to copy.
 pub fn read_expression(
     least: u8,
-    text: &[u8],
+    text: &&[u8],
     at: usize,
     count: usize,
     to: usize,
     depth: usize,
     reads: &mut [u16],
 ) -> Walked
-    requires { ⌜ Room (length (now text)) at count to (length (now reads)) ⌝ }
-    ensures { λ r. ⌜ Walks (parseExpr least depth (now (text .entry)) at) (now (reads .entry)) count to (now (reads .exit)) r ⌝ }
+    requires { ⌜ Room (length (now (now text))) at count to (length (now reads)) ⌝ }
+    ensures { λ r. ⌜ Walks (parseExpr least depth (now (now (text .entry))) at) (now (reads .entry)) count to (now (reads .exit)) r ⌝ }
 {
     if depth == 0 {
-        return too_deep(text, at);
+        return too_deep(*text, at);
     }
-    let operator = operator_from(least, text, at);
+    let operator = text_command::operator_from(least, *text, at);
     match operator {
         Operator::EndsEarly => refuse_walk(2, text.len()),
         Operator::Unknown => refuse_walk(3, at),
@@ -344,15 +314,8 @@ fn equation_step(
     requires { ⌜ (at < length (now text)) × Room (length (now text)) at count to (length (now reads)) ⌝ }
     ensures { λ r. ⌜ WalksEquation (parseExpr least 16 (now (text .entry)) (at + inProgram 0x11)) entry (now (reads .entry)) count to (now (reads .exit)) r ⌝ }
 {
-    let walked = read_expression(
-        least,
-        text,
-        at + width::in_program(0x11),
-        count,
-        to,
-        16,
-        reads,
-    );
+    let start = at + width::in_program(0x11);
+    let walked = read_expression(least, &text, start, count, to, 16, reads);
     let Walked::Next(w) = walked else {
         return step_of_walked(walked);
     };

@@ -1,7 +1,7 @@
 -- The examples of paper 01 that are marked m: one table, which the definitions answer by computation. Assumes nothing.
 use mathlib.Core.Path.{refl}
 use Rattle.model.specs.Rules.Outcome.{_▷_, provided, lowest}
-use Rattle.model.specs.Rules.Search.{firstFrom, first, allBelow, tableFrom, table, chosen, joinFrom, sum}
+use Rattle.model.specs.Rules.Search.{firstFrom, firstBelow, allBelow, tableFrom, table, chosen, joinFrom, sum}
 use Rattle.model.specs.Rules.Word.{
   bitsOf,
   wordOf,
@@ -134,7 +134,7 @@ use Rattle.theorems.specs.Examples.{ExamplesHold}
 
 -- The definitions answer every question of the table as the paper does.
 pub examples : ExamplesHold
-unfolding _▷_ provided lowest firstFrom first allBelow tableFrom table chosen joinFrom sum bitsOf wordOf nearest addWord subWord
+unfolding _▷_ provided lowest firstFrom firstBelow allBelow tableFrom table chosen joinFrom sum bitsOf wordOf nearest addWord subWord
     mulWord negWord lessWord sameWord minWord maxWord ifWord twoAt fourAt wordAt twoBytes fourBytes wordBytes declarationOf
     declarationAt plainRead sampledRead operatorOf operatorAt operatorHere node parseExpr parseLinks declare roomFor
     declarationHere parseCommands parseWith readsOf readFaults linkFaults declaredAndRated isMultiple hypercycle countReads

@@ -38,7 +38,7 @@ module _ (program buffer : List ℕ) where
         length buffer < length (rewrite program) → ConvertRefusedAt (fault 17 (length (rewrite program)))
 
   -- What a conversion answers and leaves, whole.
-  pub record ConvertsExactly (call : Effect ℕ) : Type 0 where
+  pub record ConvertsExactly (call : Effect ℕ ℕ) : Type 0 where
     pub done : (n : ℕ) → (call .answer ≡ accepted n) ↔ ConvertsTo n
     pub refused-at : (f : Fault) → (call .answer ≡ refused f) ↔ ConvertRefusedAt f
     pub written : (n : ℕ) → call .answer ≡ accepted n → call .left ≡ rewrite program ++ drop n buffer

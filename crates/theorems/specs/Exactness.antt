@@ -16,7 +16,7 @@ use Rattle.theorems.specs.WellFormed.{WellLent}
 
 -- A call yields n and leaves `left` exactly if `Done` says so. It is refused with f exactly if `Refused` says so, and then
 -- leaves what was lent.
-pub record Exactly {A : Type 0} (lent : List A) (Done : ℕ → List A → Type 0) (Refused : Fault → Type 0) (call : Effect A) :
+pub record Exactly {A : Type 0} (lent : List A) (Done : ℕ → List A → Type 0) (Refused : Fault → Type 0) (call : Effect ℕ A) :
     Type 0 where
   pub done : (n : ℕ) (left : List A) → ((call .answer ≡ accepted n) × (call .left ≡ left)) ↔ Done n left
   pub refuses : (f : Fault) (left : List A) →

@@ -7,9 +7,9 @@ use lib.ListN.{length, getD, replicate}
 use Rattle.model.specs.Rules.Search.{table, joinFrom}
 use Rattle.model.specs.Rules.Word.{negWord, binaryWord}
 use Rattle.model.specs.Rules.Reads.{settled}
-use Rattle.model.specs.Rules.Machine.{codeOffset, listOf, hyperOf, countOf, statedLength}
+use Rattle.model.specs.Rules.Machine.{Effect, codeOffset, listOf, hyperOf, countOf, statedLength}
 use Rattle.model.specs.Rules.Compile.{pairOf, verdictOf, compileOf, Pair}
-use Rattle.model.specs.Rules.Report.{Told, reportOf}
+use Rattle.model.specs.Rules.Report.{reportOf}
 use Rattle.model.specs.Says.Calls.{callOf, reset, cycle}
 use Rattle.model.specs.Rules.Trial.{trialOf}
 use Rattle.model.specs.Rules.Outcome.{Outcome, accepted, refused}
@@ -59,7 +59,7 @@ abbrev ofAnswer : List ℕ → Outcome Sizes → Answer
 ofAnswer counts (accepted x) = numbers (x .length ∷ x .written ∷ x .stack ∷ counts)
 ofAnswer counts (refused e) = refuses (e .number) (e .place)
 
-abbrev ofReport : Told → Answer
+abbrev ofReport : Effect Sizes ℕ → Answer
 ofReport r = ofAnswer (r .left) (r .answer)
 
 -- The settled index of every read, from left to right.

@@ -46,7 +46,7 @@ pub data Writer : Type 0 where
   compiles : (program schedule : List ℕ) → Writer
   converts : (program : List ℕ) → Writer
 
-abbrev pub writerOf : List ℕ → Writer → Effect ℕ
+abbrev pub writerOf : List ℕ → Writer → Effect ℕ ℕ
 writerOf buffer (compiles program schedule) = compileOf program schedule buffer
 writerOf buffer (converts program) = convertOf program buffer
 

@@ -141,8 +141,8 @@ module _ (program schedule buffer : List ℕ) (bytes : AreBytes program) (room :
       go : (o : Outcome Pair) → pairOf program schedule ≡ o → Written program schedule image n
       go (accepted q) e =
           let w = written q e in
-          let size : n ≡ length (both q) = accepted-same n (length (both q)) (sym a ∙ ap (λ (x : Effect ℕ). x .answer) w) in
-          let is : image ≡ both q ++ drop (length (both q)) buffer = l ∙ ap (λ (x : Effect ℕ). x .left) w in
+          let size : n ≡ length (both q) = accepted-same n (length (both q)) (sym a ∙ ap (λ (x : Effect ℕ ℕ). x .answer) w) in
+          let is : image ≡ both q ++ drop (length (both q)) buffer = l ∙ ap (λ (x : Effect ℕ ℕ). x .left) w in
           let b = pair-bounded program schedule q e bytes in
           record {
             pair = q;
@@ -160,7 +160,7 @@ module _ (program schedule buffer : List ℕ) (bytes : AreBytes program) (room :
   compile-refuses f a = go (pairOf program schedule) refl
     where
       go : (o : Outcome Pair) → pairOf program schedule ≡ o → o ≡ refused f
-      go (accepted q) e = absurd (accepted≢refused _ _ f (ap (λ (x : Effect ℕ). x .answer) (written q e)) a)
+      go (accepted q) e = absurd (accepted≢refused _ _ f (ap (λ (x : Effect ℕ ℕ). x .answer) (written q e)) a)
       go (refused g) e = let same : g ≡ f = refused-inside (sym (unwritten g e) ∙ a) in ap refused same
 
 -- The state before the first line can be run, and the lines left are all.
@@ -176,7 +176,7 @@ module _ (image text : List ℕ) (r : Prepared) (formed : wellFormed image ≡ t
   start-is : startOf image ≡ resetWords image zeros
   unfolding zeros
   start-is =
-      ap (λ (e : Effect ℤ). e .left) (reset-done (lends-itself formed) zeros formed (lt-ltb (countOf image) (length zeros) long))
+      ap (λ (e : Effect ℕ ℤ). e .left) (reset-done (lends-itself formed) zeros formed (lt-ltb (countOf image) (length zeros) long))
 
   runnable : Runnable image (startOf image) noSamples
   runnable =

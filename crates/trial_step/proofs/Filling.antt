@@ -71,10 +71,10 @@ module _ {image text : List ℕ} {p₀ : Progress} {samples₀ state₀ : List �
   filling-more =
       let after = linesLeft image text next samples′ state′ in
       let falls : length after < length (linesLeft image text p₀ samples₀ state₀) = omega
-      (arith, f .most, ap length (l .first)) in
+      (arith, f .most, ap length (l .next-line)) in
       record {
         bytes =
-            f .bytes ∙ ap (λ (ls : List (List ℕ)). take size block ++ joined ls) (l .first) ∙
+            f .bytes ∙ ap (λ (ls : List (List ℕ)). take size block ++ joined ls) (l .next-line) ∙
             ap (take size block ++_) (joined-cons (take n line′) after) ∙
             sym (append-assoc (take size block) (take n line′) (joined after)) ∙
             ap (λ (b : List ℕ). b ++ joined after) (sym (behind-taken block line′ rest size n (f .fits) (l .fits)));

@@ -70,7 +70,7 @@ module _ {image text : List ℕ} {p : Progress} {samples samples′ state state�
       let rest = callsLeft text at left samples′ in
       let leaves : callOf image state (cycle samples′) .left ≡ state′ = cycle-leaves enough ∙ sym (ran .state-is) in
       record {
-        first =
+        next-line =
             ap (linesFrom image (p .line) state) calls ∙
             ap (λ (s : List ℤ). lineOf (p .line) (signalsOf image s) ∷ linesFrom image (suc (p .line)) s rest) leaves ∙
             ap₂ (λ (b : List ℕ) (n : ℕ). b ∷ linesFrom image n state′ rest) (sym (put-start (ran .line-is)))

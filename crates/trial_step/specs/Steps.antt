@@ -52,7 +52,7 @@ pub record Printed (image : List ℕ) (number : ℕ) (samples state : List ℤ) 
 -- A step has printed the first of the lines left.
 pub record Lined (image text : List ℕ) (p : Progress) (samples state : List ℤ) (samples′ state′ : List ℤ) (line′ : List ℕ)
     (size : ℕ) (next : Progress) : Type 0 where
-  pub first : linesLeft image text p samples state ≡ take size line′ ∷ linesLeft image text next samples′ state′
+  pub next-line : linesLeft image text p samples state ≡ take size line′ ∷ linesLeft image text next samples′ state′
   pub fits : size ≤ length line′
   pub number : next .line ≡ p .line + 1
   pub underway : Underway image text next samples′ state′

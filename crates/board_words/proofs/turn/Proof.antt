@@ -157,12 +157,12 @@ returns-4 c =
     let w = now (a .words) in
     let k = f .found .given .0 .0 in
     let run = run-held w (now (a .images)) (now (a .state)) (now (a .samples)) k (below f) in
-    let answer = r .run-place .ensures .0 ∙ sym (ap (λ (x : Effect ℤ). x .answer) run) in
+    let answer = r .run-place .ensures .0 ∙ sym (ap (λ (x : Effect ℕ ℤ). x .answer) run) in
     comes w (now (a .outcome))
     (turn-done _ _ _ _ (le-leb _ _ (e .before .if1 .left)) (le-leb _ _ (e .if2 .left)) (At k) (found f))
     refl
     (ap (λ (m : ℕ). set (set (set w (4 * k) (getD w (4 * k) 0 % 2)) (4 * k + 3) m) 16 k) (n .counted .ensures))
-    (r .run-place .ensures .1 ∙ ap (withWords k (now (a .state))) (sym (ap (λ (x : Effect ℤ). x .left) run)))
+    (r .run-place .ensures .1 ∙ ap (withWords k (now (a .state))) (sym (ap (λ (x : Effect ℕ ℤ). x .left) run)))
     (c .outcome-of .ensures ∙ ap (runOutcome k) answer)
 
 pub turn-spec : {M : Type 1} → statement M

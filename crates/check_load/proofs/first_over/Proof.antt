@@ -6,7 +6,7 @@ use native.Mathlib.Omega.{arith}
 use borrow.Author.Tests.{lt-ltb, le-ltb}
 use lib.Dec.{ltb}
 use lib.ListN.{getD}
-use Rattle.model.specs.Rules.Search.{first, firstFrom}
+use Rattle.model.specs.Rules.Search.{firstBelow, firstFrom}
 use Rattle.read_rule.proofs.Searches.{search-none, search-here, search-next}
 use Rattle.check_load.proofs.first_over.Statement.{statement}
 use Rattle.check_load.proofs.first_over.Tie as tie
@@ -14,13 +14,13 @@ use Rattle.check_load.proofs.first_over.Tie as tie
 abbrev Inv-loop : tie.InvT-loop
 Inv-loop loads limit hypercycle cycle₀ cycle =
     (hypercycle ≤ 240) ×
-    (first hypercycle (λ c. ltb limit (getD loads c 0)) ≡ firstFrom cycle (hypercycle - cycle) (λ c. ltb limit (getD loads c 0)))
+    (firstBelow hypercycle (λ c. ltb limit (getD loads c 0)) ≡ firstFrom cycle (hypercycle - cycle) (λ c. ltb limit (getD loads c 0)))
 
 abbrev μ-loop : tie.MeasureT-loop
 μ-loop loads limit hypercycle cycle₀ cycle = hypercycle - cycle
 
 loop-holds : tie.Need-loop-holds Inv-loop μ-loop
-unfolding first
+unfolding firstBelow
 loop-holds c = (c .pre, rw sub-zero)
 
 mul-load : tie.Need-mul-load Inv-loop μ-loop

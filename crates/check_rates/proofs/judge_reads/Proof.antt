@@ -95,7 +95,7 @@ loop-holds : tie.Need-loop-holds Inv-loop2 μ-loop2 Inv-loop μ-loop
 unfolding allPlaces
 loop-holds c = (
   omega arith,
-  sym (c .before .before .pre .1 .reads-are .sums .first),
+  sym (c .before .before .pre .1 .reads-are .sums .from-zero),
   λ p e t. let h = rising-program _ p e in
       check-starts (reads-in p) (readAs p) (lowest (readRates p)) (h .0) (h .1 .reads) (all-rates p),
 )

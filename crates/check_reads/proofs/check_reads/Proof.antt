@@ -106,7 +106,7 @@ loop-holds : tie.Need-loop-holds Inv-loop2 μ-loop2 Inv-loop μ-loop
 unfolding allPlaces
 loop-holds c = (
   omega arith,
-  sym (c .before .before .pre .2 .reads-are .sums .first),
+  sym (c .before .before .pre .2 .reads-are .sums .from-zero),
   λ p e s order r t o. let h =
       rising-program _ p e in check-starts (reads-in p) (unmet p s) (met p s) (h .0) (h .1 .reads) (all-unmet p s),
 )

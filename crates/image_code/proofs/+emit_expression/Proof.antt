@@ -3,7 +3,7 @@ use borrow.Author.Needs.{needs}
 use native.Mathlib.Omega.{arith}
 use mathlib.Core.Path.{_≡_, refl, sym, _∙_}
 use mathlib.Core.List.{List}
-use Prim.Native.Nat.{ℕ, _+_, _-_, _≤_, _<_}
+use Prim.Native.Nat.{ℕ, _+_, _-_, _^_, _≤_, _<_}
 use lib.ListN.{length}
 use denote.Ref.{now}
 use mir.Facts.{toZ-ofZ}
@@ -43,14 +43,14 @@ use Rattle.width.proofs.of_read.Reads as of-read-reads
 use Rattle.image_code.proofs.+emit_expression.{statement}
 use Rattle.image_code.proofs.+emit_expression.Tie.{close}
 
-abbrev μ : Measures 2 kinds.ps ℕ
+abbrev μ : Measures 4 kinds.ps ℕ
 μ κs a = a .1 .1 .0
 
-abbrev given : ℕ → In 2 kinds.ps
-given t = and 2 kinds.ps (at-measure 2 kinds.ps μ t) own.Pre
+abbrev given : ℕ → In 4 kinds.ps
+given t = and 4 kinds.ps (at-measure 4 kinds.ps μ t) own.Pre
 
-abbrev below : ℕ → In 2 kinds.ps
-below t = and 2 kinds.ps (falls 2 kinds.ps _<_ μ t) own.Pre
+abbrev below : ℕ → In 4 kinds.ps
+below t = and 4 kinds.ps (falls 4 kinds.ps _<_ μ t) own.Pre
 
 abbrev known : ℕ → lts.Claims
 known t = (
@@ -77,22 +77,25 @@ known t = (
 -- where the command is known
 module _ (t : ℕ) (c : lts.After-operator-at (known t) (given t) own.Post) where
   abbrev text : List ℕ
-  text = now (c .before .before .before .args .text)
+  text = now (now (c .before .before .args .text))
 
   abbrev at : ℕ
-  at = c .before .before .before .args .at
+  at = c .before .before .args .at
 
   abbrev depth : ℕ
-  depth = c .before .before .before .args .depth
+  depth = c .before .before .args .depth
 
   abbrev size : ℕ
-  size = length (now (c .before .before .before .args .out))
+  size = length (now (now (c .before .before .args .out)))
 
   abbrev to : ℕ
-  to = c .before .before .before .args .to
+  to = c .before .before .args .to
 
   room-at : Room depth text at size to
-  room-at = c .before .before .before .pre .1
+  room-at = c .before .before .pre .1 .0
+
+  counted : length text < 2 ^ 64
+  counted = c .before .before .pre .1 .1
 
   module _ (o : Operator) (e : c .operator-at .result ≡ o) where
     is : operatorAt text at ≡ o
@@ -113,6 +116,9 @@ operator-at-requires t c κs = search needs
 enum-known-decoded : (t : ℕ) → lts.Need-enum-known-decoded (known t) (given t) own.Post
 enum-known-decoded t c = search needs
 
+slice-aggregate-put-push : (t : ℕ) → lts.Need-slice-aggregate-put-push (known t) (given t) own.Post
+slice-aggregate-put-push t c = search needs
+
 in-expression-requires : (t : ℕ) → lts.Need-in-expression-requires (known t) (given t) own.Post
 in-expression-requires t c κs = search needs
 
@@ -120,8 +126,7 @@ add-put-push : (t : ℕ) → lts.Need-add-put-push (known t) (given t) own.Post
 add-put-push t c =
     let c3 = c .before .before .before in
     let c5 = c3 .before .before in
-    let c8 = c5 .before .before .before in
-    omega (arith, inside t c5 _ (c3 .decoded .given .1), c8 .good .0 .1)
+    omega (arith, inside t c5 _ (c3 .decoded .given .1), counted t c5)
 
 put-push-requires : (t : ℕ) → lts.Need-put-push-requires (known t) (given t) own.Post
 put-push-requires t c κs =
@@ -132,6 +137,9 @@ put-push-requires t c κs =
 enum-known-decoded-2 : (t : ℕ) → lts.Need-enum-known-decoded-2 (known t) (given t) own.Post
 enum-known-decoded-2 t c = search needs
 
+slice-aggregate-put-access : (t : ℕ) → lts.Need-slice-aggregate-put-access (known t) (given t) own.Post
+slice-aggregate-put-access t c = search needs
+
 of-read-requires : (t : ℕ) → lts.Need-of-read-requires (known t) (given t) own.Post
 of-read-requires t c κs = search needs
 
@@ -139,12 +147,13 @@ add-put-access : (t : ℕ) → lts.Need-add-put-access (known t) (given t) own.P
 add-put-access t c =
     let c3 = c .before .before .before in
     let c5 = c3 .before .before in
-    let c8 = c5 .before .before .before in
-    omega (arith, inside t c5 _ (c3 .decoded2 .given .1), c .of-read .ensures, c8 .good .0 .1)
+    omega (arith, inside t c5 _ (c3 .decoded2 .given .1), c .of-read .ensures, counted t c5)
 
 put-access-requires : (t : ℕ) → lts.Need-put-access-requires (known t) (given t) own.Post
-put-access-requires t c κs = omega
-    (arith, no-rooms (rooms-at t (c .before .before .before .before .before) _ (c .before .before .before .decoded2 .given .1)))
+put-access-requires t c κs =
+    let c3 = c .before .before .before in
+    let c5 = c3 .before .before in
+    omega (arith, no-rooms (rooms-at t c5 _ (c3 .decoded2 .given .1)))
 
 enum-known-decoded-3 : (t : ℕ) → lts.Need-enum-known-decoded-3 (known t) (given t) own.Post
 enum-known-decoded-3 t c = search needs
@@ -155,37 +164,41 @@ in-expression-requires-2 t c κs = search needs
 add-emit-expression : (t : ℕ) → lts.Need-add-emit-expression (known t) (given t) own.Post
 add-emit-expression t c =
     let c4 = c .before .before .before .before in
-    let c7 = c4 .before .before .before in
-    omega (arith, inside t c4 _ (c .before .before .decoded3 .given .1), c7 .good .0 .1)
+    omega (arith, inside t c4 _ (c .before .before .decoded3 .given .1), counted t c4)
 
 sub-emit-expression : (t : ℕ) → lts.Need-sub-emit-expression (known t) (given t) own.Post
-sub-emit-expression t c = omega (arith, some t (c .before .before .before .before) _ (c .before .before .decoded3 .given .1))
+sub-emit-expression t c =
+    let c4 = c .before .before .before .before in
+    omega (arith, some t c4 _ (c .before .before .decoded3 .given .1))
 
 emit-expression-requires : (t : ℕ) → lts.Need-emit-expression-requires (known t) (given t) own.Post
 emit-expression-requires t c κs =
     let c3 = c .before .before .before in
-    let c5 = c3 .before .before in (
-      omega (arith, some t c5 _ (c3 .decoded3 .given .1)),
-      rw (c .before .in-expression2 .ensures)
-          (first-room (rooms-at t c5 _ (c3 .decoded3 .given .1))),
+    let c5 = c3 .before .before in
+    let e = c3 .decoded3 .given .1 in (
+      omega (arith, some t c5 _ e),
+      (rw (c .before .in-expression2 .ensures) (first-room (rooms-at t c5 _ e)), counted t c5),
     )
 
 sub-emit-expression-2 : (t : ℕ) → lts.Need-sub-emit-expression-2 (known t) (given t) own.Post
 sub-emit-expression-2 t c =
-    let c6 = c .before .before .before .before .before .before in
-    let c8 = c6 .before .before in
-    omega (arith, some t c8 _ (c6 .decoded3 .given .1))
+    let c4 = c .before .before .before .before in
+    let c6 = c4 .before .before in
+    omega (arith, some t c6 _ (c4 .decoded3 .given .1))
 
 emit-expression-requires-2 : (t : ℕ) → lts.Need-emit-expression-requires-2 (known t) (given t) own.Post
 emit-expression-requires-2 t c κs =
     let c3 = c .before .before .before in
     let c5 = c3 .before .before in
     let c7 = c5 .before .before in
-    let c9 = c7 .before .before in (
-      omega (arith, some t c9 _ (c7 .decoded3 .given .1)),
-      first-room (rest-rooms (rooms-at t c9 _
-          (c7 .decoded3 .given .1)) (rw (c5 .in-expression2 .ensures) at (c3 .emit-expression .ensures))),
+    let e = c5 .decoded3 .given .1 in
+    let first = rw (c3 .in-expression2 .ensures) at (c .before .emit-expression .ensures .1) in (
+      omega (arith, some t c7 _ e),
+      (first-room (rest-rooms (rooms-at t c7 _ e) first), counted t c7),
     )
+
+slice-aggregate-put-operator : (t : ℕ) → lts.Need-slice-aggregate-put-operator (known t) (given t) own.Post
+slice-aggregate-put-operator t c = search needs
 
 binary-byte-requires : (t : ℕ) → lts.Need-binary-byte-requires (known t) (given t) own.Post
 binary-byte-requires t c κs = search needs
@@ -193,16 +206,12 @@ binary-byte-requires t c κs = search needs
 put-operator-requires : (t : ℕ) → lts.Need-put-operator-requires (known t) (given t) own.Post
 put-operator-requires t c κs =
     let c4 = c .before .before .before .before in
-    let c8 = c4 .before .before .before .before in
+    let c6 = c4 .before .before in
+    let c8 = c6 .before .before in
     let c10 = c8 .before .before in
-    let c12 = c10 .before .before in
-    let c14 = c12 .before .before in
-    omega (
-      arith,
-      no-rooms (rest-rooms
-          (rest-rooms (rooms-at t c14 _ (c12 .decoded3 .given .1))
-          (rw (c10 .in-expression2 .ensures) at (c8 .emit-expression .ensures))) (c4 .emit-expression2 .ensures)),
-    )
+    let first = rw (c6 .in-expression2 .ensures) at (c4 .emit-expression .ensures .1) in
+    let second = c .before .before .emit-expression2 .ensures .1 in
+    omega (arith, no-rooms (rest-rooms (rest-rooms (rooms-at t c10 _ (c8 .decoded3 .given .1)) first) second))
 
 enum-known-decoded-4 : (t : ℕ) → lts.Need-enum-known-decoded-4 (known t) (given t) own.Post
 enum-known-decoded-4 t c = search needs
@@ -213,17 +222,24 @@ in-expression-requires-3 t c κs = search needs
 add-emit-expression-2 : (t : ℕ) → lts.Need-add-emit-expression-2 (known t) (given t) own.Post
 add-emit-expression-2 t c =
     let c4 = c .before .before .before .before in
-    let c7 = c4 .before .before .before in
-    omega (arith, inside t c4 _ (c .before .before .decoded4 .given .1), c7 .good .0 .1)
+    omega (arith, inside t c4 _ (c .before .before .decoded4 .given .1), counted t c4)
 
 sub-emit-expression-3 : (t : ℕ) → lts.Need-sub-emit-expression-3 (known t) (given t) own.Post
-sub-emit-expression-3 t c = omega (arith, some t (c .before .before .before .before) _ (c .before .before .decoded4 .given .1))
+sub-emit-expression-3 t c =
+    let c4 = c .before .before .before .before in
+    omega (arith, some t c4 _ (c .before .before .decoded4 .given .1))
 
 emit-expression-requires-3 : (t : ℕ) → lts.Need-emit-expression-requires-3 (known t) (given t) own.Post
 emit-expression-requires-3 t c κs =
-    let o = c .before .before .before .before .before in
-    let e = c .before .before .before .decoded4 .given .1 in
-    (omega (arith, some t o _ e), rw (c .before .in-expression3 .ensures) (first-room (rooms-at t o _ e)))
+    let c3 = c .before .before .before in
+    let c5 = c3 .before .before in
+    let e = c3 .decoded4 .given .1 in (
+      omega (arith, some t c5 _ e),
+      (rw (c .before .in-expression3 .ensures) (first-room (rooms-at t c5 _ e)), counted t c5),
+    )
+
+slice-aggregate-put-operator-2 : (t : ℕ) → lts.Need-slice-aggregate-put-operator-2 (known t) (given t) own.Post
+slice-aggregate-put-operator-2 t c = search needs
 
 unary-byte-requires : (t : ℕ) → lts.Need-unary-byte-requires (known t) (given t) own.Post
 unary-byte-requires t c κs = search needs
@@ -233,12 +249,8 @@ put-operator-requires-2 t c κs =
     let c4 = c .before .before .before .before in
     let c6 = c4 .before .before in
     let c8 = c6 .before .before in
-    let c10 = c8 .before .before in
-    omega (
-      arith,
-      no-rooms (rest-rooms (rooms-at t c10 _ (c8 .decoded4 .given .1))
-          (rw (c6 .in-expression3 .ensures) at (c4 .emit-expression3 .ensures))),
-    )
+    let operand = rw (c4 .in-expression3 .ensures) at (c .before .before .emit-expression3 .ensures .1) in
+    omega (arith, no-rooms (rest-rooms (rooms-at t c8 _ (c6 .decoded4 .given .1)) operand))
 
 enum-told : (t : ℕ) → lts.Need-enum-told (known t) (given t) own.Post
 enum-told t c = search needs
@@ -249,143 +261,135 @@ in-expression-requires-4 t c κs = search needs
 add-emit-expression-3 : (t : ℕ) → lts.Need-add-emit-expression-3 (known t) (given t) own.Post
 add-emit-expression-3 t c =
     let c3 = c .before .before .before in
-    let c6 = c3 .before .before .before in
-    omega (arith, inside t c3 _ (c .before .enum-told .given .1), c6 .good .0 .1)
+    omega (arith, inside t c3 _ (c .before .enum-told .given .1), counted t c3)
 
 sub-emit-expression-4 : (t : ℕ) → lts.Need-sub-emit-expression-4 (known t) (given t) own.Post
-sub-emit-expression-4 t c = omega (arith, some t (c .before .before .before) _ (c .before .enum-told .given .1))
+sub-emit-expression-4 t c =
+    let c3 = c .before .before .before in
+    omega (arith, some t c3 _ (c .before .enum-told .given .1))
 
 emit-expression-requires-4 : (t : ℕ) → lts.Need-emit-expression-requires-4 (known t) (given t) own.Post
-emit-expression-requires-4 t c κs = (
-  omega (arith, some t (c .before .before .before .before) _ (c .before .before .enum-told .given .1)),
-  rw (c .before .in-expression4 .ensures)
-      (first-room (rooms-at t (c .before .before .before .before) _ (c .before .before .enum-told .given .1))),
-)
+emit-expression-requires-4 t c κs =
+    let c4 = c .before .before .before .before in
+    let e = c .before .before .enum-told .given .1 in (
+      omega (arith, some t c4 _ e),
+      (rw (c .before .in-expression4 .ensures) (first-room (rooms-at t c4 _ e)), counted t c4),
+    )
 
 sub-emit-expression-5 : (t : ℕ) → lts.Need-sub-emit-expression-5 (known t) (given t) own.Post
 sub-emit-expression-5 t c =
-    let c5 = c .before .before .before .before .before in
-    let c7 = c5 .before .before in
-    omega (arith, some t c7 _ (c5 .enum-told .given .1))
+    let c3 = c .before .before .before in
+    let c5 = c3 .before .before in
+    omega (arith, some t c5 _ (c3 .enum-told .given .1))
 
 emit-expression-requires-5 : (t : ℕ) → lts.Need-emit-expression-requires-5 (known t) (given t) own.Post
 emit-expression-requires-5 t c κs =
     let c3 = c .before .before .before in
-    let c5 = c3 .before .before in
-    let c6 = c5 .before in
-    let c8 = c6 .before .before in (
-      omega (arith, some t c8 _ (c6 .enum-told .given .1)),
-      first-room (rest-rooms (rooms-at t c8 _
-          (c6 .enum-told .given .1)) (rw (c5 .in-expression4 .ensures) at (c3 .emit-expression4 .ensures))),
+    let c4 = c3 .before in
+    let c6 = c4 .before .before in
+    let e = c4 .enum-told .given .1 in
+    let condition = rw (c3 .in-expression4 .ensures) at (c .before .emit-expression4 .ensures .1) in (
+      omega (arith, some t c6 _ e),
+      (first-room (rest-rooms (rooms-at t c6 _ e) condition), counted t c6),
     )
 
 sub-emit-expression-6 : (t : ℕ) → lts.Need-sub-emit-expression-6 (known t) (given t) own.Post
 sub-emit-expression-6 t c =
     let c5 = c .before .before .before .before .before in
-    let c9 = c5 .before .before .before .before in
-    let c11 = c9 .before .before in
-    omega (arith, some t c11 _ (c9 .enum-told .given .1))
+    let c7 = c5 .before .before in
+    omega (arith, some t c7 _ (c5 .enum-told .given .1))
 
 emit-expression-requires-6 : (t : ℕ) → lts.Need-emit-expression-requires-6 (known t) (given t) own.Post
 emit-expression-requires-6 t c κs =
     let c3 = c .before .before .before in
-    let c7 = c3 .before .before .before .before in
-    let c9 = c7 .before .before in
-    let c10 = c9 .before in
-    let c12 = c10 .before .before in (
-      omega (arith, some t c12 _ (c10 .enum-told .given .1)),
-      first-room (rest-rooms (rest-rooms (rooms-at t c12 _
-          (c10 .enum-told .given .1)) (rw (c9 .in-expression4 .ensures) at (c7 .emit-expression4 .ensures)))
-          (c3 .emit-expression5 .ensures)),
+    let c5 = c3 .before .before in
+    let c6 = c5 .before in
+    let c8 = c6 .before .before in
+    let e = c6 .enum-told .given .1 in
+    let condition = rw (c5 .in-expression4 .ensures) at (c3 .emit-expression4 .ensures .1) in
+    let first = c .before .emit-expression5 .ensures .1 in (
+      omega (arith, some t c8 _ e),
+      (first-room (rest-rooms (rest-rooms (rooms-at t c8 _ e) condition) first), counted t c8),
     )
+
+slice-aggregate-put-operator-3 : (t : ℕ) → lts.Need-slice-aggregate-put-operator-3 (known t) (given t) own.Post
+slice-aggregate-put-operator-3 t c = search needs
 
 put-operator-requires-3 : (t : ℕ) → lts.Need-put-operator-requires-3 (known t) (given t) own.Post
 put-operator-requires-3 t c κs =
     let c3 = c .before .before .before in
-    let c7 = c3 .before .before .before .before in
-    let c11 = c7 .before .before .before .before in
-    let c13 = c11 .before .before in
-    let c14 = c13 .before in
-    let c16 = c14 .before .before in
-    omega (
-      arith,
-      no-rooms (rest-rooms (rest-rooms (rest-rooms (rooms-at t
-          c16 _ (c14 .enum-told .given .1)) (rw (c13 .in-expression4 .ensures) at (c11 .emit-expression4 .ensures)))
-          (c7 .emit-expression5 .ensures)) (c3 .emit-expression6 .ensures)),
-    )
-
-same-length : (t : ℕ) → lts.Need-same-length (known t) (given t) own.Post
-same-length t c = c .before .before .put-push .kept .0
+    let c5 = c3 .before .before in
+    let c7 = c5 .before .before in
+    let c8 = c7 .before in
+    let c10 = c8 .before .before in
+    let condition = rw (c7 .in-expression4 .ensures) at (c5 .emit-expression4 .ensures .1) in
+    let first = c3 .emit-expression5 .ensures .1 in
+    let second = c .before .emit-expression6 .ensures .1 in
+    let all = rooms-at t c10 _ (c8 .enum-told .given .1) in
+    omega (arith, no-rooms (rest-rooms (rest-rooms (rest-rooms all condition) first) second))
 
 returns : (t : ℕ) → lts.Need-returns (known t) (given t) own.Post
 returns t c =
-    let c3 = c .before .before .before in
-    let c6 = c3 .before .before .before in
-    let c8 = c6 .before .before in
-    emits-last _ (is t c8 _ (c6 .decoded .given .1)) emits-none (same-word (toZ-ofZ (search needs))
-    (rw (c3 .in-expression .ensures) at (c .before .before .put-push .ensures)))
-
-same-length-2 : (t : ℕ) → lts.Need-same-length-2 (known t) (given t) own.Post
-same-length-2 t c = c .before .before .put-access .kept .0
+    let c4 = c .before .before .before .before in
+    let c6 = c4 .before .before in (
+      refl,
+      emits-last _ (is t c6 _ (c4 .decoded .given .1)) emits-none (same-word (toZ-ofZ (search needs))
+          (rw (c .before .in-expression .ensures) at (c .put-push .ensures))),
+    )
 
 returns-2 : (t : ℕ) → lts.Need-returns-2 (known t) (given t) own.Post
 returns-2 t c =
-    let c3 = c .before .before .before in
-    let c6 = c3 .before .before .before in
-    let c8 = c6 .before .before in
-    emits-last _ (is t c8 _ (c6 .decoded2 .given .1)) emits-none
-    (rw (c3 .of-read .ensures) at (c .before .before .put-access .ensures))
-
-same-length-3 : (t : ℕ) → lts.Need-same-length-3 (known t) (given t) own.Post
-same-length-3 t c = search needs
+    let c4 = c .before .before .before .before in
+    let c6 = c4 .before .before in (
+      refl,
+      emits-last _ (is t c6 _ (c4 .decoded2 .given .1)) emits-none
+          (rw (c .before .of-read .ensures) at (c .put-access .ensures)),
+    )
 
 returns-3 : (t : ℕ) → lts.Need-returns-3 (known t) (given t) own.Post
 returns-3 t c =
     let c3 = c .before .before .before in
-    let c7 = c3 .before .before .before .before in
-    let c11 = c7 .before .before .before .before in
-    let c13 = c11 .before .before in
-    let c15 = c13 .before .before in
-    let c17 = c15 .before .before in
-    emits-last _ (is t
-    c17 _ (c15 .decoded3 .given .1))
-    (emits-more (rw (c13 .in-expression2 .ensures) at (c11 .emit-expression .ensures))
-    (emits-more (c7 .emit-expression2 .ensures) emits-none))
-    (rw (c3 .binary-byte .ensures) at (c .before .before .put-operator .ensures))
-
-same-length-4 : (t : ℕ) → lts.Need-same-length-4 (known t) (given t) own.Post
-same-length-4 t c = search needs
+    let c5 = c3 .before .before in
+    let c7 = c5 .before .before in
+    let c9 = c7 .before .before in
+    let c11 = c9 .before .before in
+    let first = rw (c7 .in-expression2 .ensures) at (c5 .emit-expression .ensures .1) in
+    let second = c3 .emit-expression2 .ensures .1 in (
+      c3 .emit-expression2 .ensures .0 ∙ c5 .emit-expression .ensures .0,
+      emits-last _ (is t c11 _ (c9 .decoded3 .given .1)) (emits-more first (emits-more second emits-none))
+          (rw (c .before .binary-byte .ensures) at (c .put-operator .ensures)),
+    )
 
 returns-4 : (t : ℕ) → lts.Need-returns-4 (known t) (given t) own.Post
 returns-4 t c =
     let c3 = c .before .before .before in
-    let c7 = c3 .before .before .before .before in
+    let c5 = c3 .before .before in
+    let c7 = c5 .before .before in
     let c9 = c7 .before .before in
-    let c11 = c9 .before .before in
-    let c13 = c11 .before .before in
-    emits-last _ (is t c13 _ (c11 .decoded4 .given .1)) (emits-more (rw (c9 .in-expression3 .ensures) at
-    (c7 .emit-expression3 .ensures)) emits-none)
-    (rw (c3 .unary-byte .ensures) at (c .before .before .put-operator2 .ensures))
-
-same-length-5 : (t : ℕ) → lts.Need-same-length-5 (known t) (given t) own.Post
-same-length-5 t c = search needs
+    let operand = rw (c5 .in-expression3 .ensures) at (c3 .emit-expression3 .ensures .1) in (
+      c3 .emit-expression3 .ensures .0,
+      emits-last _ (is t c9 _ (c7 .decoded4 .given .1)) (emits-more operand emits-none)
+          (rw (c .before .unary-byte .ensures) at (c .put-operator2 .ensures)),
+    )
 
 returns-5 : (t : ℕ) → lts.Need-returns-5 (known t) (given t) own.Post
 returns-5 t c =
-    let c6 = c .before .before .before .before .before .before in
-    let c10 = c6 .before .before .before .before in
-    let c14 = c10 .before .before .before .before in
-    let c16 = c14 .before .before in
-    let c17 = c16 .before in
-    let c19 = c17 .before .before in
-    emits-last _ (is t
-    c19 _ (c17 .enum-told .given .1))
-    (emits-more (rw (c16 .in-expression4 .ensures) at (c14 .emit-expression4 .ensures))
-    (emits-more (c10 .emit-expression5 .ensures) (emits-more (c6 .emit-expression6 .ensures) emits-none)))
-    (c .before .before .put-operator3 .ensures)
+    let c4 = c .before .before .before .before in
+    let c6 = c4 .before .before in
+    let c8 = c6 .before .before in
+    let c9 = c8 .before in
+    let c11 = c9 .before .before in
+    let condition = rw (c8 .in-expression4 .ensures) at (c6 .emit-expression4 .ensures .1) in
+    let first = c4 .emit-expression5 .ensures .1 in
+    let second = c .before .before .emit-expression6 .ensures .1 in (
+      c .before .before .emit-expression6 .ensures .0 ∙ c4 .emit-expression5 .ensures .0 ∙ c6 .emit-expression4 .ensures .0,
+      emits-last _ (is t c11 _ (c9 .enum-told .given .1)) (emits-more condition (emits-more first (emits-more second emits-none)))
+          (c .put-operator3 .ensures),
+    )
 
 returns-6 : (t : ℕ) → lts.Need-returns-6 (known t) (given t) own.Post
-returns-6 t c = absurd (no-operator (c .before .operator-at .result) (c .match .keys6)
+returns-6 t c =
+    absurd (no-operator (c .before .operator-at .result) (c .match .keys6)
     (operator-stands _ (is t (c .before) _ refl) (room-at t (c .before))))
 
 pub +emit-expression-spec : {M : Type 1} → statement M
@@ -393,10 +397,12 @@ pub +emit-expression-spec : {M : Type 1} → statement M
     close μ (λ t. lts.spec (known t) (given t) own.Post
     (operator-at-requires t)
     (enum-known-decoded t)
+    (slice-aggregate-put-push t)
     (in-expression-requires t)
     (add-put-push t)
     (put-push-requires t)
     (enum-known-decoded-2 t)
+    (slice-aggregate-put-access t)
     (of-read-requires t)
     (add-put-access t)
     (put-access-requires t)
@@ -407,6 +413,7 @@ pub +emit-expression-spec : {M : Type 1} → statement M
     (emit-expression-requires t)
     (sub-emit-expression-2 t)
     (emit-expression-requires-2 t)
+    (slice-aggregate-put-operator t)
     (binary-byte-requires t)
     (put-operator-requires t)
     (enum-known-decoded-4 t)
@@ -414,6 +421,7 @@ pub +emit-expression-spec : {M : Type 1} → statement M
     (add-emit-expression-2 t)
     (sub-emit-expression-3 t)
     (emit-expression-requires-3 t)
+    (slice-aggregate-put-operator-2 t)
     (unary-byte-requires t)
     (put-operator-requires-2 t)
     (enum-told t)
@@ -425,15 +433,11 @@ pub +emit-expression-spec : {M : Type 1} → statement M
     (emit-expression-requires-5 t)
     (sub-emit-expression-6 t)
     (emit-expression-requires-6 t)
+    (slice-aggregate-put-operator-3 t)
     (put-operator-requires-3 t)
-    (same-length t)
     (returns t)
-    (same-length-2 t)
     (returns-2 t)
-    (same-length-3 t)
     (returns-3 t)
-    (same-length-4 t)
     (returns-4 t)
-    (same-length-5 t)
     (returns-5 t)
     (returns-6 t))

@@ -41,14 +41,14 @@ use Rattle.width.proofs.of_read.Reads as of-read-reads
 use Rattle.image_measure.proofs.+measure_expression.{statement}
 use Rattle.image_measure.proofs.+measure_expression.Tie.{close}
 
-abbrev μ : Measures 1 kinds.ps ℕ
+abbrev μ : Measures 2 kinds.ps ℕ
 μ κs a = a .1 .1 .0
 
-abbrev given : ℕ → In 1 kinds.ps
-given t = and 1 kinds.ps (at-measure 1 kinds.ps μ t) own.Pre
+abbrev given : ℕ → In 2 kinds.ps
+given t = and 2 kinds.ps (at-measure 2 kinds.ps μ t) own.Pre
 
-abbrev below : ℕ → In 1 kinds.ps
-below t = and 1 kinds.ps (falls 1 kinds.ps _<_ μ t) own.Pre
+abbrev below : ℕ → In 2 kinds.ps
+below t = and 2 kinds.ps (falls 2 kinds.ps _<_ μ t) own.Pre
 
 abbrev known : ℕ → lts.Claims
 known t = (
@@ -71,7 +71,7 @@ known t = (
 -- where the command is known
 module _ (t : ℕ) (c : lts.After-operator-at (known t) (given t) own.Post) where
   abbrev text : List ℕ
-  text = now (c .before .before .args .text)
+  text = now (now (c .before .before .args .text))
 
   abbrev at : ℕ
   at = c .before .before .args .at

@@ -18,7 +18,7 @@ use Rattle.image_measure.proofs.measure_signal.Tie as tie
 
 -- where the signal's declaration stands
 inside : (s : tie.Start) → let a = s .args in
-    (a .place < length (now (a .text))) × (byteAt (now (a .text)) (a .place) ≡ 0x11 → a .place + 8 ≤ length (now (a .text)))
+    (a .place < length (now (a .t1))) × (byteAt (now (a .t1)) (a .place) ≡ 0x11 → a .place + 8 ≤ length (now (a .t1)))
 inside s = let h = s .pre .0 in place-inside _ _ (h .signal) (h .stands) (h .spelled)
 
 -- a signal with an equation
@@ -27,7 +27,7 @@ module _ (c : tie.Then1) where
   start = c .before .before .before
 
   abbrev text : List ℕ
-  text = now (start .args .text)
+  text = now (start .args .t1)
 
   abbrev place : ℕ
   place = start .args .place
@@ -43,13 +43,16 @@ module _ (c : tie.Then1) where
 
 -- what measuring the expression tells
 module _ (m : tie.After-measure-expression) where
-  told : Measures (text (m .before .before)) (place (m .before .before) + 8) (m .measure-expression .result)
+  abbrev there : tie.Then1
+  there = m .before .before .before
+
+  told : Measures (text there) (place there + 8) (m .measure-expression .result)
   told = rw (m .before .in-program .ensures) at (m .measure-expression .ensures)
 
   few : m .measure-expression .result .commands ≤ 8192
   few =
-      let s = small (nests (m .before .before)) told in
-      omega (arith, s .fits, s .within, start (m .before .before) .pre .1)
+      let s = small (nests there) told in
+      omega (arith, s .fits, s .within, start there .pre .1)
 
 shared-slice-read-if1 : tie.Need-shared-slice-read-if1
 shared-slice-read-if1 c = inside (c .before .before) .0
@@ -59,11 +62,11 @@ in-program-requires c κs = search needs
 
 add-measure-expression : tie.Need-add-measure-expression
 add-measure-expression c =
-    let s = start (c .before) in
-    omega (arith, inside s .1 (c .before .if1 .taken), s .pre .1)
+    let s = start (c .before .before) in
+    omega (arith, inside s .1 (c .before .before .if1 .taken), s .pre .1)
 
 measure-expression-requires : tie.Need-measure-expression-requires
-measure-expression-requires c κs = rw (c .in-program .ensures) (nests (c .before), start (c .before) .pre .1)
+measure-expression-requires c κs = rw (c .in-program .ensures) (nests (c .before .before), start (c .before .before) .pre .1)
 
 add-total : tie.Need-add-total
 add-total c = omega (arith, few (c .before))
@@ -76,10 +79,10 @@ returns c =
     let m = c .before in
     record {
       commands = λ σ at h.
-          let q = equation-of (m .before .before) σ at h in
+          let q = equation-of (there m) σ at h in
           omega (arith, told m .tells (q .expr) (q .next) (q .spelled) .commands, ap bodyCommands (q .body));
       height = λ σ at h.
-          let q = equation-of (m .before .before) σ at h in
+          let q = equation-of (there m) σ at h in
           omega (arith, told m .tells (q .expr) (q .next) (q .spelled) .height, ap bodyHeight (q .body));
     }
 

@@ -4,7 +4,7 @@ use mathlib.Core.Path.{_≡_, sym, ap, _∙_}
 use native.Mathlib.Nat.{sub-zero}
 use native.Mathlib.Omega.{arith}
 use borrow.Author.Needs.{needs}
-use Rattle.model.specs.Rules.Search.{first, firstFrom, isFound}
+use Rattle.model.specs.Rules.Search.{firstBelow, firstFrom, isFound}
 use Rattle.read_rule.specs.Reads.{rateIn}
 use Rattle.read_rule.proofs.Searches.{search-none, search-here, search-next}
 use Rattle.latency_rule.specs.Back.{Sound, Small, inTimeBy, runLatencyBy}
@@ -14,14 +14,14 @@ use Rattle.latency_rule.proofs.one_in_time.Tie as tie
 abbrev Inv-loop : tie.InvT-loop
 Inv-loop bound hops count last source from window i₀ i =
     (count ≤ 15) × Sound hops count × ((i : ℕ) → i < window → Small hops count (from + i)) × (from + window ≤ 1000000) ×
-    (first window (λ i. inTimeBy bound (runLatencyBy hops count (rateIn last) (rateIn source) (from + i))) ≡
+    (firstBelow window (λ i. inTimeBy bound (runLatencyBy hops count (rateIn last) (rateIn source) (from + i))) ≡
     firstFrom i (window - i) (λ i. inTimeBy bound (runLatencyBy hops count (rateIn last) (rateIn source) (from + i))))
 
 abbrev μ-loop : tie.MeasureT-loop
 μ-loop bound hops count last source from window i₀ i = window - i
 
 loop-holds : tie.Need-loop-holds Inv-loop μ-loop
-unfolding first
+unfolding firstBelow
 loop-holds c =
     (c .pre .0, c .pre .1, c .pre .2, c .pre .3, rw sub-zero)
 

@@ -39,7 +39,7 @@ use Rattle.model.specs.Rules.Reads.{
   isMet,
 }
 use Rattle.model.specs.Rules.Schedule.{Schedule, phaseOf}
-use Rattle.model.specs.Rules.Search.{firstFrom, first, isFound, foundOr, allBelow}
+use Rattle.model.specs.Rules.Search.{firstFrom, firstBelow, isFound, foundOr, allBelow}
 use Rattle.model.specs.declared.Found.{Found}
 use Rattle.model.specs.declared.Found.the-variants.{At, Nowhere}
 use Rattle.model.specs.declared.Index.{Index}
@@ -225,22 +225,22 @@ from-first i (suc n) test = go (test i) refl (firstFrom (suc i) n test) (from-fi
     go false e f h = shift e f h
 
 module _ (n : ℕ) (test : ℕ → Bool) where
-  pub is-first : (f : Found) → first n test ≡ f → IsFirst 0 n test f
-  unfolding first
+  pub is-first : (f : Found) → firstBelow n test ≡ f → IsFirst 0 n test f
+  unfolding firstBelow
   is-first f e = rw e at (from-first 0 n test)
 
   -- The search finds something if and only if something below n passes.
-  pub isFound-true : isFound (first n test) ≡ true → (j : ℕ) × (j < n) × (test j ≡ true)
-  isFound-true e = go (first n test) refl e
+  pub isFound-true : isFound (firstBelow n test) ≡ true → (j : ℕ) × (j < n) × (test j ≡ true)
+  isFound-true e = go (firstBelow n test) refl e
     where
-      go : (f : Found) → first n test ≡ f → isFound f ≡ true → (j : ℕ) × (j < n) × (test j ≡ true)
+      go : (f : Found) → firstBelow n test ≡ f → isFound f ≡ true → (j : ℕ) × (j < n) × (test j ≡ true)
       go (At j) q t = let h = is-first (At j) q in (j, omega arith, h .2)
       go Nowhere q t = absurd (false≢true t)
 
-  pub true-isFound : (j : ℕ) → j < n → test j ≡ true → isFound (first n test) ≡ true
-  true-isFound j lt e = go (first n test) refl
+  pub true-isFound : (j : ℕ) → j < n → test j ≡ true → isFound (firstBelow n test) ≡ true
+  true-isFound j lt e = go (firstBelow n test) refl
     where
-      go : (f : Found) → first n test ≡ f → isFound f ≡ true
+      go : (f : Found) → firstBelow n test ≡ f → isFound f ≡ true
       go (At k) q = refl
       go Nowhere q = absurd (false≢true (sym (is-first Nowhere q j (omega arith) (omega arith)) ∙ e))
 

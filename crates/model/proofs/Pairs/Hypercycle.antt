@@ -15,7 +15,7 @@ use Rattle.model.specs.Says.Feasible.{Least}
 use Rattle.model.specs.Rules.Outcome.{accepted, refuse}
 use Rattle.model.specs.Rules.Program.{Program, Signal, noSignal}
 use Rattle.model.specs.Rules.Rates.{isMultiple, hypercycleOf, hypercycle}
-use Rattle.model.specs.Rules.Search.{first}
+use Rattle.model.specs.Rules.Search.{firstBelow}
 use Rattle.model.specs.declared.Found.{Found}
 use Rattle.model.specs.declared.Found.the-variants.{At, Nowhere}
 use Rattle.model.proofs.Pairs.Decide.{is-first}
@@ -57,7 +57,7 @@ module _ (p : Program) where
   never n g zero le v = omega (arith, v .positive)
   never n g (suc m) le v = fails m (g m (omega arith) (omega arith)) v
 
-  found : (k : ℕ) → first 240 test ≡ At k → Least p (suc k)
+  found : (k : ℕ) → firstBelow 240 test ≡ At k → Least p (suc k)
   found k q =
       let g = is-first 240 test (At k) q in
       record {
@@ -70,18 +70,18 @@ module _ (p : Program) where
       go m v g (yes l) = l
       go m v g (no l) = absurd (never k g m (omega arith) v)
 
-  nowhere : first 240 test ≡ Nowhere → (m : ℕ) → m ≤ 240 → Multiple p m → ⊥
+  nowhere : firstBelow 240 test ≡ Nowhere → (m : ℕ) → m ≤ 240 → Multiple p m → ⊥
   nowhere q m le v = never 240 (λ k l h. is-first 240 test Nowhere q k l (omega arith)) m le v
 
   pub hypercycle-least : (h : ℕ) → (hypercycle p ≡ accepted h) ↔ Least p h
   unfolding hypercycle test
-  hypercycle-least h = (λ e. forth (first 240 test) refl e, λ l. back l (first 240 test) refl)
+  hypercycle-least h = (λ e. forth (firstBelow 240 test) refl e, λ l. back l (firstBelow 240 test) refl)
     where
-      forth : (f : Found) → first 240 test ≡ f → hypercycleOf f ≡ accepted h → Least p h
+      forth : (f : Found) → firstBelow 240 test ≡ f → hypercycleOf f ≡ accepted h → Least p h
       forth (At k) q e = let same : suc k ≡ h = cc in rw (← same) (found k q)
       forth Nowhere q e = absurd (accepted≢refused _ h _ e refl)
 
-      back : Least p h → (f : Found) → first 240 test ≡ f → hypercycleOf f ≡ accepted h
+      back : Least p h → (f : Found) → firstBelow 240 test ≡ f → hypercycleOf f ≡ accepted h
       back l (At k) q =
           let g = found k q in
           let same : suc k ≡ h = omega (arith, g .least h (l .multiple), l .least (suc k) (g .multiple)) in
@@ -90,12 +90,12 @@ module _ (p : Program) where
 
   pub hypercycle-none : (hypercycle p ≡ refuse 9 0) ↔ ((m : ℕ) → m ≤ 240 → Multiple p m → ⊥)
   unfolding hypercycle test
-  hypercycle-none = (λ e. forth (first 240 test) refl e, λ h. back h (first 240 test) refl)
+  hypercycle-none = (λ e. forth (firstBelow 240 test) refl e, λ h. back h (firstBelow 240 test) refl)
     where
-      forth : (f : Found) → first 240 test ≡ f → hypercycleOf f ≡ refuse 9 0 → (m : ℕ) → m ≤ 240 → Multiple p m → ⊥
+      forth : (f : Found) → firstBelow 240 test ≡ f → hypercycleOf f ≡ refuse 9 0 → (m : ℕ) → m ≤ 240 → Multiple p m → ⊥
       forth (At k) q e = absurd (accepted≢refused _ (suc k) _ refl e)
       forth Nowhere q e = nowhere q
 
-      back : ((m : ℕ) → m ≤ 240 → Multiple p m → ⊥) → (f : Found) → first 240 test ≡ f → hypercycleOf f ≡ refuse 9 0
+      back : ((m : ℕ) → m ≤ 240 → Multiple p m → ⊥) → (f : Found) → firstBelow 240 test ≡ f → hypercycleOf f ≡ refuse 9 0
       back h (At k) q = let g = found k q in absurd (h (suc k) (g .bound) (g .multiple))
       back h Nowhere q = refl

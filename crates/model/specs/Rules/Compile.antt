@@ -7,7 +7,7 @@ use lib.ListN.{length, drop}
 use Rattle.model.specs.Rules.Image.{writtenOf}
 use Rattle.model.specs.Rules.Latency.{timely}
 use Rattle.model.specs.Rules.Load.{loaded}
-use Rattle.model.specs.Rules.Machine.{Effect, effect}
+use Rattle.model.specs.Rules.Machine.{Effect, Job, effect}
 use Rattle.model.specs.Rules.Outcome.{Outcome, accepted, refused, _▷_, provided}
 use Rattle.model.specs.Rules.Program.{Program, parseProgram}
 use Rattle.model.specs.Rules.Rates.{declaredAndRated, hypercycle, linked}
@@ -51,10 +51,12 @@ abbrev pub compiledOf : Compiled → Outcome ℕ
 compiledOf (Compiled.Length n) = accepted n
 compiledOf (Compiled.Refused f) = refused f
 
--- 17 where the buffer is shorter than L + 4N; bytes past that stay.
-unfoldable pub compileOf : List ℕ → List ℕ → List ℕ → Effect ℕ
-compileOf program schedule buffer =
-    effect buffer
-    (verdictOf program schedule ▷ λ image.
+-- The job of compile: 17 where the buffer is shorter than L + 4N; bytes past that stay.
+abbrev pub compileJob : List ℕ → List ℕ → List ℕ → Outcome (Job ℕ ℕ)
+compileJob program schedule buffer =
+    verdictOf program schedule ▷ λ image.
     provided (leb (length image) (length buffer)) 17 (length image) ▷ λ _.
-    accepted (record { yields = length image; leaves = image ++ drop (length image) buffer }))
+    accepted (record { yields = length image; leaves = image ++ drop (length image) buffer })
+
+unfoldable pub compileOf : List ℕ → List ℕ → List ℕ → Effect ℕ ℕ
+compileOf program schedule buffer = effect buffer (compileJob program schedule buffer)

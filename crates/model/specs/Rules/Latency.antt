@@ -8,7 +8,7 @@ use Rattle.model.specs.Rules.Outcome.{Outcome, fault, lowest}
 use Rattle.model.specs.Rules.Program.{Program, Chain, Read, signalAt, bodyReads}
 use Rattle.model.specs.Rules.Reads.{Rate, rateOf, runCycle, uses, settled}
 use Rattle.model.specs.Rules.Schedule.{Schedule}
-use Rattle.model.specs.Rules.Search.{first, isFound, allBelow, joinFrom}
+use Rattle.model.specs.Rules.Search.{firstBelow, isFound, allBelow, joinFrom}
 use Rattle.model.specs.declared.Found.{Found}
 use Rattle.model.specs.declared.Found.the-variants.{At, Nowhere}
 use Rattle.model.specs.declared.Index.the-variants.{Fixed}
@@ -79,7 +79,7 @@ module _ (p : Program) (s : Schedule) where
   -- The same, decided by `window` runs from run `from` on.
   abbrev pub isTimely : Mode → ℕ → List Read → ℕ → ℕ → ℕ → Bool
   isTimely Backward r ρs bound from window = allBelow window (λ i. not (isLate bound (runLatency r ρs (from + i))))
-  isTimely Exists r ρs bound from window = isFound (first window (λ i. isInTime bound (runLatency r ρs (from + i))))
+  isTimely Exists r ρs bound from window = isFound (firstBelow window (λ i. isInTime bound (runLatency r ρs (from + i))))
 
   -- After as many hypercycles as there are reads every run counts.
   unfoldable pub fromOf : ℕ → ℕ → List Read → ℕ

@@ -6,7 +6,7 @@ use Rattle.model.specs.Rules.Outcome.{Outcome, accepted, refuse}
 use Rattle.model.specs.Rules.Program.{Program, Limit, unlimited, limit, count, signalAt, weightOf}
 use Rattle.model.specs.Rules.Reads.{rateOf, due}
 use Rattle.model.specs.Rules.Schedule.{Schedule}
-use Rattle.model.specs.Rules.Search.{first, sum, table}
+use Rattle.model.specs.Rules.Search.{firstBelow, sum, table}
 use Rattle.model.specs.declared.Found.{Found}
 use Rattle.model.specs.declared.Found.the-variants.{At, Nowhere}
 
@@ -24,4 +24,4 @@ loadedOf Nowhere = accepted tt
 
 -- 15 at the lowest cycle of the hypercycle h whose load is over CAP.
 unfoldable pub loaded : Program → Schedule → ℕ → Outcome (Unit {0})
-loaded p s h = loadedOf (first h (λ c. isOver (p .cap) (load p s c)))
+loaded p s h = loadedOf (firstBelow h (λ c. isOver (p .cap) (load p s c)))

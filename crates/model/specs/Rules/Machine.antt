@@ -240,17 +240,17 @@ unfoldable pub cycleCount : List ℕ → List ℤ → ℕ
 cycleCount image state = countSignals image (listOf image (positionOf (getD state 0 (pos 0))))
 
 -- What a call answers, and what it leaves in what was lent to it.
-pub record Effect (A : Type 0) : Type 0 where
-  pub answer : Outcome ℕ
+pub record Effect (Y A : Type 0) : Type 0 where
+  pub answer : Outcome Y
   pub left : List A
 
 -- What a call that does its job yields and leaves.
-pub record Job (A : Type 0) : Type 0 where
-  pub yields : ℕ
+pub record Job (Y A : Type 0) : Type 0 where
+  pub yields : Y
   pub leaves : List A
 
 -- A refused call changes nothing that was lent to it.
-abbrev pub effect : {A : Type 0} → List A → Outcome (Job A) → Effect A
+abbrev pub effect : {Y A : Type 0} → List A → Outcome (Job Y A) → Effect Y A
 effect lent (accepted job) = record { answer = accepted (job .yields); left = job .leaves }
 effect lent (refused f) = record { answer = refused f; left = lent }
 
@@ -263,21 +263,26 @@ abbrev pub cycledOf : Cycled → Outcome ℕ
 cycledOf (Cycled.Commands n) = accepted n
 cycledOf (Cycled.Refused f) = refused f
 
-unfoldable pub resetOf : List ℕ → List ℤ → Effect ℤ
-resetOf lent state =
+-- The job of reset.
+abbrev pub resetJob : List ℕ → List ℤ → Outcome (Job ℕ ℤ)
+resetJob lent state =
     let image = imagePart lent in
-    effect state
-    (provided (lentOk lent) 20 0 ▷ λ _.
+    provided (lentOk lent) 20 0 ▷ λ _.
     provided (ltb (countOf image) (length state)) 21 0 ▷ λ _.
-    accepted (record { yields = 0; leaves = resetWords image state }))
+    accepted (record { yields = 0; leaves = resetWords image state })
 
--- A cycle yields the number of commands that it ran.
-unfoldable pub cycleOf : List ℕ → List ℤ → List ℤ → Effect ℤ
-cycleOf lent state samples =
+unfoldable pub resetOf : List ℕ → List ℤ → Effect ℕ ℤ
+resetOf lent state = effect state (resetJob lent state)
+
+-- The job of cycle, which yields the number of commands that it ran.
+abbrev pub cycleJob : List ℕ → List ℤ → List ℤ → Outcome (Job ℕ ℤ)
+cycleJob lent state samples =
     let image = imagePart lent in
-    effect state
-    (provided (lentOk lent) 20 0 ▷ λ _.
+    provided (lentOk lent) 20 0 ▷ λ _.
     provided (ltb (countOf image) (length state)) 21 0 ▷ λ _.
     provided (isPosition (hyperOf image) (getD state 0 (pos 0))) 22 0 ▷ λ _.
     provided (leb (countOf image) (length samples)) 23 0 ▷ λ _.
-    accepted (record { yields = cycleCount image state; leaves = cycleWords image state samples }))
+    accepted (record { yields = cycleCount image state; leaves = cycleWords image state samples })
+
+unfoldable pub cycleOf : List ℕ → List ℤ → List ℤ → Effect ℕ ℤ
+cycleOf lent state samples = effect state (cycleJob lent state samples)

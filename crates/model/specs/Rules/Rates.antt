@@ -6,7 +6,7 @@ use lib.Dec.{ltb, eqb}
 use lib.ListN.{length}
 use Rattle.model.specs.Rules.Outcome.{Outcome, accepted, refuse, fault, _▷_, provided, lowest}
 use Rattle.model.specs.Rules.Program.{Program, Signal, Chain, Link, Read, Body, count, signalAt, bodyReads}
-use Rattle.model.specs.Rules.Search.{first, joinFrom}
+use Rattle.model.specs.Rules.Search.{firstBelow, joinFrom}
 use Rattle.model.specs.declared.Fault.{Fault}
 use Rattle.model.specs.declared.Found.{Found}
 use Rattle.model.specs.declared.Found.the-variants.{At, Nowhere}
@@ -50,7 +50,7 @@ hypercycleOf (At h) = accepted (suc h)
 hypercycleOf Nowhere = refuse 9 0
 
 unfoldable pub hypercycle : Program → Outcome ℕ
-hypercycle p = hypercycleOf (first 240 (λ h. isMultiple (p .signals) (suc h)))
+hypercycle p = hypercycleOf (firstBelow 240 (λ h. isMultiple (p .signals) (suc h)))
 
 -- How many of the reads are reads of w.
 unfoldable pub countReads : ℕ → List Read → ℕ

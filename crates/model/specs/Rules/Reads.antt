@@ -8,7 +8,7 @@ use lib.Dec.{leb, ltb, eqb}
 use Rattle.model.specs.Rules.Outcome.{Outcome, fault, lowest}
 use Rattle.model.specs.Rules.Program.{Program, Signal, Read, count, signalAt, bodyReads}
 use Rattle.model.specs.Rules.Schedule.{Schedule, phaseOf}
-use Rattle.model.specs.Rules.Search.{first, isFound, foundOr, joinFrom}
+use Rattle.model.specs.Rules.Search.{firstBelow, isFound, foundOr, joinFrom}
 use Rattle.model.specs.declared.Found.{Found}
 use Rattle.model.specs.declared.Index.{Index}
 use Rattle.model.specs.declared.Index.the-variants.{Fixed, Open}
@@ -79,7 +79,7 @@ before s w r = ltb (rank (s .order) w) (rank (s .order) r)
 
 -- The index of an open read: the one from 0 to n − 1 that meets its line.
 unfoldable pub settle : Kind → Rate → Rate → ℕ → Found
-settle kind w r n = first n (line kind w r)
+settle kind w r n = firstBelow n (line kind w r)
 
 -- Whether the line of a read holds: for an open read, at some index.
 abbrev pub lineHolds : Kind → Rate → Rate → ℕ → Index → Bool

@@ -5,6 +5,7 @@ use mathlib.Core.List.{List, [], _∷_, _++_}
 use lib.ListN.{length, replicate}
 use Rattle.model.specs.Rules.Compile.{Pair, pairOf}
 use Rattle.model.specs.Rules.Image.{runList, lengthOf, writtenLength}
+use Rattle.model.specs.Rules.Machine.{Effect, Job, effect}
 use Rattle.model.specs.Rules.Outcome.{Outcome, accepted, refused, _▷_}
 use Rattle.model.specs.Rules.Program.{
   Program,
@@ -69,27 +70,25 @@ highest (x ∷ xs) = max (bodyHeight (x .body)) (highest xs)
 unfoldable pub countsOf : Program → Schedule → ℕ → List ℕ
 countsOf p s h = table h (cycleCommands p s) ++ replicate (240 - h) 0
 
--- What a report answers, and what it leaves in the counts that are lent to it.
-pub record Told : Type 0 where
-  pub answer : Outcome Sizes
-  pub left : List ℕ
-
--- It refuses as the pair is refused, and then leaves the counts as they were.
-abbrev pub toldOf : List ℕ → Outcome Pair → Told
-toldOf counts (accepted q) =
+-- What an accepted pair needs.
+abbrev pub needsOf : Pair → Job Sizes ℕ
+needsOf q =
     record {
-      answer = accepted
-          (record {
+      yields =
+          record {
             length = lengthOf (q .program) (q .schedule) (q .hypercycle);
             written = writtenLength (q .program) (q .schedule) (q .hypercycle);
             stack = highest (q .program .signals);
-          });
-      left = countsOf (q .program) (q .schedule) (q .hypercycle);
+          };
+      leaves = countsOf (q .program) (q .schedule) (q .hypercycle);
     }
-toldOf counts (refused f) = record { answer = refused f; left = counts }
 
-unfoldable pub reportOf : List ℕ → List ℕ → List ℕ → Told
-reportOf program schedule counts = toldOf counts (pairOf program schedule)
+-- The job of report, which refuses as the pair is refused.
+abbrev pub reportJob : List ℕ → List ℕ → Outcome (Job Sizes ℕ)
+reportJob program schedule = pairOf program schedule ▷ λ q. accepted (needsOf q)
+
+unfoldable pub reportOf : List ℕ → List ℕ → List ℕ → Effect Sizes ℕ
+reportOf program schedule counts = effect counts (reportJob program schedule)
 
 -- What the answer of report stands for.
 abbrev pub reportedOf : Reported → Outcome Sizes

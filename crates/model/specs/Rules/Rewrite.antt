@@ -8,8 +8,8 @@ use mathlib.Core.List.{List, [], _∷_, _++_}
 use lib.Dec.{leb, eqb}
 use lib.ListN.{length, take, drop}
 use Rattle.model.specs.Rules.Command.{isOperator, declarationAt, operatorAt}
-use Rattle.model.specs.Rules.Machine.{Effect, effect}
-use Rattle.model.specs.Rules.Outcome.{accepted, _▷_, provided}
+use Rattle.model.specs.Rules.Machine.{Effect, Job, effect}
+use Rattle.model.specs.Rules.Outcome.{Outcome, accepted, _▷_, provided}
 use Rattle.model.specs.Rules.Program.{parseWith}
 use Rattle.model.specs.Rules.Width.{inProgram, inExpression, readWidth}
 use Rattle.model.specs.Rules.Word.{byteAt}
@@ -97,13 +97,13 @@ rewriteFrom (suc left) text at =
 unfoldable pub rewrite : List ℕ → List ℕ
 rewrite text = rewriteFrom (length text) text 0
 
--- What the converter answers and leaves: 1 to 6 with n = 1 allowed, then 17 where the buffer is shorter than the result; bytes
--- past
--- the result stay.
-unfoldable pub convertOf : List ℕ → List ℕ → Effect ℕ
-convertOf program buffer =
-    effect buffer
-    (provided (leb (length program) 8192) 1 0 ▷ λ _.
+-- The job of the converter: 1 to 6 with n = 1 allowed, then 17 where the buffer is shorter than the result; bytes past it stay.
+abbrev pub convertJob : List ℕ → List ℕ → Outcome (Job ℕ ℕ)
+convertJob program buffer =
+    provided (leb (length program) 8192) 1 0 ▷ λ _.
     parseWith 1 program ▷ λ p.
     provided (leb (length (rewrite program)) (length buffer)) 17 (length (rewrite program)) ▷ λ _.
-    accepted (record { yields = length (rewrite program); leaves = rewrite program ++ drop (length (rewrite program)) buffer }))
+    accepted (record { yields = length (rewrite program); leaves = rewrite program ++ drop (length (rewrite program)) buffer })
+
+unfoldable pub convertOf : List ℕ → List ℕ → Effect ℕ ℕ
+convertOf program buffer = effect buffer (convertJob program buffer)

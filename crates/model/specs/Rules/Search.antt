@@ -11,8 +11,8 @@ firstFrom i zero test = Nowhere
 firstFrom i (suc n) test = elim (test i) [ true ↦ At i | false ↦ firstFrom (suc i) n test ]
 
 -- The least number below n that passes the test.
-unfoldable pub first : ℕ → (ℕ → Bool) → Found
-first n test = firstFrom 0 n test
+unfoldable pub firstBelow : ℕ → (ℕ → Bool) → Found
+firstBelow n test = firstFrom 0 n test
 
 abbrev pub isFound : Found → Bool
 isFound (At i) = true

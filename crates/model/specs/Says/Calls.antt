@@ -10,7 +10,7 @@ pub data Call : Type 0 where
   reset : Call
   cycle : List ℤ → Call
 
-unfoldable pub callOf : List ℕ → List ℤ → Call → Effect ℤ
+unfoldable pub callOf : List ℕ → List ℤ → Call → Effect ℕ ℤ
 callOf image state reset = resetOf image state
 callOf image state (cycle samples) = cycleOf image state samples
 

@@ -2,7 +2,7 @@
 use mathlib.Core.Path.{sym}
 use native.Mathlib.Omega.{arith}
 use borrow.Author.Needs.{needs}
-use Rattle.model.specs.Rules.Search.{first}
+use Rattle.model.specs.Rules.Search.{firstBelow}
 use Rattle.read_rule.proofs.Searches.{search-one, search-from}
 use Rattle.read_rule.proofs.candidates_of.Statement.{statement}
 use Rattle.read_rule.proofs.candidates_of.Tie as tie
@@ -38,7 +38,7 @@ returns c =
     }
 
 returns-2 : tie.Need-returns-2
-unfolding first
+unfolding firstBelow
 returns-2 c =
     let m = c .before .before .before in
     record {

@@ -137,7 +137,7 @@ returns c =
           );
       small =
           record {
-            first-small = omega (arith, start-small c, ahead-small c);
+            origin-small = omega (arith, start-small c, ahead-small c);
             stride-small = stride-small c;
             step-small = step-small c;
             cycle-small = cycle-small c;

@@ -16,7 +16,7 @@ add-result c =
     omega (
       arith,
       small-product (s .args .index) (s .args .line .stride) (s .pre .1) (s .pre .0 .stride-small),
-      s .pre .0 .first-small,
+      s .pre .0 .origin-small,
     )
 
 returns : tie.Need-returns

@@ -41,7 +41,7 @@ use Rattle.text_program.proofs.Walks.{
 use Rattle.text_program.proofs.read_expression.Reads as own
 use Rattle.text_program.proofs.read_expression.Kinds as kinds
 use Rattle.text_program.proofs.+read_expression.Lts-read_expression as lts
-use Rattle.text_program.proofs.operator_from.Reads as operator-from-reads
+use Rattle.text_command.proofs.operator_from.Reads as operator-from-reads
 use Rattle.text_program.proofs.moved_on.Reads as moved-on-reads
 use Rattle.width.proofs.in_code.Reads as in-code-reads
 use Rattle.width.proofs.in_expression.Reads as in-expression-reads
@@ -51,14 +51,14 @@ use Rattle.text_program.proofs.too_deep.Reads as too-deep-reads
 use Rattle.text_program.proofs.+read_expression.{statement}
 use Rattle.text_program.proofs.+read_expression.Tie.{close}
 
-abbrev μ : Measures 2 kinds.ps ℕ
+abbrev μ : Measures 3 kinds.ps ℕ
 μ κs a = a .1 .1 .1 .1 .1 .0
 
-abbrev given : ℕ → In 2 kinds.ps
-given t = and 2 kinds.ps (is 2 kinds.ps μ t) own.Pre
+abbrev given : ℕ → In 3 kinds.ps
+given t = and 3 kinds.ps (is 3 kinds.ps μ t) own.Pre
 
-abbrev below : ℕ → In 2 kinds.ps
-below t = and 2 kinds.ps (falls 2 kinds.ps _<_ μ t) own.Pre
+abbrev below : ℕ → In 3 kinds.ps
+below t = and 3 kinds.ps (falls 3 kinds.ps _<_ μ t) own.Pre
 
 abbrev known : ℕ → lts.Claims
 known t = (
@@ -83,7 +83,7 @@ known t = (
 -- where the operator is known, and the depth is not 0
 module _ (t : ℕ) (c : lts.After-operator-from (known t) (given t) own.Post) where
   abbrev text : List ℕ
-  text = now (c .before .before .before .before .args .text)
+  text = now (now (c .before .before .before .before .args .text))
 
   abbrev least : ℕ
   least = c .before .before .before .before .args .least
@@ -109,7 +109,7 @@ module _ (t : ℕ) (c : lts.After-operator-from (known t) (given t) own.Post) wh
   module _ (o : Operator) (e : c .operator-from .result ≡ o) where
     step : parseExpr least depth text at ≡ node least (λ n. parseExpr least (depth - 1) text n) text at o
     step =
-        parse-node least depth text at (c .before .if1 .left) ∙
+        parse-node least depth text at (c .before .before .if1 .left) ∙
         ap (λ (x : Operator). node least (λ n. parseExpr least (depth - 1) text n) text at x)
         (sym (c .operator-from .ensures) ∙ e)
 
@@ -147,7 +147,7 @@ too-deep-requires : (t : ℕ) → lts.Need-too-deep-requires (known t) (given t)
 too-deep-requires t c κs = search needs
 
 returns : (t : ℕ) → lts.Need-returns (known t) (given t) own.Post
-returns t c = rw (c .before .if1 .taken) (walks-deep _ _ _ (c .too-deep .ensures))
+returns t c = rw (c .before .before .if1 .taken) (walks-deep _ _ _ (c .too-deep .ensures))
 
 operator-from-requires : (t : ℕ) → lts.Need-operator-from-requires (known t) (given t) own.Post
 operator-from-requires t c κs = search needs
@@ -299,11 +299,13 @@ in-expression-requires-2 : (t : ℕ) → lts.Need-in-expression-requires-2 (know
 in-expression-requires-2 t c κs = search needs
 
 add-first-at : (t : ℕ) → lts.Need-add-first-at (known t) (given t) own.Post
-add-first-at t c = omega (
-  arith,
-  inside t (c .before .before .before) _ (c .before .enum-told5 .given .1) (λ e. let z : _≡_ {A = ℕ} 0 1 = cc in omega arith),
-  room t (c .before .before .before) .short,
-)
+add-first-at t c =
+    let c3 = c .before .before .before in
+    omega (
+      arith,
+      inside t c3 _ (c .before .enum-told5 .given .1) (λ e. let z : _≡_ {A = ℕ} 0 1 = cc in omega arith),
+      room t c3 .short,
+    )
 
 sub-read-expression : (t : ℕ) → lts.Need-sub-read-expression (known t) (given t) own.Post
 sub-read-expression t c = search needs
@@ -311,9 +313,9 @@ sub-read-expression t c = search needs
 read-expression-requires : (t : ℕ) → lts.Need-read-expression-requires (known t) (given t) own.Post
 read-expression-requires t c κs =
     let c4 = c .before .before .before .before in
-    let c5 = c4 .before in
-    let c8 = c5 .before .before .before in
-    (omega (arith, c5 .if1 .left, c8 .pre .0), rw (c .before .in-expression2 .ensures) (room-after 1 (room t c4)))
+    let c6 = c4 .before .before in
+    let c8 = c6 .before .before in
+    (omega (arith, c6 .if1 .left, c8 .pre .0), rw (c .before .in-expression2 .ensures) (room-after 1 (room t c4)))
 
 enum-known-first : (t : ℕ) → lts.Need-enum-known-first (known t) (given t) own.Post
 enum-known-first t c = search needs
@@ -342,11 +344,11 @@ read-expression-requires-2 t c κs =
     let c6 = c .before .before .before .before .before .before in
     let c8 = c6 .before .before in
     let c11 = c8 .before .before .before in
-    let c12 = c11 .before in
-    let c15 = c12 .before .before .before in (
+    let c13 = c11 .before .before in
+    let c15 = c13 .before .before in (
       omega (
         arith,
-        c12 .if1 .left,
+        c13 .if1 .left,
         c15 .pre .0,
       ),
       one t c11 (rw (c8 .in-expression2 .ensures) at (c6 .read-expression .ensures)) (c .before .before .first .given .1) .left,
@@ -399,11 +401,13 @@ in-expression-requires-3 : (t : ℕ) → lts.Need-in-expression-requires-3 (know
 in-expression-requires-3 t c κs = search needs
 
 add-operand-at : (t : ℕ) → lts.Need-add-operand-at (known t) (given t) own.Post
-add-operand-at t c = omega (
-  arith,
-  inside t (c .before .before .before) _ (c .before .enum-told8 .given .1) (λ e. let z : _≡_ {A = ℕ} 0 1 = cc in omega arith),
-  room t (c .before .before .before) .short,
-)
+add-operand-at t c =
+    let c3 = c .before .before .before in
+    omega (
+      arith,
+      inside t c3 _ (c .before .enum-told8 .given .1) (λ e. let z : _≡_ {A = ℕ} 0 1 = cc in omega arith),
+      room t c3 .short,
+    )
 
 sub-read-expression-3 : (t : ℕ) → lts.Need-sub-read-expression-3 (known t) (given t) own.Post
 sub-read-expression-3 t c = search needs
@@ -411,9 +415,9 @@ sub-read-expression-3 t c = search needs
 read-expression-requires-3 : (t : ℕ) → lts.Need-read-expression-requires-3 (known t) (given t) own.Post
 read-expression-requires-3 t c κs =
     let c4 = c .before .before .before .before in
-    let c5 = c4 .before in
-    let c8 = c5 .before .before .before in
-    (omega (arith, c5 .if1 .left, c8 .pre .0), rw (c .before .in-expression3 .ensures) (room-after 1 (room t c4)))
+    let c6 = c4 .before .before in
+    let c8 = c6 .before .before in
+    (omega (arith, c6 .if1 .left, c8 .pre .0), rw (c .before .in-expression3 .ensures) (room-after 1 (room t c4)))
 
 enum-known-operand : (t : ℕ) → lts.Need-enum-known-operand (known t) (given t) own.Post
 enum-known-operand t c = search needs
@@ -456,11 +460,13 @@ in-expression-requires-4 : (t : ℕ) → lts.Need-in-expression-requires-4 (know
 in-expression-requires-4 t c κs = search needs
 
 add-condition-at : (t : ℕ) → lts.Need-add-condition-at (known t) (given t) own.Post
-add-condition-at t c = omega (
-  arith,
-  inside t (c .before .before .before) _ (c .before .enum-told10 .given .1) (λ e. let z : _≡_ {A = ℕ} 0 1 = cc in omega arith),
-  room t (c .before .before .before) .short,
-)
+add-condition-at t c =
+    let c3 = c .before .before .before in
+    omega (
+      arith,
+      inside t c3 _ (c .before .enum-told10 .given .1) (λ e. let z : _≡_ {A = ℕ} 0 1 = cc in omega arith),
+      room t c3 .short,
+    )
 
 sub-read-expression-4 : (t : ℕ) → lts.Need-sub-read-expression-4 (known t) (given t) own.Post
 sub-read-expression-4 t c = search needs
@@ -468,9 +474,9 @@ sub-read-expression-4 t c = search needs
 read-expression-requires-4 : (t : ℕ) → lts.Need-read-expression-requires-4 (known t) (given t) own.Post
 read-expression-requires-4 t c κs =
     let c4 = c .before .before .before .before in
-    let c5 = c4 .before in
-    let c8 = c5 .before .before .before in
-    (omega (arith, c5 .if1 .left, c8 .pre .0), rw (c .before .in-expression4 .ensures) (room-after 1 (room t c4)))
+    let c6 = c4 .before .before in
+    let c8 = c6 .before .before in
+    (omega (arith, c6 .if1 .left, c8 .pre .0), rw (c .before .in-expression4 .ensures) (room-after 1 (room t c4)))
 
 enum-known-condition : (t : ℕ) → lts.Need-enum-known-condition (known t) (given t) own.Post
 enum-known-condition t c = search needs
@@ -499,11 +505,11 @@ read-expression-requires-5 t c κs =
     let c6 = c .before .before .before .before .before .before in
     let c8 = c6 .before .before in
     let c11 = c8 .before .before .before in
-    let c12 = c11 .before in
-    let c15 = c12 .before .before .before in (
+    let c13 = c11 .before .before in
+    let c15 = c13 .before .before in (
       omega (
         arith,
-        c12 .if1 .left,
+        c13 .if1 .left,
         c15 .pre .0,
       ),
       one t c11 (rw (c8 .in-expression4 .ensures) at (c6 .read-expression4 .ensures))
@@ -542,9 +548,9 @@ read-expression-requires-6 t c κs =
     let c13 = c9 .before .before .before .before in
     let c15 = c13 .before .before in
     let c18 = c15 .before .before .before in
-    let c19 = c18 .before in
-    let c22 = c19 .before .before .before in (
-      omega (arith, c19 .if1 .left, c22 .pre .0),
+    let c20 = c18 .before .before in
+    let c22 = c20 .before .before in (
+      omega (arith, c20 .if1 .left, c22 .pre .0),
       more t c18 (one t c18 (rw (c15 .in-expression4 .ensures) at (c13 .read-expression4 .ensures)) (c9 .condition .given .1))
           (c6 .read-expression5 .ensures) (c .before .before .first2 .given .1) .left,
     )
@@ -597,21 +603,30 @@ moved-on-requires-5 t c κs = search needs
 
 returns-8 : (t : ℕ) → lts.Need-returns-8 (known t) (given t) own.Post
 unfolding node
-returns-8 t c = walks-refused _ (step t (c .before .before .before) _ (c .before .enum-told .given .1)) (c .refuse-walk .ensures)
+returns-8 t c =
+    let c3 = c .before .before .before in
+    walks-refused _ (step t c3 _ (c .before .enum-told .given .1)) (c .refuse-walk .ensures)
 
 returns-9 : (t : ℕ) → lts.Need-returns-9 (known t) (given t) own.Post
 unfolding node
-returns-9 t c = walks-refused _ (step t (c .before .before .before) _ (c .before .enum-told2 .given .1))
+returns-9 t c =
+    let c3 = c .before .before .before in
+    walks-refused _ (step t c3 _ (c .before .enum-told2 .given .1))
     (c .refuse-walk2 .ensures)
 
 returns-10 : (t : ℕ) → lts.Need-returns-10 (known t) (given t) own.Post
 unfolding node
-returns-10 t c = walks-refused _ (step t (c .before .before .before) _ (c .before .enum-told3 .given .1))
+returns-10 t c =
+    let c3 = c .before .before .before in
+    walks-refused _ (step t c3 _ (c .before .enum-told3 .given .1))
     (c .refuse-walk3 .ensures)
 
 returns-11 : (t : ℕ) → lts.Need-returns-11 (known t) (given t) own.Post
 unfolding node
-returns-11 t c = rw (step t (c .before .before .before .before .before) _ (c .before .before .before .enum-told4 .given .1))
+returns-11 t c =
+    let c3 = c .before .before .before in
+    let c5 = c3 .before .before in
+    rw (step t c5 _ (c3 .enum-told4 .given .1))
     (walks-constant _ _ (rw (c .before .before .in-expression .ensures, c .before .in-code .ensures) at (c .moved-on .ensures)))
 
 same-length-7 : (t : ℕ) → lts.Need-same-length-7 (known t) (given t) own.Post
@@ -660,11 +675,10 @@ returns-14 t c =
 
 same-length-10 : (t : ℕ) → lts.Need-same-length-10 (known t) (given t) own.Post
 same-length-10 t c =
-    let c5 = c .before .before .before .before .before in
-    let c10 = c5 .before .before .before .before .before in
-    let c15 = c10 .before .before .before .before .before in
-    let c21 = c15 .before .before .before .before .before .before in
-    search (needs, c21 .reads4 .given)
+    let c7 = c .before .before .before .before .before .before .before in
+    let c14 = c7 .before .before .before .before .before .before .before in
+    let c21 = c14 .before .before .before .before .before .before .before in
+    c7 .reads6 .given ∙ c14 .reads5 .given ∙ c21 .reads4 .given
 
 returns-15 : (t : ℕ) → lts.Need-returns-15 (known t) (given t) own.Post
 unfolding node

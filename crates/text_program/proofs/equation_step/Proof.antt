@@ -14,11 +14,13 @@ use Rattle.text_program.proofs.equation_step.Tie as tie
 in-program-requires : tie.Need-in-program-requires
 in-program-requires c κs = search needs
 
-add-read-expression : tie.Need-add-read-expression
-add-read-expression c = search needs
+add-start : tie.Need-add-start
+add-start c = search needs
 
 read-expression-requires : tie.Need-read-expression-requires
-read-expression-requires c κs = rw (c .before .in-program .ensures) (room-after 8 (c .before .before .before .before .pre .1))
+read-expression-requires c κs =
+    let c5 = c .before .before .before .before .before in
+    rw (c .before .before .in-program .ensures) (room-after 8 (c5 .pre .1))
 
 enum-known-walked : tie.Need-enum-known-walked
 enum-known-walked c = search needs
@@ -35,9 +37,9 @@ same-length c = search needs
 returns : tie.Need-returns
 returns c =
     let c5 = c .before .before .before .before .before in
-    let c7 = c5 .before .before in
+    let c8 = c5 .before .before .before in
     let told = c .before .enum-told .given in
-    equation-refused _ (rw (c7 .in-program .ensures) at (c5 .read-expression .ensures)) _
+    equation-refused _ (rw (c8 .in-program .ensures) at (c5 .read-expression .ensures)) _
     (told .1) (c .step-of-walked .ensures _ (told .1))
 
 in-code-requires : tie.Need-in-code-requires
@@ -47,9 +49,9 @@ add-adds : tie.Need-add-adds
 add-adds c =
     let c3 = c .before .before .before in
     let c7 = c3 .before .before .before .before in
-    let c9 = c7 .before .before in
-    let c12 = c9 .before .before .before in
-    let h = ahead _ _ 16 (room-after 8 (c12 .pre .1)) (rw (c9 .in-program .ensures) at (c7 .read-expression .ensures))
+    let c10 = c7 .before .before .before in
+    let c13 = c10 .before .before .before in
+    let h = ahead _ _ 16 (room-after 8 (c13 .pre .1)) (rw (c10 .in-program .ensures) at (c7 .read-expression .ensures))
     (c3 .walked .given .1) in
     omega (arith, h .left .short, h .left .small, h .inside)
 
@@ -63,8 +65,8 @@ returns-2 : tie.Need-returns-2
 returns-2 c =
     let c4 = c .before .before .before .before in
     let c8 = c4 .before .before .before .before in
-    let c10 = c8 .before .before in
-    equation-next _ (rw (c10 .in-program .ensures) at (c8 .read-expression .ensures)) _
+    let c11 = c8 .before .before .before in
+    equation-next _ (rw (c11 .in-program .ensures) at (c8 .read-expression .ensures)) _
     (c4 .walked .given .1) (rw (c .before .before .in-code .ensures) at (c .adds .ensures))
 
 pub equation-step-spec : {M : Type 1} → statement M
@@ -72,7 +74,7 @@ equation-step-spec =
     tie.close
     (tie.spec
     in-program-requires
-    add-read-expression
+    add-start
     read-expression-requires
     enum-known-walked
     enum-told

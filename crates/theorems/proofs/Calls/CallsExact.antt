@@ -67,15 +67,15 @@ both-ways {Q = Q} {R = R} o h f g =
     }
 
 -- What a job that is done yields and leaves.
-abbrev Does : {A : Type 0} → (ℕ → List A → Type 0) → Job A → Type 0
+abbrev Does : {A : Type 0} → (ℕ → List A → Type 0) → Job ℕ A → Type 0
 Does Done j = Done (j .yields) (j .leaves)
 
 -- The steps of a call, judged, are the call.
 module _ {A : Type 0} (lent : List A) (Done : ℕ → List A → Type 0) (Refused : Fault → Type 0) where
-  exactly : (o : Outcome (Job A)) → Judged (Does Done) Refused o → Exactly lent Done Refused (effect lent o)
+  exactly : (o : Outcome (Job ℕ A)) → Judged (Does Done) Refused o → Exactly lent Done Refused (effect lent o)
   exactly o h = record { done = done o h; refuses = refuses o h }
     where
-      done : (o : Outcome (Job A)) → Judged (Does Done) Refused o → (n : ℕ) (left : List A) →
+      done : (o : Outcome (Job ℕ A)) → Judged (Does Done) Refused o → (n : ℕ) (left : List A) →
           ((effect lent o .answer ≡ accepted n) × (effect lent o .left ≡ left)) ↔ Done n left
       done (accepted j) h n left = (
         λ e. subst (λ k. Done n k) (e .1)
@@ -88,7 +88,7 @@ module _ {A : Type 0} (lent : List A) (Done : ℕ → List A → Type 0) (Refuse
         λ d. absurd (accepted≢refused _ _ f (h .accepts (record { yields = n; leaves = left }) .1 d) refl),
       )
 
-      refuses : (o : Outcome (Job A)) → Judged (Does Done) Refused o → (g : Fault) (left : List A) →
+      refuses : (o : Outcome (Job ℕ A)) → Judged (Does Done) Refused o → (g : Fault) (left : List A) →
           ((effect lent o .answer ≡ refused g) × (effect lent o .left ≡ left)) ↔ (Refused g × (left ≡ lent))
       refuses (accepted j) h g left = (
         λ e. absurd (accepted≢refused _ (j .yields) g refl (e .0)),
@@ -111,7 +111,7 @@ module _ (program schedule buffer : List ℕ) where
   compileRefused = CompileRefusedAt program schedule buffer
 
   -- What follows an accepted pair.
-  abbrev writes : Pair → Outcome (Job ℕ)
+  abbrev writes : Pair → Outcome (Job ℕ ℕ)
   writes q =
       provided (leb (length (written q)) (length buffer)) 17 (length (written q)) ▷ λ _.
       accepted (record { yields = length (written q); leaves = written q ++ drop (length (written q)) buffer })
@@ -137,7 +137,7 @@ module _ (program schedule buffer : List ℕ) where
           compileRefused f
       space legal (Only.only h) = CompileRefusedAt.space legal h
 
-  compile-done : (j : Job ℕ) → compileDone (j .yields) (j .leaves) → pairOf program schedule ▷ writes ≡ accepted j
+  compile-done : (j : Job ℕ ℕ) → compileDone (j .yields) (j .leaves) → pairOf program schedule ▷ writes ≡ accepted j
   compile-done j d =
       let q = d .pair in
       let same : length (written q) ≡ j .yields = size q ∙ sym (d .is) in
@@ -195,10 +195,10 @@ module _ (lent : List ℕ) (state : List ℤ) where
       (λ l h. omega arith)
 
   -- The steps that both calls begin with, before the job.
-  abbrev checked : Outcome (Job ℤ) → Outcome (Job ℤ)
+  abbrev checked : Outcome (Job ℕ ℤ) → Outcome (Job ℕ ℤ)
   checked o = provided (lentOk lent) 20 0 ▷ λ _. provided (ltb (countOf own) (length state)) 21 0 ▷ λ _. o
 
-  checked-answers : (Q : Job ℤ → Type 0) (R : Fault → Type 0) (o : Outcome (Job ℤ)) →
+  checked-answers : (Q : Job ℕ ℤ → Type 0) (R : Fault → Type 0) (o : Outcome (Job ℕ ℤ)) →
       ((f : Fault) → ResetRefusedAt lent state f → R f) → (Usable lent state own → Answers Q R o) → Answers Q R (checked o)
   checked-answers Q R o r g =
       answers-then Q R _ _ lent-judged (λ g f. r g (unformed f)) (λ u lends.
@@ -210,11 +210,11 @@ module _ (lent : List ℕ) (state : List ℤ) where
       short : {f : Fault} → WellLent lent own → Only 21 0 (length state < countOf own + 1) f → ResetRefusedAt lent state f
       short lends (Only.only h) = ResetRefusedAt.short lends h
 
-  usable-passes : (o : Outcome (Job ℤ)) → Usable lent state own → checked o ≡ o
+  usable-passes : (o : Outcome (Job ℕ ℤ)) → Usable lent state own → checked o ≡ o
   usable-passes o h =
       accepted-then _ _ _ (lent-judged .accepts tt .1 (h .lends)) ∙ accepted-then _ _ _ (state-judged .accepts tt .1 (h .long))
 
-  checked-refuses : {f : Fault} (o : Outcome (Job ℤ)) → ResetRefusedAt lent state f → checked o ≡ refused f
+  checked-refuses : {f : Fault} (o : Outcome (Job ℕ ℤ)) → ResetRefusedAt lent state f → checked o ≡ refused f
   checked-refuses o (ResetRefusedAt.unformed none) = refused-then _ _ _ (lent-judged .refuses (fault 20 0) .1 (Only.only none))
   checked-refuses o (ResetRefusedAt.short lends lt) =
       let same = lent-image lends in
@@ -225,7 +225,7 @@ module _ (lent : List ℕ) (state : List ℤ) where
   usable-own : {image : List ℕ} → Usable lent state image → Usable lent state own
   usable-own h = subst (λ (i : List ℕ). Usable lent state i) (sym (lent-image (h .lends))) h
 
-  reset-done : (j : Job ℤ) → Resets lent state (j .yields) (j .leaves) →
+  reset-done : (j : Job ℕ ℤ) → Resets lent state (j .yields) (j .leaves) →
       checked (accepted (record { yields = 0; leaves = resetWords own state })) ≡ accepted j
   reset-done j d =
       usable-passes _ (usable-own (d .usable)) ∙
@@ -267,11 +267,11 @@ module _ (lent : List ℕ) (state : List ℤ) where
         provided-judged _ 23 0 (countOf own ≤ length samples) (length samples < countOf own) (leb-true _ _, le-leb _ _)
         (leb-false _ _) (λ l h. omega arith)
 
-    abbrev ran : Job ℤ
+    abbrev ran : Job ℕ ℤ
     ran = record { yields = cycleCount own state; leaves = cycleWords own state samples }
 
     -- The steps of a cycle after 21.
-    abbrev runs : Outcome (Job ℤ)
+    abbrev runs : Outcome (Job ℕ ℤ)
     runs =
         provided (isPosition (hyperOf own) (getD state 0 (pos 0))) 22 0 ▷ λ _.
         provided (leb (countOf own) (length samples)) 23 0 ▷ λ _.
@@ -289,7 +289,7 @@ module _ (lent : List ℕ) (state : List ℤ) where
         unsampled : {f : Fault} → Positioned lent state own → Only 23 0 (length samples < countOf own) f → cycleRefused f
         unsampled positioned (Only.only h) = CycleRefusedAt.unsampled usable positioned h
 
-    cycle-done : (j : Job ℤ) → cycleDone (j .yields) (j .leaves) → checked runs ≡ accepted j
+    cycle-done : (j : Job ℕ ℤ) → cycleDone (j .yields) (j .leaves) → checked runs ≡ accepted j
     cycle-done j d =
         let same = lent-image (d .usable .lends) in
         usable-passes runs (usable-own (d .usable)) ∙

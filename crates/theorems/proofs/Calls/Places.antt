@@ -10,22 +10,9 @@ use lib.IntN.{ℤ, pos}
 use lib.ListN.{length, getD, drop}
 use Rattle.model.specs.Says.Feasible.{Multiple}
 use Rattle.model.specs.Says.Calls.{Call, callOf}
-use Rattle.model.specs.Rules.Compile.{Pair, pairOf, verdictOf, compileOf}
+use Rattle.model.specs.Rules.Compile.{Pair, pairOf, verdictOf, compileJob, compileOf}
 use Rattle.model.specs.Says.Grammar.{LegalProgram, SpellsPuts}
-use Rattle.model.specs.Rules.Machine.{
-  hyperOf,
-  countOf,
-  imagePart,
-  lentOk,
-  isPosition,
-  resetWords,
-  cycleWords,
-  cycleCount,
-  Job,
-  effect,
-  resetOf,
-  cycleOf,
-}
+use Rattle.model.specs.Rules.Machine.{Job, effect, resetJob, resetOf, cycleJob, cycleOf}
 use Rattle.model.specs.Rules.Outcome.{Outcome, accepted, refused, _▷_, provided, fault}
 use Rattle.model.specs.Rules.Program.{Program, Read, Chain}
 use Rattle.model.specs.Rules.Schedule.{Schedule, Put}
@@ -146,7 +133,7 @@ refusal-small {program} (RefusedAt.untimely {p = p} c m o f) =
     omega (arith, c .rates .short .0, chain-inside program p (c .rates .legal) (f .fault))
 
 -- What holds of a call's refusal.
-call-refused : {A : Type 0} (R : Fault → Type 0) (lent : List A) (o : Outcome (Job A)) (f : Fault) → Refuses R o →
+call-refused : {A : Type 0} (R : Fault → Type 0) (lent : List A) (o : Outcome (Job ℕ A)) (f : Fault) → Refuses R o →
     effect lent o .answer ≡ refused f → R f
 call-refused R lent (accepted job) f h e = absurd (accepted≢refused _ (job .yields) f refl e)
 call-refused R lent (refused g) f h e = refuses-fault {A = ℕ} R (refused g) f h e
@@ -179,10 +166,7 @@ pub places-small : (program schedule buffer : List ℕ) → AreBytes program →
     compileOf program schedule buffer .answer ≡ refused f → f .place ≤ 65791
 unfolding compileOf verdictOf
 places-small program schedule buffer bytes f e =
-    call-refused Small buffer
-    (verdictOf program schedule ▷ λ image.
-    provided (leb (length image) (length buffer)) 17 (length image) ▷ λ _.
-    accepted (record { yields = length image; leaves = image ++ drop (length image) buffer })) f
+    call-refused Small buffer (compileJob program schedule buffer) f
     (refuses-then Small (verdictOf program schedule) _
     (refuses-then Small (pairOf program schedule) _ (pair-small program schedule) (λ q t. tt)) (λ image t.
     refuses-then Small (provided (leb (length image) (length buffer)) 17 (length image)) _
@@ -196,18 +180,8 @@ pub places-zero : (lent : List ℕ) (state : List ℤ) (c : Call) (f : Fault) �
     f .place ≡ 0
 unfolding callOf resetOf cycleOf
 places-zero lent state Call.reset f e =
-    let image = imagePart lent in
-    call-refused Zero state
-    (provided (lentOk lent) 20 0 ▷ λ _.
-    provided (ltb (countOf image) (length state)) 21 0 ▷ λ _.
-    accepted (record { yields = 0; leaves = resetWords image state })) f
+    call-refused Zero state (resetJob lent state) f
     (at-zero _ 20 _ (at-zero _ 21 (accepted _) tt)) e
 places-zero lent state (Call.cycle samples) f e =
-    let image = imagePart lent in
-    call-refused Zero state
-    (provided (lentOk lent) 20 0 ▷ λ _.
-    provided (ltb (countOf image) (length state)) 21 0 ▷ λ _.
-    provided (isPosition (hyperOf image) (getD state 0 (pos 0))) 22 0 ▷ λ _.
-    provided (leb (countOf image) (length samples)) 23 0 ▷ λ _.
-    accepted (record { yields = cycleCount image state; leaves = cycleWords image state samples })) f
+    call-refused Zero state (cycleJob lent state samples) f
     (at-zero _ 20 _ (at-zero _ 21 _ (at-zero _ 22 _ (at-zero _ 23 (accepted _) tt)))) e

@@ -23,7 +23,7 @@ module _ (program buffer : List ℕ) where
   size = length (rewrite program)
 
   -- What the call does, as the definition has it.
-  abbrev job : Outcome (Job ℕ)
+  abbrev job : Outcome (Job ℕ ℕ)
   job =
       provided (leb (length program) 8192) 1 0 ▷ λ _.
       parseWith earlierFactor program ▷ λ p.
@@ -42,7 +42,7 @@ module _ (program buffer : List ℕ) where
       (λ l h. omega arith)
 
   -- The job that is done, or the refusal.
-  record Done (j : Job ℕ) : Type 0 where
+  record Done (j : Job ℕ ℕ) : Type 0 where
     converts : ConvertsTo program buffer (j .yields)
     leaves : j .leaves ≡ rewrite program ++ drop (j .yields) buffer
 
@@ -82,10 +82,10 @@ module _ (program buffer : List ℕ) where
       accepted-then _ _ _ (text-judged earlierFactor program .accepts p .1 legal) ∙
       refused-then _ _ _ (space-judged .refuses (fault 17 size) .1 (Only.only lt))
 
-  abbrev call : Outcome (Job ℕ) → Effect ℕ
+  abbrev call : Outcome (Job ℕ ℕ) → Effect ℕ ℕ
   call o = effect buffer o
 
-  exactly : (o : Outcome (Job ℕ)) → Answers Done (ConvertRefusedAt program buffer) o →
+  exactly : (o : Outcome (Job ℕ ℕ)) → Answers Done (ConvertRefusedAt program buffer) o →
       ((n : ℕ) → ConvertsTo program buffer n →
       o ≡ accepted (record { yields = size; leaves = rewrite program ++ drop size buffer })) →
       ((f : Fault) → ConvertRefusedAt program buffer f → o ≡ refused f) → ConvertsExactly program buffer (call o)
@@ -116,7 +116,7 @@ module _ (program buffer : List ℕ) where
         kept = λ k e. refl;
       }
     where
-      same : {k : Fault} → _≡_ {A = Outcome ℕ} (refused q) (refused k) → _≡_ {A = Outcome (Job ℕ)} (refused q) (refused k)
+      same : {k : Fault} → _≡_ {A = Outcome ℕ} (refused q) (refused k) → _≡_ {A = Outcome (Job ℕ ℕ)} (refused q) (refused k)
       same {k} e = let z : q ≡ k = cc in ap refused z
 
 -- A conversion is done, or refused with each number at its place, exactly under its condition.

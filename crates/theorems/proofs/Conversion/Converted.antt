@@ -67,7 +67,7 @@ use Rattle.model.specs.Rules.Program.{
 }
 use Rattle.model.specs.Rules.Rates.{countReads}
 use Rattle.model.specs.Rules.Reads.{Rate, rateOf, due, uses, settle, settledIndex, settled}
-use Rattle.model.specs.Rules.Search.{first, firstFrom, foundOr, sum, table, chosen, joinFrom}
+use Rattle.model.specs.Rules.Search.{firstBelow, firstFrom, foundOr, sum, table, chosen, joinFrom}
 use Rattle.model.specs.Rules.Schedule.{Schedule, Put, phaseOf, putPhase, scheduleOf}
 use Rattle.theorems.specs.Conditions.{
   _among_,
@@ -116,8 +116,8 @@ use Rattle.model.proofs.Pairs.Lines.{once, single-uses, single-rule, single-lin
 
 -- One read.
 -- An open read with factor 1 settles at 0, met or not.
-settle-single : (test : ℕ → Bool) → foundOr 0 (first 1 test) ≡ 0
-unfolding first firstFrom
+settle-single : (test : ℕ → Bool) → foundOr 0 (firstBelow 1 test) ≡ 0
+unfolding firstBelow firstFrom
 settle-single test = go (test 0)
   where
     go : (b : Bool) → foundOr 0 (elim b [ true ↦ At 0 | false ↦ Nowhere ]) ≡ 0

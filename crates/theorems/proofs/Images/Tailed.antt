@@ -65,7 +65,7 @@ pub list-alike : {image tail lent : List ℕ} → wellFormed image ≡ true → 
 unfolding after
 list-alike f b state [] = refl
 list-alike {image} f b state (c ∷ cs) =
-    list-alike f b _ cs ∙ ap (λ (e : Effect ℤ). after image (e .left) cs) (call-alike f b state c)
+    list-alike f b _ cs ∙ ap (λ (e : Effect ℕ ℤ). after image (e .left) cs) (call-alike f b state c)
 
 pub log-alike : {image tail lent : List ℕ} → wellFormed image ≡ true → Bears image tail lent → (state : List ℤ)
     (log : List (List ℤ)) (cs : List Call) → logAfter lent state log cs ≡ logAfter image state log cs
@@ -73,7 +73,7 @@ unfolding logAfter
 log-alike f b state log [] = refl
 log-alike {image} f b state log (c ∷ cs) =
     log-alike f b _ _ cs ∙
-    ap (λ (e : Effect ℤ). logAfter image (e .left) (logged c (e .answer) log) cs) (call-alike f b state c)
+    ap (λ (e : Effect ℕ ℤ). logAfter image (e .left) (logged c (e .answer) log) cs) (call-alike f b state c)
 
 pub answers-alike : {image tail lent : List ℕ} → wellFormed image ≡ true → Bears image tail lent → (state : List ℤ)
     (cs : List Call) → answersOf lent state cs ≡ answersOf image state cs
@@ -81,4 +81,4 @@ unfolding answersOf
 answers-alike f b state [] = refl
 answers-alike {image} {lent = lent} f b state (c ∷ cs) =
     ap (λ (rest : List (Outcome ℕ)). callOf lent state c .answer ∷ rest) (answers-alike f b _ cs) ∙
-    ap (λ (e : Effect ℤ). e .answer ∷ answersOf image (e .left) cs) (call-alike f b state c)
+    ap (λ (e : Effect ℕ ℤ). e .answer ∷ answersOf image (e .left) cs) (call-alike f b state c)

@@ -28,7 +28,7 @@ use Rattle.model.specs.Rules.Rates.{
   isMultiple,
   linked,
 }
-use Rattle.model.specs.Rules.Search.{first, joinFrom}
+use Rattle.model.specs.Rules.Search.{firstBelow, joinFrom}
 use Rattle.model.specs.Rules.Word.{byteAt}
 use Rattle.model.specs.Says.Written.{OperatorByte}
 use Rattle.theorems.specs.Conditions.{_among_, ShortEnough, ReadIn, LinkIn, DeclaredAndRated, Linked}
@@ -328,7 +328,7 @@ hypercycle-judged p =
 
     forth : (f : Fault) → hypercycle p ≡ refused f → Only 9 0 None f
     forth f e =
-        let q = only (first 240 (λ h. isMultiple (p .signals) (suc h))) f e in
+        let q = only (firstBelow 240 (λ h. isMultiple (p .signals) (suc h))) f e in
         rw (← q) (Only.only (hypercycle-none p .0 (rw (← q) at e)))
 
     back : (f : Fault) → Only 9 0 None f → hypercycle p ≡ refused f

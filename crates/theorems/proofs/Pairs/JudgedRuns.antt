@@ -31,7 +31,7 @@ use Rattle.model.specs.Rules.Program.{
 }
 use Rattle.model.specs.Rules.Reads.{rateOf, due, isMet, met}
 use Rattle.model.specs.Rules.Schedule.{Schedule}
-use Rattle.model.specs.Rules.Search.{first, sum, tableFrom, table, joinFrom}
+use Rattle.model.specs.Rules.Search.{firstBelow, sum, tableFrom, table, joinFrom}
 use Rattle.theorems.specs.Conditions.{_among_, ReadIn, LegalPlaces, Over, KeepsTime}
 use Rattle.theorems.specs.Refusals.{LowestFault, MetFault, LoadFault, ChainFault}
 use Rattle.model.specs.declared.Fault.{Fault}
@@ -171,7 +171,7 @@ module _ (p : Program) (s : Schedule) (h : ℕ) (whole : Multiple p h) where
   earlier c o =
       (mod-lt c (whole .positive), mod-le c h, rw (load-repeats p s h whole c) (true-over (p .cap) (load p s c) o))
 
-  found : (c : ℕ) → first h test ≡ At c → LowestFault (LoadFault p s) (fault 15 c)
+  found : (c : ℕ) → firstBelow h test ≡ At c → LowestFault (LoadFault p s) (fault 15 c)
   unfolding test
   found c e =
       let g = is-first h test (At c) e in
@@ -187,7 +187,7 @@ module _ (p : Program) (s : Schedule) (h : ℕ) (whole : Multiple p h) where
           go (yes lt) = absurd (false≢true (sym (g (y % h) (omega arith) lt) ∙ earlier y o .2))
           go (no ge) = omega (arith, earlier y o .1)
 
-  nowhere : first h test ≡ Nowhere → (c : ℕ) → ¬ Over (p .cap) (load p s c)
+  nowhere : firstBelow h test ≡ Nowhere → (c : ℕ) → ¬ Over (p .cap) (load p s c)
   unfolding test
   nowhere e c o =
       let q = earlier c o in
@@ -197,23 +197,23 @@ module _ (p : Program) (s : Schedule) (h : ℕ) (whole : Multiple p h) where
   unfolding loaded test
   loaded-judged =
       record {
-        accepts = λ u. (λ e. passes (first h test) refl e, λ g. quiet g (first h test) refl);
-        refuses = λ g. (λ e. fails (first h test) refl e, λ f. loud f (first h test) refl);
+        accepts = λ u. (λ e. passes (firstBelow h test) refl e, λ g. quiet g (firstBelow h test) refl);
+        refuses = λ g. (λ e. fails (firstBelow h test) refl e, λ f. loud f (firstBelow h test) refl);
       }
     where
-      passes : (f : Found) → first h test ≡ f → loadedOf f ≡ accepted tt → (c : ℕ) → ¬ Over (p .cap) (load p s c)
+      passes : (f : Found) → firstBelow h test ≡ f → loadedOf f ≡ accepted tt → (c : ℕ) → ¬ Over (p .cap) (load p s c)
       passes (At c) q e = absurd (accepted≢refused _ tt _ e refl)
       passes Nowhere q e = nowhere q
 
-      quiet : ((c : ℕ) → ¬ Over (p .cap) (load p s c)) → (f : Found) → first h test ≡ f → loadedOf f ≡ accepted tt
+      quiet : ((c : ℕ) → ¬ Over (p .cap) (load p s c)) → (f : Found) → firstBelow h test ≡ f → loadedOf f ≡ accepted tt
       quiet g (At c) q = absurd (g c (over-true (p .cap) (load p s c) (is-first h test (At c) q .2)))
       quiet g Nowhere q = refl
 
-      fails : {g : Fault} (f : Found) → first h test ≡ f → loadedOf f ≡ refused g → LowestFault (LoadFault p s) g
+      fails : {g : Fault} (f : Found) → firstBelow h test ≡ f → loadedOf f ≡ refused g → LowestFault (LoadFault p s) g
       fails {g} (At c) q e = let same : fault 15 c ≡ g = cc in rw (← same) (found c q)
       fails Nowhere q e = absurd (accepted≢refused _ tt _ refl e)
 
-      loud : {k : Fault} → LowestFault (LoadFault p s) k → (f : Found) → first h test ≡ f → loadedOf f ≡ refused k
+      loud : {k : Fault} → LowestFault (LoadFault p s) k → (f : Found) → firstBelow h test ≡ f → loadedOf f ≡ refused k
       loud g (At c) q = same (g .fault) (found c q .least _ (g .fault)) (g .least _ (found c q .fault))
         where
           same : {k : Fault} → LoadFault p s k → c ≤ k .place → k .place ≤ c →

@@ -51,7 +51,8 @@ module _ (program schedule : List ℕ) (bytes : AreBytes program) (p : Program) 
       (rw (Tails.lent-ok image-formed own, Tails.part-is image-formed own, image-count p s h) at r)
     where
       go : (b : Bool) → ltb (count p) (length old) ≡ b →
-          effect old (provided b 21 0 ▷ λ _. accepted (record { yields = 0; leaves = resetWords (imageOf p s h) old })) .answer ≡
+          effect {Y = ℕ} old (provided b 21 0 ▷ λ _. accepted (record { yields = 0; leaves = resetWords (imageOf p s h) old }))
+          .answer ≡
           accepted 0 → count p < length old
       go true q t = ltb-true (count p) (length old) q
       go false q t = let z : _≡_ {A = ℕ} 0 1 = cc in absurd (omega arith)
@@ -63,26 +64,26 @@ module _ (program schedule : List ℕ) (bytes : AreBytes program) (p : Program) 
     reset-alike old = Tailed.call-alike image-formed bears old Call.reset
 
     pub lent-long : (old : List ℤ) → resetOf lent old .answer ≡ accepted 0 → count p < length old
-    lent-long old r = reset-long old (sym (ap (λ (x : Effect ℤ). x .answer) (reset-alike old)) ∙ r)
+    lent-long old r = reset-long old (sym (ap (λ (x : Effect ℕ ℤ). x .answer) (reset-alike old)) ∙ r)
 
     pub state-alike : (old : List ℤ) (cs : List Call) → stateBy lent old cs ≡ stateBy (imageOf p s h) old cs
     state-alike old cs =
         Tailed.list-alike image-formed bears _ cs ∙
-        ap (λ (x : Effect ℤ). after (imageOf p s h) (x .left) cs) (reset-alike old)
+        ap (λ (x : Effect ℕ ℤ). after (imageOf p s h) (x .left) cs) (reset-alike old)
 
     pub log-alike : (old : List ℤ) (cs : List Call) → logBy lent old cs ≡ logBy (imageOf p s h) old cs
     log-alike old cs =
         Tailed.log-alike image-formed bears _ [] cs ∙
-        ap (λ (x : Effect ℤ). logAfter (imageOf p s h) (x .left) [] cs) (reset-alike old)
+        ap (λ (x : Effect ℕ ℤ). logAfter (imageOf p s h) (x .left) [] cs) (reset-alike old)
 
     answers-alike : (old : List ℤ) (cs : List Call) → answersBy lent old cs ≡ answersBy (imageOf p s h) old cs
     answers-alike old cs =
         Tailed.answers-alike image-formed bears _ cs ∙
-        ap (λ (x : Effect ℤ). answersOf (imageOf p s h) (x .left) cs) (reset-alike old)
+        ap (λ (x : Effect ℕ ℤ). answersOf (imageOf p s h) (x .left) cs) (reset-alike old)
 
     pub calls-hold : (old : List ℤ) → resetOf lent old .answer ≡ accepted 0 → (cs : List Call) →
         KeptBy program schedule p s h lent old cs
-    unfolding reportOf
+    unfolding reportOf _▷_
     calls-hold old r cs =
         let long = lent-long old r in
         let log = log-alike old cs in

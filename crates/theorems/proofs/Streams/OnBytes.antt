@@ -82,7 +82,7 @@ set-position : (state : List ℤ) (w : ℤ) → wordsOf (set state 0 w) ≡ word
 set-position state w = fun-ext (λ v. getD-set-other state 0 (suc v) w (pos 0) (λ e. omega arith))
 
 -- A cycle that is lent too few samples is refused by 23, and changes nothing.
-abbrev pub cycled : ℕ → List ℤ → List ℤ → Bool → Effect ℤ
+abbrev pub cycled : ℕ → List ℤ → List ℤ → Bool → Effect ℕ ℤ
 cycled n state left true = record { answer = refuse 23 0; left = state }
 cycled n state left false = record { answer = accepted n; left = left }
 

@@ -115,7 +115,7 @@ add-size c =
     omega (arith, l .loop .inv .fits, this c .fits, at-step c .next-line .kept .1 .1 .1 .1 .1 .0)
 
 loop-less : tie.Need-loop-less Inv-loop μ-loop
-loop-less c = omega (arith, ap length (this c .first))
+loop-less c = omega (arith, ap length (this c .next-line))
 
 loop-again : tie.Need-loop-again Inv-loop μ-loop
 loop-again c =

@@ -1,0 +1,140 @@
+-- `text_command::operator_from` meets its contract. Assumes nothing.
+use Prim.Native.Nat.{ℕ, _≤_, _<_}
+use mathlib.Core.List.{List}
+use mathlib.Core.Path.{_≡_, refl, sym, ap, _∙_}
+use native.Mathlib.Omega.{arith}
+use borrow.Author.Tests.{lt-ltb, le-ltb}
+use denote.Ref.{now}
+use lib.ListN.{length}
+use Rattle.model.specs.Rules.Command.{operatorOf, operatorAt}
+use Rattle.model.specs.Rules.Word.{byteAt}
+use Rattle.model.specs.declared.Operator.{Operator}
+use Rattle.model.specs.declared.Operator.the-variants as Operator
+use Rattle.model.specs.declared.Unary.the-variants.{Negate}
+use Rattle.text_command.specs.Operator.{restricted, operatorFrom}
+use Rattle.text_command.proofs.Least.{constant-kept, plain-kept, plain-allowed, sampled-bounded}
+use Rattle.text_command.proofs.Operands.{plain-is, sampled-is, binary-is, unknown-is}
+use borrow.Author.Needs.{needs}
+use Rattle.text_command.proofs.operator_from.Statement.{statement}
+use Rattle.text_command.proofs.operator_from.Tie as tie
+
+-- At a byte that is there it is the operator of that byte, restricted.
+here : (least : ℕ) (text : List ℕ) (at : ℕ) (o : Operator) → at < length text → o ≡ operatorOf (byteAt text at) text at →
+    restricted least o ≡ operatorFrom least text at
+unfolding operatorFrom operatorAt
+here least text at o lt e = rw (lt-ltb _ _ lt) (ap (restricted least) e)
+
+returns : tie.Need-returns
+unfolding operatorFrom operatorAt
+returns c = rw (le-ltb _ _ (c .if1 .taken))
+
+shared-slice-read-byte : tie.Need-shared-slice-read-byte
+shared-slice-read-byte c = search needs
+
+constant-at-requires : tie.Need-constant-at-requires
+constant-at-requires c κs = search needs
+
+kind-of-requires : tie.Need-kind-of-requires
+kind-of-requires c κs = search needs
+
+plain-read-requires : tie.Need-plain-read-requires
+plain-read-requires c κs = search needs
+
+kind-of-requires-2 : tie.Need-kind-of-requires-2
+kind-of-requires-2 c κs = search needs
+
+sampled-read-requires : tie.Need-sampled-read-requires
+sampled-read-requires c κs =
+    let c3 = c .before .before .before in (
+      c3 .before .before .before .if1 .left,
+      rw (c .kind-of2 .ensures)
+          (sampled-bounded _ _ (omega (arith, c .before .before .if3 .left)) (omega (arith, c .before .if4 .taken))),
+    )
+
+binary-of-requires : tie.Need-binary-of-requires
+binary-of-requires c κs = search needs
+
+returns-2 : tie.Need-returns-2
+returns-2 c =
+    let c3 = c .before .before .before in
+    let a = c3 .before .before .args in
+    c .constant-at .ensures ∙ constant-kept (a .least) _ _ ∙
+    here _ _ _ (operatorOf 0x20 (now (a .text)) (a .at)) (c3 .if1 .left) (rw (c .before .match .keys1))
+
+returns-3 : tie.Need-returns-3
+unfolding operatorOf
+returns-3 c = here _ _ _ (Operator.Unary Negate) (c .before .before .if1 .left) (rw (c .match .keys2))
+
+returns-4 : tie.Need-returns-4
+unfolding operatorOf
+returns-4 c = here _ _ _ Operator.If (c .before .before .if1 .left) (rw (c .match .keys3))
+
+returns-5 : tie.Need-returns-5
+returns-5 c =
+    let c3 = c .before .before .before in
+    let c6 = c3 .before .before .before in
+    let a = c6 .before .before .args in
+    let byte = byteAt (now (a .text)) (a .at) in
+    let low : 0x21 ≤ byte = omega (arith, c3 .if2 .left) in
+    let high : byte ≤ 0x22 = omega (arith, c .before .before .if3 .taken) in
+    (rw (c .before .kind-of .ensures) at (c .plain-read .ensures)) ∙
+    plain-kept _ _ _ _ (plain-allowed _ _ low high _) ∙
+    here _ _ _ _ (c6 .if1 .left) (sym (plain-is _ _ _ low high))
+
+returns-6 : tie.Need-returns-6
+returns-6 c =
+    let c3 = c .before .before .before in
+    let c7 = c3 .before .before .before .before in
+    (rw (c .before .kind-of2 .ensures) at (c .sampled-read .ensures)) ∙
+    here _ _ _ _ (c7 .if1 .left)
+    (sym (sampled-is _ _ _ (omega (arith, c3 .if3 .left)) (omega (arith, c .before .before .if4 .taken))))
+
+returns-7 : tie.Need-returns-7
+returns-7 c =
+    let c8 = c .before .before .before .before .before .before .before .before in
+    here _ _ _ (Operator.Binary (c .binary-of .result)) (c8 .if1 .left)
+    (ap Operator.Binary (c .binary-of .ensures) ∙
+    sym (binary-is _ _ _ (omega (arith, c .before .before .if5 .left)) (omega (arith, c .before .if6 .taken))))
+
+returns-8 : tie.Need-returns-8
+returns-8 c =
+    let c3 = c .before .before .before in
+    let no = c .before .match .rest in
+    here _ _ _ Operator.Unknown (c3 .if1 .left)
+    (sym (unknown-is _ _ _ (λ l h. no .0 .0 .1 (omega arith)) (λ l h. omega arith) (no .0 .1) (no .1)))
+
+returns-9 : tie.Need-returns-9
+returns-9 c =
+    let c4 = c .before .before .before .before in
+    let no = c4 .match .rest in
+    here _ _ _ Operator.Unknown (c4 .before .before .if1 .left)
+    (sym (unknown-is _ _ _ (λ l h. omega arith) (λ l h. omega arith) (no .0 .1) (no .1)))
+
+returns-10 : tie.Need-returns-10
+returns-10 c =
+    let c5 = c .before .before .before .before .before in
+    let no = c5 .match .rest in
+    here _ _ _ Operator.Unknown (c5 .before .before .if1 .left)
+    (sym (unknown-is _ _ _ (λ l h. omega arith) (λ l h. omega arith) (no .0 .1) (no .1)))
+
+pub operator-from-spec : {M : Type 1} → statement M
+operator-from-spec =
+    tie.close
+    (tie.spec
+    returns
+    shared-slice-read-byte
+    constant-at-requires
+    kind-of-requires
+    plain-read-requires
+    kind-of-requires-2
+    sampled-read-requires
+    binary-of-requires
+    returns-2
+    returns-3
+    returns-4
+    returns-5
+    returns-6
+    returns-7
+    returns-8
+    returns-9
+    returns-10)
