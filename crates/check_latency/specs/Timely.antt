@@ -9,19 +9,24 @@ use Rattle.model.specs.Rules.Latency.{readsBack, source}
 use Rattle.model.specs.Rules.Outcome.{accepted}
 use Rattle.model.specs.Rules.Program.{Program, count, parseProgram}
 use Rattle.model.specs.Rules.Rates.{declaredAndRated, linked}
+use Rattle.model.specs.Rules.Reads.{met}
 use Rattle.model.specs.Rules.Schedule.{Schedule, phaseOf}
 use Rattle.model.specs.declared.Found.{Found}
 use Rattle.model.specs.declared.Found.the-variants.{At, Nowhere}
 use Rattle.text_program.specs.Tables.{PeriodsOf, TablesOf}
-use Rattle.basics.specs.declared.Judged.{Judged}
-use Rattle.basics.specs.declared.Judged.the-variants as Judged
 use Rattle.text_program.specs.declared.Tables.{Tables}
+use Rattle.text_schedule.specs.Arranged.{Arranged}
+use Rattle.text_schedule.specs.declared.PairTables.{PairTables}
 use Rattle.check_latency.specs.declared.Route.{Route}
 
 -- An index is a byte.
 abbrev pub ByteFound : Found → Type 0
 ByteFound (At i) = i < 256
 ByteFound Nowhere = Unit {0}
+
+-- There is a pair that has these tables, and its reads are met.
+abbrev pub MetPair : List ℕ → PairTables → Type 0
+MetPair text t = (p : Program) × (s : Schedule) × Arranged text t p s × (met p s ≡ accepted tt)
 
 -- The text and the tables are those of p and s.
 pub record Known (text : List ℕ) (tables : Tables) (periods phases : List ℕ) (p : Program) (s : Schedule) : Type 0 where

@@ -9,12 +9,14 @@ use model::Kind;
 use model::Sampled;
 use read_rule::Timing;
 use text_program::Tables;
+use text_schedule::PairTables;
 ghost use mathlib.Core.Path.{_≡_};
-ghost use Prim.Native.Nat.{ℕ, _*_, _≤_, _<_};
+ghost use Prim.Native.Nat.{_*_, _≤_, _<_};
 ghost use Rattle.model.specs.Rules.Latency.{readAmong, backwards, keeps, timely};
+ghost use Rattle.model.specs.Rules.Outcome.{accepted};
 ghost use Rattle.model.specs.Rules.Program.{Program, count, signalAt, bodyReads};
 ghost use Rattle.model.specs.Rules.Rates.{countReads};
-ghost use Rattle.model.specs.Rules.Reads.{settledIndex};
+ghost use Rattle.model.specs.Rules.Reads.{settledIndex, met};
 ghost use Rattle.model.specs.Rules.Schedule.{Schedule};
 ghost use Rattle.model.specs.Rules.Search.{foundOr};
 ghost use Rattle.latency_rule.specs.Back.{noHop};
@@ -22,8 +24,9 @@ ghost use Rattle.latency_rule.specs.Hops.{hopOf};
 ghost use Rattle.check_rates.specs.Answers.{periodAt, TabledAs};
 ghost use Rattle.basics.specs.Judgement.{judgementOf};
 ghost use Rattle.text_program.specs.Tables.{chainAt};
+ghost use Rattle.text_schedule.specs.Arranged.{Arranged};
 ghost use Rattle.read_rule.specs.Reads.{rateIn};
-ghost use Rattle.check_latency.specs.Timely.{ByteFound, Known, Joined, Joinable, Timed, Judgeable, RouteOf, windowBy};
+ghost use Rattle.check_latency.specs.Timely.{ByteFound, MetPair, Known, Joined, Joinable, Timed, Judgeable, RouteOf, windowBy};
 
 // The index found, or 0.
 fn index_found(found: Found) -> u8
@@ -202,7 +205,7 @@ fn keeps_time(
 }
 
 // 16 at the lowest LAT whose chain does not keep its limit. (Chains × links × runs in the window.)
-pub fn check_latency(
+fn judge_chains(
     text: &[u8],
     reads: &[u16],
     tables: Tables,
@@ -225,4 +228,16 @@ pub fn check_latency(
         chain = chain + 1;
     }
     Judged::Fine
+}
+
+// 16 of a pair by its tables. Its reads are met.
+pub fn check_latency(text: &[u8], reads: &[u16], pair: PairTables) -> Judged
+    requires { ⌜ MetPair (now text) pair × TabledAs (now text) (now reads) (pair .tables) ⌝ }
+    ensures { λ r. ⌜ ((p : Program) (s : Schedule) → Arranged (now (text .entry)) pair p s → met p s ≡ accepted tt → r ≡ judgementOf (timely p s (pair .hypercycle))) ⌝ }
+{
+    let tables = pair.tables;
+    let slots = pair.slots;
+    let periods = tables.periods;
+    let phases = slots.phases;
+    judge_chains(text, reads, tables, &periods, &phases, pair.hypercycle)
 }

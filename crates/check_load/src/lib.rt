@@ -1,6 +1,8 @@
 // Load: in no cycle of the hypercycle does the summed weight of the signals run exceed CAP (15).
 use basics::Judged;
 use model::Found;
+use text_schedule::PairTables;
+ghost use mathlib.Core.List.{List};
 ghost use mathlib.Core.Path.{_≡_};
 ghost use Prim.Native.Nat.{ℕ, _*_, _≤_, _<_};
 ghost use lib.Dec.{ltb};
@@ -11,6 +13,7 @@ ghost use Rattle.model.specs.Rules.Schedule.{Schedule};
 ghost use Rattle.model.specs.Rules.Search.{firstBelow};
 ghost use Rattle.basics.specs.Judgement.{judgementOf};
 ghost use Rattle.text_program.specs.Tables.{PeriodsOf, WeightsOf, capOf};
+ghost use Rattle.text_schedule.specs.Arranged.{Arranged, Arrangement};
 ghost use Rattle.check_load.specs.Load.{LoadsOf, Raised, PhasesOf};
 
 // Adds a signal's weight to the loads of the cycles in which it runs, stepping from run to run. The loads so far are of at most
@@ -65,7 +68,7 @@ fn first_over(loads: &[u32; 240], limit: u32, hypercycle: usize) -> Found
 }
 
 // 15 at the lowest cycle of the hypercycle whose load is over CAP. Its cost is a step for each run and each cycle.
-pub fn check_load(
+fn judge_load(
     signals: usize,
     periods: &[u8; 64],
     phases: &[u8; 64],
@@ -86,4 +89,25 @@ pub fn check_load(
         Found::At(cycle) => basics::refuse(15, cycle),
         Found::Nowhere => Judged::Fine,
     }
+}
+
+// 15 of a pair by its tables.
+pub fn check_load(pair: PairTables) -> Judged
+    requires { ⌜ ((text : List ℕ) × Arrangement text pair) ⌝ }
+    ensures { λ r. ⌜ ((text : List ℕ) (p : Program) (s : Schedule) → Arranged text pair p s → r ≡ judgementOf (loaded p s (pair .hypercycle))) ⌝ }
+{
+    let tables = pair.tables;
+    let slots = pair.slots;
+    let periods = tables.periods;
+    let phases = slots.phases;
+    let weights = tables.weights;
+    judge_load(
+        tables.signals,
+        &periods,
+        &phases,
+        &weights,
+        tables.capped,
+        tables.limit,
+        pair.hypercycle,
+    )
 }

@@ -1,5 +1,5 @@
 -- Laws of the answers of the checks, and of their steps. Assumes nothing.
-use Prim.Native.Nat.{ℕ, _≤_, _<_}
+use Prim.Native.Nat.{ℕ, _≤_}
 use mathlib.Core.Bool.{true, and-eq-true-iff}
 use mathlib.Core.List.{List}
 use mathlib.Core.Path.{_≡_, refl, sym, ap, _∙_}
@@ -16,7 +16,6 @@ use Rattle.model.specs.Rules.Rates.{declaredAndRated, hypercycle, linked}
 use Rattle.model.specs.Rules.Reads.{met}
 use Rattle.model.specs.Rules.Schedule.{Schedule, Put, parseSchedule, placed}
 use Rattle.model.specs.declared.Fault.{Fault}
-use Rattle.model.proofs.Texts.Legal.{legal}
 use Rattle.model.proofs.Basics.Outcomes.{then-accepted, accepted-then, refused-then, then-then, then-same, provided-true}
 use Rattle.check_rates.specs.Answers.{cyclesOf, TabledAs}
 use Rattle.basics.specs.Judgement.{judgementOf}
@@ -26,7 +25,6 @@ use Rattle.text_program.specs.Tables.{ProgramReads, TablesOf, ReadsOf, SlotsOf}
 use Rattle.basics.specs.declared.Judged.{Judged}
 use Rattle.basics.specs.declared.Judged.the-variants as Judged
 use Rattle.text_program.specs.declared.ProgramRead.{ProgramRead}
-use Rattle.text_program.specs.declared.Tables.{Tables}
 use Rattle.text_schedule.specs.Slots.{EndedAt, ScheduledAs}
 use Rattle.text_schedule.specs.declared.Ended.{Ended}
 use Rattle.text_schedule.specs.declared.Ended.the-variants as Ended
@@ -170,11 +168,6 @@ pub schedule-passed : (p : Program) (text : List ℕ) (s : Schedule) → schedul
     (puts : Parsed (List Put)) × (parseSchedule text ≡ accepted puts) × (placed p puts ≡ accepted s)
 unfolding scheduleFor
 schedule-passed p text s e = then-accepted (parseSchedule text) _ s e
-
--- What the tables of a program that is read keep.
-module _ (text : List ℕ) (p : Program) (t : Tables) (e : parseProgram text ≡ accepted p) (tables : TablesOf p t) where
-  pub few-signals : t .signals ≤ 64
-  few-signals = omega (arith, legal text p e .1 .fewSignals, tables .counts .signals-are)
 
 -- Texts that pass 1.
 module _ (program schedule : List ℕ) (e : shortEnough program schedule ≡ accepted tt) where

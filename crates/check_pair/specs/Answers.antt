@@ -3,16 +3,11 @@ use Prim.Native.Nat.{ℕ, _*_, _≤_}
 use mathlib.Core.List.{List}
 use mathlib.Core.Path.{_≡_}
 use Rattle.model.specs.Rules.Compile.{Pair}
-use Rattle.model.specs.Rules.Outcome.{Outcome, accepted, refused, Parsed}
-use Rattle.model.specs.Rules.Program.{Program, parseProgram}
-use Rattle.model.specs.Rules.Rates.{declaredAndRated, hypercycle, linked}
-use Rattle.model.specs.Rules.Schedule.{Schedule, Put, placed}
+use Rattle.model.specs.Rules.Outcome.{Outcome, accepted, refused}
 use Rattle.text_program.specs.Prepared.{Prepared}
-use Rattle.text_program.specs.Tables.{TablesOf, SlotsOf}
 use Rattle.basics.specs.declared.Judged.{Judged}
 use Rattle.basics.specs.declared.Judged.the-variants as Judged
-use Rattle.text_program.specs.declared.Tables.{Tables}
-use Rattle.text_schedule.specs.declared.Slots.{Slots}
+use Rattle.text_schedule.specs.declared.PairTables.{PairTables}
 use Rattle.check_pair.specs.declared.Checked.{Checked}
 use Rattle.check_pair.specs.declared.Rated.{Rated}
 
@@ -25,29 +20,14 @@ Answers Q (refused f) j = j ≡ Judged.Refused f
 abbrev pub RatedAs : Outcome ℕ → Rated → Type 0
 RatedAs o r = Answers (λ h. r .hypercycle ≡ h) o (r .judged)
 
--- The tables are those of p and s, which have passed 2 to 13.
-pub record Arranged (text : List ℕ) (t : Tables) (slots : Slots) (h : ℕ) (p : Program) (s : Schedule) : Type 0 where
-  pub parsed : parseProgram text ≡ accepted p
-  pub tables-are : TablesOf p t
-  pub rated : declaredAndRated p ≡ accepted tt
-  pub hyper : hypercycle p ≡ accepted h
-  pub links : linked p ≡ accepted tt
-  pub puts : Parsed (List Put)
-  pub places : placed p puts ≡ accepted s
-  pub slots-are : SlotsOf p s (slots .order) (slots .phases) (slots .ranks)
-
--- There is such a pair.
-abbrev pub Arrangement : List ℕ → Tables → Slots → ℕ → Type 0
-Arrangement text t slots h = (p : Program) × (s : Schedule) × Arranged text t slots h p s
-
 -- The tables are those of the accepted pair q, as the emitter wants them.
-pub record Checks (text : List ℕ) (r : Checked) (q : Pair) : Type 0 where
-  pub prepared : Prepared text (r .tables) (r .tables .periods) (r .slots .order) (r .slots .phases) (q .program) (q .schedule)
-  pub hyper : r .hypercycle ≡ q .hypercycle
-  pub bound : r .hypercycle ≤ 240
+pub record Checks (text : List ℕ) (t : PairTables) (q : Pair) : Type 0 where
+  pub prepared : Prepared text (t .tables) (t .tables .periods) (t .slots .order) (t .slots .phases) (q .program) (q .schedule)
+  pub hyper : t .hypercycle ≡ q .hypercycle
+  pub bound : t .hypercycle ≤ 240
 
 abbrev pub CheckedAs : List ℕ → Outcome Pair → Checked → Type 0
-CheckedAs text o r = Answers (Checks text r) o (r .judged)
+CheckedAs text o r = Answers (Checks text (r .pair)) o (r .judged)
 
 -- A table of `room` entries is enough for the reads of a program of `size` bytes, if that passes 1.
 abbrev pub Spacious : ℕ → ℕ → Type 0

@@ -4,6 +4,7 @@ use check_rates::Cycles;
 use model::Fault;
 use text_program::Tables;
 use text_schedule::Ended;
+use text_schedule::PairTables;
 use text_schedule::Placing;
 use text_schedule::Slots;
 ghost use mathlib.Core.Path.{_≡_};
@@ -17,8 +18,9 @@ ghost use Rattle.model.specs.declared.Fault.{Fault};
 ghost use Rattle.check_rates.specs.Answers.{TabledAs};
 ghost use Rattle.basics.specs.Judgement.{judgementOf};
 ghost use Rattle.text_program.specs.Tables.{TablesOf, PeriodsOf};
+ghost use Rattle.text_schedule.specs.Arranged.{Arranged, Arrangement};
 ghost use Rattle.text_schedule.specs.Slots.{ScheduledAs};
-ghost use Rattle.check_pair.specs.Answers.{RatedAs, Arranged, Arrangement, CheckedAs, Spacious};
+ghost use Rattle.check_pair.specs.Answers.{RatedAs, CheckedAs, Spacious};
 ghost use Rattle.check_pair.specs.Steps.{ratesOf, scheduleFor, runsOf};
 
 // 1 where either text is too long.
@@ -106,41 +108,25 @@ fn check_schedule(schedule: &[u8], signals: usize, periods: &[u8; 64]) -> Placin
 }
 
 // The runs of a pair by its tables: 14, 15, 16.
-fn check_runs(text: &[u8], reads: &[u16], tables: Tables, slots: Slots, h: usize) -> Judged
-    requires { ⌜ Arrangement (now text) tables slots h × TabledAs (now text) (now reads) tables ⌝ }
-    ensures { λ r. ⌜ ((p : Program) (s : Schedule) → Arranged (now (text .entry)) tables slots h p s → r ≡ judgementOf (runsOf p s h)) ⌝ }
+fn check_runs(text: &[u8], reads: &[u16], pair: PairTables) -> Judged
+    requires { ⌜ Arrangement (now text) pair × TabledAs (now text) (now reads) (pair .tables) ⌝ }
+    ensures { λ r. ⌜ ((p : Program) (s : Schedule) → Arranged (now (text .entry)) pair p s → r ≡ judgementOf (runsOf p s (pair .hypercycle))) ⌝ }
 {
-    let count = tables.signals;
-    let firsts = tables.firsts;
-    let periods = tables.periods;
-    let phases = slots.phases;
-    let ranks = slots.ranks;
-    let of_reads = check_reads::check_reads(text, reads, &firsts, count, &periods, &phases, &ranks);
+    let of_reads = check_reads::check_reads(text, reads, pair);
     let Judged::Fine = of_reads else {
         return of_reads;
     };
-    let weights = tables.weights;
-    let loads = check_load::check_load(
-        count,
-        &periods,
-        &phases,
-        &weights,
-        tables.capped,
-        tables.limit,
-        h,
-    );
+    let loads = check_load::check_load(pair);
     let Judged::Fine = loads else {
         return loads;
     };
-    check_latency::check_latency(text, reads, tables, &periods, &phases, h)
+    check_latency::check_latency(text, reads, pair)
 }
 
 // What the checks of a pair find. The tables are of use where it is fine.
 pub struct Checked {
     pub judged: Judged,
-    pub tables: Tables,
-    pub slots: Slots,
-    pub hypercycle: usize,
+    pub pair: PairTables,
 }
 
 fn refused(judged: Judged) -> Checked
@@ -148,9 +134,11 @@ fn refused(judged: Judged) -> Checked
 {
     Checked {
         judged: judged,
-        tables: Tables::new(),
-        slots: Slots::new(),
-        hypercycle: 0,
+        pair: PairTables {
+            tables: Tables::new(),
+            slots: Slots::new(),
+            hypercycle: 0,
+        },
     }
 }
 
@@ -183,12 +171,15 @@ fn check_with(program: &[u8], schedule: &[u8], reads: &mut [u16]) -> Checked
     };
     let slots = placing.slots;
     let h = rated.hypercycle;
-    let runs = check_runs(program, reads, tables, slots, h);
-    Checked {
-        judged: runs,
+    let pair = PairTables {
         tables: tables,
         slots: slots,
         hypercycle: h,
+    };
+    let runs = check_runs(program, reads, pair);
+    Checked {
+        judged: runs,
+        pair: pair,
     }
 }
 

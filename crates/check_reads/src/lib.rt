@@ -3,11 +3,17 @@ use basics::Judged;
 use model::Kind;
 use model::Sampled;
 use read_rule::Timing;
+use text_schedule::PairTables;
 ghost use mathlib.Core.Path.{_≡_};
 ghost use Prim.Native.Nat.{_≤_, _<_};
 ghost use Rattle.model.specs.Rules.Outcome.{accepted};
 ghost use Rattle.model.specs.Rules.Program.{Program, parseProgram};
+ghost use Rattle.model.specs.Rules.Reads.{met};
+ghost use Rattle.model.specs.Rules.Schedule.{Schedule};
+ghost use Rattle.basics.specs.Judgement.{judgementOf};
 ghost use Rattle.text_program.specs.Tables.{Indexed};
+ghost use Rattle.text_schedule.specs.Arranged.{Arranged, Arrangement};
+ghost use Rattle.check_rates.specs.Answers.{TabledAs};
 ghost use Rattle.check_reads.specs.Met.{Below, PacedAt, readMet, ReadsMet};
 
 // One read in the equation of `reader`.
@@ -47,7 +53,7 @@ fn judge_read(
 }
 
 // 14 at the lowest read offset: over the reads of each signal by their index in the table.
-pub fn check_reads(
+fn judge_reads(
     text: &[u8],
     reads: &[u16],
     firsts: &[u16; 65],
@@ -77,4 +83,26 @@ pub fn check_reads(
         reader = reader + 1;
     }
     Judged::Fine
+}
+
+// 14 of a pair by its tables.
+pub fn check_reads(text: &[u8], reads: &[u16], pair: PairTables) -> Judged
+    requires { ⌜ Arrangement (now text) pair × TabledAs (now text) (now reads) (pair .tables) ⌝ }
+    ensures { λ r. ⌜ ((p : Program) (s : Schedule) → Arranged (now (text .entry)) pair p s → r ≡ judgementOf (met p s)) ⌝ }
+{
+    let tables = pair.tables;
+    let slots = pair.slots;
+    let firsts = tables.firsts;
+    let periods = tables.periods;
+    let phases = slots.phases;
+    let ranks = slots.ranks;
+    judge_reads(
+        text,
+        reads,
+        &firsts,
+        tables.signals,
+        &periods,
+        &phases,
+        &ranks,
+    )
 }

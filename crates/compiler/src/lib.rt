@@ -33,12 +33,13 @@ pub fn compile(program: &[u8], schedule: &[u8], image: &mut [u8]) -> Compiled
     let Judged::Fine = judged else {
         return refused(judged);
     };
-    let tables: Tables = checked.tables;
+    let pair = checked.pair;
+    let tables: Tables = pair.tables;
     let periods = tables.periods;
-    let slots: Slots = checked.slots;
+    let slots: Slots = pair.slots;
     let order = slots.order;
     let phases = slots.phases;
-    let h = checked.hypercycle;
+    let h = pair.hypercycle;
     let layout = image_write::lay_out(tables, &periods, &order, &phases, h);
     let written = layout.written;
     if image.len() < written {

@@ -81,9 +81,9 @@ fn put_operator(out: &mut [u8], operands: Emitted, code: u8) -> Emitted
     }
 }
 
-// Writes the code of the expression at `at`, which nests at most `depth` deep, from `to` on.
-// The slices go by reference to them, so that no level of the recursion copies them. `counted` is what the type of a slice
-// says and that of a reference to one does not; `same`: the slice is not exchanged for another.
+// Writes the code of the expression at `at`, which nests at most `depth` deep, from `to` on. The slices go by references to them,
+// which no level of the recursion has to copy. `counted` is what the type of a slice says and that of a reference to one does not;
+// `same`: the slice is not exchanged for another.
 pub fn emit_expression(
     text: &&[u8],
     at: usize,
@@ -107,28 +107,19 @@ pub fn emit_expression(
             at + width::of_read(kind),
         ),
         Operator::Binary(operator) => {
-            let first = emit_expression(text, at + width::in_expression(0x30), depth - 1, out, to);
+            let first_at = at + width::in_expression(0x30);
+            let first = emit_expression(text, first_at, depth - 1, out, to);
             let second = emit_expression(text, first.next, depth - 1, out, first.end);
             put_operator(*out, second, binary_byte(operator))
         }
         Operator::Unary(operator) => {
-            let operand = emit_expression(
-                text,
-                at + width::in_expression(0x38),
-                depth - 1,
-                out,
-                to,
-            );
+            let operand_at = at + width::in_expression(0x38);
+            let operand = emit_expression(text, operand_at, depth - 1, out, to);
             put_operator(*out, operand, unary_byte(operator))
         }
         Operator::If => {
-            let condition = emit_expression(
-                text,
-                at + width::in_expression(0x3A),
-                depth - 1,
-                out,
-                to,
-            );
+            let condition_at = at + width::in_expression(0x3A);
+            let condition = emit_expression(text, condition_at, depth - 1, out, to);
             let first = emit_expression(text, condition.next, depth - 1, out, condition.end);
             let second = emit_expression(text, first.next, depth - 1, out, first.end);
             put_operator(*out, second, 0x3A)
@@ -137,8 +128,8 @@ pub fn emit_expression(
     }
 }
 
-// Writes the code of the signal x, an equation declared at `place`, from `to` on. Says in `end` where it ends.
-// It takes the slice and gives it back, so that it can lend a reference to it.
+// Writes the code of the signal x, an equation declared at `place`, from `to` on. Says in `end` where it ends. It takes the slice and
+// gives it back, so that it can lend a reference to it.
 fn emit_equation<'a>(
     text: &[u8],
     place: usize,

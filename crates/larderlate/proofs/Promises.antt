@@ -40,7 +40,7 @@ use Rattle.model.specs.Rules.Outcome.{Outcome, accepted, refused, refuse, fault
 use Rattle.model.specs.Rules.Program.{Program, Chain, Read, count, parseWith, parseProgram}
 use Rattle.model.specs.Rules.Rates.{hypercycle}
 use Rattle.model.specs.Rules.Reads.{rateOf, runCycle, settled}
-use Rattle.model.specs.Rules.Report.{highest, needsOf, reportOf}
+use Rattle.model.specs.Rules.Report.{highest, needsOf, reportJob, reportOf}
 use Rattle.model.specs.Rules.Rewrite.{rewrite, convertOf}
 use Rattle.model.specs.Rules.Schedule.{Schedule, scheduleCommandAt}
 use Rattle.model.specs.Rules.Script.{Action, noSamples, callsFrom, cyclesOf}
@@ -248,7 +248,8 @@ report-code program schedule counts bytes f e =
 
 pub report-keeps : (program schedule counts : List ℕ) (f : Fault) → reportOf program schedule counts .answer ≡ refused f →
     reportOf program schedule counts .left ≡ counts
-report-keeps = Refused.report-keeps
+unfolding reportOf
+report-keeps program schedule counts f e = Refused.refused-left counts (reportJob program schedule) f e
 
 -- Whatever a cycle is lent, its count has 32 bits.
 pub count-small : (lent : List ℕ) (state samples : List ℤ) → AreBytes lent → (n : ℕ) →

@@ -240,34 +240,14 @@ room-after k h =
     record { short = h .short; table = h .table; few = omega (arith, h .few); small = omega (arith, h .small) }
 
 -- The step of an EQ from its expression's answer.
-module _ (o : Outcome (Parsed Expr)) {l l′ : List ℕ} {count to : ℕ} {r : Walked} (w : Walks o l count to l′ r) (e : Entry) where
-  pub equation-next : {a : Walk} {s : Step} → r ≡ Walked.Next a →
-      s ≡ Step.Adds e (record { at = a .at; reads = a .reads; code = a .code + 2 }) → WalksEquation o e l count to l′ s
-  unfolding WalksBy EquationBy
-  equation-next {a} {s} g h = go o w
-    where
-      go : (o : Outcome (Parsed Expr)) → Walks o l count to l′ r → WalksEquation o e l count to l′ s
-      go (accepted x) w =
-          let f = w .by .1 in
-          let z : w .by .0 ≡ a = cc in
-          let m = subst (λ (y : Walk). Moves (x .next) (placesOf (readsOf (x .value))) (length (exprCode (x .value))) l count to
-          l′ y) z (w .by .2) in
-          record { by = (record { at = a .at; reads = a .reads; code = a .code + 2 }, h, longer 2 m) }
-      go (refused f) w =
-          let k = w .by in
-          let z : _≡_ {A = ℕ} 0 1 = cc in
-          absurd (omega arith)
+abbrev pub equationStep : Entry → Walked → Step
+equationStep e (Walked.Next a) = Step.Adds e (record { at = a .at; reads = a .reads; code = a .code + 2 })
+equationStep e (Walked.Refused f) = Step.Refused f
 
-  pub equation-refused : {f : Fault} {s : Step} → r ≡ Walked.Refused f → s ≡ Step.Refused f → WalksEquation o e l count to l′ s
-  unfolding WalksBy EquationBy
-  equation-refused {f} {s} g h = go o w
-    where
-      go : (o : Outcome (Parsed Expr)) → Walks o l count to l′ r → WalksEquation o e l count to l′ s
-      go (accepted x) w =
-          let k = w .by .1 in
-          let z : _≡_ {A = ℕ} 0 1 = cc in
-          absurd (omega arith)
-      go (refused q) w =
-          let k = w .by in
-          let z : f ≡ q = cc in
-          record { by = h ∙ ap Step.Refused z }
+pub equation-walks : (o : Outcome (Parsed Expr)) {l l′ : List ℕ} {count to : ℕ} {r : Walked} → Walks o l count to l′ r →
+    (e : Entry) {s : Step} → s ≡ equationStep e r → WalksEquation o e l count to l′ s
+unfolding WalksBy EquationBy
+equation-walks (accepted x) w e h =
+    let a = w .by .0 in
+    record { by = (record { at = a .at; reads = a .reads; code = a .code + 2 }, h ∙ ap (equationStep e) (w .by .1), longer 2 (w .by .2)) }
+equation-walks (refused f) w e h = record { by = h ∙ ap (equationStep e) (w .by) }

@@ -2,3 +2,4 @@
 pub mod Pigeons
 pub mod Puts
 pub mod Endings
+pub mod Arranged

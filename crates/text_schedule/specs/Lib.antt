@@ -1,2 +1,3 @@
 -- What the answers of the schedule reader stand for.
+pub mod Arranged
 pub mod Slots

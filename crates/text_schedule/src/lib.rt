@@ -2,13 +2,14 @@
 use basics::Judged;
 use model::Fault;
 use model::ScheduleCommand;
+use text_program::Tables;
 ghost use mathlib.Core.Path.{_≡_};
 ghost use mathlib.Core.List.{List, []};
 ghost use Prim.Native.Nat.{_≤_, _<_};
 ghost use lib.ListN.{length};
 ghost use Rattle.model.specs.Rules.Outcome.{Parsed, accepted};
 ghost use Rattle.model.specs.Rules.Program.{Program, count};
-ghost use Rattle.model.specs.Rules.Schedule.{Put, parseSchedule, scheduleCommandAt};
+ghost use Rattle.model.specs.Rules.Schedule.{Put, parseSchedule};
 ghost use Rattle.text_program.specs.Tables.{PeriodsOf};
 ghost use Rattle.text_schedule.specs.Slots.{endedOf, EndedAt, allRanked, SlotsAfter, PutJudged, Scheduled};
 ghost use Rattle.text_schedule.specs.declared.Slots.{Slots};
@@ -81,6 +82,13 @@ impl Slots {
             ranks: [64; 64],
         }
     }
+}
+
+// The tables of a pair: its program's, its schedule's, and its hypercycle.
+pub struct PairTables {
+    pub tables: Tables,
+    pub slots: Slots,
+    pub hypercycle: usize,
 }
 
 // One PUT, after those that have a rank: 12 and 13.

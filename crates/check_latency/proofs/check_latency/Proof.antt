@@ -1,99 +1,51 @@
 -- `check_latency::check_latency` meets its contract. Assumes nothing.
-use Prim.Native.Nat.{ℕ, _-_, _≤_, _<_}
-use mathlib.Core.Path.{_≡_, sym, ap, _∙_}
-use native.Mathlib.Omega.{arith}
-use lib.ListN.{length}
-use borrow.Author.Tests.{not-true, not-false}
-use Rattle.model.specs.Rules.Latency.{keeps, timely}
-use Rattle.model.specs.Rules.Outcome.{Outcome, fault}
+use Prim.Native.Nat.{ℕ}
+use mathlib.Core.List.{List}
+use mathlib.Core.Path.{_≡_}
+use Rattle.model.specs.Rules.Outcome.{accepted}
 use Rattle.model.specs.Rules.Program.{Program}
+use Rattle.model.specs.Rules.Reads.{met}
 use Rattle.model.specs.Rules.Schedule.{Schedule}
-use Rattle.check_rates.proofs.Chains.{restFrom, rest-start, rest-later, rest-over, rest-broken}
-use Rattle.check_rates.proofs.Linking.{few-chains}
-use Rattle.basics.specs.Judgement.{judgementOf}
-use Rattle.basics.specs.declared.Judged.the-variants as Judged
+use Rattle.model.proofs.Pairs.Hypercycle.{hypercycle-least}
+use Rattle.model.proofs.Pairs.Verdict.{steps-accepted}
+use Rattle.text_schedule.specs.Arranged.{Arranged}
+use Rattle.text_schedule.specs.declared.PairTables.{PairTables}
+use Rattle.text_schedule.proofs.Arranged.{ordered}
 use Rattle.check_latency.specs.Timely.{Timed}
 use Rattle.check_latency.proofs.check_latency.Statement.{statement}
 use Rattle.check_latency.proofs.check_latency.Tie as tie
 
-abbrev rest : Program → Schedule → ℕ → ℕ → Outcome (Unit {0})
-rest p s h j = restFrom p 16 (keeps p s h) j
+-- Reads that are met leave a pair whose latencies can be judged.
+timed : (text : List ℕ) (t : PairTables) (p : Program) (s : Schedule) → Arranged text t p s → met p s ≡ accepted tt →
+    Timed text (t .tables) (t .tables .periods) (t .slots .phases) (t .hypercycle) p s
+timed text t p s g m =
+    let h = hypercycle-least p (t .hypercycle) .0 (g .hyper) in
+    record {
+      joined =
+          record {
+            known =
+                record {
+                  parsed = g .parsed;
+                  tables-are = g .tables-are;
+                  periods-are = g .tables-are .periods;
+                  phases-are = g .slots-are .phases-are;
+                };
+            rated = g .rated;
+            links = g .links;
+          };
+      accepted = steps-accepted _ p s (g .parsed) (g .rated) (ordered g) m;
+      multiple = h .multiple;
+      hyper = h .bound;
+    }
 
-abbrev Inv-loop : tie.InvT-loop
-Inv-loop text reads tables periods phases h starts chain₀ chain =
-    (p : Program) (s : Schedule) → Timed text tables periods phases h p s → timely p s h ≡ rest p s h chain
+judge-chains-requires : tie.Need-judge-chains-requires
+judge-chains-requires c κs =
+    let c8 = c .before .before .before .before .before .before .before .before in
+    let q = c8 .pre .0 in
+    ((q .0, q .1, timed _ _ _ _ (q .2) (q .3)), c8 .pre .1)
 
-abbrev μ-loop : tie.MeasureT-loop
-μ-loop text reads tables periods phases h starts chain₀ chain = tables .chains - chain
-
-few : (c : tie.Then1 Inv-loop μ-loop) → c .before .before .loop .chain < 16
-few c =
-    let k = c .before .before .before .before .before .before .pre .0 .2 .joined .known in
-    omega (arith, c .if1 .taken, few-chains _ _ (_, k .parsed, k .tables-are))
-
-loop-holds : tie.Need-loop-holds Inv-loop μ-loop
-unfolding timely
-loop-holds c = λ p s t. rest-start p 16 (keeps p s _)
-
-keeps-time-requires : tie.Need-keeps-time-requires Inv-loop μ-loop
-keeps-time-requires c κs =
-    let a = c .before .before .before .before .before .before in
-    (a .pre .0, c .if1 .taken, a .pre .1)
-
-mul-t11 : tie.Need-mul-t11 Inv-loop μ-loop
-mul-t11 c = omega (arith, few (c .before .before))
-
-array-read-t14 : tie.Need-array-read-t14 Inv-loop μ-loop
-array-read-t14 c = few (c .before .before)
-
-returns : tie.Need-returns Inv-loop μ-loop
-unfolding judgementOf
-returns c =
-    let b = c .before .before in
-    let l = b .before .before .loop in
-    λ p s t.
-    let k = t .joined .known in
-    let lt : l .chain < length (p .chains) = omega (arith, b .if1 .taken, k .tables-are .counts .chains-are) in
-    ap (λ n. Judged.Refused (fault 16 n)) (k .tables-are .starts (l .chain) lt) ∙
-    sym (ap judgementOf (l .inv p s t ∙
-    rest-broken p 16 (keeps p s _) _ (k .parsed) (l .chain) lt
-    (sym (c .before .keeps-time .ensures p s t) ∙ not-true (c .before .keeps-time .result) (c .if2 .taken))))
-
-add-chain : tie.Need-add-chain Inv-loop μ-loop
-add-chain c = omega (arith, few (c .before .before))
-
-loop-less : tie.Need-loop-less Inv-loop μ-loop
-loop-less c = omega (arith, c .before .before .if1 .taken)
-
-loop-again : tie.Need-loop-again Inv-loop μ-loop
-loop-again c =
-    let b = c .before .before in
-    let l = b .before .before .loop in
-    λ p s t.
-    let lt : l .chain < length (p .chains) = omega (arith, b .if1 .taken, t .joined .known .tables-are .counts .chains-are) in
-    l .inv p s t ∙ rest-later p 16 (keeps p s _) (l .chain) lt
-    (sym (c .before .keeps-time .ensures p s t) ∙ not-false (c .before .keeps-time .result) (c .if2 .left))
-
-returns-2 : tie.Need-returns-2 Inv-loop μ-loop
-unfolding judgementOf
-returns-2 c =
-    let l = c .before .before .loop in
-    λ p s t.
-    let le : length (p .chains) ≤ l .chain = omega (arith, c .if1 .left, t .joined .known .tables-are .counts .chains-are) in
-    sym (ap judgementOf (l .inv p s t ∙ rest-over p 16 (keeps p s _) (l .chain) le))
+returns : tie.Need-returns
+returns c p s g m = c .judge-chains .ensures p s (timed _ _ p s g m)
 
 pub check-latency-spec : {M : Type 1} → statement M
-check-latency-spec =
-    tie.close
-    (tie.spec
-    Inv-loop
-    μ-loop
-    loop-holds
-    keeps-time-requires
-    mul-t11
-    array-read-t14
-    returns
-    add-chain
-    loop-less
-    loop-again
-    returns-2)
+check-latency-spec = tie.close (tie.spec judge-chains-requires returns)

@@ -1,9 +1,9 @@
 -- `check_pair::check_rates` meets its contract. Assumes nothing.
 use mathlib.Core.Path.{refl, _∙_}
 use borrow.Author.Needs.{needs}
+use Rattle.text_schedule.proofs.Arranged.{few-signals}
 use Rattle.check_pair.specs.Steps.{ratesOf}
 use Rattle.check_pair.proofs.Verdicts.{
-  few-signals,
   answers-then,
   answers-stop,
   answers-last,

@@ -5,12 +5,13 @@ use borrow.Author.Needs.{needs}
 use Rattle.model.specs.Rules.Compile.{shortEnough}
 use Rattle.model.specs.Rules.Outcome.{accepted}
 use Rattle.model.specs.Rules.Schedule.{Schedule}
-use Rattle.model.proofs.Pairs.Hypercycle.{hypercycle-least}
-use Rattle.model.proofs.Texts.Puts.{placed-ordered}
 use Rattle.check_rates.specs.Answers.{ReadAs}
 use Rattle.text_program.specs.declared.Tables.{Tables}
+use Rattle.text_schedule.specs.Arranged.{Arranged}
 use Rattle.text_schedule.specs.Slots.{ScheduledAs}
-use Rattle.check_pair.specs.Answers.{RatedAs, Arranged}
+use Rattle.text_schedule.specs.declared.PairTables.{PairTables}
+use Rattle.text_schedule.proofs.Arranged.{few-signals, short-hypercycle, ordered}
+use Rattle.check_pair.specs.Answers.{RatedAs}
 use Rattle.check_pair.specs.Steps.{ratesOf, scheduleFor, stepsOf}
 use Rattle.check_pair.proofs.Verdicts.{
   answers-fine,
@@ -26,7 +27,6 @@ use Rattle.check_pair.proofs.Verdicts.{
   schedule-answers,
   rates-passed,
   schedule-passed,
-  few-signals,
   short-program,
   short-schedule,
   pair-steps,
@@ -74,14 +74,21 @@ scheduled d =
     let g = read (known d) in
     d .check-schedule .ensures (g .0) (g .2 .counts .signals-are) (g .2 .periods)
 
+abbrev pair : tie.After-check-schedule → PairTables
+pair d =
+    record {
+      tables = tables (known d);
+      slots = d .check-schedule .result .slots;
+      hypercycle = found d .before .before .check-rates .result .hypercycle;
+    }
+
 arranged : (e : tie.After-enum-told7) →
     let d = e .before .before in
     let x = known d in
     let g = read x in
     let b = start (lengths x) in
     (s : Schedule) × (scheduleFor (g .0) (now (b .args .schedule)) ≡ accepted s) ×
-    Arranged (now (b .args .program)) (tables x) (d .check-schedule .result .slots)
-    (found d .before .before .check-rates .result .hypercycle) (g .0) s
+    Arranged (now (b .args .program)) (pair d) (g .0) s
 arranged e =
     let d = e .before .before in
     let x = known d in
@@ -248,10 +255,10 @@ returns-5 c =
             periods-are = g .tables-are .periods;
             ranks = d .check-schedule .result .slots .ranks;
             slots = g .slots-are;
-            ordered = placed-ordered p (g .puts) (a .0) (g .places) .0;
+            ordered = ordered g;
           };
       hyper = refl;
-      bound = hypercycle-least p _ .0 (g .hyper) .bound;
+      bound = short-hypercycle g;
     })))))))
 
 pub check-with-spec : {M : Type 1} → statement M

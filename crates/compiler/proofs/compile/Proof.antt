@@ -24,10 +24,10 @@ start k = k .before .before .before .before
 -- the pair that the checks have accepted
 pair : (e : tie.After-enum-told) → let k = e .before .before in
     (q : Pair) × (pairOf (now (start k .args .program)) (now (start k .args .schedule)) ≡ accepted q) ×
-    Checks (now (start k .args .program)) (k .check-pair .result) q
+    Checks (now (start k .args .program)) (k .check-pair .result .pair) q
 pair e = answers-fine _ _ _ (e .before .before .check-pair .ensures) (e .enum-told .given .1)
 
-abbrev ready : (e : tie.After-enum-told) → let k = e .before .before in let r = k .check-pair .result in
+abbrev ready : (e : tie.After-enum-told) → let k = e .before .before in let r = k .check-pair .result .pair in
     Ready (now (start k .args .program)) (r .tables) (r .tables .periods) (r .slots .order) (r .slots .phases) (r .hypercycle)
 ready e =
     let k = pair e in
@@ -36,12 +36,12 @@ ready e =
 abbrev checked : tie.After-lay-out → tie.After-enum-told
 checked l =
     let l5 = l .before .before .before .before .before in
-    let l9 = l5 .before .before .before .before in
-    l9
+    let l10 = l5 .before .before .before .before .before in
+    l10
 
 -- the layout of its image, with L
 laid-out : (l : tie.After-lay-out) → let q = pair (checked l) .0 in
-    LaidOut (q .program) (q .schedule) (checked l .before .before .check-pair .result .hypercycle) (l .lay-out .result)
+    LaidOut (q .program) (q .schedule) (checked l .before .before .check-pair .result .pair .hypercycle) (l .lay-out .result)
 laid-out l = l .lay-out .ensures _ _ _ (pair (checked l) .2 .prepared)
 
 check-pair-requires : tie.Need-check-pair-requires
@@ -63,7 +63,10 @@ returns c =
     (ap compiledOf (c .refused .ensures _ told) ∙ g .0, g .1)
 
 lay-out-requires : tie.Need-lay-out-requires
-lay-out-requires c κs = (_, ready (c .before .before .before .before .before .before .before .before))
+lay-out-requires c κs =
+    let c5 = c .before .before .before .before .before in
+    let c9 = c5 .before .before .before .before in
+    (_, ready c9)
 
 returns-2 : tie.Need-returns-2
 returns-2 c =
@@ -86,13 +89,13 @@ abbrev emitted : tie.After-slice-known2 → tie.Else1
 emitted k = k .before .before .before .before .before .before .before
 
 -- its tail, by the tables
-tail-is : (k : tie.After-slice-known2) → let r = checked (emitted k .before) .before .before .check-pair .result in
+tail-is : (k : tie.After-slice-known2) → let r = checked (emitted k .before) .before .before .check-pair .result .pair in
     let q = pair (checked (emitted k .before)) .0 in
     tailBy (r .tables .labels) (r .tables .periods) (r .slots .phases) (r .tables .signals) ≡ tailOf (q .program) (q .schedule)
 tail-is k = tail-by (pair (checked (emitted k .before)) .2 .prepared)
 
 image-is : (k : tie.After-slice-known2) → let q = pair (checked (emitted k .before)) .0 in
-    let h = checked (emitted k .before) .before .before .check-pair .result .hypercycle in
+    let h = checked (emitted k .before) .before .before .check-pair .result .pair .hypercycle in
     k .before .before .emit .last .1 .1 .1 .1 .1 .1 .1 .0 ≡
     imageOf (q .program) (q .schedule) h ++
     drop (lengthOf (q .program) (q .schedule) h) (start (checked (emitted k .before) .before .before) .args .image .now)

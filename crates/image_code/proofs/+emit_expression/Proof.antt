@@ -161,8 +161,8 @@ enum-known-decoded-3 t c = search needs
 in-expression-requires-2 : (t : ℕ) → lts.Need-in-expression-requires-2 (known t) (given t) own.Post
 in-expression-requires-2 t c κs = search needs
 
-add-emit-expression : (t : ℕ) → lts.Need-add-emit-expression (known t) (given t) own.Post
-add-emit-expression t c =
+add-first-at : (t : ℕ) → lts.Need-add-first-at (known t) (given t) own.Post
+add-first-at t c =
     let c4 = c .before .before .before .before in
     omega (arith, inside t c4 _ (c .before .before .decoded3 .given .1), counted t c4)
 
@@ -219,8 +219,8 @@ enum-known-decoded-4 t c = search needs
 in-expression-requires-3 : (t : ℕ) → lts.Need-in-expression-requires-3 (known t) (given t) own.Post
 in-expression-requires-3 t c κs = search needs
 
-add-emit-expression-2 : (t : ℕ) → lts.Need-add-emit-expression-2 (known t) (given t) own.Post
-add-emit-expression-2 t c =
+add-operand-at : (t : ℕ) → lts.Need-add-operand-at (known t) (given t) own.Post
+add-operand-at t c =
     let c4 = c .before .before .before .before in
     omega (arith, inside t c4 _ (c .before .before .decoded4 .given .1), counted t c4)
 
@@ -258,8 +258,8 @@ enum-told t c = search needs
 in-expression-requires-4 : (t : ℕ) → lts.Need-in-expression-requires-4 (known t) (given t) own.Post
 in-expression-requires-4 t c κs = search needs
 
-add-emit-expression-3 : (t : ℕ) → lts.Need-add-emit-expression-3 (known t) (given t) own.Post
-add-emit-expression-3 t c =
+add-condition-at : (t : ℕ) → lts.Need-add-condition-at (known t) (given t) own.Post
+add-condition-at t c =
     let c3 = c .before .before .before in
     omega (arith, inside t c3 _ (c .before .enum-told .given .1), counted t c3)
 
@@ -408,7 +408,7 @@ pub +emit-expression-spec : {M : Type 1} → statement M
     (put-access-requires t)
     (enum-known-decoded-3 t)
     (in-expression-requires-2 t)
-    (add-emit-expression t)
+    (add-first-at t)
     (sub-emit-expression t)
     (emit-expression-requires t)
     (sub-emit-expression-2 t)
@@ -418,7 +418,7 @@ pub +emit-expression-spec : {M : Type 1} → statement M
     (put-operator-requires t)
     (enum-known-decoded-4 t)
     (in-expression-requires-3 t)
-    (add-emit-expression-2 t)
+    (add-operand-at t)
     (sub-emit-expression-3 t)
     (emit-expression-requires-3 t)
     (slice-aggregate-put-operator-2 t)
@@ -426,7 +426,7 @@ pub +emit-expression-spec : {M : Type 1} → statement M
     (put-operator-requires-2 t)
     (enum-told t)
     (in-expression-requires-4 t)
-    (add-emit-expression-3 t)
+    (add-condition-at t)
     (sub-emit-expression-4 t)
     (emit-expression-requires-4 t)
     (sub-emit-expression-5 t)

@@ -1,12 +1,12 @@
 -- `text_program::equation_step` meets its contract. Assumes nothing.
 use Prim.Native.Nat.{ℕ, _+_}
 use native.Mathlib.Omega.{arith}
-use mathlib.Core.Path.{_∙_}
+use mathlib.Core.Path.{sym, ap, _∙_}
 use denote.Ref.{now}
 use lib.ListN.{length}
 use Rattle.model.specs.Rules.Program.{parseExpr}
 use Rattle.text_program.specs.Walks.{Room, Walks}
-use Rattle.text_program.proofs.Walks.{ahead, room-after, equation-next, equation-refused}
+use Rattle.text_program.proofs.Walks.{ahead, room-after, equationStep, equation-walks}
 use borrow.Author.Needs.{needs}
 use Rattle.text_program.proofs.equation_step.Statement.{statement}
 use Rattle.text_program.proofs.equation_step.Tie as tie
@@ -39,8 +39,8 @@ returns c =
     let c5 = c .before .before .before .before .before in
     let c8 = c5 .before .before .before in
     let told = c .before .enum-told .given in
-    equation-refused _ (rw (c8 .in-program .ensures) at (c5 .read-expression .ensures)) _
-    (told .1) (c .step-of-walked .ensures _ (told .1))
+    equation-walks _ (rw (c8 .in-program .ensures) at (c5 .read-expression .ensures)) _
+    (c .step-of-walked .ensures _ (told .1) ∙ ap (equationStep _) (sym (told .1)))
 
 in-code-requires : tie.Need-in-code-requires
 in-code-requires c κs = search needs
@@ -66,8 +66,8 @@ returns-2 c =
     let c4 = c .before .before .before .before in
     let c8 = c4 .before .before .before .before in
     let c11 = c8 .before .before .before in
-    equation-next _ (rw (c11 .in-program .ensures) at (c8 .read-expression .ensures)) _
-    (c4 .walked .given .1) (rw (c .before .before .in-code .ensures) at (c .adds .ensures))
+    equation-walks _ (rw (c11 .in-program .ensures) at (c8 .read-expression .ensures)) _
+    ((rw (c .before .before .in-code .ensures) at (c .adds .ensures)) ∙ ap (equationStep _) (sym (c4 .walked .given .1)))
 
 pub equation-step-spec : {M : Type 1} → statement M
 equation-step-spec =

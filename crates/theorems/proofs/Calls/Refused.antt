@@ -7,12 +7,11 @@ use lib.IntN.{ℤ}
 use Rattle.model.specs.Rules.Compile.{compileJob, compileOf}
 use Rattle.model.specs.Rules.Machine.{Job, effect, resetJob, resetOf, cycleJob, cycleOf}
 use Rattle.model.specs.Rules.Outcome.{Outcome, accepted, refused}
-use Rattle.model.specs.Rules.Report.{reportJob, reportOf}
 use Rattle.model.specs.Rules.Rewrite.{convertJob, convertOf}
 use Rattle.theorems.specs.Lists.{Writer, writerOf}
 use Rattle.model.specs.declared.Fault.{Fault}
 
-refused-left : {Y A : Type 0} (lent : List A) (o : Outcome (Job Y A)) (f : Fault) → effect lent o .answer ≡ refused f →
+pub refused-left : {Y A : Type 0} (lent : List A) (o : Outcome (Job Y A)) (f : Fault) → effect lent o .answer ≡ refused f →
     effect lent o .left ≡ lent
 refused-left lent (accepted job) f e = let z : _≡_ {A = ℕ} 0 1 = cc in absurd (omega arith)
 refused-left lent (refused g) f e = refl
@@ -32,8 +31,3 @@ pub writer-keeps : (buffer : List ℕ) (w : Writer) (f : Fault) → writerOf buf
 unfolding compileOf convertOf
 writer-keeps buffer (Writer.compiles program schedule) f e = refused-left buffer (compileJob program schedule buffer) f e
 writer-keeps buffer (Writer.converts program) f e = refused-left buffer (convertJob program buffer) f e
-
-pub report-keeps : (program schedule counts : List ℕ) (f : Fault) → reportOf program schedule counts .answer ≡ refused f →
-    reportOf program schedule counts .left ≡ counts
-unfolding reportOf
-report-keeps program schedule counts f e = refused-left counts (reportJob program schedule) f e

@@ -43,9 +43,12 @@ use Rattle.theorems.proofs.Conversion.Rewritten.{
 }
 
 module _ (text : List ℕ) where
+  abbrev Unrewritten : ℕ → ℕ → Type 0
+  Unrewritten at left = length text ≤ left + at → rewriteFrom left text at ≡ drop at text
+
   -- From `at` on nothing is changed.
   record Same (at : ℕ) : Type 0 where
-    holds : (left : ℕ) → length text ≤ left + at → rewriteFrom left text at ≡ drop at text
+    holds : (left : ℕ) → Unrewritten at left
 
   -- One command back.
   command-same : {at : ℕ} (c : Command) → CommandWritten text at c →
@@ -56,7 +59,7 @@ module _ (text : List ℕ) where
       n : ℕ
       n = widthOf c
 
-      go : (left : ℕ) → length text ≤ left + at → rewriteFrom left text at ≡ drop at text
+      go : (left : ℕ) → Unrewritten at left
       go zero le = absurd (omega (arith, command-inside text at c w))
       go (suc left) le =
           ap (λ d. rewriteAt text at d ++ rewriteFrom left text (at + widthOf d)) (command-decoded text at c w) ∙

@@ -1,0 +1,99 @@
+-- `check_latency::judge_chains` meets its contract. Assumes nothing.
+use Prim.Native.Nat.{ℕ, _-_, _≤_, _<_}
+use mathlib.Core.Path.{_≡_, sym, ap, _∙_}
+use native.Mathlib.Omega.{arith}
+use lib.ListN.{length}
+use borrow.Author.Tests.{not-true, not-false}
+use Rattle.model.specs.Rules.Latency.{keeps, timely}
+use Rattle.model.specs.Rules.Outcome.{Outcome, fault}
+use Rattle.model.specs.Rules.Program.{Program}
+use Rattle.model.specs.Rules.Schedule.{Schedule}
+use Rattle.check_rates.proofs.Chains.{restFrom, rest-start, rest-later, rest-over, rest-broken}
+use Rattle.check_rates.proofs.Linking.{few-chains}
+use Rattle.basics.specs.Judgement.{judgementOf}
+use Rattle.basics.specs.declared.Judged.the-variants as Judged
+use Rattle.check_latency.specs.Timely.{Timed}
+use Rattle.check_latency.proofs.judge_chains.Statement.{statement}
+use Rattle.check_latency.proofs.judge_chains.Tie as tie
+
+abbrev rest : Program → Schedule → ℕ → ℕ → Outcome (Unit {0})
+rest p s h j = restFrom p 16 (keeps p s h) j
+
+abbrev Inv-loop : tie.InvT-loop
+Inv-loop text reads tables periods phases h starts chain₀ chain =
+    (p : Program) (s : Schedule) → Timed text tables periods phases h p s → timely p s h ≡ rest p s h chain
+
+abbrev μ-loop : tie.MeasureT-loop
+μ-loop text reads tables periods phases h starts chain₀ chain = tables .chains - chain
+
+few : (c : tie.Then1 Inv-loop μ-loop) → c .before .before .loop .chain < 16
+few c =
+    let k = c .before .before .before .before .before .before .pre .0 .2 .joined .known in
+    omega (arith, c .if1 .taken, few-chains _ _ (_, k .parsed, k .tables-are))
+
+loop-holds : tie.Need-loop-holds Inv-loop μ-loop
+unfolding timely
+loop-holds c = λ p s t. rest-start p 16 (keeps p s _)
+
+keeps-time-requires : tie.Need-keeps-time-requires Inv-loop μ-loop
+keeps-time-requires c κs =
+    let a = c .before .before .before .before .before .before in
+    (a .pre .0, c .if1 .taken, a .pre .1)
+
+mul-t11 : tie.Need-mul-t11 Inv-loop μ-loop
+mul-t11 c = omega (arith, few (c .before .before))
+
+array-read-t14 : tie.Need-array-read-t14 Inv-loop μ-loop
+array-read-t14 c = few (c .before .before)
+
+returns : tie.Need-returns Inv-loop μ-loop
+unfolding judgementOf
+returns c =
+    let b = c .before .before in
+    let l = b .before .before .loop in
+    λ p s t.
+    let k = t .joined .known in
+    let lt : l .chain < length (p .chains) = omega (arith, b .if1 .taken, k .tables-are .counts .chains-are) in
+    ap (λ n. Judged.Refused (fault 16 n)) (k .tables-are .starts (l .chain) lt) ∙
+    sym (ap judgementOf (l .inv p s t ∙
+    rest-broken p 16 (keeps p s _) _ (k .parsed) (l .chain) lt
+    (sym (c .before .keeps-time .ensures p s t) ∙ not-true (c .before .keeps-time .result) (c .if2 .taken))))
+
+add-chain : tie.Need-add-chain Inv-loop μ-loop
+add-chain c = omega (arith, few (c .before .before))
+
+loop-less : tie.Need-loop-less Inv-loop μ-loop
+loop-less c = omega (arith, c .before .before .if1 .taken)
+
+loop-again : tie.Need-loop-again Inv-loop μ-loop
+loop-again c =
+    let b = c .before .before in
+    let l = b .before .before .loop in
+    λ p s t.
+    let lt : l .chain < length (p .chains) = omega (arith, b .if1 .taken, t .joined .known .tables-are .counts .chains-are) in
+    l .inv p s t ∙ rest-later p 16 (keeps p s _) (l .chain) lt
+    (sym (c .before .keeps-time .ensures p s t) ∙ not-false (c .before .keeps-time .result) (c .if2 .left))
+
+returns-2 : tie.Need-returns-2 Inv-loop μ-loop
+unfolding judgementOf
+returns-2 c =
+    let l = c .before .before .loop in
+    λ p s t.
+    let le : length (p .chains) ≤ l .chain = omega (arith, c .if1 .left, t .joined .known .tables-are .counts .chains-are) in
+    sym (ap judgementOf (l .inv p s t ∙ rest-over p 16 (keeps p s _) (l .chain) le))
+
+pub judge-chains-spec : {M : Type 1} → statement M
+judge-chains-spec =
+    tie.close
+    (tie.spec
+    Inv-loop
+    μ-loop
+    loop-holds
+    keeps-time-requires
+    mul-t11
+    array-read-t14
+    returns
+    add-chain
+    loop-less
+    loop-again
+    returns-2)
