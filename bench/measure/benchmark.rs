@@ -105,8 +105,7 @@ fn turn_row(name: &str, image: &[u8]) -> Row {
     let turn = move || {
         assert_eq!(library::board_mark(&mut record, 0), 0);
         assert_eq!(library::board_turn(&mut record, black_box(&lent), &mut state, &samples, &mut outcome), 0);
-        let [ran, place, _] = &outcome;
-        assert!(black_box(*ran) == 1 && black_box(*place) == 0);
+        assert_eq!((outcome[0], outcome[1]), (1, 0));
     };
     let cycle = move || assert!(library::cycle(black_box(&other_lent), &mut other, &other_samples[..64]) < 1 << 32);
     row(format!("turn {name}"), image.len(), [Box::new(turn), Box::new(cycle)])

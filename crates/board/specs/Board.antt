@@ -6,13 +6,15 @@ use mathlib.Core.List.{List, [], _∷_, _++_}
 use lib.Dec.{leb, ltb}
 use lib.IntN.{ℤ}
 use lib.ListN.{length, getD, take, drop, set}
-use Rattle.model.specs.Rules.Machine.{Effect, stretch, resetOf, cycleOf}
+use Rattle.model.specs.Rules.Machine.{Effect, stretch, resetOf, cycleOf, cycledOf}
 use Rattle.model.specs.Rules.Outcome.{Outcome, accepted, refused, refuse, _▷_, provided}
 use Rattle.model.specs.Rules.Search.{firstBelow}
 use Rattle.model.specs.declared.Found.{Found}
 use Rattle.model.specs.declared.Found.the-variants.{At, Nowhere}
 use Rattle.board.specs.declared.Board.{Board}
 use Rattle.board.specs.declared.Place.{Place}
+use Rattle.board.specs.declared.Turned.{Turned}
+use Rattle.board.specs.declared.Turned.the-variants as Turned
 
 -- A place that was never loaded.
 abbrev pub vacant : Place
@@ -148,3 +150,9 @@ turnOf b images state samples =
     (provided (leb 260 (length state)) 21 0 ▷ λ _.
     provided (leb 256 (length samples)) 23 0 ▷ λ _.
     accepted (turnWith b images state samples (nextDue b)))
+
+-- What the answer of a turn stands for.
+abbrev pub turnedOf : Turned → Outcome Yield
+turnedOf Turned.Idle = accepted idle
+turnedOf (Turned.Took k run) = accepted (took k (cycledOf run))
+turnedOf (Turned.Refused f) = refused f

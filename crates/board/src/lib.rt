@@ -1,5 +1,7 @@
 // Four programs on one board: what its record stands for, and the work on one place. Each place has a stretch of the lent images, its
 // own 65 of 260 lent words and 64 of 256 lent samples, in place order. The calls are in crate `board_words`.
+use machine::BAD_IMAGE;
+use machine::BAD_POSITION;
 use model::Cycled;
 use model::Fault;
 use model::Ran;
@@ -10,7 +12,7 @@ ghost use lib.ListN.{length};
 ghost use Rattle.model.specs.Rules.Machine.{ranOf, cycledOf};
 ghost use Rattle.model.specs.Rules.Outcome.{refuse};
 ghost use Rattle.board.specs.Board.{countUp, placeWords, withWords};
-ghost use Rattle.board.specs.Board.{resetIn, cycleIn, runIn};
+ghost use Rattle.board.specs.Board.{resetIn, cycleIn, runIn, turnedOf};
 
 pub const PLACES: usize = 4;
 
@@ -50,7 +52,21 @@ pub struct Board {
     pub last: usize,
 }
 
-// The refusal of a call.
+// What a turn answers: that nothing is due, the place that it took and what its run answers, or its refusal.
+pub enum Turned {
+    Idle,
+    Took(u8, Cycled),
+    Refused(Fault),
+}
+
+// The refusal of a turn.
+pub fn denied(number: u8) -> Turned
+    ensures { λ r. ⌜ turnedOf r ≡ refuse number 0 ⌝ }
+{
+    Turned::Refused(Fault { number, place: 0 })
+}
+
+// The refusal of a load or a mark.
 pub fn refused(number: u8) -> Ran
     ensures { λ r. ⌜ ranOf r ≡ refuse number 0 ⌝ }
 {
@@ -92,7 +108,7 @@ fn reset_place(images: &[u8], start: usize, size: usize, words: &mut [i32]) -> R
     machine::reset(&images[start..end], &mut words[..])
 }
 
-// Runs one cycle of a place.
+// Runs one cycle of a place. Its words and its samples are enough for any image.
 fn cycle_place(
     images: &[u8],
     start: usize,
@@ -100,6 +116,7 @@ fn cycle_place(
     words: &mut [i32],
     samples: &[i32],
 ) -> Cycled
+    requires { ⌜ (65 ≤ length (now words)) × (64 ≤ length (now samples)) ⌝ }
     ensures answer { λ r. ⌜ cycledOf r ≡ cycleIn (now (images .entry)) start size (now (words .entry)) (now (samples .entry)) .answer ⌝ }
     ensures left { λ _. ⌜ now (words .exit) ≡ cycleIn (now (images .entry)) start size (now (words .entry)) (now (samples .entry)) .left ⌝ }
 {
@@ -108,11 +125,14 @@ fn cycle_place(
     }
     let end = start + size;
     let lent = &images[start..end];
-    let number = machine::judge_cycle(lent, &words[..], samples);
-    if 0 < number {
-        return stopped(number);
+    let image = image_valid::image_in(lent);
+    if !image_valid::well_formed(image) {
+        return stopped(BAD_IMAGE);
     }
-    let total = machine::run_cycle(image_valid::image_in(lent), &mut words[..], samples);
+    if !machine::is_positioned(image, &words[..]) {
+        return stopped(BAD_POSITION);
+    }
+    let total = machine::run_cycle(image, &mut words[..], samples);
     Cycled::Commands(total)
 }
 

@@ -7,16 +7,16 @@ use board::NOT_LOADED;
 use board::PLACES;
 use board::SAMPLES;
 use board::SHORT_STATE;
+use board::Turned;
 use board::WORDS;
 use model::Cycled;
 use model::Found;
 use model::Ran;
 ghost use mathlib.Core.Path.{_≡_};
-ghost use Prim.Native.Nat.{_<_};
 ghost use Rattle.model.specs.Rules.Machine.{ranOf, cycledOf};
-ghost use Rattle.board.specs.Board.{nextDue, loadOf, markPlaceOf, turnOf};
+ghost use Rattle.board.specs.Board.{nextDue, loadOf, markPlaceOf, turnOf, turnedOf};
 ghost use Rattle.board_words.specs.Record.{loadedIn, dueIn, boardOf, newWords, firstDue, countIn, loadRecord, markRecord, turnRecord};
-ghost use Rattle.board_words.specs.Record.{turnDone, runOutcome, outcomeIn};
+ghost use Rattle.board_words.specs.Record.{runOutcome, outcomeIn};
 
 // The record with nothing loaded or due.
 pub fn new_record() -> [usize; 17]
@@ -122,41 +122,21 @@ pub fn mark(words: &mut [usize; 17], place: usize) -> Ran
     Ran::Done
 }
 
-// The outcome of a turn that took a place: 1 or 2, the place, and the commands that it ran or the number of the run's refusal.
-fn outcome_of(place: usize, run: Cycled) -> [u32; 3]
-    requires { ⌜ place < 4 ⌝ }
-    ensures { λ r. ⌜ r ≡ runOutcome place (cycledOf run) ⌝ }
-{
-    let at = place as u32;
-    match run {
-        Cycled::Commands(n) => [1, at, n],
-        Cycled::Refused(fault) => [2, at, fault.number as u32],
-    }
-}
-
 // Runs the next due place, if there is one, and clears its mark.
-pub fn turn(
-    words: &mut [usize; 17],
-    images: &[u8],
-    state: &mut [i32],
-    samples: &[i32],
-    outcome: &mut [u32; 3],
-) -> Ran
-    ensures answer { λ r. ⌜ ranOf r ≡ turnDone (turnOf (boardOf (now (words .entry))) (now (images .entry)) (now (state .entry)) (now (samples .entry)) .answer) ⌝ }
+pub fn turn(words: &mut [usize; 17], images: &[u8], state: &mut [i32], samples: &[i32]) -> Turned
+    ensures answer { λ r. ⌜ turnedOf r ≡ turnOf (boardOf (now (words .entry))) (now (images .entry)) (now (state .entry)) (now (samples .entry)) .answer ⌝ }
     ensures kept { λ _. ⌜ now (words .exit) ≡ turnRecord (now (words .entry)) (turnOf (boardOf (now (words .entry))) (now (images .entry)) (now (state .entry)) (now (samples .entry)) .answer) ⌝ }
     ensures left { λ _. ⌜ now (state .exit) ≡ turnOf (boardOf (now (words .entry))) (now (images .entry)) (now (state .entry)) (now (samples .entry)) .left ⌝ }
-    ensures told { λ _. ⌜ now (outcome .exit) ≡ outcomeIn (now (outcome .entry)) (turnOf (boardOf (now (words .entry))) (now (images .entry)) (now (state .entry)) (now (samples .entry)) .answer) ⌝ }
 {
     if state.len() < WORDS {
-        return board::refused(SHORT_STATE);
+        return board::denied(SHORT_STATE);
     }
     if samples.len() < SAMPLES {
-        return board::refused(FEW_SAMPLES);
+        return board::denied(FEW_SAMPLES);
     }
     let found = next_due(words);
     let Found::At(place) = found else {
-        *outcome = [0, 0, 0];
-        return Ran::Done;
+        return Turned::Idle;
     };
     let at = 4 * place;
     let loaded = words[at] % 2;
@@ -167,6 +147,28 @@ pub fn turn(
     words[at + 3] = count;
     words[16] = place;
     let run = board::run_place(images, start, size, &mut state[..], samples, place);
-    *outcome = outcome_of(place, run);
-    Ran::Done
+    let taken = place as u8;
+    Turned::Took(taken, run)
+}
+
+// The outcome of a turn that took a place: 1 or 2, the place, and the commands that it ran or the number of the run's refusal.
+fn outcome_of(place: u8, run: Cycled) -> [u32; 3]
+    ensures { λ r. ⌜ r ≡ runOutcome place (cycledOf run) ⌝ }
+{
+    let at = place as u32;
+    match run {
+        Cycled::Commands(n) => [1, at, n],
+        Cycled::Refused(fault) => [2, at, fault.number as u32],
+    }
+}
+
+// Tells a turn's answer as three numbers. A refused turn leaves what was there.
+pub fn tell(turned: Turned, outcome: &mut [u32; 3])
+    ensures { λ _. ⌜ now (outcome .exit) ≡ outcomeIn (now (outcome .entry)) (turnedOf turned) ⌝ }
+{
+    match turned {
+        Turned::Idle => *outcome = [0, 0, 0],
+        Turned::Took(place, run) => *outcome = outcome_of(place, run),
+        Turned::Refused(_) => {}
+    }
 }

@@ -1,5 +1,6 @@
 // Larderlate: compile, report, reset, cycle, tail and convert; for C the calls of a board too. Each call takes any bytes and words, and
 // its answer and what it leaves are the definition's. What they promise together is in proofs/Promises.antt and in crate `board`.
+use board::Turned;
 use model::Compiled;
 use model::Cycled;
 use model::Fault;
@@ -12,7 +13,7 @@ ghost use Rattle.model.specs.Rules.Outcome.{refused};
 ghost use Rattle.model.specs.Rules.Report.{reportedOf, reportOf};
 ghost use Rattle.model.specs.Rules.Rewrite.{convertOf};
 ghost use Rattle.model.specs.Rules.Tail.{tailIn, ReadsTail};
-ghost use Rattle.board.specs.Board.{loadOf, markPlaceOf, turnOf};
+ghost use Rattle.board.specs.Board.{loadOf, markPlaceOf, turnOf, turnedOf};
 ghost use Rattle.board_words.specs.Record.{boardOf, newWords, loadRecord, markRecord, turnRecord, turnDone, outcomeIn};
 ghost use Rattle.larderlate.specs.Code.{codeNumber, lengthIn, writtenIn, stackIn, lengthOfTail, startIn};
 
@@ -95,6 +96,16 @@ fn code_of_cycled(cycled: Cycled) -> u64
     match cycled {
         Cycled::Commands(n) => n as u64,
         Cycled::Refused(fault) => code_of_fault(fault),
+    }
+}
+
+fn code_of_turned(turned: Turned) -> u64
+    ensures { λ r. ⌜ r ≡ codeNumber (turnDone (turnedOf turned)) ⌝ }
+{
+    match turned {
+        Turned::Idle => 0,
+        Turned::Took(_, _) => 0,
+        Turned::Refused(fault) => code_of_fault(fault),
     }
 }
 
@@ -246,6 +257,7 @@ pub extern "C" fn larderlate_board_turn(
     ensures left { λ _. ⌜ now (state .exit) ≡ turnOf (boardOf (now (words .entry))) (now (images .entry)) (now (state .entry)) (now (samples .entry)) .left ⌝ }
     ensures told { λ _. ⌜ now (outcome .exit) ≡ outcomeIn (now (outcome .entry)) (turnOf (boardOf (now (words .entry))) (now (images .entry)) (now (state .entry)) (now (samples .entry)) .answer) ⌝ }
 {
-    let ran = board_words::turn(words, images, &mut state[..], samples, outcome);
-    code_of_ran(ran)
+    let turned = board_words::turn(words, images, &mut state[..], samples);
+    board_words::tell(turned, outcome);
+    code_of_turned(turned)
 }

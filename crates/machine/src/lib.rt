@@ -6,19 +6,19 @@ ghost use mathlib.Core.Path.{_≡_};
 ghost use mathlib.Core.Bool.{true};
 ghost use Prim.Native.Nat.{ℕ, _<_, _≤_};
 ghost use lib.IntN.{pos};
-ghost use lib.ListN.{length};
-ghost use Rattle.model.specs.Rules.Machine.{hyperOf, countOf, wellFormed, listOf, runSignals, countSignals, nextPosition, resetWords};
+ghost use lib.ListN.{length, getD};
+ghost use Rattle.model.specs.Rules.Machine.{hyperOf, countOf, wellFormed, isPosition, listOf, runSignals, countSignals, nextPosition, resetWords};
 ghost use Rattle.model.specs.Rules.Machine.{cycleWords, cycleCount, ranOf, cycledOf, resetOf, cycleOf};
 ghost use Rattle.machine.specs.Runnable.{Runnable, JudgesCycle};
 ghost use Rattle.model.specs.Rules.Outcome.{refuse};
 ghost use Rattle.model.specs.Rules.Word.{byteAt};
 
 // The numbers of the refusals, in their order.
-const BAD_IMAGE: u8 = 20;
+pub const BAD_IMAGE: u8 = 20;
 
 const SHORT_STATE: u8 = 21;
 
-const BAD_POSITION: u8 = 22;
+pub const BAD_POSITION: u8 = 22;
 
 const FEW_SAMPLES: u8 = 23;
 
@@ -126,6 +126,20 @@ pub fn run_cycle(image: &[u8], state: &mut [i32], samples: &[i32]) -> u32
     total
 }
 
+// Whether a state stands in one of the image's cycles.
+pub fn is_positioned(image: &[u8], state: &[i32]) -> bool
+    requires { ⌜ (wellFormed (now image) ≡ true) × (0 < length (now state)) ⌝ }
+    ensures { λ r. ⌜ r ≡ isPosition (hyperOf (now (image .entry))) (getD (now (state .entry)) 0 (pos 0)) ⌝ }
+{
+    let h = basics::wide(image[0]);
+    let position = state[0];
+    if position < 0 {
+        return false;
+    }
+    let c = position as usize;
+    c < h
+}
+
 // The number of the refusal of a cycle, 20 to 23 in their order, or 0.
 pub fn judge_cycle(lent: &[u8], state: &[i32], samples: &[i32]) -> u8
     ensures { λ r. ⌜ JudgesCycle (now (lent .entry)) (now (state .entry)) (now (samples .entry)) r ⌝ }
@@ -134,17 +148,11 @@ pub fn judge_cycle(lent: &[u8], state: &[i32], samples: &[i32]) -> u8
     if !image_valid::well_formed(image) {
         return BAD_IMAGE;
     }
-    let h = basics::wide(image[0]);
     let count = basics::wide(image[1]);
     if state.len() <= count {
         return SHORT_STATE;
     }
-    let position = state[0];
-    if position < 0 {
-        return BAD_POSITION;
-    }
-    let c = position as usize;
-    if h <= c {
+    if !is_positioned(image, state) {
         return BAD_POSITION;
     }
     if samples.len() < count {

@@ -1,14 +1,18 @@
 -- `board::cycle_place` meets its contract. Assumes nothing.
-use Prim.Native.Nat.{_+_}
+use Prim.Native.Nat.{ℕ, _+_, _≤_}
 use mathlib.Core.Bool.{true}
+use mathlib.Core.List.{List}
 use mathlib.Core.Path.{_≡_, refl, sym, _∙_}
 use native.Mathlib.Omega.{arith}
-use borrow.Author.Tests.{leb-true, not-true, not-false}
+use borrow.Author.Tests.{leb-true, lt-ltb, not-true, not-false}
 use denote.Ref.{now}
 use lib.Dec.{leb}
 use lib.ListN.{length}
-use Rattle.machine.proofs.Answers.{gives-refusal, gives-done}
-use Rattle.machine.proofs.Judging.{judged-refused, judged-runs, runs-done}
+use Rattle.model.specs.Rules.Machine.{countOf, wellFormed}
+use Rattle.image_valid.proofs.Parts.{head, formed}
+use Rattle.machine.specs.Runnable.{Runnable}
+use Rattle.machine.proofs.Answers.{gives-refusal, gives-done, cycle-image, cycle-position}
+use Rattle.machine.proofs.Judging.{runs-done}
 use Rattle.board.proofs.Stretch.{gives-effect, outside-27, inside-runs}
 use borrow.Author.Needs.{needs}
 use Rattle.board.proofs.cycle_place.Statement.{statement}
@@ -43,40 +47,84 @@ part-lent-start c = search needs
 part-lent-end : tie.Need-part-lent-end
 part-lent-end c = leb-true _ _ (inside c)
 
-judge-cycle-requires : tie.Need-judge-cycle-requires
-judge-cycle-requires c κs = search needs
+image-in-requires : tie.Need-image-in-requires
+image-in-requires c κs = search needs
+
+well-formed-requires : tie.Need-well-formed-requires
+well-formed-requires c κs = search needs
 
 stopped-requires-2 : tie.Need-stopped-requires-2
 stopped-requires-2 c κs = search needs
 
+returns-2 : tie.Need-returns-2
+returns-2 c =
+    let w = c .before .before in
+    let i = w .before in
+    let ill = sym (w .well-formed .ensures) ∙ not-true _ (c .before .if2 .taken) in
+    let g = gives-refusal (cycle-image (i .image-in .ensures) _ _ ill) (c .stopped2 .ensures) in
+    gives-effect (inside-runs _ _ _ _ _ (inside (i .before .before))) (g .0) (g .1)
+
+-- where the image is well formed
+module _ (e : tie.Else2) where
+  abbrev there : tie.Else1
+  there = e .before .before .before .before
+
+  abbrev start : tie.Start
+  start = there .before .before .before
+
+  abbrev image : List ℕ
+  image = e .before .before .image-in .result .now
+
+  well : wellFormed image ≡ true
+  well = sym (e .before .well-formed .ensures) ∙ not-false _ (e .if2 .left)
+
+  few : countOf image ≤ 64
+  few = head _ (formed _ well .good) .signals
+
+runnable : (p : tie.Else3) →
+    let e = p .before .before .before in
+    Runnable (image e) (now (start e .args .words)) (now (start e .args .samples))
+runnable p =
+    let e = p .before .before .before in
+    record {
+      formed = well e;
+      long = omega (arith, few e, start e .pre .0);
+      position = sym (p .before .is-positioned .ensures) ∙ not-false _ (p .if3 .left);
+      enough = omega (arith, few e, start e .pre .1);
+    }
+
+is-positioned-requires : tie.Need-is-positioned-requires
+is-positioned-requires c κs = (well (c .before), omega (arith, start (c .before) .pre .0))
+
+stopped-requires-3 : tie.Need-stopped-requires-3
+stopped-requires-3 c κs = search needs
+
 same-length : tie.Need-same-length
 same-length c = search needs
 
-returns-2 : tie.Need-returns-2
-returns-2 c =
-    let j = c .before .before in
-    let g = gives-refusal (judged-refused (j .judge-cycle .ensures) (c .before .if2 .taken)) (c .stopped2 .ensures) in
-    gives-effect (inside-runs _ _ _ _ _ (inside (j .before .before .before))) (g .0) (g .1)
-
-image-in-requires : tie.Need-image-in-requires
-image-in-requires c κs = search needs
+returns-3 : tie.Need-returns-3
+returns-3 c =
+    let p = c .before .before in
+    let e = p .before .before in
+    let room = lt-ltb (countOf (image e)) (length (now (start e .args .words))) (omega (arith, few e, start e .pre .0)) in
+    let none = sym (p .is-positioned .ensures) ∙ not-true _ (c .before .if3 .taken) in
+    let g = gives-refusal (cycle-position (e .before .before .image-in .ensures) _ _ (well e) room none) (c .stopped3 .ensures) in
+    gives-effect (inside-runs _ _ _ _ _ (inside (there e))) (g .0) (g .1)
 
 run-cycle-requires : tie.Need-run-cycle-requires
-run-cycle-requires c κs =
-    let i = c .before in
-    judged-runs (i .before .before .judge-cycle .ensures) (i .before .if2 .left) (i .image-in .ensures)
+run-cycle-requires c κs = runnable (c .before)
 
 same-length-2 : tie.Need-same-length-2
 same-length-2 c = search needs
 
-returns-3 : tie.Need-returns-3
-returns-3 c =
+returns-4 : tie.Need-returns-4
+returns-4 c =
     let r = c .before in
-    let i = r .before .before in
-    let j = i .before .before in
-    let runs = judged-runs (j .judge-cycle .ensures) (i .before .if2 .left) (i .image-in .ensures) in
-    let g = gives-done (runs-done (i .image-in .ensures) runs) (r .run-cycle .ensures .0) (r .run-cycle .ensures .1) in
-    gives-effect (inside-runs _ _ _ _ _ (inside (j .before .before .before))) (g .0) (g .1)
+    let p = r .before .before in
+    let e = p .before .before .before in
+    let runs = runs-done (e .before .before .image-in .ensures) (runnable p) in
+    let g = gives-done runs (r .run-cycle .ensures .0) (r .run-cycle .ensures .1) in
+    gives-effect (inside-runs _ _ _ _ _ (inside (there e))) (g .0) (g .1)
 
 pub cycle-place-spec : {M : Type 1} → statement M
 cycle-place-spec =
@@ -89,11 +137,14 @@ cycle-place-spec =
     sub-lent
     part-lent-start
     part-lent-end
-    judge-cycle-requires
-    stopped-requires-2
-    same-length
-    returns-2
     image-in-requires
+    well-formed-requires
+    stopped-requires-2
+    returns-2
+    is-positioned-requires
+    stopped-requires-3
+    same-length
+    returns-3
     run-cycle-requires
     same-length-2
-    returns-3)
+    returns-4)

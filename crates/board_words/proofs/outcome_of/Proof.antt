@@ -6,9 +6,6 @@ use Rattle.board_words.specs.Record.{runOutcome}
 use Rattle.board_words.proofs.outcome_of.Statement.{statement}
 use Rattle.board_words.proofs.outcome_of.Tie as tie
 
-cast-at : tie.Need-cast-at
-cast-at c = search needs
-
 enum-known-run : tie.Need-enum-known-run
 enum-known-run c = search needs
 
@@ -30,4 +27,4 @@ returns-2 c =
 
 pub outcome-of-spec : {M : Type 1} → statement M
 outcome-of-spec =
-    tie.close (tie.spec cast-at enum-known-run enum-known-run-2 cast-t7 returns returns-2)
+    tie.close (tie.spec enum-known-run enum-known-run-2 cast-t7 returns returns-2)

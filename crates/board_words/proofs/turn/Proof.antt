@@ -9,27 +9,23 @@ use denote.Ref.{now}
 use lib.IntN.{ℤ}
 use lib.ListN.{getD, set}
 use Rattle.model.specs.Rules.Machine.{Effect}
-use Rattle.model.specs.Rules.Outcome.{Outcome}
+use Rattle.model.specs.Rules.Outcome.{Outcome, accepted}
 use Rattle.model.specs.declared.Found.the-variants.{At, Nowhere}
-use Rattle.board.specs.Board.{withWords, nextDue, BoardEffect, Yield, turnWith}
+use Rattle.board.specs.Board.{withWords, nextDue, BoardEffect, Yield, took, turnWith}
 use Rattle.board.proofs.Answers.{turn-state, turn-samples, turn-done}
 use Rattle.board.proofs.Due.{next-below}
-use Rattle.board_words.specs.Record.{boardOf, takenWords, turnRecord, turnDone, runOutcome, outcomeIn}
+use Rattle.board_words.specs.Record.{boardOf, takenWords, turnRecord}
 use Rattle.board_words.proofs.Places.{run-held}
 use Rattle.board_words.proofs.turn.Statement.{statement}
 use Rattle.board_words.proofs.turn.Tie as tie
 
 -- what a turn hands back, once its definition is known
-abbrev Gives : List ℕ → List ℕ → Outcome ℕ → List ℕ → List ℤ → List ℕ → BoardEffect Yield → Type 0
-Gives w old answer array left told x =
-    (answer ≡ turnDone (x .answer)) ×
-    ((array ≡ turnRecord w (x .answer)) × ((left ≡ x .left) × (told ≡ outcomeIn old (x .answer))))
+abbrev Gives : List ℕ → Outcome Yield → List ℕ → List ℤ → BoardEffect Yield → Type 0
+Gives w answer array left x = (answer ≡ x .answer) × ((array ≡ turnRecord w (x .answer)) × (left ≡ x .left))
 
-comes : (w old : List ℕ) {t u : BoardEffect Yield} {answer : Outcome ℕ} {array told : List ℕ} {left : List ℤ} → t ≡ u →
-    answer ≡ turnDone (u .answer) → array ≡ turnRecord w (u .answer) → left ≡ u .left → told ≡ outcomeIn old (u .answer) →
-    Gives w old answer array left told t
-comes w old {answer = answer} {array = array} {told = told} {left = left} e p q r s =
-    subst (Gives w old answer array left told) (sym e) (p, (q, (r, s)))
+comes : (w : List ℕ) {t u : BoardEffect Yield} {answer : Outcome Yield} {array : List ℕ} {left : List ℤ} → t ≡ u →
+    answer ≡ u .answer → array ≡ turnRecord w (u .answer) → left ≡ u .left → Gives w answer array left t
+comes w {answer = answer} {array = array} {left = left} e p q r = subst (Gives w answer array left) (sym e) (p, (q, r))
 
 -- the place that was found
 found : (f : tie.After-found) → let d = f .before .before in
@@ -42,24 +38,23 @@ below f = next-below _ _ (found f)
 abbrev taken : tie.After-counted → tie.After-found
 taken c = c .before .before .before .before .before .before
 
-refused-requires : tie.Need-refused-requires
-refused-requires c κs = search needs
+denied-requires : tie.Need-denied-requires
+denied-requires c κs = search needs
 
 returns : tie.Need-returns
 returns c =
     let a = c .before .before .before .args in
-    comes (now (a .words)) (now (a .outcome)) (turn-state _ _ _ _ (lt-leb _ _ (c .before .if1 .taken))) (c .refused .ensures)
-    refl refl refl
+    comes (now (a .words)) (turn-state _ _ _ _ (lt-leb _ _ (c .before .if1 .taken))) (c .denied .ensures) refl refl
 
-refused-requires-2 : tie.Need-refused-requires-2
-refused-requires-2 c κs = search needs
+denied-requires-2 : tie.Need-denied-requires-2
+denied-requires-2 c κs = search needs
 
 returns-2 : tie.Need-returns-2
 returns-2 c =
     let t = c .before in
     let a = t .before .before .before .args in
-    comes (now (a .words)) (now (a .outcome))
-    (turn-samples _ _ _ _ (le-leb _ _ (t .before .if1 .left)) (lt-leb _ _ (t .if2 .taken))) (c .refused2 .ensures) refl refl refl
+    comes (now (a .words)) (turn-samples _ _ _ _ (le-leb _ _ (t .before .if1 .left)) (lt-leb _ _ (t .if2 .taken)))
+    (c .denied2 .ensures) refl refl
 
 next-due-requires : tie.Need-next-due-requires
 next-due-requires c κs = search needs
@@ -73,12 +68,12 @@ enum-told c = search needs
 returns-3 : tie.Need-returns-3
 unfolding turnWith
 returns-3 c =
-    let n = c .before .before .before in
+    let n = c .before .before in
     let e = n .before .before in
     let a = e .before .before .before .args in
-    comes (now (a .words)) (now (a .outcome))
+    comes (now (a .words))
     (turn-done _ _ _ _ (le-leb _ _ (e .before .if1 .left)) (le-leb _ _ (e .if2 .left)) Nowhere
-    (sym (n .next-due .ensures) ∙ c .before .enum-told .given .1)) refl refl refl refl
+    (sym (n .next-due .ensures) ∙ c .enum-told .given .1)) refl refl refl
 
 mul-at : tie.Need-mul-at
 mul-at c = omega (arith, below (c .before))
@@ -140,8 +135,8 @@ element-write-words-3 c = search needs
 run-place-requires : tie.Need-run-place-requires
 run-place-requires c κs = (below (taken (c .before)), omega arith, omega arith)
 
-outcome-of-requires : tie.Need-outcome-of-requires
-outcome-of-requires c κs = below (taken (c .before .before .before))
+cast-taken : tie.Need-cast-taken
+cast-taken c = omega (arith, below (taken (c .before .before .before)))
 
 same-length : tie.Need-same-length
 same-length c = search needs
@@ -149,7 +144,7 @@ same-length c = search needs
 returns-4 : tie.Need-returns-4
 unfolding turnWith takenWords
 returns-4 c =
-    let r = c .before .before in
+    let r = c .before in
     let n = r .before .before in
     let f = taken n in
     let e = f .before .before .before .before in
@@ -158,20 +153,19 @@ returns-4 c =
     let k = f .found .given .0 .0 in
     let run = run-held w (now (a .images)) (now (a .state)) (now (a .samples)) k (below f) in
     let answer = r .run-place .ensures .0 ∙ sym (ap (λ (x : Effect ℕ ℤ). x .answer) run) in
-    comes w (now (a .outcome))
+    comes w
     (turn-done _ _ _ _ (le-leb _ _ (e .before .if1 .left)) (le-leb _ _ (e .if2 .left)) (At k) (found f))
-    refl
+    (ap (λ o. accepted (took k o)) answer)
     (ap (λ (m : ℕ). set (set (set w (4 * k) (getD w (4 * k) 0 % 2)) (4 * k + 3) m) 16 k) (n .counted .ensures))
     (r .run-place .ensures .1 ∙ ap (withWords k (now (a .state))) (sym (ap (λ (x : Effect ℕ ℤ). x .left) run)))
-    (c .outcome-of .ensures ∙ ap (runOutcome k) answer)
 
 pub turn-spec : {M : Type 1} → statement M
 turn-spec =
     tie.close
     (tie.spec
-    refused-requires
+    denied-requires
     returns
-    refused-requires-2
+    denied-requires-2
     returns-2
     next-due-requires
     enum-known-found
@@ -197,6 +191,6 @@ turn-spec =
     element-write-words-2
     element-write-words-3
     run-place-requires
-    outcome-of-requires
+    cast-taken
     same-length
     returns-4)

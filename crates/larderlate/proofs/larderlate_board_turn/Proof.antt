@@ -1,6 +1,8 @@
 -- `larderlate::larderlate_board_turn` meets its contract. Assumes nothing.
 use mathlib.Core.Path.{ap, _∙_}
 use borrow.Author.Needs.{needs}
+use denote.Ref.{now}
+use Rattle.board_words.specs.Record.{turnDone, outcomeIn}
 use Rattle.larderlate.specs.Code.{codeNumber}
 use Rattle.larderlate.proofs.larderlate_board_turn.Statement.{statement}
 use Rattle.larderlate.proofs.larderlate_board_turn.Tie as tie
@@ -8,16 +10,24 @@ use Rattle.larderlate.proofs.larderlate_board_turn.Tie as tie
 turn-requires : tie.Need-turn-requires
 turn-requires c κs = search needs
 
-code-of-ran-requires : tie.Need-code-of-ran-requires
-code-of-ran-requires c κs = search needs
+tell-requires : tie.Need-tell-requires
+tell-requires c κs = search needs
+
+code-of-turned-requires : tie.Need-code-of-turned-requires
+code-of-turned-requires c κs = search needs
 
 same-length : tie.Need-same-length
 same-length c = search needs
 
 returns : tie.Need-returns
 returns c =
-    let t = c .before .before .turn .ensures in
-    (c .code-of-ran .ensures ∙ ap codeNumber (t .0), t .1)
+    let c4 = c .before .before .before .before in
+    let old = now (c4 .before .before .before .before .args .outcome) in
+    let t = c4 .turn .ensures in (
+      c .code-of-turned .ensures ∙ ap (λ o. codeNumber (turnDone o)) (t .0),
+      (t .1 .0, (t .1 .1, c .before .tell .ensures ∙ ap (outcomeIn old) (t .0))),
+    )
 
 pub larderlate-board-turn-spec : {M : Type 1} → statement M
-larderlate-board-turn-spec = tie.close (tie.spec turn-requires code-of-ran-requires same-length returns)
+larderlate-board-turn-spec =
+    tie.close (tie.spec turn-requires tell-requires code-of-turned-requires same-length returns)

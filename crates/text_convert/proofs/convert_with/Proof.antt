@@ -12,7 +12,9 @@ use Rattle.text_convert.proofs.convert_with.Tie as tie
 -- the text and what is read of it, before its length is taken
 module _ (e : tie.After-enum-told) where
   abbrev start : tie.Start
-  start = e .before .before .before .before .before .before .before .before .before
+  start =
+      let e5 = e .before .before .before .before .before in
+      e5 .before .before .before .before
 
   fine : (p : Program) × (parseWith 1 (now (start .args .program)) ≡ accepted p)
   fine = read-fine _ _ _ (e .before .before .before .before .read-program .ensures) (e .enum-told .given .1)
