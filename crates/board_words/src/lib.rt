@@ -163,7 +163,7 @@ fn outcome_of(place: u8, run: Cycled) -> [u32; 3]
 }
 
 // Tells a turn's answer as three numbers. A refused turn leaves what was there.
-pub fn tell(turned: Turned, outcome: &mut [u32; 3])
+pub fn tell_turn(turned: Turned, outcome: &mut [u32; 3])
     ensures { λ _. ⌜ now (outcome .exit) ≡ outcomeIn (now (outcome .entry)) (turnedOf turned) ⌝ }
 {
     match turned {

@@ -258,6 +258,6 @@ pub extern "C" fn larderlate_board_turn(
     ensures told { λ _. ⌜ now (outcome .exit) ≡ outcomeIn (now (outcome .entry)) (turnOf (boardOf (now (words .entry))) (now (images .entry)) (now (state .entry)) (now (samples .entry)) .answer) ⌝ }
 {
     let turned = board_words::turn(words, images, &mut state[..], samples);
-    board_words::tell(turned, outcome);
+    board_words::tell_turn(turned, outcome);
     code_of_turned(turned)
 }

@@ -18,7 +18,7 @@ use Rattle.model.specs.declared.Operator.{Operator}
 use Rattle.model.specs.declared.Operator.the-variants as Operator
 use Rattle.model.specs.declared.Sampled.{Sampled}
 use Rattle.model.proofs.Texts.Written.{operator-written}
-use Rattle.text_command.specs.Operator.{kindOf, Bounded, restricted, operatorFrom}
+use Rattle.text_command.specs.Operator.{kindOf, HasFactor, restricted, operatorFrom}
 use Rattle.text_command.proofs.Shape.{plainAt}
 
 module _ (least : ℕ) (text : List ℕ) (at : ℕ) where
@@ -78,7 +78,7 @@ module _ (least b : ℕ) where
       go (yes p) = let e : b ≡ 0x21 = omega arith in rw e
       go (no p) = let e : b ≡ 0x22 = omega arith in rw e
 
-  pub sampled-bounded : 0x23 ≤ b → b ≤ 0x25 → Bounded least (kindOf b)
+  pub sampled-bounded : 0x23 ≤ b → b ≤ 0x25 → HasFactor least (kindOf b)
   unfolding kindOf
   sampled-bounded l h x = go (decLt b 0x24) (decLt b 0x25)
     where

@@ -43,9 +43,9 @@ restricted least Operator.If = Operator.If
 unfoldable pub operatorFrom : ℕ → List ℕ → ℕ → Operator
 operatorFrom least text at = restricted least (operatorAt text at)
 
--- The reads of a kind have a factor in the text, which the least one bounds.
-abbrev pub Bounded : ℕ → Kind → Type 0
-Bounded least kind = (x : Sampled) → isAllowed least kind x ≡ leb least (x .factor)
+-- The reads of a kind have a factor in the text, and it is what the least one bounds.
+abbrev pub HasFactor : ℕ → Kind → Type 0
+HasFactor least kind = (x : Sampled) → isAllowed least kind x ≡ leb least (x .factor)
 
 -- A read stands at `at`, and this is it.
 pub record ReadStands (text : List ℕ) (at : ℕ) : Type 0 where

@@ -15,7 +15,7 @@ ghost use lib.ListN.{length};
 ghost use Rattle.model.specs.Rules.Command.{isPeriod, isIndex, indexOf, modeOf, declarationOf, declarationAt};
 ghost use Rattle.model.specs.Rules.Command.{plainRead, sampledRead, operatorOf, operatorAt};
 ghost use Rattle.model.specs.Rules.Schedule.{scheduleCommandAt};
-ghost use Rattle.text_command.specs.Operator.{kindOf, binaryOf, Bounded, restricted, operatorFrom, ReadStands, ReadTaken};
+ghost use Rattle.text_command.specs.Operator.{kindOf, binaryOf, HasFactor, restricted, operatorFrom, ReadStands, ReadTaken};
 
 fn is_period(n: u8) -> bool
     ensures { λ r. ⌜ r ≡ isPeriod n ⌝ }
@@ -191,7 +191,7 @@ fn plain_read(kind: Kind, text: &[u8], at: usize) -> Operator
 
 // WHEN, LASTWHEN and CURRENT, whose factors go from `least` on.
 fn sampled_read(least: u8, kind: Kind, text: &[u8], at: usize) -> Operator
-    requires { ⌜ (at < length (now text)) × Bounded least kind ⌝ }
+    requires { ⌜ (at < length (now text)) × HasFactor least kind ⌝ }
     ensures { λ r. ⌜ r ≡ restricted least (sampledRead kind (now (text .entry)) at) ⌝ }
 {
     let left = text.len() - at;

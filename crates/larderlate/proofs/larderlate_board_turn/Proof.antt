@@ -10,8 +10,8 @@ use Rattle.larderlate.proofs.larderlate_board_turn.Tie as tie
 turn-requires : tie.Need-turn-requires
 turn-requires c κs = search needs
 
-tell-requires : tie.Need-tell-requires
-tell-requires c κs = search needs
+tell-turn-requires : tie.Need-tell-turn-requires
+tell-turn-requires c κs = search needs
 
 code-of-turned-requires : tie.Need-code-of-turned-requires
 code-of-turned-requires c κs = search needs
@@ -25,9 +25,9 @@ returns c =
     let old = now (c4 .before .before .before .before .args .outcome) in
     let t = c4 .turn .ensures in (
       c .code-of-turned .ensures ∙ ap (λ o. codeNumber (turnDone o)) (t .0),
-      (t .1 .0, (t .1 .1, c .before .tell .ensures ∙ ap (outcomeIn old) (t .0))),
+      (t .1 .0, (t .1 .1, c .before .tell-turn .ensures ∙ ap (outcomeIn old) (t .0))),
     )
 
 pub larderlate-board-turn-spec : {M : Type 1} → statement M
 larderlate-board-turn-spec =
-    tie.close (tie.spec turn-requires tell-requires code-of-turned-requires same-length returns)
+    tie.close (tie.spec turn-requires tell-turn-requires code-of-turned-requires same-length returns)

@@ -11,7 +11,7 @@ use borrow.Author.Tests.{le-leb, lt-leb}
 use Rattle.model.specs.Rules.Command.{sampledRead, isFactor, isIndex}
 use borrow.Author.Tests.{not-true, not-false}
 use borrow.Author.Needs.{needs}
-use Rattle.text_command.specs.Operator.{Bounded}
+use Rattle.text_command.specs.Operator.{HasFactor}
 use Rattle.text_command.proofs.Shape.{sampledAt}
 use Rattle.text_command.proofs.sampled_read.Statement.{statement}
 use Rattle.text_command.proofs.sampled_read.Tie as tie
@@ -95,7 +95,7 @@ module _ (c : tie.Else3) where
   index : isIndex (getD text (at + 2) 0) (getD text (at + 3) 0) ≡ true
   index = sym (c .before .is-index .ensures) ∙ not-false _ (c .if3 .left)
 
-  bounded : Bounded (c5 .before .before .before .before .before .args .least)
+  bounded : HasFactor (c5 .before .before .before .before .before .args .least)
       (c5 .before .before .before .before .before .args .kind)
   bounded = c5 .before .before .before .before .before .pre .1
 

@@ -1,11 +1,11 @@
--- `board_words::tell` meets its contract. Assumes nothing.
+-- `board_words::tell_turn` meets its contract. Assumes nothing.
 use mathlib.Core.Path.{sym, ap, _∙_}
 use borrow.Author.Needs.{needs}
 use denote.Ref.{now}
 use Rattle.board.specs.Board.{turnedOf}
 use Rattle.board_words.specs.Record.{outcomeIn}
-use Rattle.board_words.proofs.tell.Statement.{statement}
-use Rattle.board_words.proofs.tell.Tie as tie
+use Rattle.board_words.proofs.tell_turn.Statement.{statement}
+use Rattle.board_words.proofs.tell_turn.Tie as tie
 
 enum-told : tie.Need-enum-told
 enum-told c = search needs
@@ -31,7 +31,7 @@ returns-2 c =
 returns-3 : tie.Need-returns-3
 returns-3 c = search needs
 
-pub tell-spec : {M : Type 1} → statement M
-tell-spec =
+pub tell-turn-spec : {M : Type 1} → statement M
+tell-turn-spec =
     tie.close
     (tie.spec enum-told enum-known-turned outcome-of-requires enum-told-2 returns returns-2 returns-3)
