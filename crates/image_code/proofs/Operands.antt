@@ -29,6 +29,7 @@ use Rattle.model.proofs.Images.Bounds.{height-some}
 use Rattle.model.proofs.Images.Stretches.{sets-append}
 use Rattle.model.proofs.Texts.Written.{operator-decoded}
 use Rattle.model.specs.Says.Grammar.{Spells}
+use Rattle.text_command.specs.Operator.{OperatorStands}
 use Rattle.image_code.specs.Code.{Puts, Room, Emits}
 use Rattle.image_code.specs.Shape.{Lead, noLead, leadOf}
 
@@ -141,6 +142,13 @@ module _ {text : List ℕ} where
       deep = λ d h. (omega arith, (omega arith, (omega arith, tt)));
     },
   )
+
+  pub spells-stands : {at n : ℕ} {e : Expr} → Spells leastFactor text at e n → OperatorStands text at
+  spells-stands (Spells.constants w) = record { operator = _; written = w }
+  spells-stands (Spells.reads w a) = record { operator = _; written = w }
+  spells-stands (Spells.two w x y) = record { operator = _; written = w }
+  spells-stands (Spells.one w x) = record { operator = _; written = w }
+  spells-stands (Spells.three w x y z) = record { operator = _; written = w }
 
   pub opened : {at n : ℕ} {e : Expr} (c : Operator) → operatorAt text at ≡ c → Spells leastFactor text at e n →
       Opened text at e n c

@@ -77,30 +77,25 @@ pub fn run_code(code: &[u8], n: u8, own: u8, state: &[i32], samples: &[i32]) -> 
         count = count + 1;
         match byte {
             0x50..=0x52 => {
-                let w = leaf_word(code, here, state, samples);
+                let word = leaf_word(code, here, state, samples);
                 at = here + leaf_length(byte);
                 let next = code[at];
                 if next == 0x5F {
-                    let total = count + 1;
-                    return Run {
-                        word: w,
-                        count: total,
-                    };
+                    let count = count + 1;
+                    return Run { word, count };
                 }
                 if next < 0x37 {
-                    stack = stack.binary_with(operator(next), w);
+                    stack = stack.binary_with(operator(next), word);
                     at = at + operator_width;
                     count = count + 1;
                 } else {
-                    stack = stack.push(w);
+                    stack = stack.push(word);
                 }
             }
             0x5F => {
                 let popped = stack.pop();
-                return Run {
-                    word: popped.word,
-                    count: count,
-                };
+                let word = popped.word;
+                return Run { word, count };
             }
             0x38 => stack = stack.unary(Unary::Negate),
             0x3A => stack = stack.choose(),

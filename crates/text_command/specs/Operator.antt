@@ -6,6 +6,7 @@ use mathlib.Core.Path.{_≡_}
 use lib.Dec.{eqb, leb}
 use Rattle.model.specs.Rules.Command.{operatorAt}
 use Rattle.model.specs.Rules.Program.{isAllowed}
+use Rattle.model.specs.Says.Written.{OperatorWritten}
 use Rattle.model.specs.declared.Binary.{Binary}
 use Rattle.model.specs.declared.Binary.the-variants as Binary
 use Rattle.model.specs.declared.Kind.{Kind}
@@ -46,6 +47,11 @@ operatorFrom least text at = restricted least (operatorAt text at)
 -- The reads of a kind have a factor in the text, and it is what the least one bounds.
 abbrev pub HasFactor : ℕ → Kind → Type 0
 HasFactor least kind = (x : Sampled) → isAllowed least kind x ≡ leb least (x .factor)
+
+-- An operator stands at `at`, and this is it.
+pub record OperatorStands (text : List ℕ) (at : ℕ) : Type 0 where
+  pub operator : Operator
+  pub written : OperatorWritten text at operator
 
 -- A read stands at `at`, and this is it.
 pub record ReadStands (text : List ℕ) (at : ℕ) : Type 0 where

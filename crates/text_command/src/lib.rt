@@ -15,7 +15,7 @@ ghost use lib.ListN.{length};
 ghost use Rattle.model.specs.Rules.Command.{isPeriod, isIndex, indexOf, modeOf, declarationOf, declarationAt};
 ghost use Rattle.model.specs.Rules.Command.{plainRead, sampledRead, operatorOf, operatorAt};
 ghost use Rattle.model.specs.Rules.Schedule.{scheduleCommandAt};
-ghost use Rattle.text_command.specs.Operator.{kindOf, binaryOf, HasFactor, restricted, operatorFrom, ReadStands, ReadTaken};
+ghost use Rattle.text_command.specs.Operator.{kindOf, binaryOf, HasFactor, restricted, operatorFrom, OperatorStands, ReadStands, ReadTaken};
 
 fn is_period(n: u8) -> bool
     ensures { λ r. ⌜ r ≡ isPeriod n ⌝ }
@@ -282,13 +282,6 @@ pub fn operator_from(least: u8, text: &[u8], at: usize) -> Operator
     }
 }
 
-// The operator at an offset of an expression, whatever its factors.
-pub fn operator_at(text: &[u8], at: usize) -> Operator
-    ensures { λ r. ⌜ r ≡ operatorAt (now (text .entry)) at ⌝ }
-{
-    operator_from(1, text, at)
-}
-
 // What stands at an offset of the schedule text.
 pub fn schedule_command_at(text: &[u8], at: usize) -> ScheduleCommand
     ensures { λ r. ⌜ r ≡ scheduleCommandAt (now (text .entry)) at ⌝ }
@@ -349,5 +342,31 @@ pub fn taken_at(text: &[u8], at: usize) -> Taken
             factor: factor,
             index: index,
         },
+    }
+}
+
+// The read that stands at an offset of an accepted text, as an operator.
+fn standing_read(text: &[u8], at: usize) -> Operator
+    requires { ⌜ ReadStands (now text) at ⌝ }
+    ensures { λ r. ⌜ r ≡ operatorAt (now (text .entry)) at ⌝ }
+{
+    let taken = taken_at(text, at);
+    let kind = taken.kind;
+    let operands = taken.operands;
+    Operator::Read(kind, operands)
+}
+
+// The operator that stands at an offset of an accepted text: nothing of it is judged again.
+pub fn operator_at(text: &[u8], at: usize) -> Operator
+    requires { ⌜ OperatorStands (now text) at ⌝ }
+    ensures { λ r. ⌜ r ≡ operatorAt (now (text .entry)) at ⌝ }
+{
+    let byte = text[at];
+    match byte {
+        0x20 => constant_at(text, at),
+        0x21 | 0x22 | 0x23 | 0x24 | 0x25 => standing_read(text, at),
+        0x38 => Operator::Unary(Unary::Negate),
+        0x3A => Operator::If,
+        _ => Operator::Binary(binary_of(byte)),
     }
 }

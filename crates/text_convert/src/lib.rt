@@ -86,7 +86,7 @@ fn command_piece(text: &[u8], at: usize) -> Piece
     }
     let width = width::expression(text[at]);
     match width {
-        Width::Bytes(_) => operator_piece(text_command::operator_at(text, at)),
+        Width::Bytes(_) => operator_piece(text_command::operator_from(1, text, at)),
         Width::Unlisted => {
             let declaration = text_command::declaration_at(text, at);
             Piece::Keep(declaration_width(declaration))

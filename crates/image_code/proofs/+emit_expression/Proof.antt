@@ -14,6 +14,7 @@ use Rattle.model.specs.declared.Operator.{Operator}
 use Rattle.image_code.specs.Code.{Room}
 use Rattle.image_code.specs.Shape.{leadOf}
 use Rattle.image_code.proofs.Operands.{
+  spells-stands,
   Rooms,
   rooms,
   positive,
@@ -111,7 +112,7 @@ module _ (t : ℕ) (c : lts.After-operator-at (known t) (given t) own.Post) wher
     rooms-at = rooms o is room-at
 
 operator-at-requires : (t : ℕ) → lts.Need-operator-at-requires (known t) (given t) own.Post
-operator-at-requires t c κs = search needs
+operator-at-requires t c κs = spells-stands (c .before .pre .1 .0 .spelled)
 
 enum-known-decoded : (t : ℕ) → lts.Need-enum-known-decoded (known t) (given t) own.Post
 enum-known-decoded t c = search needs

@@ -13,7 +13,7 @@ use borrow.Fn.PlainCycle.{Measures, is as at-measure, falls, and}
 use Rattle.model.specs.Rules.Command.{operatorAt}
 use Rattle.model.specs.declared.Operator.{Operator}
 use Rattle.image_code.specs.Shape.{leadOf}
-use Rattle.image_code.proofs.Operands.{no-operator, spans}
+use Rattle.image_code.proofs.Operands.{spells-stands, no-operator, spans}
 use Rattle.image_measure.specs.Measure.{Nests}
 use Rattle.image_measure.proofs.Operands.{
   NestsAll,
@@ -99,7 +99,7 @@ module _ (t : ℕ) (c : lts.After-operator-at (known t) (given t) own.Post) wher
     all = operands o is nests
 
 operator-at-requires : (t : ℕ) → lts.Need-operator-at-requires (known t) (given t) own.Post
-operator-at-requires t c κs = search needs
+operator-at-requires t c κs = spells-stands (c .before .pre .1 .0 .spelled)
 
 enum-told : (t : ℕ) → lts.Need-enum-told (known t) (given t) own.Post
 enum-told t c = search needs

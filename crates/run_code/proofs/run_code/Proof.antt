@@ -225,8 +225,8 @@ add-at-2 c = omega (arith, inside c)
 shared-slice-read-next : tie.Need-shared-slice-read-next Inv-loop μ-loop
 shared-slice-read-next c = inside (c .before)
 
-add-total : tie.Need-add-total Inv-loop μ-loop
-add-total c = omega (arith, few (turn (leaf-of (c .before .before))))
+add-count-2 : tie.Need-add-count-2 Inv-loop μ-loop
+add-count-2 c = omega (arith, few (turn (leaf-of (c .before .before))))
 
 returns-2 : tie.Need-returns-2 Inv-loop μ-loop
 returns-2 c =
@@ -246,8 +246,8 @@ binary-with-requires c κs = (
 add-at-3 : tie.Need-add-at-3 Inv-loop μ-loop
 add-at-3 c = omega (arith, inside (c .before .before .before .before .before))
 
-add-count-2 : tie.Need-add-count-2 Inv-loop μ-loop
-add-count-2 c = omega (arith, few (turn (leaf-of (c .before .before .before .before .before))))
+add-count-3 : tie.Need-add-count-3 Inv-loop μ-loop
+add-count-3 c = omega (arith, few (turn (leaf-of (c .before .before .before .before .before))))
 
 push-requires : tie.Need-push-requires Inv-loop μ-loop
 push-requires c κs = at-leaf (leaf-of (c .before .before .before)) .high
@@ -321,12 +321,12 @@ run-code-spec =
     leaf-length-requires
     add-at-2
     shared-slice-read-next
-    add-total
+    add-count-2
     returns-2
     operator-requires
     binary-with-requires
     add-at-3
-    add-count-2
+    add-count-3
     push-requires
     loop-less-3
     loop-again-3

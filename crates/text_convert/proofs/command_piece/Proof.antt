@@ -6,6 +6,7 @@ use lib.ListN.{List·getD-eq-default}
 use Rattle.model.specs.Rules.Command.{declarationAt}
 use Rattle.model.specs.Rules.Rewrite.{commandAt}
 use borrow.Author.Needs.{needs}
+use Rattle.text_command.proofs.Least.{from-one}
 use Rattle.text_convert.proofs.command_piece.Statement.{statement}
 use Rattle.text_convert.proofs.command_piece.Tie as tie
 
@@ -22,8 +23,8 @@ expression-requires c κs = search needs
 enum-told : tie.Need-enum-told
 enum-told c = search needs
 
-operator-at-requires : tie.Need-operator-at-requires
-operator-at-requires c κs = search needs
+operator-from-requires : tie.Need-operator-from-requires
+operator-from-requires c κs = search needs
 
 operator-piece-requires : tie.Need-operator-piece-requires
 operator-piece-requires c κs = search needs
@@ -41,7 +42,7 @@ returns-2 : tie.Need-returns-2
 unfolding commandAt
 returns-2 c =
     let w = sym (c .before .before .before .before .expression .ensures) ∙ c .before .before .enum-told .given .1 in
-    rw (w, ← (c .before .operator-at .ensures)) (c .operator-piece .ensures)
+    rw (w, ← (c .before .operator-from .ensures ∙ from-one _ _)) (c .operator-piece .ensures)
 
 returns-3 : tie.Need-returns-3
 unfolding commandAt
@@ -57,7 +58,7 @@ command-piece-spec =
     shared-slice-read-expression
     expression-requires
     enum-told
-    operator-at-requires
+    operator-from-requires
     operator-piece-requires
     enum-told-2
     declaration-at-requires
