@@ -1,5 +1,6 @@
-// What several crates share: numbers by their width, and what a check answers.
+// What several crates share: numbers by their width, a choice, and what a check answers.
 use model::Fault;
+ghost use mathlib.Core.Bool.{cond};
 ghost use mathlib.Core.Path.{_≡_};
 ghost use Prim.Native.Nat.{_<_};
 ghost use Rattle.model.specs.declared.Fault.{Fault};
@@ -32,4 +33,11 @@ pub fn wider(entry: u16) -> usize
     ensures { λ r. ⌜ (r ≡ entry) × (r < 65536) ⌝ }
 {
     entry as usize
+}
+
+// One of two bytes: a choice that takes no branch.
+pub fn select(first: bool, a: u8, b: u8) -> u8
+    ensures { λ r. ⌜ r ≡ cond first a b ⌝ }
+{
+    if first { a } else { b }
 }

@@ -59,7 +59,7 @@ pub gives-effect : {e r : Effect ℕ ℤ} {a : Outcome ℕ} {s : List ℤ} → e
 gives-effect q x z = (x ∙ sym (ap answerOf q), z ∙ sym (ap leftOf q))
 
 -- A well-formed image has at most 64 signals, and some bytes.
-few-signals : (image : List ℕ) → wellFormed image ≡ true → countOf image ≤ 64
+pub few-signals : (image : List ℕ) → wellFormed image ≡ true → countOf image ≤ 64
 few-signals image w = head image (formed image w .good) .signals
 
 some-bytes : (image : List ℕ) → wellFormed image ≡ true → 0 < length image

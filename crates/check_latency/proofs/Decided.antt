@@ -1,5 +1,5 @@
 -- The route of a chain decides whether the chain keeps its limit. Assumes nothing.
-use Prim.Native.Nat.{ℕ, zero, suc, _+_, _*_, _/_, _≤_, _<_}
+use Prim.Native.Nat.{ℕ, suc, _+_, _*_, _/_, _≤_, _<_}
 use mathlib.Core.Bool.{Bool, true, false}
 use mathlib.Core.List.{List, [], _∷_}
 use mathlib.Core.Path.{_≡_, refl, sym, ap, subst, _∙_}
@@ -19,7 +19,7 @@ use Rattle.model.specs.Rules.Command.{declarationAt}
 use Rattle.model.specs.Rules.Latency.{readsBack, backwards, source, fromOf, windowOf, keepsFrom, keeps}
 use Rattle.model.specs.Rules.Program.{Program, Read, count, signalAt}
 use Rattle.model.specs.Rules.Rates.{isLinked}
-use Rattle.model.specs.Rules.Reads.{Rate, rateOf, runCycle}
+use Rattle.model.specs.Rules.Reads.{Rate, rateOf}
 use Rattle.model.specs.Rules.Schedule.{Schedule, phaseOf}
 use Rattle.model.specs.declared.Declaration.{Declaration}
 use Rattle.model.specs.declared.Declaration.the-variants as Declaration
@@ -40,8 +40,8 @@ use Rattle.check_latency.proofs.Following.{reads-length}
 use Rattle.check_latency.proofs.Indices.{rate-at}
 
 -- A signal's rate by the tables.
-abbrev pub rateAt : List ℕ → List ℕ → ℕ → Rate
-rateAt periods phases x = record { period = periodAt periods x; phase = periodAt phases x }
+abbrev pub rateWithin : List ℕ → List ℕ → ℕ → Rate
+rateWithin periods phases x = record { period = periodAt periods x; phase = periodAt phases x }
 
 -- What the call of latency_rule::is_timely asks, and what it then answers.
 pub record Decided (text : List ℕ) (tables : Tables) (periods phases : List ℕ) (h : ℕ) (p : Program) (s : Schedule) (chain : ℕ)
@@ -52,8 +52,8 @@ pub record Decided (text : List ℕ) (tables : Tables) (periods phases : List �
   pub small : (i : ℕ) → i < windowBy h (periodAt periods (route .last)) →
       Small (route .hops) (route .count) (route .count * windowBy h (periodAt periods (route .last)) + i)
   pub same :
-      timelyBy (chainAt p chain .mode) (chainAt p chain .bound) (route .hops) (route .count) (rateAt periods phases (route .last))
-      (rateAt periods phases (route .source)) (route .count * windowBy h (periodAt periods (route .last)))
+      timelyBy (chainAt p chain .mode) (chainAt p chain .bound) (route .hops) (route .count) (rateWithin periods phases (route .last))
+      (rateWithin periods phases (route .source)) (route .count * windowBy h (periodAt periods (route .last)))
       (windowBy h (periodAt periods (route .last))) ≡
       keeps p s h (chainAt p chain)
 
@@ -112,10 +112,10 @@ decided text tables periods phases h p s chain route t lt (ws, whole, few, along
     (all-at (λ c. isLinked p (c .links) ≡ true) (p .chains) noChain (chains-linked p (j .links)) chain l)) in
     let ch : ChainMet p s r ρs = chain-met p s (t .accepted) ws r d b in
     let n : length ρs ≡ route .count = reads-length p r ws ∙ along .many in
-    let last : rateAt periods phases r ≡ rateOf p s r = rate-at (j .known) r (d .0) in
+    let last : rateWithin periods phases r ≡ rateOf p s r = rate-at (j .known) r (d .0) in
     let a : source p s r ρs < count p = source-count p s ρs r (d .0) ch in
-    let first : rateAt periods phases (route .source) ≡ rateOf p s (source p s r ρs) =
-    ap (rateAt periods phases) (sym (along .ends)) ∙ rate-at (j .known) (source p s r ρs) a in
+    let first : rateWithin periods phases (route .source) ≡ rateOf p s (source p s r ρs) =
+    ap (rateWithin periods phases) (sym (along .ends)) ∙ rate-at (j .known) (source p s r ρs) a in
     let period : periodAt periods r ≡ signalAt p r .period = ap (λ x. x .period) last in
     record {
       positive = rw period (le-trans (omega arith) (t .accepted .ordered .phases r (d .0)));

@@ -1,6 +1,6 @@
 -- Following the links of a chain. Assumes nothing.
-use Prim.Native.Nat.{ℕ, zero, suc, _+_, _-_, _≤_, _<_}
-use mathlib.Core.Bool.{Bool, true, false, and-eq-true-iff}
+use Prim.Native.Nat.{ℕ, suc, _+_, _-_, _≤_, _<_}
+use mathlib.Core.Bool.{true, and-eq-true-iff}
 use mathlib.Core.List.{List, [], _∷_, map, reverseAux}
 use mathlib.Core.Path.{_≡_, refl, sym, ap, subst, _∙_}
 use native.Mathlib.Omega.{arith}
@@ -22,7 +22,7 @@ use Rattle.model.specs.Says.Grammar.{SpellsLinks}
 use Rattle.model.proofs.Pairs.Verdict.{links-declared, chains-linked}
 use Rattle.text_program.specs.Tables.{noChain, chainAt}
 use Rattle.text_program.specs.declared.Tables.{Tables}
-use Rattle.check_latency.specs.Timely.{Known, Joined, Along, RouteOf}
+use Rattle.check_latency.specs.Timely.{ChainsLinked, Along, RouteOf}
 use Rattle.check_latency.proofs.Indices.{read-signal}
 
 module _ (p : Program) (s : Schedule) where
@@ -149,7 +149,7 @@ pub record Begun (text : List ℕ) (tables : Tables) (p : Program) (s : Schedule
       (byteAt text (at + 1)) 0 hops
 
 pub begun : (text : List ℕ) (tables : Tables) (periods phases : List ℕ) (p : Program) (s : Schedule) (chain : ℕ) →
-    Joined text tables periods phases p s → chain < tables .chains → Begun text tables p s chain
+    ChainsLinked text tables periods phases p s → chain < tables .chains → Begun text tables p s chain
 unfolding readsBack source
 begun text tables periods phases p s chain j lt =
     let l : chain < length (p .chains) = omega (arith, j .known .tables-are .counts .chains-are) in

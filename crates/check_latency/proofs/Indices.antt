@@ -1,18 +1,16 @@
 -- Indices and rates by the tables. Assumes nothing.
 use Prim.Native.Nat.{ℕ, _≤_, _<_}
-use mathlib.Core.Bool.{true, false}
-use mathlib.Core.Path.{_≡_, refl, sym, ap, _∙_}
+use mathlib.Core.Path.{_≡_, refl}
 use native.Mathlib.Omega.{arith}
 use borrow.Author.Tests.{lt-ltb}
-use lib.ListN.{getD}
 use mathlib.Core.List.{List, [], _∷_}
 use Rattle.model.specs.Says.Feasible.{All}
 use Rattle.model.specs.Rules.Latency.{readAmong}
 use Rattle.model.specs.Rules.Rates.{countReads}
 use Rattle.model.proofs.Pairs.Links.{read-of}
-use Rattle.model.specs.Rules.Program.{Program, Read, count, signalAt}
+use Rattle.model.specs.Rules.Program.{Program, Read, count}
 use Rattle.model.specs.Rules.Reads.{Rate, rateOf, line, settle}
-use Rattle.model.specs.Rules.Schedule.{Schedule, phaseOf}
+use Rattle.model.specs.Rules.Schedule.{Schedule}
 use Rattle.model.specs.Rules.Search.{firstBelow}
 use Rattle.model.specs.declared.Found.{Found}
 use Rattle.model.specs.declared.Found.the-variants.{At, Nowhere}

@@ -36,17 +36,17 @@ pub record Known (text : List ℕ) (tables : Tables) (periods phases : List ℕ)
   pub phases-are : (x : ℕ) → x < count p → getD phases x 0 ≡ phaseOf s x
 
 -- Its links are of declared signals, each with one read of the link before.
-pub record Joined (text : List ℕ) (tables : Tables) (periods phases : List ℕ) (p : Program) (s : Schedule) : Type 0 where
+pub record ChainsLinked (text : List ℕ) (tables : Tables) (periods phases : List ℕ) (p : Program) (s : Schedule) : Type 0 where
   pub known : Known text tables periods phases p s
   pub rated : declaredAndRated p ≡ accepted tt
   pub links : linked p ≡ accepted tt
 
 abbrev pub Joinable : List ℕ → Tables → List ℕ → List ℕ → Type 0
-Joinable text tables periods phases = (p : Program) × (s : Schedule) × Joined text tables periods phases p s
+Joinable text tables periods phases = (p : Program) × (s : Schedule) × ChainsLinked text tables periods phases p s
 
 -- All its reads are met, and h is its hypercycle.
 pub record Timed (text : List ℕ) (tables : Tables) (periods phases : List ℕ) (h : ℕ) (p : Program) (s : Schedule) : Type 0 where
-  pub joined : Joined text tables periods phases p s
+  pub joined : ChainsLinked text tables periods phases p s
   pub accepted : Feasible p s
   pub multiple : Multiple p h
   pub hyper : h ≤ 240

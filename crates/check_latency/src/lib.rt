@@ -21,12 +21,12 @@ ghost use Rattle.model.specs.Rules.Schedule.{Schedule};
 ghost use Rattle.model.specs.Rules.Search.{foundOr};
 ghost use Rattle.latency_rule.specs.Back.{noHop};
 ghost use Rattle.latency_rule.specs.Hops.{hopOf};
-ghost use Rattle.check_rates.specs.Answers.{periodAt, TabledAs};
+ghost use Rattle.check_rates.specs.Answers.{periodAt};
 ghost use Rattle.basics.specs.Judgement.{judgementOf};
-ghost use Rattle.text_program.specs.Tables.{chainAt};
+ghost use Rattle.text_program.specs.Tables.{chainAt, TabledAs};
 ghost use Rattle.text_schedule.specs.Arranged.{Arranged};
 ghost use Rattle.read_rule.specs.Reads.{rateIn};
-ghost use Rattle.check_latency.specs.Timely.{ByteFound, MetPair, Known, Joined, Joinable, Timed, Judgeable, RouteOf, windowBy};
+ghost use Rattle.check_latency.specs.Timely.{ByteFound, MetPair, Known, ChainsLinked, Joinable, Timed, Judgeable, RouteOf, windowBy};
 
 // The index found, or 0.
 fn index_found(found: Found) -> u8
@@ -123,7 +123,7 @@ fn follow(
     chain: usize,
 ) -> Route
     requires { ⌜ Joinable (now text) tables (now periods) (now phases) × (chain < tables .chains) × TabledAs (now text) (now reads) tables ⌝ }
-    ensures { λ r. ⌜ ((p : Program) (s : Schedule) → Joined (now (text .entry)) tables (now (periods .entry)) (now (phases .entry)) p s → RouteOf p s r (backwards (chainAt p chain))) ⌝ }
+    ensures { λ r. ⌜ ((p : Program) (s : Schedule) → ChainsLinked (now (text .entry)) tables (now (periods .entry)) (now (phases .entry)) p s → RouteOf p s r (backwards (chainAt p chain))) ⌝ }
 {
     let starts = tables.starts;
     let lengths = tables.lengths;

@@ -17,11 +17,11 @@ use Rattle.model.specs.Rules.Reads.{met}
 use Rattle.model.specs.Rules.Schedule.{Schedule, Put, parseSchedule, placed}
 use Rattle.model.specs.declared.Fault.{Fault}
 use Rattle.model.proofs.Basics.Outcomes.{then-accepted, accepted-then, refused-then, then-then, then-same, provided-true}
-use Rattle.check_rates.specs.Answers.{cyclesOf, TabledAs}
+use Rattle.check_rates.specs.Answers.{cyclesAnswer}
 use Rattle.basics.specs.Judgement.{judgementOf}
 use Rattle.check_rates.specs.declared.Cycles.{Cycles}
 use Rattle.check_rates.specs.declared.Cycles.the-variants as Cycles
-use Rattle.text_program.specs.Tables.{ProgramReads, TablesOf, ReadsOf, SlotsOf}
+use Rattle.text_program.specs.Tables.{ProgramReads, TablesOf, ReadsOf, SlotsOf, TabledAs}
 use Rattle.basics.specs.declared.Judged.{Judged}
 use Rattle.basics.specs.declared.Judged.the-variants as Judged
 use Rattle.text_program.specs.declared.ProgramRead.{ProgramRead}
@@ -98,13 +98,13 @@ pub judgement-refused : (o : Outcome (Unit {0})) (j : Judged) (f : Fault) → j 
     o ≡ refused f
 judgement-refused o j f h e = answers-refused (λ _. Unit {0}) o j f (judgement-answers _ o j h (λ _. tt)) e
 
-pub cycles-least : (o : Outcome ℕ) (c : Cycles) (h : ℕ) → c ≡ cyclesOf o → c ≡ Cycles.Least h → o ≡ accepted h
-unfolding cyclesOf
+pub cycles-least : (o : Outcome ℕ) (c : Cycles) (h : ℕ) → c ≡ cyclesAnswer o → c ≡ Cycles.Least h → o ≡ accepted h
+unfolding cyclesAnswer
 cycles-least (accepted n) c h e t = let same : n ≡ h = cc in ap accepted same
 cycles-least (refused f) c h e t = let z : _≡_ {A = ℕ} 0 1 = cc in absurd (omega arith)
 
-pub cycles-refused : (o : Outcome ℕ) (c : Cycles) (f : Fault) → c ≡ cyclesOf o → c ≡ Cycles.Refused f → o ≡ refused f
-unfolding cyclesOf
+pub cycles-refused : (o : Outcome ℕ) (c : Cycles) (f : Fault) → c ≡ cyclesAnswer o → c ≡ Cycles.Refused f → o ≡ refused f
+unfolding cyclesAnswer
 cycles-refused (accepted n) c f e t = let z : _≡_ {A = ℕ} 0 1 = cc in absurd (omega arith)
 cycles-refused (refused g) c f e t = let same : g ≡ f = cc in ap refused same
 

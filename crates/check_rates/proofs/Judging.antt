@@ -17,18 +17,17 @@ use Rattle.model.specs.Rules.Search.{joinFrom}
 use Rattle.model.specs.Rules.Word.{byteAt}
 use Rattle.model.specs.declared.Fault.{Fault}
 use Rattle.model.proofs.Basics.All.{all-at}
-use Rattle.model.proofs.Texts.Commands.{declaration-sound}
 use Rattle.model.proofs.Texts.Legal.{SpellsChain, legal}
 use Rattle.model.proofs.Basics.Outcomes.{accepted-same}
 use Rattle.text_command.specs.Operator.{ReadTaken}
 use Rattle.text_command.specs.declared.Taken.{Taken}
 use Rattle.basics.specs.Judgement.{judgementOf}
-use Rattle.text_program.specs.Tables.{noChain, chainAt, TablesOf, PeriodsOf, Indexed}
+use Rattle.text_program.specs.Tables.{noChain, chainAt, TablesOf, PeriodsOf, ReadAs, TabledAs, Indexed}
 use Rattle.text_program.specs.declared.Tables.{Tables}
 use Rattle.basics.specs.declared.Judged.{Judged}
 use Rattle.basics.specs.declared.Judged.the-variants as Judged
-use Rattle.text_program.proofs.ByIndex.{noRead, noLink, readAt, AtItem, reads-in, links-in, faultsOf, counted, place-is, taken-is}
-use Rattle.check_rates.specs.Answers.{rateJudged, periodAt, readJudged, readRates, linkRates, lowerOf, ReadAs, TabledAs}
+use Rattle.text_program.proofs.ByIndex.{noLink, readAt, AtItem, reads-in, links-in, faultsOf, counted, place-is, taken-is}
+use Rattle.check_rates.specs.Answers.{rateJudged, periodAt, readJudged, readRates, linkRates, lowerOf}
 use Rattle.check_rates.proofs.Joined.{join-same}
 
 module _ (p : Program) where
@@ -182,9 +181,6 @@ module _ (text : List ℕ) (t : Tables) (h : ReadAs text t) (p : Program) (e : p
   pub chains-are : length (p .chains) ≡ t .chains
   chains-are = tables .counts .chains-are
 
-  pub few-chains : t .chains ≤ 16
-  few-chains = omega (arith, legal text p e .1 .fewChains, chains-are)
-
   module _ (x : ℕ) (lt : x < t .chains) where
     chain-stands : SpellsChain text (chainAt p x)
     chain-stands = all-at (SpellsChain text) (p .chains) noChain (legal text p e .1 .chains) x (omega (arith, chains-are))
@@ -194,9 +190,6 @@ module _ (text : List ℕ) (t : Tables) (h : ReadAs text t) (p : Program) (e : p
 
     pub length-is : getD (t .lengths) x 0 ≡ length (chainAt p x .links)
     length-is = tables .lengths x (omega (arith, chains-are))
-
-    pub chain-inside : getD (t .starts) x 0 + 4 ≤ length text
-    chain-inside = omega (arith, start-is, declaration-sound text (chainAt p x .place) _ (chain-stands .command))
 
     module _ (i : ℕ) (li : i < getD (t .lengths) x 0) where
       pub link-seen : i < length (chainAt p x .links)
@@ -220,13 +213,7 @@ module _ (text : List ℕ) (t : Tables) (h : ReadAs text t) (p : Program) (e : p
           ap (λ (k : ℕ). rateJudged (ltb k (count p)) true at) b ∙
           ap (λ (k : ℕ). rateJudged (ltb signal k) true at) (tables .counts .signals-are) ∙ sym q)
 
--- What the two halves ask for, of one table.
-module _ (text reads : List ℕ) (t : Tables) (h : TabledAs text reads t) where
-  pub indexed : Indexed text reads (t .firsts) (t .signals)
-  indexed = record { program = h .0; parsed = h .1; count-is = h .2 .counts .signals-are; reads-are = h .3 }
-
-  pub few-signals : t .signals ≤ 64
-  few-signals = omega (arith, legal text (h .0) (h .1) .1 .fewSignals, h .2 .counts .signals-are)
-
-  pub periods-of : (p : Program) → parseProgram text ≡ accepted p → PeriodsOf p (t .periods)
-  periods-of p e = subst (λ (q : Program). PeriodsOf q (t .periods)) (accepted-same (h .0) p (sym (h .1) ∙ e)) (h .2 .periods)
+pub periods-of : (text reads : List ℕ) (t : Tables) → TabledAs text reads t → (p : Program) → parseProgram text ≡ accepted p →
+    PeriodsOf p (t .periods)
+periods-of text reads t h p e =
+    subst (λ (q : Program). PeriodsOf q (t .periods)) (accepted-same (h .0) p (sym (h .1) ∙ e)) (h .2 .periods)

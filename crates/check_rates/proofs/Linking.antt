@@ -14,9 +14,8 @@ use Rattle.model.proofs.Basics.All.{all-at}
 use Rattle.model.proofs.Texts.Commands.{declaration-sound}
 use Rattle.model.proofs.Texts.Legal.{legal, SpellsChain}
 use Rattle.model.specs.Says.Grammar.{SpellsLinks}
-use Rattle.text_program.specs.Tables.{noChain, chainAt, TablesOf}
+use Rattle.text_program.specs.Tables.{noChain, chainAt, TablesOf, ReadAs}
 use Rattle.text_program.specs.declared.Tables.{Tables}
-use Rattle.check_rates.specs.Answers.{ReadAs}
 
 -- The LINKs from `at` on, of whose chain so much is judged.
 pub record LinksLeft (text : List ℕ) (p : Program) (whole : List Link) (at left : ℕ) : Type 0 where

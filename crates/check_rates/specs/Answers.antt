@@ -2,12 +2,11 @@
 use Prim.Native.Nat.{ℕ}
 use mathlib.Core.Bool.{Bool, true, false, cond}
 use mathlib.Core.List.{List}
-use mathlib.Core.Path.{_≡_}
 use lib.Dec.{ltb, eqb}
 use lib.ListN.{getD}
 use Rattle.model.specs.Rules.Outcome.{Outcome, accepted, refused, fault}
 use Rattle.model.specs.Rules.Latency.{readAmong}
-use Rattle.model.specs.Rules.Program.{Program, Read, bodyReads, parseProgram}
+use Rattle.model.specs.Rules.Program.{Program, Read, bodyReads}
 use Rattle.model.specs.Rules.Rates.{periodRule, readFaults, linkFaults, countReads}
 use Rattle.model.specs.Rules.Search.{joinFrom}
 use Rattle.model.specs.declared.Fault.{Fault}
@@ -18,15 +17,13 @@ use Rattle.model.specs.declared.Kind.the-variants.{Now, Last, When, LastWhen, C
 use Rattle.model.specs.declared.Sampled.{Sampled}
 use Rattle.check_rates.specs.declared.Cycles.{Cycles}
 use Rattle.check_rates.specs.declared.Cycles.the-variants as Cycles
-use Rattle.text_program.specs.Tables.{ReadsOf, TablesOf}
 use Rattle.basics.specs.declared.Judged.{Judged}
 use Rattle.basics.specs.declared.Judged.the-variants as Judged
-use Rattle.text_program.specs.declared.Tables.{Tables}
 
 -- The hypercycle, or its refusal.
-unfoldable pub cyclesOf : Outcome ℕ → Cycles
-cyclesOf (accepted h) = Cycles.Least h
-cyclesOf (refused f) = Cycles.Refused f
+unfoldable pub cyclesAnswer : Outcome ℕ → Cycles
+cyclesAnswer (accepted h) = Cycles.Least h
+cyclesAnswer (refused f) = Cycles.Refused f
 
 -- 7 at a read or LINK of a signal that is not declared, then 8 at a read that breaks its period rule.
 unfoldable pub rateJudged : Bool → Bool → ℕ → Judged
@@ -45,14 +42,6 @@ factorOf Last n = 1
 factorOf When n = n
 factorOf LastWhen n = n
 factorOf Current n = n
-
--- Whether the signal read has the longer period.
-abbrev pub isCurrent : Kind → Bool
-isCurrent Now = false
-isCurrent Last = false
-isCurrent When = false
-isCurrent LastWhen = false
-isCurrent Current = true
 
 -- A read, by the number of signals and their periods.
 unfoldable pub readJudged : ℕ → List ℕ → ℕ → ℕ → Kind → Sampled → Judged
@@ -76,11 +65,3 @@ lowerOf (Judged.Refused f) (Judged.Refused g) = Judged.Refused (cond (ltb (g .pl
 -- Where the one read of w among these reads stands.
 unfoldable pub oneRead : ℕ → List Read → Found
 oneRead w ρs = cond (eqb (countReads w ρs) 1) (At (readAmong w ρs .place)) Nowhere
-
--- The tables are those of the program that the text is.
-abbrev pub ReadAs : List ℕ → Tables → Type 0
-ReadAs text tables = (p : Program) × (parseProgram text ≡ accepted p) × TablesOf p tables
-
-abbrev pub TabledAs : List ℕ → List ℕ → Tables → Type 0
-TabledAs text reads tables =
-    (p : Program) × (parseProgram text ≡ accepted p) × TablesOf p tables × ReadsOf p reads (tables .firsts)

@@ -5,7 +5,6 @@ use model::Found;
 use model::Kind;
 use model::Sampled;
 use text_program::Tables;
-ghost use mathlib.Core.Bool.{cond};
 ghost use mathlib.Core.Path.{_≡_};
 ghost use Prim.Native.Nat.{_%_, _≤_, _<_};
 ghost use lib.Dec.{eqb};
@@ -13,8 +12,8 @@ ghost use lib.ListN.{length};
 ghost use Rattle.model.specs.Rules.Outcome.{accepted, lowest};
 ghost use Rattle.model.specs.Rules.Program.{Program, signalAt, parseProgram, bodyReads};
 ghost use Rattle.model.specs.Rules.Rates.{periodRule, declaredAndRated, isMultiple, hypercycle, isLinked, linked};
-ghost use Rattle.text_program.specs.Tables.{TablesOf, PeriodsOf, Indexed, chainAt};
-ghost use Rattle.check_rates.specs.Answers.{cyclesOf, periodAt, factorOf, isCurrent, rateJudged, readJudged, readRates, linkRates, lowerOf, oneRead, ReadAs, TabledAs};
+ghost use Rattle.text_program.specs.Tables.{TablesOf, PeriodsOf, ReadAs, TabledAs, Indexed, chainAt};
+ghost use Rattle.check_rates.specs.Answers.{cyclesAnswer, periodAt, factorOf, rateJudged, readJudged, readRates, linkRates, lowerOf, oneRead};
 ghost use Rattle.basics.specs.Judgement.{judgementOf};
 
 // The period of a signal by the table; 0 past its end.
@@ -37,34 +36,15 @@ fn factor_of(kind: Kind, n: u8) -> u8
     }
 }
 
-// Whether the signal read has the longer period.
-fn is_current(kind: Kind) -> bool
-    ensures { λ r. ⌜ r ≡ isCurrent kind ⌝ }
-{
-    match kind {
-        Kind::Now => false,
-        Kind::Last => false,
-        Kind::When => false,
-        Kind::LastWhen => false,
-        Kind::Current => true,
-    }
-}
-
-fn either(first: bool, a: u8, b: u8) -> u8
-    ensures { λ r. ⌜ r ≡ cond first a b ⌝ }
-{
-    if first { a } else { b }
-}
-
 // The period rule of a read with factor n: w is the period of the signal read, r the reader's. One product for the five kinds: a
 // branch on the kind would be guessed wrong at every other read.
 fn period_rule(kind: Kind, w: u8, r: u8, n: u8) -> bool
     ensures { λ x. ⌜ x ≡ periodRule kind w r n ⌝ }
 {
     let factor = basics::wide(factor_of(kind, n));
-    let current = is_current(kind);
-    let longer = basics::wide(either(current, w, r));
-    let shorter = basics::wide(either(current, r, w));
+    let current = read_rule::is_current(kind);
+    let longer = basics::wide(basics::select(current, w, r));
+    let shorter = basics::wide(basics::select(current, r, w));
     longer == factor * shorter
 }
 
@@ -222,7 +202,7 @@ fn is_multiple(count: usize, periods: &[u8; 64], h: usize) -> bool
 // The hypercycle: the least number from 1 to 240 that every period divides, else 9. (Signals × hypercycle.)
 pub fn hypercycle(count: usize, periods: &[u8; 64]) -> Cycles
     requires { ⌜ count ≤ 64 ⌝ }
-    ensures { λ r. ⌜ ((p : Program) → length (p .signals) ≡ count → PeriodsOf p (now (periods .entry)) → r ≡ cyclesOf (hypercycle p)) ⌝ }
+    ensures { λ r. ⌜ ((p : Program) → length (p .signals) ≡ count → PeriodsOf p (now (periods .entry)) → r ≡ cyclesAnswer (hypercycle p)) ⌝ }
 {
     let mut h: usize = 0;
     while h < 240 {

@@ -19,12 +19,12 @@ use Rattle.model.proofs.Texts.Legal.{SpellsRead, legal, read-sound, signal-read
 use Rattle.model.proofs.Pairs.Verdict.{Rated, reads-rated}
 use Rattle.text_command.specs.Operator.{ReadTaken}
 use Rattle.text_command.specs.declared.Taken.{Taken}
-use Rattle.text_program.specs.Tables.{PeriodsOf, SlotsOf, Indexed}
+use Rattle.text_program.specs.Tables.{PeriodsOf, SlotsOf, Indexed, rateAt}
 use Rattle.basics.specs.declared.Judged.{Judged}
 use Rattle.basics.specs.declared.Judged.the-variants as Judged
 use Rattle.text_program.proofs.ByIndex.{noRead, readAt, faultsOf, counted, seen, place-is, taken-is}
 use Rattle.read_rule.specs.Reads.{metBy}
-use Rattle.check_reads.specs.Met.{Below, PacedAt, rateAt, isMetAt, readMet}
+use Rattle.check_reads.specs.Met.{Below, PacedAt, isMetAt, readMet}
 
 module _ (p : Program) (s : Schedule) where
   abbrev pub unmet : ℕ → Read → List Fault

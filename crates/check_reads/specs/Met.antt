@@ -8,12 +8,12 @@ use lib.ListN.{getD}
 use Rattle.model.specs.Rules.Outcome.{accepted, fault}
 use Rattle.model.specs.Rules.Program.{Program}
 use Rattle.model.specs.Rules.Rates.{declaredAndRated}
-use Rattle.model.specs.Rules.Reads.{Rate, met}
+use Rattle.model.specs.Rules.Reads.{met}
 use Rattle.model.specs.Rules.Schedule.{Schedule}
 use Rattle.model.specs.declared.Kind.{Kind}
 use Rattle.model.specs.declared.Sampled.{Sampled}
 use Rattle.basics.specs.Judgement.{judgementOf}
-use Rattle.text_program.specs.Tables.{PeriodsOf, SlotsOf}
+use Rattle.text_program.specs.Tables.{PeriodsOf, SlotsOf, rateAt}
 use Rattle.basics.specs.declared.Judged.{Judged}
 use Rattle.basics.specs.declared.Judged.the-variants as Judged
 use Rattle.read_rule.specs.Lines.{Paced}
@@ -23,9 +23,6 @@ use Rattle.read_rule.specs.declared.Timing.{Timing}
 -- The first n phases are below their periods.
 abbrev pub Below : List ℕ → List ℕ → ℕ → Type 0
 Below periods phases n = (x : ℕ) → x < n → getD phases x 0 < getD periods x 0
-
-abbrev pub rateAt : List ℕ → List ℕ → ℕ → Rate
-rateAt periods phases x = record { period = getD periods x 0; phase = getD phases x 0 }
 
 abbrev pub timingAt : List ℕ → List ℕ → ℕ → Timing
 timingAt periods phases x = record { period = getD periods x 0; phase = getD phases x 0 }

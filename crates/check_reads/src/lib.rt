@@ -11,13 +11,12 @@ ghost use Rattle.model.specs.Rules.Program.{Program, parseProgram};
 ghost use Rattle.model.specs.Rules.Reads.{met};
 ghost use Rattle.model.specs.Rules.Schedule.{Schedule};
 ghost use Rattle.basics.specs.Judgement.{judgementOf};
-ghost use Rattle.text_program.specs.Tables.{Indexed};
+ghost use Rattle.text_program.specs.Tables.{Indexed, TabledAs};
 ghost use Rattle.text_schedule.specs.Arranged.{Arranged, Arrangement};
-ghost use Rattle.check_rates.specs.Answers.{TabledAs};
 ghost use Rattle.check_reads.specs.Met.{Below, PacedAt, readMet, ReadsMet};
 
 // One read in the equation of `reader`.
-fn judge_read(
+fn read_met(
     signals: usize,
     periods: &[u8; 64],
     phases: &[u8; 64],
@@ -53,7 +52,7 @@ fn judge_read(
 }
 
 // 14 at the lowest read offset: over the reads of each signal by their index in the table.
-fn judge_reads(
+fn reads_met(
     text: &[u8],
     reads: &[u16],
     firsts: &[u16; 65],
@@ -74,7 +73,7 @@ fn judge_reads(
             let taken = text_command::taken_at(text, at);
             let kind = taken.kind;
             let operands = taken.operands;
-            let judged = judge_read(signals, periods, phases, ranks, at, reader, kind, operands);
+            let judged = read_met(signals, periods, phases, ranks, at, reader, kind, operands);
             let Judged::Fine = judged else {
                 return judged;
             };
@@ -96,7 +95,7 @@ pub fn check_reads(text: &[u8], reads: &[u16], pair: PairTables) -> Judged
     let periods = tables.periods;
     let phases = slots.phases;
     let ranks = slots.ranks;
-    judge_reads(
+    reads_met(
         text,
         reads,
         &firsts,

@@ -1,5 +1,5 @@
 -- A word by its sign, words one after another, and bytes put one after another. Assumes nothing.
-use Prim.Native.Nat.{ℕ, _+_, _-_, _^_, _≤_, _<_}
+use Prim.Native.Nat.{ℕ, _+_, _-_, _^_, _<_}
 use mathlib.Core.Bool.{true, false}
 use mathlib.Core.List.{List, [], _∷_, _++_, append-assoc, append-nil}
 use mathlib.Core.Path.{_≡_, refl, sym, ap, subst, _∙_}
@@ -17,7 +17,7 @@ use Rattle.model.specs.Rules.Decimal.{natural, decimal, spaced, lineOf}
 use Rattle.model.specs.Rules.Word.{bitsOf}
 use Rattle.model.proofs.Images.Stretches.{sets-append}
 use Rattle.word.proofs.Locals.{kept}
-use Rattle.decimal.specs.Put.{Put}
+use Rattle.decimal.specs.PutBytes.{PutBytes}
 
 -- A negative word, and one that is not.
 pub decimal-minus : (z : ℤ) → mag z < 2 ^ 31 → ltZ (toZ w32 (ofZ w32 z)) (pos 0) ≡ true → decimal z ≡
@@ -59,9 +59,9 @@ unfolding spaced
 spaced-none = refl
 
 -- Bytes put one after another.
-pub put-then : {l : List ℕ} {at : ℕ} {xs l₁ : List ℕ} {e₁ : ℕ} {ys l₂ : List ℕ} {e₂ : ℕ} → Put l at xs l₁ e₁ →
-    Put l₁ e₁ ys l₂ e₂ →
-    Put l at (xs ++ ys) l₂ e₂
+pub put-then : {l : List ℕ} {at : ℕ} {xs l₁ : List ℕ} {e₁ : ℕ} {ys l₂ : List ℕ} {e₂ : ℕ} → PutBytes l at xs l₁ e₁ →
+    PutBytes l₁ e₁ ys l₂ e₂ →
+    PutBytes l at (xs ++ ys) l₂ e₂
 put-then {l} {at} {xs} {l₁} {e₁} {ys} {l₂} {e₂} p q =
     record {
       holds =
@@ -71,14 +71,14 @@ put-then {l} {at} {xs} {l₁} {e₁} {ys} {l₂} {e₂} p q =
       fits = q .fits;
     }
 
-pub put-one : (l : List ℕ) (at b : ℕ) → at < length l → Put l at (b ∷ []) (set l at b) (at + 1)
+pub put-one : (l : List ℕ) (at b : ℕ) → at < length l → PutBytes l at (b ∷ []) (set l at b) (at + 1)
 put-one l at b h = record { holds = refl; ends = refl; fits = rw (length-set l at b) (omega arith) }
 
-pub put-length : {l : List ℕ} {at : ℕ} {xs l₁ : List ℕ} {e : ℕ} → Put l at xs l₁ e → length l₁ ≡ length l
+pub put-length : {l : List ℕ} {at : ℕ} {xs l₁ : List ℕ} {e : ℕ} → PutBytes l at xs l₁ e → length l₁ ≡ length l
 put-length {l} {at} {xs} p = ap length (p .holds) ∙ length-sets l at xs
 
-pub put-is : {l : List ℕ} {at : ℕ} {xs ys l₁ : List ℕ} {e : ℕ} → xs ≡ ys → Put l at xs l₁ e → Put l at ys l₁ e
-put-is {l} {at} {xs} {ys} {l₁} {e} q p = subst (λ (z : List ℕ). Put l at z l₁ e) q p
+pub put-is : {l : List ℕ} {at : ℕ} {xs ys l₁ : List ℕ} {e : ℕ} → xs ≡ ys → PutBytes l at xs l₁ e → PutBytes l at ys l₁ e
+put-is {l} {at} {xs} {ys} {l₁} {e} q p = subst (λ (z : List ℕ). PutBytes l at z l₁ e) q p
 
 pub line-is : (j : ℕ) (ws : List ℤ) → lineOf j ws ≡ natural j ++ (spaced ws ++ (10 ∷ []))
 unfolding lineOf

@@ -1,2 +1,2 @@
 -- The definitions that the contracts of `decimal` cite.
-pub mod Put
+pub mod PutBytes

@@ -2,13 +2,13 @@
 ghost use mathlib.Core.Path.{_≡_};
 ghost use Prim.Native.Nat.{_+_, _≤_, _<_};
 ghost use lib.ListN.{length};
-ghost use Rattle.decimal.specs.Put.{Put};
+ghost use Rattle.decimal.specs.PutBytes.{PutBytes};
 ghost use Rattle.model.specs.Rules.Decimal.{natural, decimal, lineOf};
 
 // Writes the digits of n from `at` on, and answers where they end.
 pub fn put_natural(out: &mut [u8], at: usize, n: u32) -> usize
     requires { ⌜ at + length (natural n) ≤ length (now out) ⌝ }
-    ensures { λ r. ⌜ Put (now (out .entry)) at (natural n) (now (out .exit)) r ⌝ }
+    ensures { λ r. ⌜ PutBytes (now (out .entry)) at (natural n) (now (out .exit)) r ⌝ }
 {
     if n < 10 {
         out[at] = (48 + n) as u8;
@@ -22,7 +22,7 @@ pub fn put_natural(out: &mut [u8], at: usize, n: u32) -> usize
 // Writes a word, with '-' before a negative one.
 pub fn put_decimal(out: &mut [u8], at: usize, w: i32) -> usize
     requires { ⌜ at + length (decimal w) ≤ length (now out) ⌝ }
-    ensures { λ r. ⌜ Put (now (out .entry)) at (decimal w) (now (out .exit)) r ⌝ }
+    ensures { λ r. ⌜ PutBytes (now (out .entry)) at (decimal w) (now (out .exit)) r ⌝ }
 {
     let bits = word::bits(w);
     if w < 0 {
@@ -38,7 +38,7 @@ pub fn put_decimal(out: &mut [u8], at: usize, w: i32) -> usize
 // digits, and a word with its space and sign at most 12 bytes.
 pub fn put_line(out: &mut [u8], number: u32, words: &[i32]) -> usize
     requires { ⌜ (length (now words) ≤ 64) × (1024 ≤ length (now out)) ⌝ }
-    ensures { λ r. ⌜ Put (now (out .entry)) 0 (lineOf number (now (words .entry))) (now (out .exit)) r ⌝ }
+    ensures { λ r. ⌜ PutBytes (now (out .entry)) 0 (lineOf number (now (words .entry))) (now (out .exit)) r ⌝ }
 {
     let mut at = put_natural(out, 0, number);
     let mut i: usize = 0;

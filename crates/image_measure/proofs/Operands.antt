@@ -1,14 +1,12 @@
 -- The measure of an expression from those of its operands: one law for every number of operands. Assumes nothing.
-use Prim.Native.Nat.{ℕ, zero, suc, _+_, _-_, _≤_, _<_, max}
+use Prim.Native.Nat.{ℕ, suc, _+_, _-_, _≤_, _<_, max}
 use mathlib.Core.Bool.{true}
 use mathlib.Core.List.{List, [], _∷_}
-use mathlib.Core.Path.{_≡_, refl, sym, subst, _∙_}
+use mathlib.Core.Path.{_≡_, sym, subst, _∙_}
 use native.Mathlib.Omega.{arith}
 use lib.ListN.{length}
 use Rattle.model.specs.Says.Feasible.{All}
 use Rattle.model.specs.Rules.Command.{operatorAt}
-use Rattle.model.specs.Says.Grammar.{depth, Spells}
-use Rattle.model.specs.Rules.Image.{exprCode}
 use Rattle.model.specs.Rules.Program.{Expr, constant, read, binary, unary, choose}
 use Rattle.model.specs.Rules.Report.{exprCommands, exprHeight}
 use Rattle.model.specs.declared.Operator.{Operator}
@@ -19,7 +17,7 @@ use Rattle.image_code.specs.Shape.{leadOf}
 use Rattle.image_code.proofs.Operands.{SpellsAll, Below, commandsOfAll, heightOfAll, opened}
 use Rattle.model.proofs.Texts.Legal.{expr-code}
 use Rattle.image_code.proofs.Spans.{inside}
-use Rattle.image_measure.specs.Measure.{Nests, Tells, Measures, Joined, Operated}
+use Rattle.image_measure.specs.Measure.{Nests, MeasureIs, Measures, Joined, Operated}
 use Rattle.image_measure.specs.declared.Measure.{Measure}
 
 -- k expressions stand at `at`, each nests at most d deep.
@@ -164,7 +162,7 @@ module _ {text : List ℕ} {at : ℕ} where
       }
     where
       go : (e : Expr) (n : ℕ) (es : List Expr) → SpellsAll text (at + leadOf c .width) es n → length es ≡ 0 →
-          exprCommands e ≡ commandsOfAll es + 1 → exprHeight e ≡ max 1 (heightOfAll es) → Tells e n m
+          exprCommands e ≡ commandsOfAll es + 1 → exprHeight e ≡ max 1 (heightOfAll es) → MeasureIs e n m
       go e n [] SpellsAll.none h a b =
           record { goes = goes; commands = omega (arith, one, a); height = omega (arith, low, b) }
       go e n (x ∷ es) s h a b = absurd (omega arith)

@@ -17,13 +17,13 @@ pub record Nests (d : ℕ) (text : List ℕ) (at : ℕ) : Type 0 where
   pub deep : depth expr ≤ d
 
 -- The measure of an expression that ends at n.
-pub record Tells (e : Expr) (n : ℕ) (m : Measure) : Type 0 where
+pub record MeasureIs (e : Expr) (n : ℕ) (m : Measure) : Type 0 where
   pub goes : m .next ≡ n
   pub commands : m .commands ≡ exprCommands e
   pub height : m .height ≡ exprHeight e
 
 pub record Measures (text : List ℕ) (at : ℕ) (m : Measure) : Type 0 where
-  pub tells : (e : Expr) (n : ℕ) → Spells leastFactor text at e n → Tells e n m
+  pub tells : (e : Expr) (n : ℕ) → Spells leastFactor text at e n → MeasureIs e n m
 
 -- One expression after another, and an operator after its operands.
 pub record Joined (a b r : Measure) : Type 0 where

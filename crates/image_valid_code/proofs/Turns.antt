@@ -13,7 +13,7 @@ use Rattle.model.specs.Rules.Word.{byteAt, wordAt}
 use Rattle.model.specs.declared.Code.{Code}
 use Rattle.model.specs.declared.Code.the-variants as Code
 use Rattle.model.proofs.Basics.Tests.{by}
-use Rattle.image_valid_code.specs.Shape.{shapeOf, lengthOf, afterOf, lastOf}
+use Rattle.image_valid_code.specs.Shape.{shapeOf, commandBytes, afterOf, lastOf}
 
 -- the command whose byte is b
 abbrev pub commandOf : ℕ → List ℕ → ℕ → Code
@@ -136,7 +136,7 @@ module _ (left : ℕ) (code : List ℕ) (at n own h : ℕ) (two : at + 1 < lengt
   after-of b = afterOf (shapeOf b) b x h n own
 
   Goes : ℕ → Type 0
-  Goes b = (shapeOf b ≡ 0 → ⊥) → Turn (step (commandOf b code at) left code at n own h) (lengthOf b) (after-of b)
+  Goes b = (shapeOf b ≡ 0 → ⊥) → Turn (step (commandOf b code at) left code at n own h) (commandBytes b) (after-of b)
 
   whole : leb (at + 2) (length code) ≡ true
   whole = le-leb (at + 2) (length code) (omega arith)
@@ -145,7 +145,7 @@ module _ (left : ℕ) (code : List ℕ) (at n own h : ℕ) (two : at + 1 < lengt
   nothing = omega (arith, some)
 
   push-goes : Goes 0x50
-  unfolding Goes after-of shapeOf lengthOf afterOf commandOk
+  unfolding Goes after-of shapeOf commandBytes afterOf commandOk
   push-goes _ =
       by (leb (at + 5) (length code))
       (λ e. rw e (leaf true 5 (after-of 0x50) (rw (le-ltb (h + 1) 1 (omega arith), lt-leb n (0 * x) nothing) (omega arith))))
@@ -153,7 +153,7 @@ module _ (left : ℕ) (code : List ℕ) (at n own h : ℕ) (two : at + 1 < lengt
       (by (ltb 32 (after-of 0x50)) (λ t. rw t refl) (λ t. rw t refl)))
 
   load-goes : Goes 0x51
-  unfolding Goes after-of shapeOf lengthOf afterOf commandOk
+  unfolding Goes after-of shapeOf commandBytes afterOf commandOk
   load-goes _ =
       rw whole
       (leaf (ltb x n) 2 (after-of 0x51)
@@ -162,7 +162,7 @@ module _ (left : ℕ) (code : List ℕ) (at n own h : ℕ) (two : at + 1 < lengt
       (λ e. rw (e, le-ltb (h + 1) 1 (omega arith), le-leb n (1 * x) (omega (arith, ltb-false x n e))) refl)))
 
   fetch-goes : Goes 0x52
-  unfolding Goes after-of shapeOf lengthOf afterOf commandOk
+  unfolding Goes after-of shapeOf commandBytes afterOf commandOk
   fetch-goes _ =
       rw whole
       (leaf (eqb x own) 2 (after-of 0x52)
@@ -171,43 +171,43 @@ module _ (left : ℕ) (code : List ℕ) (at n own h : ℕ) (two : at + 1 < lengt
       (λ e. rw (e, le-ltb (h + 1) 1 (omega arith), lt-leb n (0 * x) nothing) refl)))
 
   op-30 : Goes 0x30
-  unfolding Goes after-of shapeOf lengthOf afterOf operatorCode commandOk
+  unfolding Goes after-of shapeOf commandBytes afterOf operatorCode commandOk
   op-30 _ = operated 2 (after-of 0x30) (h - 1) (omega arith) (omega arith) (rw (lt-leb n (0 * x) nothing) refl)
 
   op-31 : Goes 0x31
-  unfolding Goes after-of shapeOf lengthOf afterOf operatorCode commandOk
+  unfolding Goes after-of shapeOf commandBytes afterOf operatorCode commandOk
   op-31 _ = operated 2 (after-of 0x31) (h - 1) (omega arith) (omega arith) (rw (lt-leb n (0 * x) nothing) refl)
 
   op-32 : Goes 0x32
-  unfolding Goes after-of shapeOf lengthOf afterOf operatorCode commandOk
+  unfolding Goes after-of shapeOf commandBytes afterOf operatorCode commandOk
   op-32 _ = operated 2 (after-of 0x32) (h - 1) (omega arith) (omega arith) (rw (lt-leb n (0 * x) nothing) refl)
 
   op-33 : Goes 0x33
-  unfolding Goes after-of shapeOf lengthOf afterOf operatorCode commandOk
+  unfolding Goes after-of shapeOf commandBytes afterOf operatorCode commandOk
   op-33 _ = operated 2 (after-of 0x33) (h - 1) (omega arith) (omega arith) (rw (lt-leb n (0 * x) nothing) refl)
 
   op-34 : Goes 0x34
-  unfolding Goes after-of shapeOf lengthOf afterOf operatorCode commandOk
+  unfolding Goes after-of shapeOf commandBytes afterOf operatorCode commandOk
   op-34 _ = operated 2 (after-of 0x34) (h - 1) (omega arith) (omega arith) (rw (lt-leb n (0 * x) nothing) refl)
 
   op-35 : Goes 0x35
-  unfolding Goes after-of shapeOf lengthOf afterOf operatorCode commandOk
+  unfolding Goes after-of shapeOf commandBytes afterOf operatorCode commandOk
   op-35 _ = operated 2 (after-of 0x35) (h - 1) (omega arith) (omega arith) (rw (lt-leb n (0 * x) nothing) refl)
 
   op-36 : Goes 0x36
-  unfolding Goes after-of shapeOf lengthOf afterOf operatorCode commandOk
+  unfolding Goes after-of shapeOf commandBytes afterOf operatorCode commandOk
   op-36 _ = operated 2 (after-of 0x36) (h - 1) (omega arith) (omega arith) (rw (lt-leb n (0 * x) nothing) refl)
 
   op-38 : Goes 0x38
-  unfolding Goes after-of shapeOf lengthOf afterOf operatorCode commandOk
+  unfolding Goes after-of shapeOf commandBytes afterOf operatorCode commandOk
   op-38 _ = operated 1 (after-of 0x38) h (omega arith) (omega arith) (rw (lt-leb n (0 * x) nothing) refl)
 
   op-3A : Goes 0x3A
-  unfolding Goes after-of shapeOf lengthOf afterOf operatorCode commandOk
+  unfolding Goes after-of shapeOf commandBytes afterOf operatorCode commandOk
   op-3A _ = operated 3 (after-of 0x3A) (h - 2) (omega arith) (omega arith) (rw (lt-leb n (0 * x) nothing) refl)
 
   pub goes : (b : ℕ) → (shapeOf b ≡ 0 → ⊥) →
-      Turn (step (commandOf b code at) left code at n own h) (lengthOf b) (afterOf (shapeOf b) b x h n own)
+      Turn (step (commandOf b code at) left code at n own h) (commandBytes b) (afterOf (shapeOf b) b x h n own)
   unfolding Goes after-of shapeOf
   goes b =
       by-byte b Goes push-goes load-goes fetch-goes (λ no. absurd (no refl)) (op-30, op-31, op-32, op-33, op-34, op-35, op-36)
@@ -278,8 +278,8 @@ shape-most b =
     (omega arith, omega arith, omega arith, omega arith, omega arith, omega arith, omega arith) (omega arith) (omega arith)
     (λ o. omega (arith, no-shape o))
 
-pub length-some : (b : ℕ) → (1 ≤ lengthOf b) × (lengthOf b ≤ 5)
-unfolding lengthOf
+pub length-some : (b : ℕ) → (1 ≤ commandBytes b) × (commandBytes b ≤ 5)
+unfolding commandBytes
 length-some b =
     by (eqb b 0x50) (λ e. rw e (omega arith, omega arith))
     (λ e. by (ltb b 0x50) (λ t. rw (e, t) (omega arith, omega arith)) (λ t. rw (e, t) (omega arith, omega arith)))

@@ -29,8 +29,8 @@ pub record Shapes (table : List ℕ) : Type 0 where
   pub entry : (b : ℕ) → b < 256 → byteAt table b ≡ shapeOf b
 
 -- The bytes of a command that is not STORE.
-unfoldable pub lengthOf : ℕ → ℕ
-lengthOf b = cond (eqb b 0x50) (inCode 0x50) (cond (ltb b 0x50) (inCode 0x30) (inCode 0x51))
+unfoldable pub commandBytes : ℕ → ℕ
+commandBytes b = cond (eqb b 0x50) (inCode 0x50) (cond (ltb b 0x50) (inCode 0x30) (inCode 0x51))
 
 -- The words on the stack after the command of a shape with byte b and then x, where it held h; 33 where it may not stand there.
 unfoldable pub afterOf : ℕ → ℕ → ℕ → ℕ → ℕ → ℕ → ℕ

@@ -1,7 +1,7 @@
 // Whether the code of a signal is well formed: one turn for a command, by a table of what each byte commands.
 ghost use mathlib.Core.Path.{_≡_};
 ghost use Prim.Native.Nat.{_<_, _≤_};
-ghost use Rattle.image_valid_code.specs.Shape.{shapeOf, Shapes, lengthOf, afterOf, lastOf};
+ghost use Rattle.image_valid_code.specs.Shape.{shapeOf, Shapes, commandBytes, afterOf, lastOf};
 ghost use Rattle.model.specs.Rules.Machine.{codeOk};
 
 // 0: no command, or STORE; else 1 and the words that it takes off the stack, and 8 more for LOAD.
@@ -34,7 +34,7 @@ fn shape(table: &[u8; 256], byte: u8) -> usize
 
 // The bytes of a command that is not STORE. The operators are as wide as ADD.
 fn length_of(byte: u8) -> usize
-    ensures { λ r. ⌜ r ≡ lengthOf byte ⌝ }
+    ensures { λ r. ⌜ r ≡ commandBytes byte ⌝ }
 {
     if byte == 0x50 {
         return width::in_code(0x50);

@@ -10,17 +10,18 @@ use Rattle.model.specs.Rules.Reads.{Rate, due, stored}
 use Rattle.model.specs.Rules.Search.{table, tableFrom, joinFrom}
 use Rattle.model.proofs.Pairs.Rate.{stored-is, stored-low, stored-high, stored-none}
 use Rattle.model.proofs.Pairs.Rate.{due-run, run-due}
-use Rattle.image_write.specs.Lists.{rateAt, runOf, listBy, listsBy}
+use Rattle.text_program.specs.Tables.{rateAt}
+use Rattle.image_write.specs.Lists.{runEntry, listBy, listsBy}
 use Rattle.model.proofs.Images.Stretches.{joined-cons}
 use Rattle.image_write.proofs.Listed.{table-same, listFrom, list-starts, list-step, list-ends}
 use Rattle.model.proofs.Basics.Left.{parts-length}
 
 -- A run stores one element.
 module _ (a : Rate) (x : ℕ) (v : a .phase < a .period) where
-  stored-next : (t : ℕ) → stored a (suc t) ≡ length (runOf (due a t) x) + stored a t
+  stored-next : (t : ℕ) → stored a (suc t) ≡ length (runEntry (due a t) x) + stored a t
   stored-next t = go (due a t) refl
     where
-      go : (b : Bool) → due a t ≡ b → stored a (suc t) ≡ length (runOf b x) + stored a t
+      go : (b : Bool) → due a t ≡ b → stored a (suc t) ≡ length (runEntry b x) + stored a t
       go true e =
           let j : ℕ = t / a .period in
           let r = due-run a t e in
@@ -36,12 +37,12 @@ module _ (a : Rate) (x : ℕ) (v : a .phase < a .period) where
                 (omega (arith, stored-high a t v)),
           )
 
-  runs-from : (i k : ℕ) → length (joined (tableFrom i k (λ c. runOf (due a c) x))) + stored a i ≡ stored a (i + k)
+  runs-from : (i k : ℕ) → length (joined (tableFrom i k (λ c. runEntry (due a c) x))) + stored a i ≡ stored a (i + k)
   unfolding tableFrom joinFrom
   runs-from i zero = let e : i + 0 ≡ i = omega arith in omega (arith, ap (stored a) e)
   runs-from i (suc k) =
-      let r = runOf (due a i) x in
-      let rest = tableFrom (suc i) k (λ c. runOf (due a c) x) in
+      let r = runEntry (due a i) x in
+      let rest = tableFrom (suc i) k (λ c. runEntry (due a c) x) in
       let e : i + suc k ≡ suc i + k = omega arith in
       omega (
         arith,
@@ -52,7 +53,7 @@ module _ (a : Rate) (x : ℕ) (v : a .phase < a .period) where
         ap (stored a) e,
       )
 
-  pub runs-counted : (h : ℕ) → length (joined (table h (λ c. runOf (due a c) x))) ≡ stored a h
+  pub runs-counted : (h : ℕ) → length (joined (table h (λ c. runEntry (due a c) x))) ≡ stored a h
   unfolding table
   runs-counted h = let e : 0 + h ≡ h = omega arith in
       omega (arith, runs-from 0 h, stored-none a 0 v (omega arith), ap (stored a) e)
@@ -93,7 +94,7 @@ module _ (periods order phases : List ℕ) (n h : ℕ) where
   length-step i lt v =
       let x = getD order i 0 in
       let a = rateAt periods phases x in
-      joined-add (from i) (λ c. runOf (due a c) x) (from (i + 1)) (λ c. parts-length (list-step periods order phases n c i lt)) h
+      joined-add (from i) (λ c. runEntry (due a c) x) (from (i + 1)) (λ c. parts-length (list-step periods order phases n c i lt)) h
       ∙
       ap (λ (m : ℕ). m + length (joined (table h (from (i + 1))))) (runs-counted a x v h)
 

@@ -1,6 +1,6 @@
 -- Run lists written by signal. Assumes nothing.
 use Prim.Native.Nat.{ℕ, zero, suc, _+_, _-_, _≤_, _<_}
-use mathlib.Core.Bool.{Bool, true, false, cond}
+use mathlib.Core.Bool.{true, false, cond}
 use mathlib.Core.List.{List, [], _∷_, _++_, append-assoc}
 use mathlib.Core.Path.{_≡_, refl, sym, ap, subst, _∙_}
 use native.Mathlib.Decide.{decLe, decLt}
@@ -12,12 +12,12 @@ use lib.Seq.{sets, length-sets, getD-append-add, getD-set-same, getD-set-other, 
 use Rattle.check_load.proofs.Runs.{due-before, due-between}
 use Rattle.model.specs.Rules.Image.{joined}
 use Rattle.model.specs.Rules.Reads.{Rate, due}
-use Rattle.model.specs.Rules.Search.{table, tableFrom}
+use Rattle.model.specs.Rules.Search.{table}
 use Rattle.model.specs.Rules.Writing.{Wrote}
 use Rattle.model.proofs.Basics.Left.{parts-length}
 use Rattle.text_program.proofs.Sums.{sets-before, sets-inside}
 use Rattle.image_write.specs.Cursors.{listsAfter, Stands, StartsOf, Pending, Splits}
-use Rattle.image_write.specs.Lists.{runOf}
+use Rattle.image_write.specs.Lists.{runEntry}
 use Rattle.image_write.proofs.Joined.{joinedFrom, joined-starts, joined-step, joined-ends}
 
 sets-beyond : (l : List ℕ) (n : ℕ) (xs : List ℕ) (i : ℕ) → n + length xs ≤ i → getD (sets l n xs) i 0 ≡ getD l i 0
@@ -125,7 +125,7 @@ module _ (old new : ℕ → List ℕ) (m c : ℕ) where
 
 module _ (a : Rate) (v : a .phase < a .period) (x h : ℕ) (old new : ℕ → List ℕ) (s : Splits a x h old new) where
   undue : (c : ℕ) → c < h → due a c ≡ false → old c ≡ new c
-  undue c lt e = s c lt ∙ ap (λ b. runOf b x ++ new c) e
+  undue c lt e = s c lt ∙ ap (λ b. runEntry b x ++ new c) e
 
   pub first-mixed : (c : ℕ) → c < h → old c ≡ mixed old new (a .phase) c
   first-mixed c lt = go (decLt c (a .phase))
@@ -140,7 +140,7 @@ module _ (a : Rate) (v : a .phase < a .period) (x h : ℕ) (old new : ℕ → Li
   module _ (m : ℕ) (lt : m < h) (d : due a m ≡ true) where
     pub run-first : mixed old new m m ≡ x ∷ mixed old new (m + a .period) m
     run-first =
-        mixed-above old new m m (omega arith) ∙ s m lt ∙ ap (λ b. runOf b x ++ new m) d ∙
+        mixed-above old new m m (omega arith) ∙ s m lt ∙ ap (λ b. runEntry b x ++ new m) d ∙
         ap (x ∷_) (sym (mixed-below old new (m + a .period) m (omega arith)))
 
     pub others-mixed : (c : ℕ) → c < h → (c ≡ m → ⊥) → mixed old new m c ≡ mixed old new (m + a .period) c

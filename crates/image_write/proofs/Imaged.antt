@@ -16,8 +16,8 @@ use Rattle.model.specs.Rules.Word.{twoBytes}
 use Rattle.model.proofs.Texts.Legal.{legal, signal-spelled, signal-period}
 use Rattle.model.proofs.Images.Stretches.{table-length, table-at, image-length}
 use Rattle.text_program.specs.declared.Tables.{Tables}
-use Rattle.image_write.specs.Codes.{signalsIn, signalsOf, codesFrom, Declared, CodesAt}
-use Rattle.image_write.specs.Lists.{isDue, listBy, listsBy, pairs, Timed, Phased}
+use Rattle.image_write.specs.Codes.{signalsIn, declaredBy, codesFrom, Declared, CodesAt}
+use Rattle.image_write.specs.Lists.{isDue, listBy, listsBy, pairs, HasPeriods, Phased}
 use Rattle.text_program.specs.Prepared.{Prepared}
 use Rattle.model.specs.Rules.Writing.{Wrote}
 use Rattle.image_write.proofs.Coded.{code-sum, codes-by, codes-end}
@@ -69,11 +69,11 @@ module _ {text : List ℕ} {t : Tables} {periods order phases : List ℕ} {p : P
   pub count-is : count p ≡ t .signals
   count-is = r .tables .counts .signals-are
 
-  pub signals-are : p .signals ≡ signalsOf text
-  unfolding signalsOf
+  pub signals-are : p .signals ≡ declaredBy text
+  unfolding declaredBy
   signals-are = sym (ap signalsIn (r .parsed))
 
-  codes-are : codes p ≡ codesFrom 0 (signalsOf text)
+  codes-are : codes p ≡ codesFrom 0 (declaredBy text)
   unfolding codes codesFrom
   codes-are = ap (codesFrom 0) signals-are
 
@@ -89,10 +89,10 @@ module _ {text : List ℕ} {t : Tables} {periods order phases : List ℕ} {p : P
         short = rw (← codes-are) (omega (arith, l .1 .code, l .2));
       }
 
-  pub codes-at : (start : ℕ) → CodesAt start (signalsOf text) (t .codes)
+  pub codes-at : (start : ℕ) → CodesAt start (declaredBy text) (t .codes)
   codes-at start = rw (← signals-are) (codes-by p (t .codes) (r .tables .codes) start)
 
-  pub code-size : getD (t .codes) (t .signals) 0 ≡ length (joined (codesFrom 0 (signalsOf text)))
+  pub code-size : getD (t .codes) (t .signals) 0 ≡ length (joined (codesFrom 0 (declaredBy text)))
   code-size =
       let n = count-is in
       rw (← signals-are)
@@ -108,7 +108,7 @@ module _ {text : List ℕ} {t : Tables} {periods order phases : List ℕ} {p : P
       let n = count-is in
       rw (r .slots .order-is j (omega arith)) (r .ordered .only j (omega arith))
 
-  pub timed : Timed periods order (t .signals)
+  pub timed : HasPeriods periods order (t .signals)
   timed =
       let l = legal text p (r .parsed) in
       let n = count-is in
@@ -148,12 +148,12 @@ module _ {text : List ℕ} {t : Tables} {periods order phases : List ℕ} {p : P
     lists-are = table-same (runList p s) (listBy periods order phases (t .signals)) list-is h
 
     pub image-by : imageOf p s h ≡
-        imageBy h (t .signals) (signalsOf text) (listsBy periods order phases (t .signals) h) (codesFrom 0 (signalsOf text))
+        imageBy h (t .signals) (declaredBy text) (listsBy periods order phases (t .signals) h) (codesFrom 0 (declaredBy text))
     image-by =
         image-is p s h ∙
         ap (λ (n : ℕ). imageBy h n (p .signals) (runLists p s h) (codes p)) count-is ∙
         ap (λ (g : List Signal). imageBy h (t .signals) g (runLists p s h) (codes p)) signals-are ∙
-        ap₂ (imageBy h (t .signals) (signalsOf text)) lists-are codes-are
+        ap₂ (imageBy h (t .signals) (declaredBy text)) lists-are codes-are
 
     pub lists-by : listsAt (count p) h ≡ listsAt (t .signals) h
     lists-by = ap (λ (n : ℕ). listsAt n h) count-is
@@ -163,19 +163,19 @@ module _ {text : List ℕ} {t : Tables} {periods order phases : List ℕ} {p : P
     code-by = ap₂ (codesBy h) count-is lists-are
 
     pub length-by : lengthOf p s h ≡
-        lengthBy h (t .signals) (listsBy periods order phases (t .signals) h) (codesFrom 0 (signalsOf text))
+        lengthBy h (t .signals) (listsBy periods order phases (t .signals) h) (codesFrom 0 (declaredBy text))
     unfolding lengthOf
     length-by = ap₂ (λ (at : ℕ) cs. at + length (joined cs)) code-by codes-are
 
-    pub image-size : length (imageBy h (t .signals) (signalsOf text) (listsBy periods order phases (t .signals) h)
-        (codesFrom 0 (signalsOf text))) ≡
+    pub image-size : length (imageBy h (t .signals) (declaredBy text) (listsBy periods order phases (t .signals) h)
+        (codesFrom 0 (declaredBy text))) ≡
         lengthOf p s h
     image-size = rw (← image-by) (image-length p s h)
 
     -- What is written from the first byte on is the image, and the rest stays.
     pub image-written : {l l′ : List ℕ} {end : ℕ} → lengthOf p s h ≤ length l →
-        Wrote l 0 (imageBy h (t .signals) (signalsOf text) (listsBy periods order phases (t .signals) h)
-        (codesFrom 0 (signalsOf text))) l′ end →
+        Wrote l 0 (imageBy h (t .signals) (declaredBy text) (listsBy periods order phases (t .signals) h)
+        (codesFrom 0 (declaredBy text))) l′ end →
         l′ ≡ imageOf p s h ++ drop (lengthOf p s h) l
     image-written {l} le w =
         let e : 0 + length (imageOf p s h) ≡ lengthOf p s h = omega (arith, image-length p s h) in

@@ -9,23 +9,24 @@ use lib.ListN.{length, getD}
 use Rattle.model.specs.Rules.Reads.{due}
 use Rattle.model.specs.Rules.Search.{table, tableFrom, chosen}
 use Rattle.model.proofs.Basics.Left.{Parts}
-use Rattle.image_write.specs.Lists.{rateAt, isDue, runOf, listBy}
+use Rattle.text_program.specs.Tables.{rateAt}
+use Rattle.image_write.specs.Lists.{isDue, runEntry, listBy}
 
-chosen-step : (test : ℕ → Bool) (x : ℕ) (xs : List ℕ) → chosen test (x ∷ xs) ≡ runOf (test x) x ++ chosen test xs
+chosen-step : (test : ℕ → Bool) (x : ℕ) (xs : List ℕ) → chosen test (x ∷ xs) ≡ runEntry (test x) x ++ chosen test xs
 unfolding chosen
 chosen-step test x xs = go (test x)
   where
-    go : (b : Bool) → cond b (x ∷ chosen test xs) (chosen test xs) ≡ runOf b x ++ chosen test xs
+    go : (b : Bool) → cond b (x ∷ chosen test xs) (chosen test xs) ≡ runEntry b x ++ chosen test xs
     go true = refl
     go false = refl
 
 -- A run is one entry.
-one-entry : (b : Bool) (x : ℕ) → length (runOf b x) ≡ cond b 1 0
+one-entry : (b : Bool) (x : ℕ) → length (runEntry b x) ≡ cond b 1 0
 one-entry true x = refl
 one-entry false x = refl
 
 pub run-size : (periods phases : List ℕ) (c x : ℕ) →
-    length (runOf (isDue periods phases c x) x) ≡ cond (due (rateAt periods phases x) c) 1 0
+    length (runEntry (isDue periods phases c x) x) ≡ cond (due (rateAt periods phases x) c) 1 0
 unfolding due
 run-size periods phases c x = one-entry (isDue periods phases c x) x
 
@@ -65,7 +66,7 @@ module _ (periods order phases : List ℕ) (n c : ℕ) where
   list-starts = ap (chosen (isDue periods phases c)) (table-starts (λ j. getD order j 0) n)
 
   pub list-step : (i : ℕ) → i < n →
-      Parts (listFrom periods order phases n c i) (runOf (isDue periods phases c (getD order i 0)) (getD order i 0))
+      Parts (listFrom periods order phases n c i) (runEntry (isDue periods phases c (getD order i 0)) (getD order i 0))
       (listFrom periods order phases n c (i + 1))
   unfolding listFrom
   list-step i lt =

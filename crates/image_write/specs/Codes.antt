@@ -14,8 +14,8 @@ signalsIn (accepted p) = p .signals
 signalsIn (refused f) = []
 
 -- The signals that a text declares.
-unfoldable pub signalsOf : List ℕ → List Signal
-signalsOf text = signalsIn (parseProgram text)
+unfoldable pub declaredBy : List ℕ → List Signal
+declaredBy text = signalsIn (parseProgram text)
 
 -- Their code, numbered from x on.
 unfoldable pub codesFrom : ℕ → List Signal → List (List ℕ)
@@ -29,7 +29,7 @@ CodesAt start signals codes =
 -- The text declares n signals, and `places` says where. Their code is no longer than the text.
 pub record Declared (text places : List ℕ) (n : ℕ) : Type 0 where
   pub few : n ≤ 64
-  pub count-is : length (signalsOf text) ≡ n
-  pub stands : (x : ℕ) → x < n → getD (signalsOf text) x noSignal .place ≡ getD places x 0
-  pub spelled : (x : ℕ) → x < n → SpellsSignal text (getD (signalsOf text) x noSignal)
-  pub short : length (joined (codesFrom 0 (signalsOf text))) ≤ length text
+  pub count-is : length (declaredBy text) ≡ n
+  pub stands : (x : ℕ) → x < n → getD (declaredBy text) x noSignal .place ≡ getD places x 0
+  pub spelled : (x : ℕ) → x < n → SpellsSignal text (getD (declaredBy text) x noSignal)
+  pub short : length (joined (codesFrom 0 (declaredBy text))) ≤ length text

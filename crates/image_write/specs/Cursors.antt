@@ -7,7 +7,7 @@ use lib.Seq.{sets}
 use Rattle.model.specs.Rules.Image.{joined}
 use Rattle.model.specs.Rules.Reads.{Rate, due}
 use Rattle.model.specs.Rules.Search.{table, tableFrom}
-use Rattle.image_write.specs.Lists.{runOf}
+use Rattle.image_write.specs.Lists.{runEntry}
 
 -- What comes after the list of cycle c.
 abbrev pub listsAfter : (ℕ → List ℕ) → ℕ → ℕ → List ℕ
@@ -40,7 +40,7 @@ pub record Pending (all l : List ℕ) (to h : ℕ) (after : ℕ → ℕ) (left :
 
 -- In each cycle in which it is due, the run of x comes first of what is left.
 abbrev pub Splits : Rate → ℕ → ℕ → (ℕ → List ℕ) → (ℕ → List ℕ) → Type 0
-Splits a x h old new = (c : ℕ) → c < h → old c ≡ runOf (due a c) x ++ new c
+Splits a x h old new = (c : ℕ) → c < h → old c ≡ runEntry (due a c) x ++ new c
 
 -- Some lists have the runs of x to come.
 pub record Open (a : Rate) (x h to : ℕ) (out nexts : List ℕ) : Type 0 where
@@ -53,7 +53,7 @@ pub record Open (a : Rate) (x h to : ℕ) (out nexts : List ℕ) : Type 0 where
   pub splits : Splits a x h old new
 
 -- The runs of x are written.
-abbrev pub Adds : Rate → ℕ → ℕ → ℕ → List ℕ → List ℕ → List ℕ → List ℕ → Type 0
-Adds a x h to out nexts out′ nexts′ =
+abbrev pub WritesRuns : Rate → ℕ → ℕ → ℕ → List ℕ → List ℕ → List ℕ → List ℕ → Type 0
+WritesRuns a x h to out nexts out′ nexts′ =
     (all l : List ℕ) (after : ℕ → ℕ) (old new : ℕ → List ℕ) → Pending all l to h after old out nexts → Splits a x h old new →
     Pending all l to h after new out′ nexts′

@@ -5,20 +5,16 @@ use mathlib.Core.List.{List, [], _∷_}
 use lib.Dec.{eqb}
 use mathlib.Core.Path.{_≡_}
 use lib.ListN.{length, getD}
-use Rattle.model.specs.Rules.Reads.{Rate}
 use Rattle.model.specs.Rules.Search.{table, chosen, joinFrom}
 use Rattle.model.specs.Rules.Word.{twoBytes}
 
--- The rate of signal x, and whether it runs in cycle c.
-abbrev pub rateAt : List ℕ → List ℕ → ℕ → Rate
-rateAt periods phases x = record { period = getD periods x 0; phase = getD phases x 0 }
-
+-- Whether signal x runs in cycle c.
 abbrev pub isDue : List ℕ → List ℕ → ℕ → ℕ → Bool
 isDue periods phases c x = eqb (c % getD periods x 0) (getD phases x 0)
 
 -- A run of signal x, where it is due.
-abbrev pub runOf : Bool → ℕ → List ℕ
-runOf due x = cond due (x ∷ []) []
+abbrev pub runEntry : Bool → ℕ → List ℕ
+runEntry due x = cond due (x ∷ []) []
 
 -- The run list of cycle c over the first n signals in PUT order, and those of the cycles below h.
 unfoldable pub listBy : List ℕ → List ℕ → List ℕ → ℕ → ℕ → List ℕ
@@ -32,7 +28,7 @@ abbrev pub pairs : List ℕ → List ℕ
 pairs os = joinFrom 0 (λ i o. twoBytes o) os
 
 -- The first n entries of `order` are signals that have a period.
-pub record Timed (periods order : List ℕ) (n : ℕ) : Type 0 where
+pub record HasPeriods (periods order : List ℕ) (n : ℕ) : Type 0 where
   pub few : n ≤ 64
   pub below : (j : ℕ) → j < n → getD order j 0 < 64
   pub positive : (j : ℕ) → j < n → zero < getD periods (getD order j 0) 0

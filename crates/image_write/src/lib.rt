@@ -11,9 +11,10 @@ ghost use Rattle.model.specs.Rules.Reads.{stored};
 ghost use Rattle.model.specs.Rules.Schedule.{Schedule};
 ghost use Rattle.model.specs.Rules.Width.{inProgram};
 ghost use Rattle.model.specs.Rules.Word.{twoBytes, wordAt, wordBytes};
-ghost use Rattle.image_write.specs.Codes.{signalsOf, codesFrom, Declared, CodesAt};
-ghost use Rattle.image_write.specs.Cursors.{StartsOf, Open, Adds};
-ghost use Rattle.image_write.specs.Lists.{rateAt, listBy, listsBy, pairs, Timed, Phased, RunsCounted};
+ghost use Rattle.text_program.specs.Tables.{rateAt};
+ghost use Rattle.image_write.specs.Codes.{declaredBy, codesFrom, Declared, CodesAt};
+ghost use Rattle.image_write.specs.Cursors.{StartsOf, Open, WritesRuns};
+ghost use Rattle.image_write.specs.Lists.{listBy, listsBy, pairs, HasPeriods, Phased, RunsCounted};
 ghost use Rattle.text_program.specs.Prepared.{Prepared};
 ghost use Rattle.image_write.specs.Prepared.{LaidOut, Tabled, Fits};
 ghost use Rattle.image_write.specs.Tail.{tailBy};
@@ -40,7 +41,7 @@ fn count_runs(
     n: usize,
     h: usize,
 ) -> [u32; 240]
-    requires { ⌜ Timed (now periods) (now order) n × Phased (now periods) (now order) (now phases) n × (h ≤ 240) ⌝ }
+    requires { ⌜ HasPeriods (now periods) (now order) n × Phased (now periods) (now order) (now phases) n × (h ≤ 240) ⌝ }
     ensures { λ r. ⌜ RunsCounted (now (periods .entry)) (now (order .entry)) (now (phases .entry)) n h r ⌝ }
 {
     let mut counts: [u32; 240] = [0; 240];
@@ -72,7 +73,7 @@ fn lists_length(
     n: usize,
     h: usize,
 ) -> usize
-    requires { ⌜ Timed (now periods) (now order) n × Phased (now periods) (now order) (now phases) n × (h ≤ 240) ⌝ }
+    requires { ⌜ HasPeriods (now periods) (now order) n × Phased (now periods) (now order) (now phases) n × (h ≤ 240) ⌝ }
     ensures { λ r. ⌜ r ≡ length (joined (listsBy (now (periods .entry)) (now (order .entry)) (now (phases .entry)) n h)) ⌝ }
 {
     let mut total: usize = 0;
@@ -96,7 +97,7 @@ fn emit_runs(
     to: usize,
 )
     requires { ⌜ (phase < period) × (h ≤ 240) × (length (now nexts) ≡ 241) × Open (record { period = period; phase = phase }) x h to (now out) (now nexts) ⌝ }
-    ensures { λ _. ⌜ (length (now (nexts .exit)) ≡ 241) × Adds (record { period = period; phase = phase }) x h to (now (out .entry)) (now (nexts .entry)) (now (out .exit)) (now (nexts .exit)) ⌝ }
+    ensures { λ _. ⌜ (length (now (nexts .exit)) ≡ 241) × WritesRuns (record { period = period; phase = phase }) x h to (now (out .entry)) (now (nexts .entry)) (now (out .exit)) (now (nexts .exit)) ⌝ }
 {
     let step = basics::wide(period);
     let mut c = basics::wide(phase);
@@ -119,7 +120,7 @@ fn emit_lists(
     out: &mut [u8],
     to: usize,
 ) -> usize
-    requires { ⌜ (Timed (now periods) (now order) n × Phased (now periods) (now order) (now phases) n × (h ≤ 240)) × StartsOf (listBy (now periods) (now order) (now phases) n) h (now nexts) × (to + length (joined (listsBy (now periods) (now order) (now phases) n h)) ≤ length (now out)) ⌝ }
+    requires { ⌜ (HasPeriods (now periods) (now order) n × Phased (now periods) (now order) (now phases) n × (h ≤ 240)) × StartsOf (listBy (now periods) (now order) (now phases) n) h (now nexts) × (to + length (joined (listsBy (now periods) (now order) (now phases) n h)) ≤ length (now out)) ⌝ }
     ensures { λ r. ⌜ Wrote (now (out .entry)) to (joined (listsBy (now (periods .entry)) (now (order .entry)) (now (phases .entry)) n h)) (now (out .exit)) r ⌝ }
 {
     let mut i: usize = 0;
@@ -155,7 +156,7 @@ fn emit_offsets(
     out: &mut [u8],
     to: usize,
 ) -> usize
-    requires { ⌜ (length (now starts) ≡ 241) × (Timed (now periods) (now order) n × Phased (now periods) (now order) (now phases) n × (h ≤ 240)) × (start + length (joined (listsBy (now periods) (now order) (now phases) n h)) ≤ length (now out)) × (to + length (pairs (offsets start (listsBy (now periods) (now order) (now phases) n h))) ≤ length (now out)) ⌝ }
+    requires { ⌜ (length (now starts) ≡ 241) × (HasPeriods (now periods) (now order) n × Phased (now periods) (now order) (now phases) n × (h ≤ 240)) × (start + length (joined (listsBy (now periods) (now order) (now phases) n h)) ≤ length (now out)) × (to + length (pairs (offsets start (listsBy (now periods) (now order) (now phases) n h))) ≤ length (now out)) ⌝ }
     ensures { λ r. ⌜ StartsOf (listBy (now (periods .entry)) (now (order .entry)) (now (phases .entry)) n) h (now (starts .exit)) × Wrote (now (out .entry)) to (pairs (offsets start (listsBy (now (periods .entry)) (now (order .entry)) (now (phases .entry)) n h))) (now (out .exit)) r ⌝ }
 {
     let counts = count_runs(periods, order, phases, n, h);
@@ -175,8 +176,8 @@ fn emit_offsets(
 
 // Writes the code of n signals.
 fn emit_codes(text: &[u8], places: &[u16; 64], n: usize, out: &mut [u8], to: usize) -> usize
-    requires { ⌜ Declared (now text) (now places) n × (to + length (joined (codesFrom 0 (signalsOf (now text)))) ≤ length (now out)) ⌝ }
-    ensures { λ r. ⌜ Wrote (now (out .entry)) to (joined (codesFrom 0 (signalsOf (now (text .entry))))) (now (out .exit)) r ⌝ }
+    requires { ⌜ Declared (now text) (now places) n × (to + length (joined (codesFrom 0 (declaredBy (now text)))) ≤ length (now out)) ⌝ }
+    ensures { λ r. ⌜ Wrote (now (out .entry)) to (joined (codesFrom 0 (declaredBy (now (text .entry))))) (now (out .exit)) r ⌝ }
 {
     let mut end = to;
     let mut x: usize = 0;
@@ -210,8 +211,8 @@ fn emit_records(
     out: &mut [u8],
     to: usize,
 ) -> usize
-    requires { ⌜ Declared (now text) (now places) n × CodesAt start (signalsOf (now text)) (now codes) × (start + length (joined (codesFrom 0 (signalsOf (now text)))) ≤ length (now out)) × (to + length (records (signalsOf (now text)) (offsets start (codesFrom 0 (signalsOf (now text))))) ≤ length (now out)) ⌝ }
-    ensures { λ r. ⌜ Wrote (now (out .entry)) to (records (signalsOf (now (text .entry))) (offsets start (codesFrom 0 (signalsOf (now (text .entry)))))) (now (out .exit)) r ⌝ }
+    requires { ⌜ Declared (now text) (now places) n × CodesAt start (declaredBy (now text)) (now codes) × (start + length (joined (codesFrom 0 (declaredBy (now text)))) ≤ length (now out)) × (to + length (records (declaredBy (now text)) (offsets start (codesFrom 0 (declaredBy (now text))))) ≤ length (now out)) ⌝ }
+    ensures { λ r. ⌜ Wrote (now (out .entry)) to (records (declaredBy (now (text .entry))) (offsets start (codesFrom 0 (declaredBy (now (text .entry)))))) (now (out .exit)) r ⌝ }
 {
     let mut end = to;
     let mut x: usize = 0;

@@ -8,23 +8,22 @@ use lib.ListN.{getD}
 use Rattle.model.specs.Rules.Latency.{onward, latencyOf}
 use Rattle.model.specs.Rules.Reads.{Rate}
 use Rattle.model.specs.Rules.Search.{firstFrom, firstBelow, isFound, allBelow}
-use Rattle.model.specs.declared.Found.{Found}
 use Rattle.model.specs.declared.Found.the-variants.{At, Nowhere}
 use Rattle.model.specs.declared.Kind.{Kind}
 use Rattle.model.specs.declared.Kind.the-variants.{Now, Last, When, LastWhen, Current}
 use Rattle.model.specs.declared.Mode.{Mode}
 use Rattle.model.specs.declared.Mode.the-variants.{Exists, Backward}
 use Rattle.model.proofs.Pairs.Decide.{all-true}
+use Rattle.read_rule.specs.Lines.{isPlain}
 use Rattle.latency_rule.specs.declared.Hop.{Hop}
 use Rattle.latency_rule.specs.Back.{
   noHop,
-  entryBy,
+  usedBy,
   backBy,
   runLatencyBy,
   lateBy,
   inTimeBy,
   timelyBy,
-  isPlain,
   allPlain,
   Decide,
 }
@@ -51,7 +50,7 @@ module _ (hops : List Hop) where
   -- So many elements lie behind any that has enough before it.
   plain-back : (n : ℕ) → ((j : ℕ) → j < n → isPlain (getD hops j noHop .kind) ≡ true) →
       (d : ℕ) × (d ≤ n) × ((k : ℕ) → n ≤ k → backBy hops n k ≡ At (k - d))
-  unfolding backBy entryBy
+  unfolding backBy usedBy
   plain-back zero h = (0, omega arith, λ k le. ap At (omega arith))
   plain-back (suc n) h = go (getD hops n noHop .kind) refl (h n (omega arith)) (plain-back n (λ j lt. h j (omega arith)))
     where

@@ -2,14 +2,14 @@
 use Prim.Native.Nat.{ℕ, zero, suc, _+_, _*_, _-_, _≤_, _<_}
 use mathlib.Core.Bool.{Bool, true, false, not}
 use mathlib.Core.List.{List, [], _∷_}
-use mathlib.Core.Path.{_≡_, refl, sym, ap, _∙_}
-use native.Mathlib.Nat.{le-trans, mul-le-mul-left}
+use mathlib.Core.Path.{_≡_, refl, ap, _∙_}
+use native.Mathlib.Nat.{le-trans}
 use native.Mathlib.Omega.{arith}
-use lib.ListN.{length, getD}
+use lib.ListN.{length}
 use Rattle.model.specs.Says.Feasible.{Met, Feasible}
 use Rattle.model.specs.Rules.Latency.{onward, used, back, source, latencyFrom, runLatency, isLate, isInTime, isTimely}
 use Rattle.model.specs.Rules.Program.{Program, Read, count, signalAt}
-use Rattle.model.specs.Rules.Reads.{rateOf, runCycle, stored, before, settled}
+use Rattle.model.specs.Rules.Reads.{rateOf, runCycle, before}
 use Rattle.model.specs.Rules.Schedule.{Schedule, phaseOf}
 use Rattle.model.specs.Rules.Search.{firstBelow, isFound, allBelow}
 use Rattle.model.specs.declared.Found.{Found}
@@ -21,22 +21,11 @@ use Rattle.model.proofs.Pairs.Links.{used-is}
 use Rattle.model.proofs.Pairs.Links.{ChainMet}
 use Rattle.latency_rule.specs.declared.Hop.{Hop}
 use Rattle.latency_rule.specs.Hops.{HopsOf}
-use Rattle.latency_rule.specs.Back.{
-  noHop,
-  entryBy,
-  backBy,
-  Small,
-  onwardSmall,
-  latencyBy,
-  runLatencyBy,
-  lateBy,
-  inTimeBy,
-  timelyBy,
-}
+use Rattle.latency_rule.specs.Back.{usedBy, backBy, Small, onwardSmall, latencyBy, runLatencyBy, lateBy, inTimeBy, timelyBy}
 
 module _ (p : Program) (s : Schedule) where
   back-is : (hops : List Hop) (r k : ℕ) (ρs : List Read) → HopsOf p s hops r ρs → back p s r k ρs ≡ backBy hops (length ρs) k
-  unfolding back backBy entryBy used
+  unfolding back backBy usedBy used
   back-is hops r k [] h = refl
   back-is hops r k (ρ ∷ ρs) h = rw (h .0) (go (used p s r k ρ) (λ m. back-is hops (ρ .operands .signal) m ρs (h .1)))
     where
@@ -101,7 +90,7 @@ module _ (p : Program) (s : Schedule) where
     -- Where the run is early enough, every element on the way is small.
     pub small-is : (hops : List Hop) (r k : ℕ) (ρs : List Read) → r < count p → ChainMet p s r ρs → HopsOf p s hops r ρs →
         runCycle (rateOf p s r) k ≤ 1000000 → Small hops (length ρs) k
-    unfolding Small entryBy used
+    unfolding Small usedBy used
     small-is hops r k [] lt ch h le = le-trans (run-low r k lt) le
     small-is hops r k (ρ ∷ ρs) lt ch h le = (
       le-trans (run-low r k lt) le,

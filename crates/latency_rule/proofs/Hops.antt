@@ -1,6 +1,6 @@
 -- Laws of going back over hops. Assumes nothing.
 use Prim.Native.Nat.{ℕ, zero, suc, _+_, _*_, _-_, _≤_, _<_}
-use mathlib.Core.Bool.{Bool, true, false, not, _&&_, false≢true}
+use mathlib.Core.Bool.{Bool, true, false, false≢true}
 use mathlib.Core.List.{List}
 use mathlib.Core.Path.{_≡_, refl, sym, ap, subst, _∙_}
 use native.Mathlib.Nat.{mul-le-mul-left, mul-le-mul-right, le-trans}
@@ -10,10 +10,10 @@ use lib.ListN.{getD}
 use Rattle.model.specs.Rules.Latency.{onward}
 use Rattle.model.specs.Rules.Search.{allBelow}
 use Rattle.model.specs.declared.Found.{Found}
-use Rattle.model.specs.declared.Found.the-variants.{At, Nowhere}
+use Rattle.model.specs.declared.Found.the-variants.{At}
 use Rattle.model.proofs.Pairs.Decide.{all-true}
 use Rattle.latency_rule.specs.declared.Hop.{Hop}
-use Rattle.latency_rule.specs.Back.{noHop, entryBy, backBy, Small, onwardSmall}
+use Rattle.latency_rule.specs.Back.{noHop, usedBy, backBy, Small, onwardSmall}
 
 -- A product of an element's number and a byte.
 pub times-byte : (k n : ℕ) → k ≤ 1000000 → n < 256 → k * n ≤ 255000000
@@ -26,20 +26,20 @@ below n h = omega arith
 
 module _ (hops : List Hop) where
   -- One hop more.
-  pub back-at : (n k e : ℕ) → 0 < n → e ≡ entryBy (getD hops (n - 1) noHop) k →
+  pub back-at : (n k e : ℕ) → 0 < n → e ≡ usedBy (getD hops (n - 1) noHop) k →
       backBy hops n k ≡ onward (λ m. backBy hops (n - 1) m) e
   unfolding backBy
   back-at n k e h q = ap (λ n. backBy hops n k) (below n h) ∙ rw q (go (n - 1))
     where
-      go : (n : ℕ) → backBy hops (suc n) k ≡ onward (λ m. backBy hops n m) (entryBy (getD hops n noHop) k)
+      go : (n : ℕ) → backBy hops (suc n) k ≡ onward (λ m. backBy hops n m) (usedBy (getD hops n noHop) k)
       go n = refl
 
-  pub small-at : (n k e : ℕ) → 0 < n → e ≡ entryBy (getD hops (n - 1) noHop) k → Small hops n k →
+  pub small-at : (n k e : ℕ) → 0 < n → e ≡ usedBy (getD hops (n - 1) noHop) k → Small hops n k →
       onwardSmall (λ m. Small hops (n - 1) m) e
   unfolding Small
   small-at n k e h q s = rw q (go (n - 1) (subst (λ n. Small hops n k) (below n h) s))
     where
-      go : (n : ℕ) → Small hops (suc n) k → onwardSmall (λ m. Small hops n m) (entryBy (getD hops n noHop) k)
+      go : (n : ℕ) → Small hops (suc n) k → onwardSmall (λ m. Small hops n m) (usedBy (getD hops n noHop) k)
       go n t = t .1
 
   pub back-end : (n k : ℕ) → n ≡ 0 → backBy hops n k ≡ At k

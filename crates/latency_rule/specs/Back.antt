@@ -1,6 +1,6 @@
 -- Going back over the reads of a chain, by a table of hops.
 use Prim.Native.Nat.{ℕ, zero, suc, _+_, _≤_, _<_}
-use mathlib.Core.Bool.{Bool, true, false, not}
+use mathlib.Core.Bool.{Bool, false, not}
 use mathlib.Core.List.{List}
 use mathlib.Core.Path.{_≡_}
 use lib.Dec.{leb, ltb}
@@ -10,23 +10,23 @@ use Rattle.model.specs.Rules.Reads.{Rate, uses}
 use Rattle.model.specs.Rules.Search.{firstBelow, isFound, allBelow}
 use Rattle.model.specs.declared.Found.{Found}
 use Rattle.model.specs.declared.Found.the-variants.{At, Nowhere}
-use Rattle.model.specs.declared.Kind.{Kind}
-use Rattle.model.specs.declared.Kind.the-variants.{Now, Last, When, LastWhen, Current}
+use Rattle.model.specs.declared.Kind.the-variants.{Now}
 use Rattle.model.specs.declared.Mode.{Mode}
 use Rattle.model.specs.declared.Mode.the-variants.{Exists, Backward}
+use Rattle.read_rule.specs.Lines.{isPlain}
 use Rattle.latency_rule.specs.declared.Hop.{Hop}
 
 abbrev pub noHop : Hop
 noHop = record { kind = Now; factor = 0; index = 0 }
 
 -- The history entry that element k uses at a hop.
-unfoldable pub entryBy : Hop → ℕ → ℕ
-entryBy h k = uses (h .kind) (h .factor) (h .index) k
+unfoldable pub usedBy : Hop → ℕ → ℕ
+usedBy h k = uses (h .kind) (h .factor) (h .index) k
 
 -- The element at which one ends that goes back from element k over the first n hops, the last of them first.
 unfoldable pub backBy : List Hop → ℕ → ℕ → Found
 backBy hops zero k = At k
-backBy hops (suc n) k = onward (λ m. backBy hops n m) (entryBy (getD hops n noHop) k)
+backBy hops (suc n) k = onward (λ m. backBy hops n m) (usedBy (getD hops n noHop) k)
 
 -- Every index is below its factor.
 abbrev pub Sound : List Hop → ℕ → Type 0
@@ -39,7 +39,7 @@ onwardSmall go (suc m) = go m
 
 unfoldable pub Small : List Hop → ℕ → ℕ → Type 0
 Small hops zero k = k ≤ 1000000
-Small hops (suc n) k = (k ≤ 1000000) × onwardSmall (λ m. Small hops n m) (entryBy (getD hops n noHop) k)
+Small hops (suc n) k = (k ≤ 1000000) × onwardSmall (λ m. Small hops n m) (usedBy (getD hops n noHop) k)
 
 abbrev pub SmallFound : Found → Type 0
 SmallFound (At m) = m ≤ 1000000
@@ -68,14 +68,7 @@ timelyBy Backward bound hops n last source from window =
 timelyBy Exists bound hops n last source from window =
     isFound (firstBelow window (λ i. inTimeBy bound (runLatencyBy hops n last source (from + i))))
 
--- Whether a read is of an equal period.
-abbrev pub isPlain : Kind → Bool
-isPlain Now = true
-isPlain Last = true
-isPlain When = false
-isPlain LastWhen = false
-isPlain Current = false
-
+-- Every read is of an equal period.
 abbrev pub allPlain : List Hop → ℕ → Bool
 allPlain hops n = allBelow n (λ j. isPlain (getD hops j noHop .kind))
 

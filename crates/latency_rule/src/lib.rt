@@ -10,7 +10,7 @@ ghost use lib.ListN.{getD};
 ghost use Rattle.model.specs.Rules.Search.{firstBelow, isFound, allBelow};
 ghost use Rattle.model.specs.Rules.Reads.{runCycle};
 ghost use Rattle.read_rule.specs.Reads.{rateIn};
-ghost use Rattle.latency_rule.specs.Back.{entryBy, backBy, Sound, Small, SmallFound, runLatencyBy, lateBy, inTimeBy, timelyBy, isPlain, allPlain, Decide};
+ghost use Rattle.latency_rule.specs.Back.{usedBy, backBy, Sound, Small, SmallFound, runLatencyBy, lateBy, inTimeBy, timelyBy, allPlain, Decide};
 
 // One read on the way back: its kind, its factor and its settled index.
 pub struct Hop {
@@ -22,7 +22,7 @@ pub struct Hop {
 // The history entry of the signal read that element k of the reader uses.
 fn entry_of(hop: Hop, k: usize) -> usize
     requires { ⌜ (k ≤ 1000000) × (hop .index < hop .factor) ⌝ }
-    ensures { λ r. ⌜ r ≡ entryBy hop k ⌝ }
+    ensures { λ r. ⌜ r ≡ usedBy hop k ⌝ }
 {
     let n = hop.factor as usize;
     let i = hop.index as usize;
@@ -152,19 +152,6 @@ fn one_in_time(
     false
 }
 
-// Whether a read is of an equal period.
-fn is_plain(kind: Kind) -> bool
-    ensures { λ r. ⌜ r ≡ isPlain kind ⌝ }
-{
-    match kind {
-        Kind::Now => true,
-        Kind::Last => true,
-        Kind::When => false,
-        Kind::LastWhen => false,
-        Kind::Current => false,
-    }
-}
-
 fn all_plain(hops: [Hop; 15], count: usize) -> bool
     requires { ⌜ count ≤ 15 ⌝ }
     ensures { λ r. ⌜ r ≡ allPlain hops count ⌝ }
@@ -173,7 +160,7 @@ fn all_plain(hops: [Hop; 15], count: usize) -> bool
     while i < count {
         let hop = hops[i];
         let kind = hop.kind;
-        if !is_plain(kind) {
+        if !read_rule::is_plain(kind) {
             return false;
         }
         i = i + 1;

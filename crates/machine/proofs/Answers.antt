@@ -6,19 +6,7 @@ use Prim.Native.Nat.{ℕ}
 use lib.Dec.{leb, ltb}
 use lib.IntN.{ℤ, pos}
 use lib.ListN.{length, getD}
-use Rattle.model.specs.Rules.Machine.{
-  hyperOf,
-  countOf,
-  wellFormed,
-  isPosition,
-  resetWords,
-  cycleWords,
-  cycleCount,
-  Effect,
-  effect,
-  resetOf,
-  cycleOf,
-}
+use Rattle.model.specs.Rules.Machine.{hyperOf, countOf, wellFormed, isPosition, resetWords, cycleWords, cycleCount, Effect, resetOf, cycleOf}
 use Rattle.model.specs.Rules.Outcome.{Outcome, accepted, refuse, _▷_, provided}
 use Rattle.model.proofs.Images.Tails.{part-is, lent-ok, bears-itself}
 use Rattle.image_valid.specs.Lends.{Lends}

@@ -1,30 +1,15 @@
 -- What a cycle leaves can be run again, and so can what a reset leaves. Assumes nothing.
-use Prim.Native.Nat.{ℕ, _+_, _≤_, _<_}
-use mathlib.Core.Bool.{Bool, true, false}
+use Prim.Native.Nat.{ℕ, _≤_, _<_}
+use mathlib.Core.Bool.{true}
 use mathlib.Core.List.{List}
-use mathlib.Core.Path.{_≡_, refl, ap, _∙_}
+use mathlib.Core.Path.{_≡_, ap}
 use native.Mathlib.Omega.{arith}
-use borrow.Author.Tests.{ltb-true, lt-ltb, le-leb}
-use lib.Dec.{ltb}
+use borrow.Author.Tests.{lt-ltb, le-leb}
 use lib.IntN.{ℤ, pos}
-use lib.ListN.{length, getD, set, length-append, length-drop}
+use lib.ListN.{length, getD, length-append, length-drop}
 use lib.Seq.{getD-set-same}
 use Rattle.model.specs.Says.Calls.{cycle, callOf}
-use Rattle.model.specs.Rules.Machine.{
-  hyperOf,
-  countOf,
-  wellFormed,
-  positionOf,
-  nextPosition,
-  listOf,
-  runSignals,
-  cycleWords,
-  resetWords,
-  Effect,
-  effect,
-  resetOf,
-}
-use Rattle.model.specs.Rules.Outcome.{accepted, _▷_, provided}
+use Rattle.model.specs.Rules.Machine.{hyperOf, countOf, wellFormed, positionOf, nextPosition, listOf, runSignals, cycleWords, resetWords, Effect}
 use Rattle.model.proofs.Images.Cycles.{position-is, next-inside, run-length, cycle-length}
 use Rattle.model.proofs.Images.Stretches.{table-length}
 use Rattle.image_valid.proofs.Parts.{head, formed}

@@ -1,7 +1,7 @@
 -- The lines of the five reads in their one form. Assumes nothing.
-use Prim.Native.Nat.{ℕ, zero, suc, _+_, _*_, _-_, _≤_, _<_}
-use mathlib.Core.Bool.{Bool, true, false, cond, false≢true}
-use mathlib.Core.Path.{_≡_, refl, sym, ap, _∙_}
+use Prim.Native.Nat.{ℕ, suc, _+_, _*_, _-_, _≤_, _<_}
+use mathlib.Core.Bool.{Bool, true, false, cond}
+use mathlib.Core.Path.{_≡_, refl, sym, ap}
 use native.Mathlib.Decide.{decLe}
 use native.Mathlib.Nat.{mul-le-mul-right}
 use native.Mathlib.Omega.{arith}
@@ -10,14 +10,13 @@ use lib.Dec.{leb, eqb}
 use Rattle.model.specs.Says.Feasible.{Between, PeriodRule, Line}
 use Rattle.model.specs.Rules.Reads.{Rate, between, line, settle, share, runCycle}
 use Rattle.model.specs.Rules.Search.{firstBelow}
-use Rattle.model.specs.declared.Found.{Found}
 use Rattle.model.specs.declared.Found.the-variants.{At, Nowhere}
 use Rattle.model.specs.declared.Index.{Index}
 use Rattle.model.specs.declared.Index.the-variants.{Fixed, Open}
 use Rattle.model.specs.declared.Kind.{Kind}
 use Rattle.model.specs.declared.Kind.the-variants.{Now, Last, When, LastWhen, Current}
 use Rattle.model.proofs.Pairs.Decide.{between-true, true-between, line-true, settle-line, share-runs, runs-share}
-use Rattle.read_rule.specs.Lines.{lineOf, numberAt, meetsAt, foundOn}
+use Rattle.read_rule.specs.Lines.{lineIn, numberAt, meetsAt, foundOn}
 use Rattle.read_rule.specs.Reads.{rateIn, indexBy}
 use Rattle.read_rule.specs.declared.Timing.{Timing}
 
@@ -45,8 +44,8 @@ whole a b period d e lt = go (decLe a b)
     go (no h) = let g : suc b * period ≤ a * period = mul-le-mul-right period (omega arith) in absurd (omega arith)
 
 module _ (w r : Timing) (bw : w .phase < 256) (br : r .phase < 256) where
-  meets-line : (kind : Kind) (i : ℕ) → meetsAt (lineOf kind w r) i ≡ line kind (rateIn w) (rateIn r) i
-  unfolding lineOf meetsAt
+  meets-line : (kind : Kind) (i : ℕ) → meetsAt (lineIn kind w r) i ≡ line kind (rateIn w) (rateIn r) i
+  unfolding lineIn meetsAt
   meets-line Now i =
       between-leb (r .phase) (w .phase + 255 + i * 0) (r .phase + 256) (w .phase) (r .phase) (λ h. omega arith) (λ h. omega arith)
   meets-line Last i =
@@ -64,7 +63,7 @@ module _ (w r : Timing) (bw : w .phase < 256) (br : r .phase < 256) where
 
   -- The search on the line finds the index of the read.
   pub found-is : (kind : Kind) (n : ℕ) (index : Index) →
-      foundOn (lineOf kind w r) n index ≡ indexBy kind (rateIn w) (rateIn r) n index
+      foundOn (lineIn kind w r) n index ≡ indexBy kind (rateIn w) (rateIn r) n index
   unfolding settle
   found-is kind n (Fixed i) = rw (meets-line kind i)
   found-is kind n Open = λ j. firstBelow n (λ i. meets-line kind i j)
@@ -89,8 +88,8 @@ module _ (w r : Timing) (vw : w .phase < w .period) (vr : r .phase < r .period) 
 
   -- Runs share a cycle where the number is `ahead` after the cycle.
   pub share-is : (kind : Kind) (n i : ℕ) → 0 < n → PeriodRule kind (w .period) (r .period) n → Line kind (rateIn w) (rateIn r) i →
-      eqb (numberAt (lineOf kind w r) i) (lineOf kind w r .cycle + lineOf kind w r .ahead) ≡ share (rateIn w) (rateIn r)
-  unfolding lineOf
+      eqb (numberAt (lineIn kind w r) i) (lineIn kind w r .cycle + lineIn kind w r .ahead) ≡ share (rateIn w) (rateIn r)
+  unfolding lineIn
   share-is Now n i pos p l =
       shares Now n (w .phase + 255 + i * 0) (r .phase + 255) pos p (λ h. (0, 0, omega arith))
       (λ j k e. let d = r .phase - w .phase in omega (arith, whole j k (w .period) d (omega (arith, ap (k *_) p)) (omega arith)))

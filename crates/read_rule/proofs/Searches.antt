@@ -6,9 +6,8 @@ use native.Mathlib.Nat.{mul-le-mul-left, mul-le-mul-right, le-trans, sub-zero}
 use native.Mathlib.Decide.{decLt}
 use native.Mathlib.Numerals.{add-one}
 use native.Mathlib.Omega.{arith}
-use Rattle.model.specs.Rules.Reads.{Rate, line, settle, lineHolds}
+use Rattle.model.specs.Rules.Reads.{Rate, line, lineHolds}
 use Rattle.model.specs.Rules.Search.{firstFrom, isFound}
-use Rattle.model.specs.declared.Found.{Found}
 use Rattle.model.specs.declared.Found.the-variants.{At, Nowhere}
 use Rattle.model.specs.declared.Index.{Index}
 use Rattle.model.specs.declared.Index.the-variants.{Fixed, Open}

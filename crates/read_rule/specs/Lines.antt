@@ -49,8 +49,8 @@ module _ (kind : Kind) (w r : Timing) where
   abbrev pub aheadIn : ℕ
   aheadIn = cond (isBefore kind) (stepIn - 1) 0
 
-  unfoldable pub lineOf : Line
-  lineOf =
+  unfoldable pub lineIn : Line
+  lineIn =
       record {
         origin = cond (isCurrent kind) (r .phase) (w .phase) + aheadIn;
         stride = cond (isPlain kind) 0 periodIn;
@@ -70,7 +70,7 @@ pub record SmallLine (l : Line) : Type 0 where
 
 -- The line is that of a read between these signals, whose phases are bytes.
 pub record LineFor (kind : Kind) (w r : Timing) (l : Line) : Type 0 where
-  pub is : l ≡ lineOf kind w r
+  pub is : l ≡ lineIn kind w r
   pub small : SmallLine l
   pub read-byte : w .phase < 256
   pub reader-byte : r .phase < 256

@@ -23,8 +23,8 @@ fn either(first: bool, a: usize, b: usize) -> usize
     if first { a } else { b }
 }
 
-// NOW and LAST.
-fn is_plain(kind: Kind) -> bool
+// NOW and LAST: a read of an equal period.
+pub fn is_plain(kind: Kind) -> bool
     ensures { λ b. ⌜ b ≡ isPlain kind ⌝ }
 {
     match kind {
@@ -36,8 +36,8 @@ fn is_plain(kind: Kind) -> bool
     }
 }
 
-// Whether the runs counted are the reader's.
-fn is_current(kind: Kind) -> bool
+// CURRENT: the signal read has the longer period, and the runs counted are the reader's.
+pub fn is_current(kind: Kind) -> bool
     ensures { λ b. ⌜ b ≡ isCurrent kind ⌝ }
 {
     match kind {

@@ -4,10 +4,17 @@ use mathlib.Core.List.{List}
 use mathlib.Core.Path.{_≡_}
 use native.Mathlib.Decide.{decLt}
 use native.Mathlib.Omega.{arith}
-use borrow.Author.Tests.{ne-eqb}
-use Rattle.model.specs.Rules.Command.{plainRead, sampledRead, operatorOf}
+use borrow.Author.Tests.{ne-eqb, lt-ltb}
+use lib.ListN.{length}
+use Rattle.model.specs.Rules.Command.{plainRead, sampledRead, operatorOf, operatorAt}
+use Rattle.model.specs.Rules.Word.{byteAt}
 use Rattle.model.specs.declared.Operator.the-variants as Operator
 use Rattle.text_command.specs.Operator.{kindOf, binaryOf}
+
+-- At a byte that is there it is the operator of that byte.
+pub at-byte : (text : List ℕ) (at : ℕ) → at < length text → operatorAt text at ≡ operatorOf (byteAt text at) text at
+unfolding operatorAt
+at-byte text at lt = rw (lt-ltb _ _ lt)
 
 module _ (text : List ℕ) (at b : ℕ) where
   pub plain-is : 0x21 ≤ b → b ≤ 0x22 → operatorOf b text at ≡ plainRead (kindOf b) text at

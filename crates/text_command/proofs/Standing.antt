@@ -1,11 +1,9 @@
 -- An operator that stands in a text, by its byte. Assumes nothing.
-use Prim.Native.Nat.{ℕ, _+_, _≤_, _<_}
+use Prim.Native.Nat.{ℕ, _≤_, _<_}
 use mathlib.Core.List.{List}
-use mathlib.Core.Path.{_≡_, ap, _∙_}
+use mathlib.Core.Path.{_≡_}
 use native.Mathlib.Omega.{arith}
-use borrow.Author.Tests.{lt-ltb}
 use lib.ListN.{length}
-use Rattle.model.specs.Rules.Command.{operatorOf, operatorAt}
 use Rattle.model.specs.Rules.Image.{binaryByte}
 use Rattle.model.specs.Rules.Word.{byteAt}
 use Rattle.model.specs.Says.Written.{readByte, OperatorWritten}
@@ -14,18 +12,9 @@ use Rattle.model.specs.declared.Binary.the-variants.{Add, Sub, Mul, Less, Same,
 use Rattle.model.specs.declared.Kind.{Kind}
 use Rattle.model.specs.declared.Kind.the-variants.{Now, Last, When, LastWhen, Current}
 use Rattle.model.specs.declared.Operator.{Operator}
-use Rattle.model.specs.declared.Operator.the-variants as Operator
 use Rattle.model.specs.declared.Unary.the-variants.{Negate}
 use Rattle.model.proofs.Texts.Written.{operator-written}
-use Rattle.text_command.specs.Operator.{binaryOf, OperatorStands, ReadStands}
-use Rattle.text_command.proofs.Operands.{binary-is}
-
-read-range : (kind : Kind) → (0x21 ≤ readByte kind) × (readByte kind ≤ 0x25)
-read-range Now = (omega arith, omega arith)
-read-range Last = (omega arith, omega arith)
-read-range When = (omega arith, omega arith)
-read-range LastWhen = (omega arith, omega arith)
-read-range Current = (omega arith, omega arith)
+use Rattle.text_command.specs.Operator.{OperatorStands, ReadStands}
 
 binary-range : (operator : Binary) → (0x30 ≤ binaryByte operator) × (binaryByte operator ≤ 0x36)
 binary-range Add = (omega arith, omega arith)
@@ -36,85 +25,54 @@ binary-range Same = (omega arith, omega arith)
 binary-range Min = (omega arith, omega arith)
 binary-range Max = (omega arith, omega arith)
 
--- What its byte tells.
-pub data Stood (text : List ℕ) (at b : ℕ) : Type 0 where
-  constant : b ≡ 0x20 → at < length text → operatorAt text at ≡ operatorOf 0x20 text at → Stood text at b
-  read : 0x21 ≤ b → b ≤ 0x25 → at < length text → ReadStands text at → Stood text at b
-  binary : 0x30 ≤ b → b ≤ 0x36 → at < length text → operatorAt text at ≡ Operator.Binary (binaryOf b) → Stood text at b
-  unary : b ≡ 0x38 → at < length text → operatorAt text at ≡ Operator.Unary Negate → Stood text at b
-  choose : b ≡ 0x3A → at < length text → operatorAt text at ≡ Operator.If → Stood text at b
+read-range : (kind : Kind) → (0x21 ≤ readByte kind) × (readByte kind ≤ 0x25)
+read-range Now = (omega arith, omega arith)
+read-range Last = (omega arith, omega arith)
+read-range When = (omega arith, omega arith)
+read-range LastWhen = (omega arith, omega arith)
+read-range Current = (omega arith, omega arith)
 
-module _ (text : List ℕ) (at : ℕ) where
-  here : at < length text → operatorAt text at ≡ operatorOf (byteAt text at) text at
-  unfolding operatorAt
-  here lt = rw (lt-ltb _ _ lt)
+module _ {text : List ℕ} {at : ℕ} where
+  inside : {o : Operator} → OperatorWritten text at o → at < length text
+  inside (OperatorWritten.constant h b) = omega arith
+  inside (OperatorWritten.plain kind e h b) = omega arith
+  inside (OperatorWritten.sampled kind e h b r i) = omega arith
+  inside (OperatorWritten.binary operator h b) = omega arith
+  inside (OperatorWritten.unary operator h b) = omega arith
+  inside (OperatorWritten.choose h b) = omega arith
 
-  is : (o : Operator) → OperatorWritten text at o → operatorAt text at ≡ o
-  is o w = operator-written text at o .1 w .0
+  is-read : {o : Operator} → OperatorWritten text at o → 0x21 ≤ byteAt text at → byteAt text at ≤ 0x25 → ReadStands text at
+  is-read (OperatorWritten.constant h b) l m = absurd (omega arith)
+  is-read (OperatorWritten.plain kind e h b) l m =
+      record { kind = kind; operands = _; is = operator-written text at _ .1 (OperatorWritten.plain kind e h b) .0 }
+  is-read (OperatorWritten.sampled kind e h b r i) l m =
+      record { kind = kind; operands = _; is = operator-written text at _ .1 (OperatorWritten.sampled kind e h b r i) .0 }
+  is-read (OperatorWritten.binary operator h b) l m = absurd (omega (arith, binary-range operator .0))
+  is-read (OperatorWritten.unary Negate h b) l m = absurd (omega arith)
+  is-read (OperatorWritten.choose h b) l m = absurd (omega arith)
 
-  stood-by : {o : Operator} → OperatorWritten text at o → Stood text at (byteAt text at)
-  stood-by (OperatorWritten.constant h b) =
-      Stood.constant b (omega arith) (here (omega arith) ∙ ap (λ (x : ℕ). operatorOf x text at) b)
-  stood-by (OperatorWritten.plain kind e h b) =
-      let r = read-range kind in
-      Stood.read (omega arith) (omega arith) (omega arith)
-      (record { kind = kind; operands = _; is = is _ (OperatorWritten.plain kind e h b) })
-  stood-by (OperatorWritten.sampled kind e h b r i) =
-      let q = read-range kind in
-      Stood.read (omega arith) (omega arith) (omega arith)
-      (record { kind = kind; operands = _; is = is _ (OperatorWritten.sampled kind e h b r i) })
-  stood-by (OperatorWritten.binary operator h b) =
-      let r = binary-range operator in
-      let low : 0x30 ≤ byteAt text at = omega arith in
-      let high : byteAt text at ≤ 0x36 = omega arith in
-      Stood.binary low high (omega arith) (here (omega arith) ∙ binary-is text at (byteAt text at) low high)
-  stood-by (OperatorWritten.unary Negate h b) = Stood.unary b (omega arith) (is _ (OperatorWritten.unary Negate h b))
-  stood-by (OperatorWritten.choose h b) = Stood.choose b (omega arith) (is _ (OperatorWritten.choose h b))
+  is-binary : {o : Operator} → OperatorWritten text at o → (byteAt text at ≡ 0x20 → ⊥) →
+      (0x21 ≤ byteAt text at → byteAt text at ≤ 0x25 → ⊥) → (byteAt text at ≡ 0x38 → ⊥) → (byteAt text at ≡ 0x3A → ⊥) →
+      (0x30 ≤ byteAt text at) × (byteAt text at ≤ 0x36)
+  is-binary (OperatorWritten.constant h b) c r u f = absurd (c b)
+  is-binary (OperatorWritten.plain kind e h b) c r u f =
+      absurd (r (omega (arith, read-range kind .0)) (omega (arith, read-range kind .1)))
+  is-binary (OperatorWritten.sampled kind e h b s i) c r u f =
+      absurd (r (omega (arith, read-range kind .0)) (omega (arith, read-range kind .1)))
+  is-binary (OperatorWritten.binary operator h b) c r u f =
+      (omega (arith, binary-range operator .0), omega (arith, binary-range operator .1))
+  is-binary (OperatorWritten.unary Negate h b) c r u f = absurd (u b)
+  is-binary (OperatorWritten.choose h b) c r u f = absurd (f b)
 
-  pub stood : OperatorStands text at → Stood text at (byteAt text at)
-  stood s = stood-by (s .written)
+module _ {text : List ℕ} {at : ℕ} (s : OperatorStands text at) where
+  pub stands-inside : at < length text
+  stands-inside = inside (s .written)
 
-module _ {text : List ℕ} {at b : ℕ} where
-  pub stood-inside : Stood text at b → at < length text
-  stood-inside (Stood.constant e i q) = i
-  stood-inside (Stood.read l h i q) = i
-  stood-inside (Stood.binary l h i q) = i
-  stood-inside (Stood.unary e i q) = i
-  stood-inside (Stood.choose e i q) = i
-
-  pub stood-constant : Stood text at b → b ≡ 0x20 → operatorAt text at ≡ operatorOf 0x20 text at
-  stood-constant (Stood.constant e i q) z = q
-  stood-constant (Stood.read l h i q) z = absurd (omega arith)
-  stood-constant (Stood.binary l h i q) z = absurd (omega arith)
-  stood-constant (Stood.unary e i q) z = absurd (omega arith)
-  stood-constant (Stood.choose e i q) z = absurd (omega arith)
-
-  pub stood-read : Stood text at b → 0x21 ≤ b → b ≤ 0x25 → ReadStands text at
-  stood-read (Stood.constant e h q) l m = absurd (omega arith)
-  stood-read (Stood.read k h i q) l m = q
-  stood-read (Stood.binary k h i q) l m = absurd (omega arith)
-  stood-read (Stood.unary e i q) l m = absurd (omega arith)
-  stood-read (Stood.choose e i q) l m = absurd (omega arith)
-
-  pub stood-unary : Stood text at b → b ≡ 0x38 → operatorAt text at ≡ Operator.Unary Negate
-  stood-unary (Stood.constant e h q) z = absurd (omega arith)
-  stood-unary (Stood.read l h i q) z = absurd (omega arith)
-  stood-unary (Stood.binary l h i q) z = absurd (omega arith)
-  stood-unary (Stood.unary e i q) z = q
-  stood-unary (Stood.choose e i q) z = absurd (omega arith)
-
-  pub stood-if : Stood text at b → b ≡ 0x3A → operatorAt text at ≡ Operator.If
-  stood-if (Stood.constant e h q) z = absurd (omega arith)
-  stood-if (Stood.read l h i q) z = absurd (omega arith)
-  stood-if (Stood.binary l h i q) z = absurd (omega arith)
-  stood-if (Stood.unary e i q) z = absurd (omega arith)
-  stood-if (Stood.choose e i q) z = q
+  pub stands-read : 0x21 ≤ byteAt text at → byteAt text at ≤ 0x25 → ReadStands text at
+  stands-read = is-read (s .written)
 
   -- A byte that is none of the others.
-  pub stood-binary : Stood text at b → (b ≡ 0x20 → ⊥) → (0x21 ≤ b → b ≤ 0x25 → ⊥) → (b ≡ 0x38 → ⊥) → (b ≡ 0x3A → ⊥) →
-      operatorAt text at ≡ Operator.Binary (binaryOf b)
-  stood-binary (Stood.constant e h q) c r u f = absurd (c e)
-  stood-binary (Stood.read l h i q) c r u f = absurd (r l h)
-  stood-binary (Stood.binary l h i q) c r u f = q
-  stood-binary (Stood.unary e i q) c r u f = absurd (u e)
-  stood-binary (Stood.choose e i q) c r u f = absurd (f e)
+  pub stands-binary : (byteAt text at ≡ 0x20 → ⊥) → (0x21 ≤ byteAt text at → byteAt text at ≤ 0x25 → ⊥) →
+      (byteAt text at ≡ 0x38 → ⊥) → (byteAt text at ≡ 0x3A → ⊥) →
+      (0x30 ≤ byteAt text at) × (byteAt text at ≤ 0x36)
+  stands-binary = is-binary (s .written)

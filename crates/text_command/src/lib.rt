@@ -309,13 +309,6 @@ pub struct Taken {
     pub operands: Sampled,
 }
 
-// One of two bytes: a choice that takes no branch.
-fn select(first: bool, a: u8, b: u8) -> u8
-    ensures { λ r. ⌜ r ≡ cond first a b ⌝ }
-{
-    if first { a } else { b }
-}
-
 // How far behind its first byte the index of a read stands; of NOW and LAST, which have none, the byte itself is looked at.
 fn index_place(plain: bool) -> usize
     ensures { λ r. ⌜ r ≡ cond plain 0 2 ⌝ }
@@ -333,8 +326,8 @@ pub fn taken_at(text: &[u8], at: usize) -> Taken
     let kind = kind_of(byte);
     let plain = byte < 0x23;
     let place = at + index_place(plain);
-    let index = index_of(select(plain, 0, text[place]));
-    let factor = select(plain, 1, text[place + 1]);
+    let index = index_of(basics::select(plain, 0, text[place]));
+    let factor = basics::select(plain, 1, text[place + 1]);
     Taken {
         kind: kind,
         operands: Sampled {

@@ -2,13 +2,13 @@
 use Prim.Native.Nat.{ℕ, zero, suc, _+_, _-_, _≤_, _<_}
 use mathlib.Core.Bool.{Bool, true, false, cond}
 use mathlib.Core.List.{List, [], _∷_, _++_}
-use mathlib.Core.Path.{_≡_, refl, sym, ap, subst, _∙_}
+use mathlib.Core.Path.{_≡_, refl, sym, ap, _∙_}
 use native.Mathlib.Numerals.{add-one}
 use native.Mathlib.Omega.{arith}
 use borrow.Author.Tests.{leb-true, le-leb, lt-leb}
 use lib.Dec.{leb, eqb}
 use lib.ListN.{length, getD, take, drop, length-drop}
-use lib.Seq.{drop-cons, length-take-le, sets, sets-eq}
+use lib.Seq.{drop-cons, length-take-le, sets-eq}
 use Rattle.model.specs.Rules.Command.{isOperator, declarationAt, operatorAt}
 use Rattle.model.specs.Rules.Rewrite.{singleKind}
 use Rattle.model.specs.Rules.Machine.{effect}
@@ -47,7 +47,7 @@ use Rattle.text_program.specs.Tables.{ProgramReads}
 use Rattle.basics.specs.declared.Judged.{Judged}
 use Rattle.basics.specs.declared.Judged.the-variants as Judged
 use Rattle.text_program.specs.declared.ProgramRead.{ProgramRead}
-use Rattle.text_convert.specs.Pieces.{widthIn, lengthIn, bytesIn, operatorPiece, pieceOf, pieceAt}
+use Rattle.text_convert.specs.Pieces.{widthIn, newLength, bytesIn, operatorPiece, pieceOf, pieceAt}
 use Rattle.text_convert.specs.declared.Piece.{Piece}
 use Rattle.text_convert.specs.declared.Piece.the-variants as Piece
 
@@ -104,14 +104,14 @@ width-two LastWhen = omega arith
 width-two Current = omega arith
 
 -- No piece is longer than what it stands for.
-operator-short : (o : Operator) → lengthIn (operatorPiece o) ≤ widthIn (operatorPiece o)
+operator-short : (o : Operator) → newLength (operatorPiece o) ≤ widthIn (operatorPiece o)
 operator-short Operator.EndsEarly = omega arith
 operator-short Operator.Unknown = omega arith
 operator-short Operator.OutOfRange = omega arith
 operator-short (Operator.Constant w) = omega arith
 operator-short (Operator.Read kind x) = go (eqb (x .factor) 1) (readByte (singleKind kind)) (x .signal)
   where
-    go : (b : Bool) (a s : ℕ) → lengthIn (cond b (Piece.Short (readWidth kind) a s) (Piece.Keep (readWidth kind))) ≤
+    go : (b : Bool) (a s : ℕ) → newLength (cond b (Piece.Short (readWidth kind) a s) (Piece.Keep (readWidth kind))) ≤
         widthIn (cond b (Piece.Short (readWidth kind) a s) (Piece.Keep (readWidth kind)))
     go true a s = width-two kind
     go false a s = omega arith
@@ -127,11 +127,11 @@ piece-bytes : (c : Command) (l : List ℕ) → bytesIn (pieceOf c) l ≡ bytesAf
 piece-bytes (ofDeclaration d) l = refl
 piece-bytes (ofOperator o) l = operator-bytes o l
 
-piece-short : (c : Command) → lengthIn (pieceOf c) ≤ widthIn (pieceOf c)
+piece-short : (c : Command) → newLength (pieceOf c) ≤ widthIn (pieceOf c)
 piece-short (ofDeclaration d) = omega arith
 piece-short (ofOperator o) = operator-short o
 
-piece-length : (piece : Piece) (l : List ℕ) → length l ≡ widthIn piece → length (bytesIn piece l) ≡ lengthIn piece
+piece-length : (piece : Piece) (l : List ℕ) → length l ≡ widthIn piece → length (bytesIn piece l) ≡ newLength piece
 piece-length (Piece.Keep n) l e = e
 piece-length (Piece.Short n byte signal) l e = refl
 
@@ -170,8 +170,8 @@ command-inside text at le =
 -- What one turn does at `at`, where `left` are left.
 pub record Turn (text : List ℕ) (at left : ℕ) (piece : Piece) : Type 0 where
   pub inside : at + widthIn piece ≤ length text
-  pub short : lengthIn piece ≤ widthIn piece
-  pub size : length (pieceAt text at piece) ≡ lengthIn piece
+  pub short : newLength piece ≤ widthIn piece
+  pub size : length (pieceAt text at piece) ≡ newLength piece
   pub parts : Parts (rewriteFrom left text at) (pieceAt text at piece) (rewriteFrom (left - 1) text (at + widthIn piece))
 
 rewrite-step : (text : List ℕ) (at left : ℕ) → 0 < left →

@@ -18,9 +18,9 @@ abbrev pub widthIn : Piece → ℕ
 widthIn (Piece.Keep n) = n
 widthIn (Piece.Short n byte signal) = n
 
-abbrev pub lengthIn : Piece → ℕ
-lengthIn (Piece.Keep n) = n
-lengthIn (Piece.Short n byte signal) = 2
+abbrev pub newLength : Piece → ℕ
+newLength (Piece.Keep n) = n
+newLength (Piece.Short n byte signal) = 2
 
 abbrev pub bytesIn : Piece → List ℕ → List ℕ
 bytesIn (Piece.Keep n) bytes = bytes

@@ -15,7 +15,7 @@ ghost use Rattle.model.specs.Rules.Rewrite.{singleKind};
 ghost use Rattle.model.specs.Rules.Rewrite.{commandAt, declarationWidth, rewrite, convertOf};
 ghost use Rattle.model.specs.Says.Written.{readByte};
 ghost use Rattle.model.specs.Rules.Writing.{Wrote};
-ghost use Rattle.text_convert.specs.Pieces.{widthIn, lengthIn, operatorPiece, pieceOf, pieceAt};
+ghost use Rattle.text_convert.specs.Pieces.{widthIn, newLength, operatorPiece, pieceOf, pieceAt};
 
 // What a command becomes: its bytes as they are, so many; or, for so many bytes, a byte and a signal.
 enum Piece {
@@ -105,7 +105,7 @@ fn width_of(piece: Piece) -> usize
 }
 
 fn length_of(piece: Piece) -> usize
-    ensures { λ r. ⌜ r ≡ lengthIn piece ⌝ }
+    ensures { λ r. ⌜ r ≡ newLength piece ⌝ }
 {
     match piece {
         Piece::Keep(n) => n,
@@ -132,7 +132,7 @@ fn copy(text: &[u8], at: usize, n: usize, out: &mut [u8], to: usize) -> usize
 
 // Writes the piece that stands for the command at `at`.
 fn put(text: &[u8], at: usize, piece: Piece, out: &mut [u8], to: usize) -> usize
-    requires { ⌜ (at + widthIn piece ≤ length (now text)) × (to + lengthIn piece ≤ length (now out)) ⌝ }
+    requires { ⌜ (at + widthIn piece ≤ length (now text)) × (to + newLength piece ≤ length (now out)) ⌝ }
     ensures { λ r. ⌜ Wrote (now (out .entry)) to (pieceAt (now (text .entry)) at piece) (now (out .exit)) r ⌝ }
 {
     match piece {

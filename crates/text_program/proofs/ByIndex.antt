@@ -19,9 +19,10 @@ use Rattle.model.proofs.Texts.Legal.{SpellsRead, legal, signal-reads}
 use Rattle.model.proofs.Basics.Outcomes.{accepted-same, lowest-sorted}
 use Rattle.text_command.specs.Operator.{ReadStands, ReadTaken}
 use Rattle.text_command.specs.declared.Taken.{Taken}
-use Rattle.text_program.specs.Tables.{noChain, readsIn, ReadsOf, Indexed}
+use Rattle.text_program.specs.Tables.{noChain, readsIn, ReadsOf, TablesOf, TabledAs, Indexed}
 use Rattle.basics.specs.declared.Judged.{Judged}
 use Rattle.basics.specs.declared.Judged.the-variants as Judged
+use Rattle.text_program.specs.declared.Tables.{Tables}
 use Rattle.text_program.proofs.Rising.{Rising, rising-all}
 use Rattle.text_program.proofs.Sums.{sums-below}
 
@@ -33,6 +34,14 @@ noLink = record { place = 0; signal = 0 }
 
 abbrev pub readAt : Program → ℕ → ℕ → Read
 readAt p x j = getD (bodyReads (signalAt p x .body)) j noRead
+
+-- A program that is read has few signals.
+pub few-signals : (text : List ℕ) (t : Tables) (p : Program) → parseProgram text ≡ accepted p → TablesOf p t → t .signals ≤ 64
+few-signals text t p e tables = omega (arith, legal text p e .1 .fewSignals, tables .counts .signals-are)
+
+-- Its reads stand in their table.
+pub indexed : (text reads : List ℕ) (t : Tables) → TabledAs text reads t → Indexed text reads (t .firsts) (t .signals)
+indexed text reads t h = record { program = h .0; parsed = h .1; count-is = h .2 .counts .signals-are; reads-are = h .3 }
 
 -- What stands in a text at rising places, owner by owner: the reads of the signals, the LINKs of the chains.
 pub record Family : Type 1 where

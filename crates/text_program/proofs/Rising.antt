@@ -1,25 +1,12 @@
 -- The reads of an accepted text stand at rising offsets. Assumes nothing.
 use Prim.Native.Nat.{ℕ, suc, _+_, _≤_}
 use mathlib.Core.List.{List, [], _∷_, _++_, map, map-append, append-nil}
-use mathlib.Core.Path.{_≡_, refl, sym, ap, subst, _∙_}
+use mathlib.Core.Path.{_≡_, _∙_}
 use native.Mathlib.Omega.{arith}
 use Rattle.model.specs.Says.Feasible.{All}
 use Rattle.model.specs.Says.Grammar.{Spells, SpellsLinks, DeclaresOne, Declares}
 use Rattle.model.specs.Rules.Outcome.{accepted}
-use Rattle.model.specs.Rules.Program.{
-  leastFactor,
-  Read,
-  Expr,
-  Signal,
-  Link,
-  Chain,
-  Program,
-  withSignal,
-  withChain,
-  readsOf,
-  bodyReads,
-  parseProgram,
-}
+use Rattle.model.specs.Rules.Program.{leastFactor, Expr, Signal, Link, Chain, Program, withSignal, withChain, readsOf, bodyReads, parseProgram}
 use Rattle.model.specs.Rules.Search.{joinFrom}
 use Rattle.model.proofs.Texts.Legal.{links-end}
 use Rattle.model.proofs.Basics.Outcomes.{joinFrom-append}

@@ -3,7 +3,7 @@ use mathlib.Core.Path.{_≡_, refl, _∙_}
 use mathlib.Core.Bool.{Bool, true, false, cond}
 use mathlib.Core.List.{List, [], _∷_}
 use mathlib.Core.Logic.{inl, inr}
-use Prim.Native.Nat.{ℕ, zero, suc, _+_, _≤_, _<_}
+use Prim.Native.Nat.{ℕ, suc, _+_}
 use native.Mathlib.Omega.{arith}
 use lib.Dec.{leb, ltb}
 use lib.IntN.{ℤ}
@@ -44,7 +44,6 @@ use Rattle.text_program.specs.Walks.{placesOf, Moves, EquationBy, WalksE
 use Rattle.text_program.specs.declared.Entry.the-variants as Entry
 use Rattle.text_program.specs.declared.Step.{Step}
 use Rattle.text_program.specs.declared.Step.the-variants as Step
-use Rattle.text_program.specs.declared.Walk.{Walk}
 use Rattle.text_program.proofs.Longer.{Past, past-links}
 use Rattle.text_program.proofs.Walks.{parsed-spans}
 

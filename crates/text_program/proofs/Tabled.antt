@@ -1,6 +1,6 @@
 -- Tables that are a program's stay so when both get one entry more, and what the program reader answers. Assumes nothing.
 use mathlib.Core.Path.{_≡_, refl, sym, ap, subst, _∙_}
-use mathlib.Core.Bool.{Bool, true, false}
+use mathlib.Core.Bool.{true, false}
 use mathlib.Core.List.{List, [], _∷_, _++_}
 use types.Run.{OneOf, miss}
 use Prim.Native.Nat.{ℕ, zero, suc, _+_, _-_, _*_, _≤_, _<_}
@@ -10,7 +10,7 @@ use lib.ListN.{length, getD, set, length-append, length-map, length-set, List·g
 use lib.Seq.{sets, length-sets, getD-append-seam, getD-set-same, getD-set-other}
 use denote.Enum.Declared.{tagOf, declared}
 use borrow.Author.Tests.{le-ltb}
-use Rattle.model.specs.Rules.Outcome.{accepted, refused, fault, refuse, _▷_, provided}
+use Rattle.model.specs.Rules.Outcome.{fault, refuse, _▷_, provided}
 use Rattle.model.specs.Rules.Program.{
   Program,
   Read,
@@ -29,14 +29,12 @@ use Rattle.model.specs.Rules.Program.{
   parseCommands,
   parseWith,
 }
-use Rattle.model.specs.declared.Fault.{Fault}
-use Rattle.text_program.specs.Steps.{Counts, AddsSignal, Adds, labelAfter, Added, Stepped}
+use Rattle.text_program.specs.Steps.{AddsSignal, Adds, labelAfter, Added, Stepped}
 use Rattle.text_program.specs.Tables.{noChain, Sums, readsIn, codeIn, ReadsOf, TablesOf, judgedOf, ProgramReads}
-use Rattle.text_program.specs.Walks.{placesOf, Room, Moves}
+use Rattle.text_program.specs.Walks.{placesOf, WalkRoom, Moves}
 use Rattle.text_program.specs.declared.Entry.{Entry}
 use Rattle.text_program.specs.declared.Entry.the-variants as Entry
 use Rattle.basics.specs.declared.Judged.{Judged}
-use Rattle.text_program.specs.declared.ProgramRead.{ProgramRead}
 use Rattle.text_program.specs.declared.Step.{Step}
 use Rattle.text_program.specs.declared.Step.the-variants as Step
 use Rattle.text_program.specs.declared.Tables.{Tables}
@@ -129,7 +127,7 @@ pub record Reading (least : ℕ) (text reads : List ℕ) (t : Tables) (at label 
   pub count-is : getD (t .firsts) (t .signals) 0 ≡ n
   pub code-is : getD (t .codes) (t .signals) 0 ≡ to
   pub space : Space t
-  pub room : Room (length text) at n to (length reads)
+  pub room : WalkRoom (length text) at n to (length reads)
   pub left : ℕ
   pub bytes : length text ≤ at + left
   pub onward : parseWith least text ≡ parseCommands least left text at label program
@@ -149,7 +147,7 @@ module _ {least : ℕ} {text reads : List ℕ} {t : Tables} {at label n to : ℕ
   pub same-size : length reads′ ≡ length reads
   same-size = ap length (m .holds) ∙ simp length-sets
 
-  pub room-next : Room (length text) (w .at) (w .reads) (w .code) (length reads′)
+  pub room-next : WalkRoom (length text) (w .at) (w .reads) (w .code) (length reads′)
   room-next =
       record {
         short = r .room .short;

@@ -1,15 +1,14 @@
 -- Laws of reading an expression with its reads kept. Assumes nothing.
-use mathlib.Core.Path.{_≡_, refl, sym, ap, subst, _∙_}
+use mathlib.Core.Path.{_≡_, refl, ap, subst, _∙_}
 use mathlib.Core.List.{List, [], _∷_, _++_, map-append}
-use Prim.Native.Nat.{ℕ, suc, _+_, _*_, _≤_, _<_}
-use native.Mathlib.Nat.{add-zero}
+use Prim.Native.Nat.{ℕ, _+_, _*_, _≤_}
 use native.Mathlib.Omega.{arith}
 use lib.IntN.{ℤ}
 use lib.ListN.{length, length-append, set}
 use lib.Seq.{sets, length-sets}
 use Rattle.model.specs.Says.Grammar.{Spells}
 use Rattle.model.specs.Rules.Image.{unaryByte, exprCode}
-use Rattle.model.specs.Rules.Outcome.{Outcome, accepted, refused, fault, refuse, _▷_, Parsed, parsed}
+use Rattle.model.specs.Rules.Outcome.{Outcome, accepted, refused, refuse, _▷_, Parsed, parsed}
 use Rattle.model.specs.Rules.Program.{
   Read,
   Expr,
@@ -33,7 +32,7 @@ use Rattle.model.proofs.Texts.Commands.{operator-sound}
 use Rattle.model.proofs.Texts.Spelled.{spelled}
 use Rattle.model.proofs.Texts.Written.{operator-decoded}
 use Rattle.model.proofs.Images.Stretches.{sets-append}
-use Rattle.text_program.specs.Walks.{placesOf, Room, Moves, WalksBy, Walks, EquationBy, WalksEquation, deepOf}
+use Rattle.text_program.specs.Walks.{placesOf, WalkRoom, Moves, WalksBy, Walks, EquationBy, WalksEquation, deepOf}
 use Rattle.text_program.specs.declared.Entry.{Entry}
 use Rattle.text_program.specs.declared.Step.{Step}
 use Rattle.text_program.specs.declared.Step.the-variants as Step
@@ -204,11 +203,11 @@ parsed-spans least d text at e n q = spans (spelled least text d at e n q .0)
 
 -- There is room for what comes after it.
 pub record Ahead (size room : ℕ) (w : Walk) : Type 0 where
-  pub left : Room size (w .at) (w .reads) (w .code) room
+  pub left : WalkRoom size (w .at) (w .reads) (w .code) room
   pub inside : w .at ≤ size
 
 pub ahead : (least : ℕ) (text : List ℕ) {l l′ : List ℕ} {at count to : ℕ} {r : Walked} {a : Walk} (d : ℕ) →
-    Room (length text) at count to (length l) → Walks (parseExpr least d text at) l count to l′ r → r ≡ Walked.Next a →
+    WalkRoom (length text) at count to (length l) → Walks (parseExpr least d text at) l count to l′ r → r ≡ Walked.Next a →
     Ahead (length text) (length l′) a
 unfolding WalksBy
 ahead least text {l} {l′} {at} {count} {to} {r} {a} d h w e = go (parseExpr least d text at) refl w
@@ -235,7 +234,7 @@ ahead least text {l} {l′} {at} {count} {to} {r} {a} d h w e = go (parseExpr le
         let z : _≡_ {A = ℕ} 0 1 = cc in
         absurd (omega arith)
 
-pub room-after : {size at count to room : ℕ} (k : ℕ) → Room size at count to room → Room size (at + k) count to room
+pub room-after : {size at count to room : ℕ} (k : ℕ) → WalkRoom size at count to room → WalkRoom size (at + k) count to room
 room-after k h =
     record { short = h .short; table = h .table; few = omega (arith, h .few); small = omega (arith, h .small) }
 

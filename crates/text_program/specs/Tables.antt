@@ -1,6 +1,6 @@
 -- What the tables of a program text say.
 use Prim.Native.Nat.{ℕ, suc, _+_, _≤_, _<_}
-use mathlib.Core.Bool.{Bool, true, false, cond}
+use mathlib.Core.Bool.{Bool, cond}
 use mathlib.Core.List.{List, []}
 use mathlib.Core.Path.{_≡_}
 use lib.ListN.{length, getD}
@@ -19,7 +19,7 @@ use Rattle.model.specs.Rules.Program.{
   weightOf,
   parseProgram,
 }
-use Rattle.model.specs.Rules.Reads.{rank}
+use Rattle.model.specs.Rules.Reads.{Rate, rank}
 use Rattle.model.specs.Rules.Schedule.{Schedule, phaseOf}
 use Rattle.model.specs.declared.Mode.the-variants.{Exists}
 use Rattle.text_program.specs.Steps.{Counts}
@@ -50,6 +50,10 @@ WeightsOf p weights = (x : ℕ) → x < count p → getD weights x 0 ≡ weightO
 
 abbrev pub LabelsOf : Program → List ℕ → Type 0
 LabelsOf p labels = (x : ℕ) → x < count p → getD labels x 0 ≡ signalAt p x .label
+
+-- The rate of signal x by the tables of periods and phases.
+abbrev pub rateAt : List ℕ → List ℕ → ℕ → Rate
+rateAt periods phases x = record { period = getD periods x 0; phase = getD phases x 0 }
 
 -- A table of where the parts of the signals start, one after another, and last where they end; a part has so many entries.
 pub record Sums (f : ℕ → Signal → ℕ) (p : Program) (table : List ℕ) : Type 0 where
@@ -83,6 +87,14 @@ pub record TablesOf (p : Program) (t : Tables) : Type 0 where
   pub cap : p .cap ≡ capOf (t .capped) (t .limit)
   -- how many entries they have space for
   pub space : (length (t .places) ≡ 64) × (length (t .starts) ≡ 16) × (length (t .lengths) ≡ 16)
+
+-- The tables, without and with that of the reads, are those of the program that the text is.
+abbrev pub ReadAs : List ℕ → Tables → Type 0
+ReadAs text tables = (p : Program) × (parseProgram text ≡ accepted p) × TablesOf p tables
+
+abbrev pub TabledAs : List ℕ → List ℕ → Tables → Type 0
+TabledAs text reads tables =
+    (p : Program) × (parseProgram text ≡ accepted p) × TablesOf p tables × ReadsOf p reads (tables .firsts)
 
 -- The text is a program of n signals, and the table has its reads.
 pub record Indexed (text reads firsts : List ℕ) (n : ℕ) : Type 0 where

@@ -21,7 +21,7 @@ placesOf ρs = map (λ (ρ : Read). ρ .place) ρs
 
 -- A text of `size` bytes, read up to `at` with so many reads and so many bytes of code, and a table with an entry for each two
 -- bytes.
-pub record Room (size at count to room : ℕ) : Type 0 where
+pub record WalkRoom (size at count to room : ℕ) : Type 0 where
   pub short : size ≤ 8192
   pub table : size ≤ 2 * room
   pub few : 2 * count ≤ at

@@ -17,7 +17,7 @@ ghost use Rattle.model.specs.declared.Fault.{Fault};
 ghost use Rattle.text_program.specs.Results.{hereOf, linksOf, chainOf, tagOf, endOf};
 ghost use Rattle.text_program.specs.Steps.{Counts, Stepped};
 ghost use Rattle.text_program.specs.Tables.{judgedOf, ProgramReads};
-ghost use Rattle.text_program.specs.Walks.{deepOf, Room, Walks, WalksEquation};
+ghost use Rattle.text_program.specs.Walks.{deepOf, WalkRoom, Walks, WalksEquation};
 
 // The offset at which reading goes on, or the refusal.
 pub enum Reached {
@@ -103,7 +103,7 @@ pub fn read_expression(
     depth: usize,
     reads: &mut [u16],
 ) -> Walked
-    requires { ⌜ Room (length (now (now text))) at count to (length (now reads)) ⌝ }
+    requires { ⌜ WalkRoom (length (now (now text))) at count to (length (now reads)) ⌝ }
     ensures { λ r. ⌜ Walks (parseExpr least depth (now (now (text .entry))) at) (now (reads .entry)) count to (now (reads .exit)) r ⌝ }
 {
     if depth == 0 {
@@ -311,7 +311,7 @@ fn equation_step(
     to: usize,
     reads: &mut [u16],
 ) -> Step
-    requires { ⌜ (at < length (now text)) × Room (length (now text)) at count to (length (now reads)) ⌝ }
+    requires { ⌜ (at < length (now text)) × WalkRoom (length (now text)) at count to (length (now reads)) ⌝ }
     ensures { λ r. ⌜ WalksEquation (parseExpr least 16 (now (text .entry)) (at + inProgram 0x11)) entry (now (reads .entry)) count to (now (reads .exit)) r ⌝ }
 {
     let start = at + width::in_program(0x11);
@@ -384,7 +384,7 @@ fn read_command(
     to: usize,
     reads: &mut [u16],
 ) -> Step
-    requires { ⌜ Room (length (now text)) at count to (length (now reads)) ⌝ }
+    requires { ⌜ WalkRoom (length (now text)) at count to (length (now reads)) ⌝ }
     ensures { λ r. ⌜ ((p : Program) (label : ℕ) → Counts p signals chains capped → Stepped least (now (text .entry)) at label p (now (reads .entry)) count to (now (reads .exit)) r) ⌝ }
 {
     let here = declaration_here(text, at, signals, chains, capped);

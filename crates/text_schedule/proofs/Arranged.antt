@@ -1,24 +1,15 @@
 -- What a pair that has passed 2 to 13 keeps, by its tables. Assumes nothing.
 use Prim.Native.Nat.{ℕ, _≤_, _<_}
 use mathlib.Core.List.{List}
-use mathlib.Core.Path.{_≡_}
 use native.Mathlib.Omega.{arith}
 use lib.ListN.{getD}
-use Rattle.model.specs.Rules.Outcome.{accepted}
-use Rattle.model.specs.Rules.Program.{Program, count, parseProgram}
+use Rattle.model.specs.Rules.Program.{Program, count}
 use Rattle.model.specs.Rules.Schedule.{Schedule}
 use Rattle.model.specs.Says.Feasible.{Ordered}
 use Rattle.model.proofs.Pairs.Hypercycle.{hypercycle-least}
-use Rattle.model.proofs.Texts.Legal.{legal}
 use Rattle.model.proofs.Texts.Puts.{placed-ordered}
-use Rattle.text_program.specs.Tables.{TablesOf}
-use Rattle.text_program.specs.declared.Tables.{Tables}
 use Rattle.text_schedule.specs.Arranged.{Arranged}
 use Rattle.text_schedule.specs.declared.PairTables.{PairTables}
-
--- A program that is read has few signals.
-pub few-signals : (text : List ℕ) (t : Tables) (p : Program) → parseProgram text ≡ accepted p → TablesOf p t → t .signals ≤ 64
-few-signals text t p e tables = omega (arith, legal text p e .1 .fewSignals, tables .counts .signals-are)
 
 module _ {text : List ℕ} {t : PairTables} {p : Program} {s : Schedule} (g : Arranged text t p s) where
   pub short-hypercycle : t .hypercycle ≤ 240

@@ -1,45 +1,33 @@
 -- The tables after each PUT, and what going through all of them answers. Assumes nothing.
-use mathlib.Core.Path.{_≡_, refl, sym, ap, ap₂, subst, _∙_}
+use mathlib.Core.Path.{_≡_, refl, sym, ap, ap₂, _∙_}
 use mathlib.Core.Bool.{Bool, true, false, cond, not, _||_, false≢true}
-use mathlib.Core.List.{List, [], _∷_, _++_, map, append-assoc, append-nil}
-use Prim.Native.Nat.{ℕ, zero, suc, _+_, _*_, _≤_, _<_}
+use mathlib.Core.List.{List, [], _∷_, _++_, append-assoc, append-nil}
+use Prim.Native.Nat.{ℕ, zero, suc, _+_, _≤_, _<_}
 use native.Mathlib.Omega.{arith}
 use lib.Dec.{ltb, eqb}
 use lib.ListN.{length, getD, set, length-append, length-set, length-map, replicate, getD-replicate}
 use lib.Seq.{getD-set-same, getD-set-other}
-use borrow.Author.Tests.{eqb-true, eqb-false, eq-eqb, ne-eqb, lt-ltb, le-ltb, ltb-true, ltb-false}
+use borrow.Author.Tests.{eqb-true, eqb-false, eq-eqb, ne-eqb, lt-ltb, le-ltb}
 use Rattle.model.specs.Says.Feasible.{All}
 use Rattle.model.specs.Rules.Outcome.{Outcome, accepted, refused, fault, _▷_, provided, lowest, Parsed}
 use Rattle.model.specs.Rules.Program.{Program, count, signalAt}
 use Rattle.model.specs.Rules.Reads.{rank}
-use Rattle.model.specs.Rules.Schedule.{
-  Schedule,
-  Put,
-  scheduleCommandAt,
-  isPut,
-  putFaults,
-  putsFaults,
-  putPhase,
-  scheduleOf,
-  placed,
-  phaseOf,
-  parseSchedule,
-}
+use Rattle.model.specs.Rules.Schedule.{Schedule, Put, scheduleCommandAt, isPut, putFaults, putsFaults, putPhase, scheduleOf, placed, parseSchedule}
 use Rattle.model.specs.Rules.Search.{allBelow}
 use Rattle.model.specs.declared.Fault.{Fault}
 use Rattle.model.specs.declared.ScheduleCommand.{ScheduleCommand}
 use Rattle.model.specs.declared.ScheduleCommand.the-variants as ScheduleCommand
 use Rattle.model.proofs.Basics.All.{all-at, all-append}
-use Rattle.model.proofs.Pairs.Decide.{all-true, true-all}
+use Rattle.model.proofs.Pairs.Decide.{all-true}
 use Rattle.model.proofs.Basics.Outcomes.{lowest-sorted, getD-table}
 use Rattle.model.specs.Says.Grammar.{SpellsPuts}
 use Rattle.model.proofs.Texts.Puts.{puts-end, puts-spelled, placed-ordered}
 use Rattle.model.proofs.Texts.Written.{put-decoded}
-use Rattle.text_program.specs.Tables.{PeriodsOf, SlotsOf}
+use Rattle.text_program.specs.Tables.{SlotsOf}
 use Rattle.basics.specs.declared.Judged.{Judged}
 use Rattle.basics.specs.declared.Judged.the-variants as Judged
 use Rattle.text_program.proofs.Filled.{filled}
-use Rattle.text_schedule.specs.Slots.{signalsOf, SlotsAfter, putAdded, judgedBy, PutJudged, allRanked, ScheduledAs}
+use Rattle.text_schedule.specs.Slots.{signalsPut, SlotsAfter, putAdded, judgedBy, PutJudged, allRanked, ScheduledAs}
 use Rattle.text_schedule.specs.declared.Placing.{Placing}
 use Rattle.text_schedule.specs.declared.Slots.{Slots}
 use Rattle.text_schedule.proofs.Pigeons.{order-length}
@@ -59,25 +47,25 @@ put-snoc [] q x = or-false (eqb (q .signal) x)
 put-snoc (r ∷ done) q x = ap (eqb (r .signal) x ||_) (put-snoc done q x) ∙ sym (or-assoc (eqb (r .signal) x) (isPut done x) _)
 
 module _ (q : Put) (x : ℕ) where
-  rank-old : (done : List Put) → isPut done x ≡ true → rank (signalsOf (done ++ (q ∷ []))) x ≡ rank (signalsOf done) x
+  rank-old : (done : List Put) → isPut done x ≡ true → rank (signalsPut (done ++ (q ∷ []))) x ≡ rank (signalsPut done) x
   unfolding isPut rank
   rank-old [] e = absurd (false≢true e)
   rank-old (r ∷ done) e = go (eqb (r .signal) x) e (λ h. rank-old done h)
     where
       go : (b : Bool) → b || isPut done x ≡ true →
-          (isPut done x ≡ true → rank (signalsOf (done ++ (q ∷ []))) x ≡ rank (signalsOf done) x) →
-          cond b 0 (suc (rank (signalsOf (done ++ (q ∷ []))) x)) ≡ cond b 0 (suc (rank (signalsOf done) x))
+          (isPut done x ≡ true → rank (signalsPut (done ++ (q ∷ []))) x ≡ rank (signalsPut done) x) →
+          cond b 0 (suc (rank (signalsPut (done ++ (q ∷ []))) x)) ≡ cond b 0 (suc (rank (signalsPut done) x))
       go true h ih = refl
       go false h ih = ap suc (ih h)
 
-  rank-new : (done : List Put) → isPut done x ≡ false → q .signal ≡ x → rank (signalsOf (done ++ (q ∷ []))) x ≡ length done
+  rank-new : (done : List Put) → isPut done x ≡ false → q .signal ≡ x → rank (signalsPut (done ++ (q ∷ []))) x ≡ length done
   unfolding isPut rank
   rank-new [] e g = rw (eq-eqb (q .signal) x g)
   rank-new (r ∷ done) e g = go (eqb (r .signal) x) e (λ h. rank-new done h g)
     where
       go : (b : Bool) → b || isPut done x ≡ false →
-          (isPut done x ≡ false → rank (signalsOf (done ++ (q ∷ []))) x ≡ length done) →
-          cond b 0 (suc (rank (signalsOf (done ++ (q ∷ []))) x)) ≡ suc (length done)
+          (isPut done x ≡ false → rank (signalsPut (done ++ (q ∷ []))) x ≡ length done) →
+          cond b 0 (suc (rank (signalsPut (done ++ (q ∷ []))) x)) ≡ suc (length done)
       go true h ih = absurd (false≢true (sym h))
       go false h ih = ap suc (ih h)
 
@@ -102,23 +90,23 @@ module _ (q : Put) (x : ℕ) where
       go false h ih = ih h
 
 -- A signal that is put has a place below the number of PUTs.
-rank-below : (done : List Put) (x : ℕ) → isPut done x ≡ true → rank (signalsOf done) x < length done
+rank-below : (done : List Put) (x : ℕ) → isPut done x ≡ true → rank (signalsPut done) x < length done
 unfolding isPut rank
 rank-below [] x e = absurd (false≢true e)
 rank-below (r ∷ done) x e = go (eqb (r .signal) x) e (λ h. rank-below done x h)
   where
-    go : (b : Bool) → b || isPut done x ≡ true → (isPut done x ≡ true → rank (signalsOf done) x < length done) →
-        cond b 0 (suc (rank (signalsOf done) x)) < suc (length done)
+    go : (b : Bool) → b || isPut done x ≡ true → (isPut done x ≡ true → rank (signalsPut done) x < length done) →
+        cond b 0 (suc (rank (signalsPut done) x)) < suc (length done)
     go true h ih = omega arith
     go false h ih = omega (arith, ih h)
 
 signals-snoc : (done : List Put) (q : Put) (j : ℕ) → j < length done →
-    getD (signalsOf (done ++ (q ∷ []))) j 0 ≡ getD (signalsOf done) j 0
+    getD (signalsPut (done ++ (q ∷ []))) j 0 ≡ getD (signalsPut done) j 0
 signals-snoc [] q j lt = absurd (omega arith)
 signals-snoc (r ∷ done) q zero lt = refl
 signals-snoc (r ∷ done) q (suc j) lt = signals-snoc done q j (omega arith)
 
-signals-last : (done : List Put) (q : Put) → getD (signalsOf (done ++ (q ∷ []))) (length done) 0 ≡ q .signal
+signals-last : (done : List Put) (q : Put) → getD (signalsPut (done ++ (q ∷ []))) (length done) 0 ≡ q .signal
 signals-last [] q = refl
 signals-last (r ∷ done) q = signals-last done q
 
@@ -153,14 +141,14 @@ module _ (done : List Put) (t : Slots) (h : SlotsAfter done t) (q : Put) (low : 
       record {
         puts-are = length-append done (q ∷ []) ∙ ap (_+ 1) (h .puts-are);
         order-is = λ j lt.
-            filled (λ i. getD (signalsOf (done ++ (q ∷ []))) i 0) (t .order) (t .puts) (q .signal)
+            filled (λ i. getD (signalsPut (done ++ (q ∷ []))) i 0) (t .order) (t .puts) (q .signal)
             (omega (arith, h .space .0, h .puts-are))
-            (sym (signals-last done q) ∙ ap (λ i. getD (signalsOf (done ++ (q ∷ []))) i 0) (h .puts-are))
+            (sym (signals-last done q) ∙ ap (λ i. getD (signalsPut (done ++ (q ∷ []))) i 0) (h .puts-are))
             (λ y ly. h .order-is y (omega (arith, h .puts-are)) ∙ sym (signals-snoc done q y (omega (arith, h .puts-are)))) j
             (omega (arith, length-append done (q ∷ []), h .puts-are));
         unput = unput-after;
         ranks-are = λ x lt p.
-            by-signal (t .ranks) (t .puts) x (rank (signalsOf (done ++ (q ∷ [])))) (h .space .2) lt p
+            by-signal (t .ranks) (t .puts) x (rank (signalsPut (done ++ (q ∷ [])))) (h .space .2) lt p
             (λ o. h .ranks-are x lt o ∙ sym (rank-old q x done o))
             (λ z. sym (rank-new q x done (ap (isPut done) (sym z) ∙ fresh) z ∙ h .puts-are));
         phases-are = λ x lt p.
@@ -370,12 +358,12 @@ module _ (text : List ℕ) (p : Program) (o : Parsed (List Put)) (at : ℕ) (t :
       let size : length (s .order) ≡ length (g .done) = length-map (o .value) _ ∙ ap length all-done in (
         sym (size ∙ g .after .puts-are),
         record {
-          order-is = λ j lt. g .after .order-is j (omega arith) ∙ ap (λ qs. getD (signalsOf qs) j 0) (sym all-done);
+          order-is = λ j lt. g .after .order-is j (omega arith) ∙ ap (λ qs. getD (signalsPut qs) j 0) (sym all-done);
           phases-are = λ x lt.
               g .after .phases-are x (omega arith) (put x lt) ∙ ap (λ qs. putPhase qs x) (sym all-done) ∙
               sym (getD-table (putPhase (o .value)) (count p) x 0 lt);
           ranks-are = λ x lt.
-              g .after .ranks-are x (omega arith) (put x lt) ∙ ap (λ qs. rank (signalsOf qs) x) (sym all-done);
+              g .after .ranks-are x (omega arith) (put x lt) ∙ ap (λ qs. rank (signalsPut qs) x) (sym all-done);
           all-put = order-length (s .order) (count p) (ok .put) (ok .once) (ok .only);
         },
       )

@@ -1,12 +1,12 @@
 -- The tables of a schedule, while its PUTs are gone through and after.
-use Prim.Native.Nat.{ℕ, _+_, _≤_, _<_}
+use Prim.Native.Nat.{ℕ, _+_, _<_}
 use mathlib.Core.Bool.{Bool, true, false, cond, not}
 use mathlib.Core.List.{List, [], _∷_, map}
 use mathlib.Core.Path.{_≡_}
 use lib.Dec.{leb, eqb}
 use lib.ListN.{length, getD, set}
 use Rattle.model.specs.Rules.Outcome.{Outcome, accepted, refused, fault, Parsed}
-use Rattle.model.specs.Rules.Program.{Program, count, signalAt}
+use Rattle.model.specs.Rules.Program.{Program, count}
 use Rattle.model.specs.Rules.Reads.{rank}
 use Rattle.model.specs.Rules.Schedule.{Schedule, Put, isPut, putPhase, putFaults, placed}
 use Rattle.model.specs.Rules.Search.{allBelow}
@@ -37,15 +37,15 @@ EndedAt (refused f) r = r ≡ Ended.Refused f
 unfoldable pub allRanked : List ℕ → ℕ → Bool
 allRanked ranks n = allBelow n (λ x. not (eqb (getD ranks x 0) 64))
 
-abbrev pub signalsOf : List Put → List ℕ
-signalsOf puts = map (λ q. q .signal) puts
+abbrev pub signalsPut : List Put → List ℕ
+signalsPut puts = map (λ q. q .signal) puts
 
 -- What the tables say after some PUTs.
 pub record SlotsAfter (done : List Put) (t : Slots) : Type 0 where
   pub puts-are : length done ≡ t .puts
-  pub order-is : (j : ℕ) → j < length done → getD (t .order) j 0 ≡ getD (signalsOf done) j 0
+  pub order-is : (j : ℕ) → j < length done → getD (t .order) j 0 ≡ getD (signalsPut done) j 0
   pub unput : (x : ℕ) → x < 64 → isPut done x ≡ false → getD (t .ranks) x 0 ≡ 64
-  pub ranks-are : (x : ℕ) → x < 64 → isPut done x ≡ true → getD (t .ranks) x 0 ≡ rank (signalsOf done) x
+  pub ranks-are : (x : ℕ) → x < 64 → isPut done x ≡ true → getD (t .ranks) x 0 ≡ rank (signalsPut done) x
   pub phases-are : (x : ℕ) → x < 64 → isPut done x ≡ true → getD (t .phases) x 0 ≡ putPhase done x
   -- how many entries they have space for
   pub space : (length (t .order) ≡ 64) × (length (t .phases) ≡ 64) × (length (t .ranks) ≡ 64)

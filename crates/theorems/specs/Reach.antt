@@ -20,7 +20,7 @@ use Rattle.model.specs.declared.Operator.the-variants as Operator
 use Rattle.model.specs.declared.ScheduleCommand.{ScheduleCommand}
 use Rattle.model.specs.declared.ScheduleCommand.the-variants as ScheduleCommand
 use Rattle.model.specs.declared.Width.{Width}
-use Rattle.model.specs.declared.Width.the-variants.{Bytes, Unlisted}
+use Rattle.model.specs.declared.Width.the-variants.{Bytes}
 
 -- The bytes that are known: those that aren't unknown, whatever follows them.
 abbrev isDeclarationKnown : Declaration → Bool

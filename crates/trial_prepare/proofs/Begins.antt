@@ -1,21 +1,20 @@
 -- From the image of an accepted pair to its trial. Assumes nothing.
 use Prim.Native.Nat.{ℕ, _+_, _≤_, _<_}
-use mathlib.Core.Bool.{Bool, true, false}
+use mathlib.Core.Bool.{Bool, true}
 use mathlib.Core.List.{List, _++_, append-assoc}
-use mathlib.Core.Path.{_≡_, refl, sym, ap, ap₂, subst, fun-ext, _∙_}
+use mathlib.Core.Path.{_≡_, refl, sym, ap, ap₂, subst, _∙_}
 use native.Mathlib.Omega.{arith}
 use borrow.Author.Tests.{leb-true, le-leb, lt-ltb}
-use lib.Dec.{leb}
 use lib.IntN.{ℤ, pos}
 use lib.ListN.{length, take, drop, replicate, take-append-drop, length-append, length-replicate}
 use lib.Seq.{take-append-seam}
 use Rattle.model.specs.Rules.Compile.{Pair, pairOf, verdictOf, compileOf}
 use Rattle.model.specs.Rules.Image.{imageOf, tailOf, writtenOf}
-use Rattle.model.specs.Rules.Machine.{Effect, effect, wellFormed, countOf, statedLength, resetWords, resetOf}
+use Rattle.model.specs.Rules.Machine.{Effect, wellFormed, countOf, statedLength, resetWords}
 use Rattle.model.specs.Rules.Outcome.{Outcome, accepted, refused, _▷_, provided}
 use Rattle.model.specs.Rules.Program.{Program}
 use Rattle.model.specs.Rules.Schedule.{Schedule}
-use Rattle.model.specs.Rules.Script.{isInputOf, scriptOf, inputsOnly, noSamples, checkOf, callsOf, cyclesOf}
+use Rattle.model.specs.Rules.Script.{isInputOf, scriptOf, noSamples, checkOf, callsOf}
 use Rattle.model.specs.Rules.Trial.{linesFrom, startOf, trialOf}
 use Rattle.model.specs.Rules.Word.{AreBytes}
 use Rattle.model.specs.declared.Fault.{Fault}

@@ -2,7 +2,6 @@
 use Prim.Native.Nat.{ℕ, _≤_}
 use mathlib.Core.List.{List}
 use mathlib.Core.Path.{_≡_}
-use lib.IntN.{ℤ}
 use lib.ListN.{length, take}
 use Rattle.model.specs.Rules.Outcome.{accepted, refused}
 use Rattle.model.specs.Rules.Script.{noSamples, scriptOf, checkOf, cyclesOf}

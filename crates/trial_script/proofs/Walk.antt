@@ -1,5 +1,5 @@
 -- The walk over a script: how a command stands in a text, and what it does to what follows. Assumes nothing.
-use Prim.Native.Nat.{ℕ, suc, _+_, _≤_, _<_}
+use Prim.Native.Nat.{ℕ, _+_, _≤_, _<_}
 use mathlib.Core.Bool.{Bool, true, false, cond}
 use mathlib.Core.List.{List, [], _∷_, _++_}
 use mathlib.Core.Path.{_≡_, refl, sym, ap, _∙_}
@@ -8,9 +8,9 @@ use borrow.Author.Tests.{leb-true, lt-ltb, le-leb, lt-leb}
 use lib.Dec.{leb, eqb}
 use lib.IntN.{ℤ}
 use lib.ListN.{length, replicate}
-use Rattle.model.specs.Says.Calls.{Call, cycle}
+use Rattle.model.specs.Says.Calls.{cycle}
 use Rattle.model.specs.Rules.Machine.{countOf, codeOffset, codeOf, codeOk, codeOkFrom, wellFormed}
-use Rattle.model.specs.Rules.Outcome.{Outcome, accepted, refused, refuse, _▷_, provided}
+use Rattle.model.specs.Rules.Outcome.{accepted, refused, refuse, _▷_, provided}
 use Rattle.model.specs.Rules.Script.{
   scriptCommandAt,
   Action,
@@ -29,11 +29,11 @@ use Rattle.model.specs.declared.ScriptCommand.{ScriptCommand}
 use Rattle.model.specs.declared.ScriptCommand.the-variants as ScriptCommand
 use Rattle.model.proofs.Bench.Scripts.{past, step}
 use Rattle.image_valid.proofs.Parts.{formed, codes, stretch-length}
-use Rattle.trial_script.specs.Steps.{widthOf, runsOf, altered, mayStand, endingAt}
+use Rattle.trial_script.specs.Steps.{actionWidth, cyclesMade, altered, mayStand, endingAt}
 
 -- A SET or RUN is whole.
-pub inside : (text : List ℕ) (at w : ℕ) → w ≡ widthOf (scriptCommandAt text at) → at < length text → at + w ≤ length text
-unfolding widthOf scriptCommandAt
+pub inside : (text : List ℕ) (at w : ℕ) → w ≡ actionWidth (scriptCommandAt text at) → at < length text → at + w ≤ length text
+unfolding actionWidth scriptCommandAt
 inside text at w e h =
     rw (e, lt-ltb at (length text) h)
     (go (eqb (byteAt text at) 0x00) (eqb (byteAt text at) 0x70) (eqb (byteAt text at) 0x71) (leb (at + 6) (length text))
@@ -41,7 +41,7 @@ inside text at w e h =
   where
     go : (a b c d f : Bool) → leb (at + 6) (length text) ≡ d → leb (at + 2) (length text) ≡ f →
         at +
-        widthOf (cond a ScriptCommand.End
+        actionWidth (cond a ScriptCommand.End
         (cond b (cond d (ScriptCommand.Set (byteAt text (at + 1)) (wordAt text (at + 2))) ScriptCommand.EndsEarly)
         (cond c (cond f (ScriptCommand.Run (byteAt text (at + 1))) ScriptCommand.EndsEarly) ScriptCommand.Unknown))) ≤ length text
     go true b c d f p q = omega arith
@@ -64,13 +64,13 @@ module _ (text : List ℕ) (at : ℕ) where
   unfolding scriptCommand
   actions-past h = rw (step text at, past text at h)
 
-  module _ (w : ℕ) (e : w ≡ widthOf (scriptCommandAt text at)) where
+  module _ (w : ℕ) (e : w ≡ actionWidth (scriptCommandAt text at)) where
     -- a command that ends the script
     pub ending-here : w ≡ 0 → scriptAt text at .ending ≡ endingAt text at here
-    unfolding widthOf scriptCommand endingAt
+    unfolding actionWidth scriptCommand endingAt
     ending-here z = ap (λ (s : Script). s .ending) (step text at) ∙ go here (sym e ∙ z)
       where
-        go : (c : ScriptCommand) → widthOf c ≡ 0 → scriptCommand (scriptAt text) text at c .ending ≡ endingAt text at c
+        go : (c : ScriptCommand) → actionWidth c ≡ 0 → scriptCommand (scriptAt text) text at c .ending ≡ endingAt text at c
         go ScriptCommand.EndsEarly z = refl
         go ScriptCommand.Unknown z = refl
         go ScriptCommand.End z = refl
@@ -78,10 +78,10 @@ module _ (text : List ℕ) (at : ℕ) where
         go (ScriptCommand.Run n) z = absurd (omega arith)
 
     pub actions-here : w ≡ 0 → scriptAt text at .actions ≡ []
-    unfolding widthOf scriptCommand
+    unfolding actionWidth scriptCommand
     actions-here z = ap (λ (s : Script). s .actions) (step text at) ∙ go here (sym e ∙ z)
       where
-        go : (c : ScriptCommand) → widthOf c ≡ 0 → scriptCommand (scriptAt text) text at c .actions ≡ []
+        go : (c : ScriptCommand) → actionWidth c ≡ 0 → scriptCommand (scriptAt text) text at c .actions ≡ []
         go ScriptCommand.EndsEarly z = refl
         go ScriptCommand.Unknown z = refl
         go ScriptCommand.End z = refl
@@ -91,11 +91,11 @@ module _ (text : List ℕ) (at : ℕ) where
     -- and one that does not
     module _ (some : 0 < w) where
       pub ending-more : scriptAt text at .ending ≡ scriptAt text (at + w) .ending
-      unfolding widthOf scriptCommand
+      unfolding actionWidth scriptCommand
       ending-more = ap (λ (s : Script). s .ending) (step text at) ∙ rw e (go here (rw e at some))
         where
-          go : (c : ScriptCommand) → 0 < widthOf c → scriptCommand (scriptAt text) text at c .ending ≡
-              scriptAt text (at + widthOf c) .ending
+          go : (c : ScriptCommand) → 0 < actionWidth c → scriptCommand (scriptAt text) text at c .ending ≡
+              scriptAt text (at + actionWidth c) .ending
           go ScriptCommand.EndsEarly z = absurd (omega arith)
           go ScriptCommand.Unknown z = absurd (omega arith)
           go ScriptCommand.End z = absurd (omega arith)
@@ -104,12 +104,12 @@ module _ (text : List ℕ) (at : ℕ) where
 
       pub sets-more : (isInput : ℕ → Bool) → mayStand isInput here ≡ true →
           inputsOnly isInput (scriptAt text at .actions) ≡ inputsOnly isInput (scriptAt text (at + w) .actions)
-      unfolding widthOf scriptCommand mayStand inputsOnly _▷_ provided
+      unfolding actionWidth scriptCommand mayStand inputsOnly _▷_ provided
       sets-more isInput m = ap (λ (s : Script). inputsOnly isInput (s .actions)) (step text at) ∙ rw e (go here (rw e at some) m)
         where
-          go : (c : ScriptCommand) → 0 < widthOf c → mayStand isInput c ≡ true →
+          go : (c : ScriptCommand) → 0 < actionWidth c → mayStand isInput c ≡ true →
               inputsOnly isInput (scriptCommand (scriptAt text) text at c .actions) ≡
-              inputsOnly isInput (scriptAt text (at + widthOf c) .actions)
+              inputsOnly isInput (scriptAt text (at + actionWidth c) .actions)
           go ScriptCommand.EndsEarly z m = absurd (omega arith)
           go ScriptCommand.Unknown z m = absurd (omega arith)
           go ScriptCommand.End z m = absurd (omega arith)
@@ -117,26 +117,26 @@ module _ (text : List ℕ) (at : ℕ) where
           go (ScriptCommand.Run n) z m = refl
 
       pub calls-more : (samples : List ℤ) → callsFrom samples (scriptAt text at .actions) ≡
-          replicate (runsOf here) (cycle (altered samples here)) ++ callsFrom (altered samples here)
+          replicate (cyclesMade here) (cycle (altered samples here)) ++ callsFrom (altered samples here)
           (scriptAt text (at + w) .actions)
-      unfolding widthOf scriptCommand runsOf altered callsFrom
+      unfolding actionWidth scriptCommand cyclesMade altered callsFrom
       calls-more samples = ap (λ (s : Script). callsFrom samples (s .actions)) (step text at) ∙ rw e (go here (rw e at some))
         where
-          go : (c : ScriptCommand) → 0 < widthOf c → callsFrom samples (scriptCommand (scriptAt text) text at c .actions) ≡
-              replicate (runsOf c) (cycle (altered samples c)) ++ callsFrom (altered samples c)
-              (scriptAt text (at + widthOf c) .actions)
+          go : (c : ScriptCommand) → 0 < actionWidth c → callsFrom samples (scriptCommand (scriptAt text) text at c .actions) ≡
+              replicate (cyclesMade c) (cycle (altered samples c)) ++ callsFrom (altered samples c)
+              (scriptAt text (at + actionWidth c) .actions)
           go ScriptCommand.EndsEarly z = absurd (omega arith)
           go ScriptCommand.Unknown z = absurd (omega arith)
           go ScriptCommand.End z = absurd (omega arith)
           go (ScriptCommand.Set x v) z = refl
           go (ScriptCommand.Run n) z = refl
 
-      pub cycles-more : cyclesOf (scriptAt text at .actions) ≡ runsOf here + cyclesOf (scriptAt text (at + w) .actions)
-      unfolding widthOf scriptCommand runsOf cyclesOf
+      pub cycles-more : cyclesOf (scriptAt text at .actions) ≡ cyclesMade here + cyclesOf (scriptAt text (at + w) .actions)
+      unfolding actionWidth scriptCommand cyclesMade cyclesOf
       cycles-more = ap (λ (s : Script). cyclesOf (s .actions)) (step text at) ∙ rw e (go here (rw e at some))
         where
-          go : (c : ScriptCommand) → 0 < widthOf c → cyclesOf (scriptCommand (scriptAt text) text at c .actions) ≡
-              runsOf c + cyclesOf (scriptAt text (at + widthOf c) .actions)
+          go : (c : ScriptCommand) → 0 < actionWidth c → cyclesOf (scriptCommand (scriptAt text) text at c .actions) ≡
+              cyclesMade c + cyclesOf (scriptAt text (at + actionWidth c) .actions)
           go ScriptCommand.EndsEarly z = absurd (omega arith)
           go ScriptCommand.Unknown z = absurd (omega arith)
           go ScriptCommand.End z = absurd (omega arith)

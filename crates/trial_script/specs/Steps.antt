@@ -18,20 +18,20 @@ ruledOf Judged.Fine = accepted tt
 ruledOf (Judged.Refused f) = refused f
 
 -- The bytes of a SET or RUN; 0 where the script goes no further.
-unfoldable pub widthOf : ScriptCommand → ℕ
-widthOf ScriptCommand.EndsEarly = 0
-widthOf ScriptCommand.Unknown = 0
-widthOf ScriptCommand.End = 0
-widthOf (ScriptCommand.Set x w) = inScript 0x70
-widthOf (ScriptCommand.Run n) = inScript 0x71
+unfoldable pub actionWidth : ScriptCommand → ℕ
+actionWidth ScriptCommand.EndsEarly = 0
+actionWidth ScriptCommand.Unknown = 0
+actionWidth ScriptCommand.End = 0
+actionWidth (ScriptCommand.Set x w) = inScript 0x70
+actionWidth (ScriptCommand.Run n) = inScript 0x71
 
 -- The cycles that a command makes.
-unfoldable pub runsOf : ScriptCommand → ℕ
-runsOf ScriptCommand.EndsEarly = 0
-runsOf ScriptCommand.Unknown = 0
-runsOf ScriptCommand.End = 0
-runsOf (ScriptCommand.Set x w) = 0
-runsOf (ScriptCommand.Run n) = n
+unfoldable pub cyclesMade : ScriptCommand → ℕ
+cyclesMade ScriptCommand.EndsEarly = 0
+cyclesMade ScriptCommand.Unknown = 0
+cyclesMade ScriptCommand.End = 0
+cyclesMade (ScriptCommand.Set x w) = 0
+cyclesMade (ScriptCommand.Run n) = n
 
 -- The samples after a command.
 unfoldable pub altered : List ℤ → ScriptCommand → List ℤ

@@ -10,7 +10,7 @@ ghost use Rattle.model.specs.Rules.Machine.{wellFormed};
 ghost use Rattle.model.specs.Rules.Outcome.{refuse};
 ghost use Rattle.model.specs.Rules.Script.{scriptCommandAt, scriptOf, inputsOnly, checkOf, cyclesOf};
 ghost use Rattle.trial_script.specs.Inputs.{fetches, markOf, marked};
-ghost use Rattle.trial_script.specs.Steps.{ruledOf, widthOf, runsOf, endingAt, mayStand};
+ghost use Rattle.trial_script.specs.Steps.{ruledOf, actionWidth, cyclesMade, endingAt, mayStand};
 
 fn refused(number: u8, place: usize) -> Judged
     ensures { λ r. ⌜ ruledOf r ≡ refuse number place ⌝ }
@@ -50,7 +50,7 @@ pub fn script_command_at(text: &[u8], at: usize) -> ScriptCommand
 
 // The bytes of a SET or RUN; 0 where the script goes no further.
 pub fn width_of(command: ScriptCommand) -> usize
-    ensures { λ r. ⌜ r ≡ widthOf command ⌝ }
+    ensures { λ r. ⌜ r ≡ actionWidth command ⌝ }
 {
     match command {
         ScriptCommand::EndsEarly => 0,
@@ -63,7 +63,7 @@ pub fn width_of(command: ScriptCommand) -> usize
 
 // The cycles that a command makes.
 pub fn runs_of(command: ScriptCommand) -> u8
-    ensures { λ r. ⌜ r ≡ runsOf command ⌝ }
+    ensures { λ r. ⌜ r ≡ cyclesMade command ⌝ }
 {
     match command {
         ScriptCommand::EndsEarly => 0,

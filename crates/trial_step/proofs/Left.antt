@@ -6,21 +6,19 @@ use native.Mathlib.Numerals.{add-one}
 use native.Mathlib.Omega.{arith}
 use lib.IntN.{ℤ}
 use lib.ListN.{length, take, drop, replicate}
-use lib.Seq.{sets, sets-eq, take-at}
-use Rattle.model.specs.Says.Calls.{Call, cycle, callOf}
+use lib.Seq.{sets-eq, take-at}
+use Rattle.model.specs.Says.Calls.{cycle, callOf}
 use Rattle.model.specs.Rules.Decimal.{lineOf}
-use Rattle.model.specs.Rules.Machine.{cycleWords}
 use Rattle.model.specs.Rules.Script.{scriptCommandAt, scriptAt, scriptOf, callsFrom, cyclesOf}
 use Rattle.model.specs.Rules.Trial.{signalsOf, linesFrom}
 use Rattle.model.proofs.Bench.Scripts.{calls-count}
-use Rattle.model.proofs.Bench.Scripts.{lines-count}
-use Rattle.decimal.specs.Put.{Put}
+use Rattle.decimal.specs.PutBytes.{PutBytes}
 use Rattle.decimal.proofs.Puts.{put-length}
 use Rattle.machine.specs.Runnable.{Runnable}
 use Rattle.machine.proofs.Runnable.{cycle-leaves}
-use Rattle.trial_script.specs.Steps.{widthOf, runsOf, altered}
+use Rattle.trial_script.specs.Steps.{actionWidth, cyclesMade, altered}
 use Rattle.trial_script.proofs.Walk.{calls-more}
-use Rattle.trial_step.specs.Steps.{callsLeft, linesLeft, atStart, Underway, Printed, Lined, Stepped}
+use Rattle.trial_step.specs.Steps.{callsLeft, linesLeft, atStart, Underway, Printed, Lined, StepsOn}
 use Rattle.trial_step.specs.declared.Next.{Next}
 use Rattle.trial_step.specs.declared.Next.the-variants as Next
 use Rattle.trial_step.specs.declared.Progress.{Progress}
@@ -39,8 +37,8 @@ module _ (text : List ℕ) (at : ℕ) (samples : List ℤ) where
   left-none = refl
 
 -- One command of the way to the next cycle.
-pub seek-step : (text : List ℕ) (at w runs : ℕ) (samples samples′ : List ℤ) → w ≡ widthOf (scriptCommandAt text at) → 0 < w →
-    samples′ ≡ altered samples (scriptCommandAt text at) → runs ≡ runsOf (scriptCommandAt text at) →
+pub seek-step : (text : List ℕ) (at w runs : ℕ) (samples samples′ : List ℤ) → w ≡ actionWidth (scriptCommandAt text at) → 0 < w →
+    samples′ ≡ altered samples (scriptCommandAt text at) → runs ≡ cyclesMade (scriptCommandAt text at) →
     callsFrom samples (scriptAt text at .actions) ≡ callsLeft text (at + w) runs samples′
 unfolding callsLeft
 seek-step text at w runs samples samples′ e some s r =
@@ -48,7 +46,7 @@ seek-step text at w runs samples samples′ e some s r =
     sym (ap₂ (λ (n : ℕ) (l : List ℤ). replicate n (cycle l) ++ callsFrom l (scriptAt text (at + w) .actions)) r s)
 
 -- The bytes that were put to the start of a buffer.
-put-start : {line bytes line′ : List ℕ} {size : ℕ} → Put line 0 bytes line′ size → take size line′ ≡ bytes
+put-start : {line bytes line′ : List ℕ} {size : ℕ} → PutBytes line 0 bytes line′ size → take size line′ ≡ bytes
 put-start {line} {bytes} {line′} {size} p =
     let room : 0 + length bytes ≤ length line = omega (arith, p .ends, p .fits, put-length p) in
     let same : size ≡ length bytes = omega (arith, p .ends) in
@@ -87,17 +85,17 @@ none-left image text p samples state e = ap (linesFrom image (p .line) state) e
 
 -- What a step that prints a line has done.
 pub is-lined : {image text : List ℕ} {p : Progress} {samples state samples′ state′ : List ℤ} {line′ : List ℕ} {r : Next}
-    (size : ℕ) (next : Progress) → r ≡ Next.Line size next → Stepped image text p samples state samples′ state′ line′ r →
+    (size : ℕ) (next : Progress) → r ≡ Next.Line size next → StepsOn image text p samples state samples′ state′ line′ r →
     Lined image text p samples state samples′ state′ line′ size next
-unfolding Stepped
+unfolding StepsOn
 is-lined {image} {text} {p} {samples} {state} {samples′} {state′} {line′} size next e s =
-    subst (λ (r : Next). Stepped image text p samples state samples′ state′ line′ r) e s
+    subst (λ (r : Next). StepsOn image text p samples state samples′ state′ line′ r) e s
 
 pub is-ended : (image text : List ℕ) (p : Progress) (samples state samples′ state′ : List ℤ) (line′ : List ℕ) {r : Next} →
-    r ≡ Next.Ended → Stepped image text p samples state samples′ state′ line′ r → linesLeft image text p samples state ≡ []
-unfolding Stepped
+    r ≡ Next.Ended → StepsOn image text p samples state samples′ state′ line′ r → linesLeft image text p samples state ≡ []
+unfolding StepsOn
 is-ended image text p samples state samples′ state′ line′ e s =
-    subst (λ (r : Next). Stepped image text p samples state samples′ state′ line′ r) e s
+    subst (λ (r : Next). StepsOn image text p samples state samples′ state′ line′ r) e s
 
 -- At the start all lines of the script are left.
 pub left-all : (image text : List ℕ) (samples state : List ℤ) →

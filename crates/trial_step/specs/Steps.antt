@@ -12,7 +12,7 @@ use Rattle.model.specs.Rules.Machine.{cycleWords}
 use Rattle.model.specs.Rules.Script.{scriptAt, callsFrom}
 use Rattle.model.specs.Rules.Trial.{signalsOf, linesFrom}
 use Rattle.machine.specs.Runnable.{Runnable}
-use Rattle.decimal.specs.Put.{Put}
+use Rattle.decimal.specs.PutBytes.{PutBytes}
 use Rattle.trial_step.specs.declared.Block.{Block}
 use Rattle.trial_step.specs.declared.Next.{Next}
 use Rattle.trial_step.specs.declared.Next.the-variants as Next
@@ -46,7 +46,7 @@ soughtCalls text samples Sought.Nothing = []
 pub record Printed (image : List ℕ) (number : ℕ) (samples state : List ℤ) (line : List ℕ) (state′ : List ℤ) (line′ : List ℕ)
     (size : ℕ) : Type 0 where
   pub state-is : state′ ≡ cycleWords image state samples
-  pub line-is : Put line 0 (lineOf number (signalsOf image state′)) line′ size
+  pub line-is : PutBytes line 0 (lineOf number (signalsOf image state′)) line′ size
   pub runnable : Runnable image state′ samples
 
 -- A step has printed the first of the lines left.
@@ -58,10 +58,10 @@ pub record Lined (image text : List ℕ) (p : Progress) (samples state : List �
   pub underway : Underway image text next samples′ state′
 
 -- What a step does: it prints a line, or none is left.
-unfoldable pub Stepped : List ℕ → List ℕ → Progress → List ℤ → List ℤ → List ℤ → List ℤ → List ℕ → Next → Type 0
-Stepped image text p samples state samples′ state′ line′ (Next.Line size next) =
+unfoldable pub StepsOn : List ℕ → List ℕ → Progress → List ℤ → List ℤ → List ℤ → List ℤ → List ℕ → Next → Type 0
+StepsOn image text p samples state samples′ state′ line′ (Next.Line size next) =
     Lined image text p samples state samples′ state′ line′ size next
-Stepped image text p samples state samples′ state′ line′ Next.Ended = linesLeft image text p samples state ≡ []
+StepsOn image text p samples state samples′ state′ line′ Next.Ended = linesLeft image text p samples state ≡ []
 
 -- A block holds the first of what is left: some lines, or all that are left.
 pub record Filled (image text : List ℕ) (p : Progress) (samples state : List ℤ) (samples′ state′ : List ℤ) (block′ : List ℕ)

@@ -6,7 +6,7 @@ ghost use lib.ListN.{length, set};
 ghost use Rattle.machine.specs.Runnable.{Runnable};
 ghost use Rattle.model.specs.Rules.Script.{scriptAt, callsFrom};
 ghost use Rattle.trial_script.specs.Steps.{altered};
-ghost use Rattle.trial_step.specs.Steps.{atStart, soughtCalls, Underway, Printed, Stepped, Filled};
+ghost use Rattle.trial_step.specs.Steps.{atStart, soughtCalls, Underway, Printed, StepsOn, Filled};
 
 // How far a trial has come: where the script goes on, the cycles left of the present RUN, and the number of the next line.
 pub struct Progress {
@@ -119,7 +119,7 @@ pub fn next_line(
     line: &mut [u8],
 ) -> Next
     requires { ⌜ Underway (now image) (now text) progress (now samples) (now state) × (1024 ≤ length (now line)) ⌝ }
-    ensures { λ r. ⌜ Stepped (now (image .entry)) (now (text .entry)) progress (now (samples .entry)) (now (state .entry)) (now (samples .exit)) (now (state .exit)) (now (line .exit)) r ⌝ }
+    ensures { λ r. ⌜ StepsOn (now (image .entry)) (now (text .entry)) progress (now (samples .entry)) (now (state .entry)) (now (samples .exit)) (now (state .exit)) (now (line .exit)) r ⌝ }
 {
     let at = progress.at;
     let left = progress.left;

@@ -5,9 +5,6 @@ use Rattle.board.specs.Board.{countUp}
 use Rattle.board.proofs.count_up.Statement.{statement}
 use Rattle.board.proofs.count_up.Tie as tie
 
-add-result : tie.Need-add-result
-add-result c = search needs
-
 returns : tie.Need-returns
 unfolding countUp
 returns c = simp (lt-ltb _ _ (c .if1 .taken))
@@ -17,4 +14,4 @@ unfolding countUp
 returns-2 c = simp (le-ltb _ _ (c .if1 .left))
 
 pub count-up-spec : {M : Type 1} → statement M
-count-up-spec = tie.close (tie.spec add-result returns returns-2)
+count-up-spec = tie.close (tie.spec (λ c. search needs) returns returns-2)

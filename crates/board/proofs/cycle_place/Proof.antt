@@ -9,23 +9,16 @@ use denote.Ref.{now}
 use lib.Dec.{leb}
 use lib.ListN.{length}
 use Rattle.model.specs.Rules.Machine.{countOf, wellFormed}
-use Rattle.image_valid.proofs.Parts.{head, formed}
 use Rattle.machine.specs.Runnable.{Runnable}
 use Rattle.machine.proofs.Answers.{gives-refusal, gives-done, cycle-image, cycle-position}
 use Rattle.machine.proofs.Judging.{runs-done}
-use Rattle.board.proofs.Stretch.{gives-effect, outside-27, inside-runs}
+use Rattle.board.proofs.Stretch.{gives-effect, few-signals, outside-27, inside-runs}
 use borrow.Author.Needs.{needs}
 use Rattle.board.proofs.cycle_place.Statement.{statement}
 use Rattle.board.proofs.cycle_place.Tie as tie
 
 inside : (e : tie.Else1) → let a = e .before .before .before .args in leb (a .start + a .size) (length (now (a .images))) ≡ true
 inside e = sym (e .before .is-inside .ensures) ∙ not-false _ (e .if1 .left)
-
-is-inside-requires : tie.Need-is-inside-requires
-is-inside-requires c κs = search needs
-
-stopped-requires : tie.Need-stopped-requires
-stopped-requires c κs = search needs
 
 returns : tie.Need-returns
 returns c =
@@ -38,23 +31,8 @@ add-end c =
     let a = c .before .before .before .args in
     omega (arith, leb-true (a .start + a .size) (length (now (a .images))) (inside c))
 
-sub-lent : tie.Need-sub-lent
-sub-lent c = search needs
-
-part-lent-start : tie.Need-part-lent-start
-part-lent-start c = search needs
-
 part-lent-end : tie.Need-part-lent-end
 part-lent-end c = leb-true _ _ (inside c)
-
-image-in-requires : tie.Need-image-in-requires
-image-in-requires c κs = search needs
-
-well-formed-requires : tie.Need-well-formed-requires
-well-formed-requires c κs = search needs
-
-stopped-requires-2 : tie.Need-stopped-requires-2
-stopped-requires-2 c κs = search needs
 
 returns-2 : tie.Need-returns-2
 returns-2 c =
@@ -79,7 +57,7 @@ module _ (e : tie.Else2) where
   well = sym (e .before .well-formed .ensures) ∙ not-false _ (e .if2 .left)
 
   few : countOf image ≤ 64
-  few = head _ (formed _ well .good) .signals
+  few = few-signals image well
 
 runnable : (p : tie.Else3) →
     let e = p .before .before .before in
@@ -96,12 +74,6 @@ runnable p =
 is-positioned-requires : tie.Need-is-positioned-requires
 is-positioned-requires c κs = (well (c .before), omega (arith, start (c .before) .pre .0))
 
-stopped-requires-3 : tie.Need-stopped-requires-3
-stopped-requires-3 c κs = search needs
-
-same-length : tie.Need-same-length
-same-length c = search needs
-
 returns-3 : tie.Need-returns-3
 returns-3 c =
     let p = c .before .before in
@@ -113,9 +85,6 @@ returns-3 c =
 
 run-cycle-requires : tie.Need-run-cycle-requires
 run-cycle-requires c κs = runnable (c .before)
-
-same-length-2 : tie.Need-same-length-2
-same-length-2 c = search needs
 
 returns-4 : tie.Need-returns-4
 returns-4 c =
@@ -129,22 +98,6 @@ returns-4 c =
 pub cycle-place-spec : {M : Type 1} → statement M
 cycle-place-spec =
     tie.close
-    (tie.spec
-    is-inside-requires
-    stopped-requires
-    returns
-    add-end
-    sub-lent
-    part-lent-start
-    part-lent-end
-    image-in-requires
-    well-formed-requires
-    stopped-requires-2
-    returns-2
-    is-positioned-requires
-    stopped-requires-3
-    same-length
-    returns-3
-    run-cycle-requires
-    same-length-2
-    returns-4)
+    (tie.spec (λ c κs. search needs) (λ c κs. search needs) returns add-end (λ c. search needs) (λ c. search needs)
+    part-lent-end (λ c κs. search needs) (λ c κs. search needs) (λ c κs. search needs) returns-2 is-positioned-requires
+    (λ c κs. search needs) (λ c. search needs) returns-3 run-cycle-requires (λ c. search needs) returns-4)

@@ -9,30 +9,6 @@ use Rattle.board.proofs.Words.{part-words, put-words}
 use Rattle.board.proofs.load_place.Statement.{statement}
 use Rattle.board.proofs.load_place.Tie as tie
 
-mul-from : tie.Need-mul-from
-mul-from c = search needs
-
-add-to : tie.Need-add-to
-add-to c = search needs
-
-mul-reset-place : tie.Need-mul-reset-place
-mul-reset-place c = search needs
-
-sub-reset-place : tie.Need-sub-reset-place
-sub-reset-place c = search needs
-
-part-reset-place-start : tie.Need-part-reset-place-start
-part-reset-place-start c = search needs
-
-part-reset-place-end : tie.Need-part-reset-place-end
-part-reset-place-end c = search needs
-
-reset-place-requires : tie.Need-reset-place-requires
-reset-place-requires c κs = search needs
-
-same-length : tie.Need-same-length
-same-length c = search needs
-
 returns : tie.Need-returns
 returns c =
     let r = c .before in
@@ -49,13 +25,5 @@ returns c =
 pub load-place-spec : {M : Type 1} → statement M
 load-place-spec =
     tie.close
-    (tie.spec
-    mul-from
-    add-to
-    mul-reset-place
-    sub-reset-place
-    part-reset-place-start
-    part-reset-place-end
-    reset-place-requires
-    same-length
-    returns)
+    (tie.spec (λ c. search needs) (λ c. search needs) (λ c. search needs) (λ c. search needs) (λ c. search needs)
+    (λ c. search needs) (λ c κs. search needs) (λ c. search needs) returns)

@@ -15,12 +15,6 @@ use Rattle.board.proofs.reset_place.Tie as tie
 inside : (e : tie.Else1) → let a = e .before .before .before .args in leb (a .start + a .size) (length (now (a .images))) ≡ true
 inside e = sym (e .before .is-inside .ensures) ∙ not-false _ (e .if1 .left)
 
-is-inside-requires : tie.Need-is-inside-requires
-is-inside-requires c κs = search needs
-
-refused-requires : tie.Need-refused-requires
-refused-requires c κs = search needs
-
 returns : tie.Need-returns
 returns c =
     let w = c .before .before in
@@ -32,20 +26,8 @@ add-end c =
     let a = c .before .before .before .args in
     omega (arith, leb-true (a .start + a .size) (length (now (a .images))) (inside c))
 
-sub-reset : tie.Need-sub-reset
-sub-reset c = search needs
-
-part-reset-start : tie.Need-part-reset-start
-part-reset-start c = search needs
-
 part-reset-end : tie.Need-part-reset-end
 part-reset-end c = leb-true _ _ (inside c)
-
-reset-requires : tie.Need-reset-requires
-reset-requires c κs = search needs
-
-same-length : tie.Need-same-length
-same-length c = search needs
 
 returns-2 : tie.Need-returns-2
 returns-2 c =
@@ -55,14 +37,5 @@ returns-2 c =
 pub reset-place-spec : {M : Type 1} → statement M
 reset-place-spec =
     tie.close
-    (tie.spec
-    is-inside-requires
-    refused-requires
-    returns
-    add-end
-    sub-reset
-    part-reset-start
-    part-reset-end
-    reset-requires
-    same-length
-    returns-2)
+    (tie.spec (λ c κs. search needs) (λ c κs. search needs) returns add-end (λ c. search needs) (λ c. search needs)
+    part-reset-end (λ c κs. search needs) (λ c. search needs) returns-2)

@@ -34,18 +34,6 @@ one-more b from i h e m low high = split (decLt m i)
 loop-holds : tie.Need-loop-holds Inv-loop μ-loop
 loop-holds c = λ m low high. absurd (omega arith)
 
-mul-is-due : tie.Need-mul-is-due Inv-loop μ-loop
-mul-is-due c = omega arith
-
-mul-is-due-2 : tie.Need-mul-is-due-2 Inv-loop μ-loop
-mul-is-due-2 c = omega arith
-
-element-copy-out-is-due : tie.Need-element-copy-out-is-due Inv-loop μ-loop
-element-copy-out-is-due c = omega arith
-
-is-due-requires : tie.Need-is-due-requires Inv-loop μ-loop
-is-due-requires c κs = search needs
-
 returns : tie.Need-returns Inv-loop μ-loop
 returns c =
     let c3 = c .before .before .before in
@@ -59,12 +47,6 @@ returns c =
     due-held (now (a .words)) (l .loop .place) lt ∙ sym (c .before .is-due .ensures) ∙ c .if2 .taken in
     first-is (a .from) (4 - a .from) (λ k. placeAt b k .due) (At (l .loop .place))
     (c3 .if1 .taken, omega arith, due, l .loop .inv)
-
-add-place : tie.Need-add-place Inv-loop μ-loop
-add-place c = omega arith
-
-loop-less : tie.Need-loop-less Inv-loop μ-loop
-loop-less c = omega arith
 
 loop-again : tie.Need-loop-again Inv-loop μ-loop
 loop-again c =
@@ -85,16 +67,5 @@ returns-2 c =
 pub first-due-spec : {M : Type 1} → statement M
 first-due-spec =
     tie.close
-    (tie.spec
-    Inv-loop
-    μ-loop
-    loop-holds
-    mul-is-due
-    mul-is-due-2
-    element-copy-out-is-due
-    is-due-requires
-    returns
-    add-place
-    loop-less
-    loop-again
-    returns-2)
+    (tie.spec Inv-loop μ-loop loop-holds (λ c. omega arith) (λ c. omega arith) (λ c. omega arith) (λ c κs. search needs) returns
+    (λ c. omega arith) (λ c. omega arith) loop-again returns-2)

@@ -34,17 +34,11 @@ below e = lt-ltb _ _ (e .before .if1 .left)
 enough : (e : tie.Else2) → leb 260 (length (now (e .before .before .before .args .state))) ≡ true
 enough e = le-leb _ _ (e .if2 .left)
 
-refused-requires : tie.Need-refused-requires
-refused-requires c κs = search needs
-
 returns : tie.Need-returns
 returns c =
     let a = c .before .before .before .args in
     gives (now (a .words)) (a .place) (a .start) (a .size) (load-place _ _ _ _ _ _ (le-ltb _ _ (c .before .if1 .taken)))
     (c .refused .ensures) refl refl
-
-refused-requires-2 : tie.Need-refused-requires-2
-refused-requires-2 c κs = search needs
 
 returns-2 : tie.Need-returns-2
 returns-2 c =
@@ -52,18 +46,6 @@ returns-2 c =
     let a = t .before .before .before .args in
     gives (now (a .words)) (a .place) (a .start) (a .size)
     (load-state _ _ _ _ _ _ (lt-ltb _ _ (t .before .if1 .left)) (lt-leb _ _ (t .if2 .taken))) (c .refused2 .ensures) refl refl
-
-load-place-requires : tie.Need-load-place-requires
-load-place-requires c κs = search needs
-
-enum-told : tie.Need-enum-told
-enum-told c = search needs
-
-enum-told-2 : tie.Need-enum-told-2
-enum-told-2 c = search needs
-
-same-length : tie.Need-same-length
-same-length c = search needs
 
 returns-3 : tie.Need-returns-3
 returns-3 c =
@@ -81,45 +63,6 @@ returns-3 c =
     (on-keeps (now (a .images)) (a .start) (a .size) words (λ image. resetOf image words) (reset-keeps words) f h) ∙
     words-same (a .place) (now (a .state)))
 
-mul-at : tie.Need-mul-at
-mul-at c = search needs
-
-mul-words : tie.Need-mul-words
-mul-words c = search needs
-
-element-write-words : tie.Need-element-write-words
-element-write-words c = search needs
-
-add-words : tie.Need-add-words
-add-words c = search needs
-
-mul-words-2 : tie.Need-mul-words-2
-mul-words-2 c = search needs
-
-element-write-words-2 : tie.Need-element-write-words-2
-element-write-words-2 c = search needs
-
-add-words-2 : tie.Need-add-words-2
-add-words-2 c = search needs
-
-mul-words-3 : tie.Need-mul-words-3
-mul-words-3 c = search needs
-
-element-write-words-3 : tie.Need-element-write-words-3
-element-write-words-3 c = search needs
-
-add-words-3 : tie.Need-add-words-3
-add-words-3 c = search needs
-
-mul-words-4 : tie.Need-mul-words-4
-mul-words-4 c = search needs
-
-element-write-words-4 : tie.Need-element-write-words-4
-element-write-words-4 c = search needs
-
-same-length-2 : tie.Need-same-length-2
-same-length-2 c = search needs
-
 returns-4 : tie.Need-returns-4
 unfolding loadedWords
 returns-4 c =
@@ -133,27 +76,7 @@ returns-4 c =
 pub load-spec : {M : Type 1} → statement M
 load-spec =
     tie.close
-    (tie.spec
-    refused-requires
-    returns
-    refused-requires-2
-    returns-2
-    load-place-requires
-    enum-told
-    enum-told-2
-    same-length
-    returns-3
-    mul-at
-    mul-words
-    element-write-words
-    add-words
-    mul-words-2
-    element-write-words-2
-    add-words-2
-    mul-words-3
-    element-write-words-3
-    add-words-3
-    mul-words-4
-    element-write-words-4
-    same-length-2
-    returns-4)
+    (tie.spec (λ c κs. search needs) returns (λ c κs. search needs) returns-2 (λ c κs. search needs) (λ c. search needs)
+    (λ c. search needs) (λ c. search needs) returns-3 (λ c. search needs) (λ c. search needs) (λ c. search needs)
+    (λ c. search needs) (λ c. search needs) (λ c. search needs) (λ c. search needs) (λ c. search needs) (λ c. search needs)
+    (λ c. search needs) (λ c. search needs) (λ c. search needs) (λ c. search needs) returns-4)

@@ -16,29 +16,11 @@ held : (l : tie.After-is-loaded) → let a = l .before .before .before .args in
     placeAt (boardOf (now (a .words))) (a .place) .loaded ≡ l .is-loaded .result
 held l = loaded-held _ _ (l .before .before .if1 .left) ∙ sym (l .is-loaded .ensures)
 
-refused-requires : tie.Need-refused-requires
-refused-requires c κs = search needs
-
 returns : tie.Need-returns
 returns c =
     let a = c .before .before .args in
     let e = sym (ap callAnswer (mark-place (boardOf (now (a .words))) (a .place) (le-ltb _ _ (c .before .if1 .taken)))) in
     (c .refused .ensures ∙ e, ap (markRecord (now (a .words)) (a .place)) e)
-
-mul-at : tie.Need-mul-at
-mul-at c = search needs
-
-mul-is-loaded : tie.Need-mul-is-loaded
-mul-is-loaded c = search needs
-
-element-copy-out-is-loaded : tie.Need-element-copy-out-is-loaded
-element-copy-out-is-loaded c = search needs
-
-is-loaded-requires : tie.Need-is-loaded-requires
-is-loaded-requires c κs = search needs
-
-refused-requires-2 : tie.Need-refused-requires-2
-refused-requires-2 c κs = search needs
 
 returns-2 : tie.Need-returns-2
 returns-2 c =
@@ -49,12 +31,6 @@ returns-2 c =
     let loaded = held (t .before) ∙ not-true _ (t .if2 .taken) in
     let e = sym (ap callAnswer (mark-loaded (boardOf (now (a .words))) (a .place) lt loaded)) in
     (c .refused2 .ensures ∙ e, ap (markRecord (now (a .words)) (a .place)) e)
-
-mul-words : tie.Need-mul-words
-mul-words c = search needs
-
-element-write-words : tie.Need-element-write-words
-element-write-words c = search needs
 
 returns-3 : tie.Need-returns-3
 returns-3 c =
@@ -68,15 +44,5 @@ returns-3 c =
 pub mark-spec : {M : Type 1} → statement M
 mark-spec =
     tie.close
-    (tie.spec
-    refused-requires
-    returns
-    mul-at
-    mul-is-loaded
-    element-copy-out-is-loaded
-    is-loaded-requires
-    refused-requires-2
-    returns-2
-    mul-words
-    element-write-words
-    returns-3)
+    (tie.spec (λ c κs. search needs) returns (λ c. search needs) (λ c. search needs) (λ c. search needs) (λ c κs. search needs)
+    (λ c κs. search needs) returns-2 (λ c. search needs) (λ c. search needs) returns-3)

@@ -12,30 +12,12 @@ use Rattle.board_words.proofs.Next.{next-after, next-again, next-nowher
 use Rattle.board_words.proofs.next_due.Statement.{statement}
 use Rattle.board_words.proofs.next_due.Tie as tie
 
-element-copy-out-after : tie.Need-element-copy-out-after
-element-copy-out-after c = search needs
-
-add-after : tie.Need-add-after
-add-after c = search needs
-
-first-due-requires : tie.Need-first-due-requires
-first-due-requires c κs = search needs
-
-enum-told : tie.Need-enum-told
-enum-told c = search needs
-
-enum-told-2 : tie.Need-enum-told-2
-enum-told-2 c = search needs
-
 returns : tie.Need-returns
 unfolding boardOf
 returns c =
     let d = c .before .before in
     let e = c .enum-told2 .given .1 in
     e ∙ sym (next-after _ _ (sym (d .first-due .ensures) ∙ e))
-
-first-due-requires-2 : tie.Need-first-due-requires-2
-first-due-requires-2 c κs = search needs
 
 returns-2 : tie.Need-returns-2
 unfolding boardOf
@@ -51,12 +33,5 @@ returns-2 c =
 pub next-due-spec : {M : Type 1} → statement M
 next-due-spec =
     tie.close
-    (tie.spec
-    element-copy-out-after
-    add-after
-    first-due-requires
-    enum-told
-    enum-told-2
-    returns
-    first-due-requires-2
-    returns-2)
+    (tie.spec (λ c. search needs) (λ c. search needs) (λ c κs. search needs) (λ c. search needs) (λ c. search needs) returns
+    (λ c κs. search needs) returns-2)

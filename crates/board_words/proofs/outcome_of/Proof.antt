@@ -6,15 +6,6 @@ use Rattle.board_words.specs.Record.{runOutcome}
 use Rattle.board_words.proofs.outcome_of.Statement.{statement}
 use Rattle.board_words.proofs.outcome_of.Tie as tie
 
-enum-known-run : tie.Need-enum-known-run
-enum-known-run c = search needs
-
-enum-known-run-2 : tie.Need-enum-known-run-2
-enum-known-run-2 c = search needs
-
-cast-t7 : tie.Need-cast-t7
-cast-t7 c = search needs
-
 returns : tie.Need-returns
 returns c =
     let r = c .before in
@@ -27,4 +18,4 @@ returns-2 c =
 
 pub outcome-of-spec : {M : Type 1} → statement M
 outcome-of-spec =
-    tie.close (tie.spec enum-known-run enum-known-run-2 cast-t7 returns returns-2)
+    tie.close (tie.spec (λ c. search needs) (λ c. search needs) (λ c. search needs) returns returns-2)

@@ -38,16 +38,10 @@ below f = next-below _ _ (found f)
 abbrev taken : tie.After-counted → tie.After-found
 taken c = c .before .before .before .before .before .before
 
-denied-requires : tie.Need-denied-requires
-denied-requires c κs = search needs
-
 returns : tie.Need-returns
 returns c =
     let a = c .before .before .before .args in
     comes (now (a .words)) (turn-state _ _ _ _ (lt-leb _ _ (c .before .if1 .taken))) (c .denied .ensures) refl refl
-
-denied-requires-2 : tie.Need-denied-requires-2
-denied-requires-2 c κs = search needs
 
 returns-2 : tie.Need-returns-2
 returns-2 c =
@@ -55,15 +49,6 @@ returns-2 c =
     let a = t .before .before .before .args in
     comes (now (a .words)) (turn-samples _ _ _ _ (le-leb _ _ (t .before .if1 .left)) (lt-leb _ _ (t .if2 .taken)))
     (c .denied2 .ensures) refl refl
-
-next-due-requires : tie.Need-next-due-requires
-next-due-requires c κs = search needs
-
-enum-known-found : tie.Need-enum-known-found
-enum-known-found c = search needs
-
-enum-told : tie.Need-enum-told
-enum-told c = search needs
 
 returns-3 : tie.Need-returns-3
 unfolding turnWith
@@ -111,9 +96,6 @@ mul-counted c = omega (arith, below (c .before .before .before .before))
 element-copy-out-counted : tie.Need-element-copy-out-counted
 element-copy-out-counted c = omega (arith, below (c .before .before .before .before))
 
-counted-requires : tie.Need-counted-requires
-counted-requires c κs = search needs
-
 mul-words : tie.Need-mul-words
 mul-words c = omega (arith, below (taken c))
 
@@ -129,17 +111,11 @@ mul-words-2 c = omega (arith, below (taken c))
 element-write-words-2 : tie.Need-element-write-words-2
 element-write-words-2 c = omega (arith, below (taken c))
 
-element-write-words-3 : tie.Need-element-write-words-3
-element-write-words-3 c = search needs
-
 run-place-requires : tie.Need-run-place-requires
 run-place-requires c κs = (below (taken (c .before)), omega arith, omega arith)
 
 cast-taken : tie.Need-cast-taken
 cast-taken c = omega (arith, below (taken (c .before .before .before)))
-
-same-length : tie.Need-same-length
-same-length c = search needs
 
 returns-4 : tie.Need-returns-4
 unfolding turnWith takenWords
@@ -162,35 +138,8 @@ returns-4 c =
 pub turn-spec : {M : Type 1} → statement M
 turn-spec =
     tie.close
-    (tie.spec
-    denied-requires
-    returns
-    denied-requires-2
-    returns-2
-    next-due-requires
-    enum-known-found
-    enum-told
-    returns-3
-    mul-at
-    mul-loaded
-    element-copy-out-loaded
-    add-start
-    mul-start
-    element-copy-out-start
-    add-size
-    mul-size
-    element-copy-out-size
-    add-counted
-    mul-counted
-    element-copy-out-counted
-    counted-requires
-    mul-words
-    element-write-words
-    add-words
-    mul-words-2
-    element-write-words-2
-    element-write-words-3
-    run-place-requires
-    cast-taken
-    same-length
-    returns-4)
+    (tie.spec (λ c κs. search needs) returns (λ c κs. search needs) returns-2 (λ c κs. search needs) (λ c. search needs)
+    (λ c. search needs) returns-3 mul-at mul-loaded element-copy-out-loaded add-start mul-start element-copy-out-start add-size
+    mul-size element-copy-out-size add-counted mul-counted element-copy-out-counted (λ c κs. search needs) mul-words
+    element-write-words add-words mul-words-2 element-write-words-2 (λ c. search needs) run-place-requires cast-taken
+    (λ c. search needs) returns-4)

@@ -2,7 +2,6 @@
 use mathlib.Core.Path.{refl}
 use native.Mathlib.Nat.{mul-le-mul}
 use native.Mathlib.Omega.{arith}
-use borrow.Author.Needs.{needs}
 use Rattle.check_latency.proofs.first_run.Statement.{statement}
 use Rattle.check_latency.proofs.first_run.Tie as tie
 

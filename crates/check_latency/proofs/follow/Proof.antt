@@ -1,6 +1,6 @@
 -- `check_latency::follow` meets its contract. Assumes nothing.
 use Prim.Native.Nat.{_+_, _≤_, _<_}
-use mathlib.Core.Path.{_≡_, refl}
+use mathlib.Core.Path.{refl}
 use native.Mathlib.Omega.{arith}
 use denote.Ref.{now}
 use lib.ListN.{length}
@@ -10,14 +10,14 @@ use Rattle.model.specs.Rules.Program.{Program}
 use Rattle.model.specs.Rules.Schedule.{Schedule}
 use Rattle.text_program.specs.Tables.{chainAt}
 use Rattle.check_rates.proofs.Linking.{few-chains}
-use Rattle.check_latency.specs.Timely.{Joined}
+use Rattle.check_latency.specs.Timely.{ChainsLinked}
 use Rattle.check_latency.proofs.Following.{Following, next-link, route-of, Begun, begun}
 use Rattle.check_latency.proofs.follow.Statement.{statement}
 use Rattle.check_latency.proofs.follow.Tie as tie
 
 abbrev Inv-loop : tie.InvT-loop
 Inv-loop text reads tables periods phases chain at₀ left₀ source last₀ count₀ hops₀ at left last count hops =
-    (p : Program) (s : Schedule) → Joined text tables periods phases p s →
+    (p : Program) (s : Schedule) → ChainsLinked text tables periods phases p s →
     Following text p s (backwards (chainAt p chain)) source at left last count hops
 
 abbrev μ-loop : tie.MeasureT-loop
@@ -56,9 +56,6 @@ mul-at c = omega (arith, few c)
 array-read-at : tie.Need-array-read-at Inv-loop μ-loop
 array-read-at c = few c
 
-in-program-requires : tie.Need-in-program-requires Inv-loop μ-loop
-in-program-requires c κs = search needs
-
 add-at : tie.Need-add-at Inv-loop μ-loop
 add-at c = omega (arith, begins (c .before) .inside)
 
@@ -74,16 +71,10 @@ add-source c = omega (arith, begins (c .before) .inside)
 shared-slice-read-source : tie.Need-shared-slice-read-source Inv-loop μ-loop
 shared-slice-read-source c = omega (arith, begins (c .before .before) .inside)
 
-no-hop-requires : tie.Need-no-hop-requires Inv-loop μ-loop
-no-hop-requires c κs = search needs
-
 loop-holds : tie.Need-loop-holds Inv-loop μ-loop
 loop-holds c =
     let s = c .before .before .before .before .before .before .before in
     λ p s₀ j. rw (c .before .before .in-program .ensures) (begun _ _ _ _ p s₀ _ j (s .pre .1) .start _ refl)
-
-in-program-requires-2 : tie.Need-in-program-requires-2 Inv-loop μ-loop
-in-program-requires-2 c κs = search needs
 
 add-second : tie.Need-add-second Inv-loop μ-loop
 add-second c = omega (arith, next (c .before) .0)
@@ -93,9 +84,6 @@ add-signal c = omega (arith, next (c .before) .0)
 
 shared-slice-read-signal : tie.Need-shared-slice-read-signal Inv-loop μ-loop
 shared-slice-read-signal c = omega (arith, next (c .before .before) .0)
-
-hop-at-requires : tie.Need-hop-at-requires Inv-loop μ-loop
-hop-at-requires c κs = search needs
 
 mul-hops : tie.Need-mul-hops Inv-loop μ-loop
 mul-hops c = omega (arith, next (c .before .before .before) .1)
@@ -126,28 +114,7 @@ returns c = λ p s j. route-of _ _ _ _ _ _ _ _ _ _ (c .before .loop .inv p s j) 
 pub follow-spec : {M : Type 1} → statement M
 follow-spec =
     tie.close
-    (tie.spec
-    Inv-loop
-    μ-loop
-    mul-at
-    array-read-at
-    in-program-requires
-    add-at
-    mul-left
-    array-read-left
-    add-source
-    shared-slice-read-source
-    no-hop-requires
-    loop-holds
-    in-program-requires-2
-    add-second
-    add-signal
-    shared-slice-read-signal
-    hop-at-requires
-    mul-hops
-    array-set-from-hops
-    add-count
-    sub-left
-    loop-less
-    loop-again
+    (tie.spec Inv-loop μ-loop mul-at array-read-at (λ c κs. search needs) add-at mul-left array-read-left add-source
+    shared-slice-read-source (λ c κs. search needs) loop-holds (λ c κs. search needs) add-second add-signal
+    shared-slice-read-signal (λ c κs. search needs) mul-hops array-set-from-hops add-count sub-left loop-less loop-again
     returns)

@@ -1,5 +1,4 @@
 -- `check_latency::hop_at` meets its contract. Assumes nothing.
-use Prim.Native.Nat.{ℕ}
 use mathlib.Core.Path.{_≡_, sym, ap, _∙_}
 use native.Mathlib.Omega.{arith}
 use borrow.Author.Needs.{needs}
@@ -10,7 +9,7 @@ use Rattle.model.specs.Rules.Program.{Read, signalAt, bodyReads}
 use Rattle.model.specs.Rules.Rates.{countReads}
 use Rattle.model.specs.Rules.Reads.{rateOf, settledIndex, settled}
 use Rattle.check_rates.proofs.Counting.{found-none, one-spelled, one-stands}
-use Rattle.check_rates.proofs.Judging.{indexed, few-signals}
+use Rattle.text_program.proofs.ByIndex.{few-signals, indexed}
 use Rattle.read_rule.specs.Reads.{rateIn}
 use Rattle.check_latency.proofs.Indices.{rate-at, read-signal}
 use Rattle.check_latency.proofs.hop_at.Statement.{statement}
@@ -19,16 +18,7 @@ use Rattle.check_latency.proofs.hop_at.Tie as tie
 one-read-requires : tie.Need-one-read-requires
 one-read-requires c κs =
     let s = c .before .before .before .before in
-    (few-signals _ _ _ (s .pre), indexed _ _ _ (s .pre))
-
-enum-known-found : tie.Need-enum-known-found
-enum-known-found c = search needs
-
-enum-told : tie.Need-enum-told
-enum-told c = search needs
-
-no-hop-requires : tie.Need-no-hop-requires
-no-hop-requires c κs = search needs
+    (few-signals _ _ _ (s .pre .1) (s .pre .2), indexed _ _ _ (s .pre))
 
 returns : tie.Need-returns
 returns c =
@@ -47,15 +37,6 @@ taken-at-requires c κs =
     let s = c8 in
     let f = c3 .one-read .ensures (s .pre .0) (s .pre .1) in
     one-stands _ _ (s .pre .1) _ _ _ (sym f ∙ c .before .found .given .1)
-
-timing-at-requires : tie.Need-timing-at-requires
-timing-at-requires c κs = search needs
-
-timing-at-requires-2 : tie.Need-timing-at-requires-2
-timing-at-requires-2 c κs = search needs
-
-settled-index-requires : tie.Need-settled-index-requires
-settled-index-requires c κs = search needs
 
 returns-2 : tie.Need-returns-2
 unfolding settled
@@ -86,14 +67,5 @@ returns-2 c =
 pub hop-at-spec : {M : Type 1} → statement M
 hop-at-spec =
     tie.close
-    (tie.spec
-    one-read-requires
-    enum-known-found
-    enum-told
-    no-hop-requires
-    returns
-    taken-at-requires
-    timing-at-requires
-    timing-at-requires-2
-    settled-index-requires
-    returns-2)
+    (tie.spec one-read-requires (λ c. search needs) (λ c. search needs) (λ c κs. search needs) returns taken-at-requires
+    (λ c κs. search needs) (λ c κs. search needs) (λ c κs. search needs) returns-2)

@@ -85,15 +85,5 @@ returns-2 c =
 pub judge-chains-spec : {M : Type 1} → statement M
 judge-chains-spec =
     tie.close
-    (tie.spec
-    Inv-loop
-    μ-loop
-    loop-holds
-    keeps-time-requires
-    mul-t11
-    array-read-t14
-    returns
-    add-chain
-    loop-less
-    loop-again
+    (tie.spec Inv-loop μ-loop loop-holds keeps-time-requires mul-t11 array-read-t14 returns add-chain loop-less loop-again
     returns-2)

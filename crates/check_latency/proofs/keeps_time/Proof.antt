@@ -1,6 +1,5 @@
 -- `check_latency::keeps_time` meets its contract. Assumes nothing.
 use Prim.Native.Nat.{_*_, _<_}
-use mathlib.Core.List.{List, [], _∷_}
 use mathlib.Core.Path.{_≡_, sym, ap, _∙_}
 use native.Mathlib.Omega.{arith}
 use denote.Ref.{now}
@@ -29,32 +28,11 @@ mul-declaration-at c = omega (arith, few c)
 array-read-declaration-at : tie.Need-array-read-declaration-at
 array-read-declaration-at c = few c
 
-declaration-at-requires : tie.Need-declaration-at-requires
-declaration-at-requires c κs = search needs
-
-enum-known-declaration : tie.Need-enum-known-declaration
-enum-known-declaration c = search needs
-
 returns : tie.Need-returns
 returns c =
     let b = c .before .before .before .before .before in
     λ p s t. absurd (missed _ (c .before .declaration-at .ensures ∙ chain-command _ _ _ _ _ p s _ t (b .pre .1))
     (c .match .keys2))
-
-follow-requires : tie.Need-follow-requires
-follow-requires c κs = search needs
-
-cast-timing-at : tie.Need-cast-timing-at
-cast-timing-at c = search needs
-
-timing-at-requires : tie.Need-timing-at-requires
-timing-at-requires c κs = search needs
-
-cast-timing-at-2 : tie.Need-cast-timing-at-2
-cast-timing-at-2 c = search needs
-
-timing-at-requires-2 : tie.Need-timing-at-requires-2
-timing-at-requires-2 c κs = search needs
 
 window-of-requires : tie.Need-window-of-requires
 window-of-requires c κs =
@@ -75,9 +53,6 @@ first-run-requires c κs =
     let a = c14 in
     let t = a .pre .0 .2 in
     (decided _ _ _ _ _ _ _ _ _ t (a .pre .1) (i .ensures _ _ (t .joined)) .few, c .window-of .ensures .1)
-
-cast-is-timely : tie.Need-cast-is-timely
-cast-is-timely c = search needs
 
 is-timely-requires : tie.Need-is-timely-requires
 is-timely-requires c κs =
@@ -126,19 +101,6 @@ returns-2 c =
 pub keeps-time-spec : {M : Type 1} → statement M
 keeps-time-spec =
     tie.close
-    (tie.spec
-    mul-declaration-at
-    array-read-declaration-at
-    declaration-at-requires
-    enum-known-declaration
-    returns
-    follow-requires
-    cast-timing-at
-    timing-at-requires
-    cast-timing-at-2
-    timing-at-requires-2
-    window-of-requires
-    first-run-requires
-    cast-is-timely
-    is-timely-requires
-    returns-2)
+    (tie.spec mul-declaration-at array-read-declaration-at (λ c κs. search needs) (λ c. search needs) returns
+    (λ c κs. search needs) (λ c. search needs) (λ c κs. search needs) (λ c. search needs) (λ c κs. search needs)
+    window-of-requires first-run-requires (λ c. search needs) is-timely-requires returns-2)

@@ -8,24 +8,12 @@ use borrow.Author.Needs.{needs}
 use Rattle.check_latency.proofs.settled_index.Statement.{statement}
 use Rattle.check_latency.proofs.settled_index.Tie as tie
 
-enum-known-index : tie.Need-enum-known-index
-enum-known-index c = search needs
-
-enum-told : tie.Need-enum-told
-enum-told c = search needs
-
-find-index-requires : tie.Need-find-index-requires
-find-index-requires c κs = search needs
-
 index-found-requires : tie.Need-index-found-requires
 unfolding indexFound
 index-found-requires c κs =
     let a = c .before .before .before .args in
     rw (c .find-index .ensures, c .before .enum-told .given .1)
     (settle-byte (a .kind) (rateIn (a .w)) (rateIn (a .r)) (a .sampled .factor) (omega arith))
-
-returns : tie.Need-returns
-returns c = search needs
 
 returns-2 : tie.Need-returns-2
 unfolding indexFound
@@ -35,10 +23,4 @@ returns-2 c = c .index-found .ensures ∙ ap (foundOr 0) (c .before .find-index 
 pub settled-index-spec : {M : Type 1} → statement M
 settled-index-spec =
     tie.close
-    (tie.spec
-    enum-known-index
-    enum-told
-    find-index-requires
-    index-found-requires
-    returns
-    returns-2)
+    (tie.spec (λ c. search needs) (λ c. search needs) (λ c κs. search needs) index-found-requires (λ c. search needs) returns-2)

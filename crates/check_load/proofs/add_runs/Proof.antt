@@ -27,28 +27,10 @@ loop-holds c =
     let v = c .pre .0 in
     (v, c .pre .1, c .pre .3, c .pre .2, due-first _ v, raised-none _ v (c .args .weight) (now (c .args .loads)), (λ d le. refl))
 
-mul-loads : tie.Need-mul-loads Inv-loop μ-loop
-mul-loads c = search needs
-
-element-copy-out-loads : tie.Need-element-copy-out-loads Inv-loop μ-loop
-element-copy-out-loads c = omega arith
-
 add-loads : tie.Need-add-loads Inv-loop μ-loop
 add-loads c =
     let l = c .before .before .loop in
     omega (arith, l .inv .2 (l .next) (omega arith), l .inv .5 .1 (l .next) (omega arith))
-
-mul-loads-2 : tie.Need-mul-loads-2 Inv-loop μ-loop
-mul-loads-2 c = search needs
-
-element-write-loads : tie.Need-element-write-loads Inv-loop μ-loop
-element-write-loads c = omega arith
-
-add-next : tie.Need-add-next Inv-loop μ-loop
-add-next c = omega arith
-
-loop-less : tie.Need-loop-less Inv-loop μ-loop
-loop-less c = omega arith
 
 loop-again : tie.Need-loop-again Inv-loop μ-loop
 loop-again c =
@@ -82,16 +64,5 @@ returns c =
 pub add-runs-spec : {M : Type 1} → statement M
 add-runs-spec =
     tie.close
-    (tie.spec
-    Inv-loop
-    μ-loop
-    loop-holds
-    mul-loads
-    element-copy-out-loads
-    add-loads
-    mul-loads-2
-    element-write-loads
-    add-next
-    loop-less
-    loop-again
-    returns)
+    (tie.spec Inv-loop μ-loop loop-holds (λ c. search needs) (λ c. omega arith) add-loads (λ c. search needs) (λ c. omega arith)
+    (λ c. omega arith) (λ c. omega arith) loop-again returns)

@@ -1,5 +1,6 @@
 -- `check_load::check_load` meets its contract. Assumes nothing.
-use Rattle.text_schedule.proofs.Arranged.{few-signals, short-hypercycle, phases-below}
+use Rattle.text_schedule.proofs.Arranged.{short-hypercycle, phases-below}
+use Rattle.text_program.proofs.ByIndex.{few-signals}
 use Rattle.check_load.proofs.check_load.Statement.{statement}
 use Rattle.check_load.proofs.check_load.Tie as tie
 

@@ -23,23 +23,11 @@ loop-holds : tie.Need-loop-holds Inv-loop μ-loop
 unfolding firstBelow
 loop-holds c = (c .pre, rw sub-zero)
 
-mul-load : tie.Need-mul-load Inv-loop μ-loop
-mul-load c = omega arith
-
-element-copy-out-load : tie.Need-element-copy-out-load Inv-loop μ-loop
-element-copy-out-load c = omega arith
-
 returns : tie.Need-returns Inv-loop μ-loop
 returns c =
     let l = c .before .before .before .loop in
     let a = c .before .before .before .before .args in
     sym (l .inv .1 ∙ search-here _ (l .cycle) (a .hypercycle) (c .before .before .loop-test .taken) (lt-ltb _ _ (c .if1 .taken)))
-
-add-cycle : tie.Need-add-cycle Inv-loop μ-loop
-add-cycle c = omega arith
-
-loop-less : tie.Need-loop-less Inv-loop μ-loop
-loop-less c = omega arith
 
 loop-again : tie.Need-loop-again Inv-loop μ-loop
 loop-again c =
@@ -58,14 +46,5 @@ returns-2 c =
 pub first-over-spec : {M : Type 1} → statement M
 first-over-spec =
     tie.close
-    (tie.spec
-    Inv-loop
-    μ-loop
-    loop-holds
-    mul-load
-    element-copy-out-load
-    returns
-    add-cycle
-    loop-less
-    loop-again
-    returns-2)
+    (tie.spec Inv-loop μ-loop loop-holds (λ c. omega arith) (λ c. omega arith) returns (λ c. omega arith) (λ c. omega arith)
+    loop-again returns-2)

@@ -35,21 +35,6 @@ returns c =
     let a = c .before .args in
     λ p s n hp hw hf cap. judged-uncapped p s (a .hypercycle) (a .limit) (a .capped) (not-true _ (c .if1 .taken)) cap
 
-loads-of-requires : tie.Need-loads-of-requires
-loads-of-requires c κs = search needs
-
-first-over-requires : tie.Need-first-over-requires
-first-over-requires c κs = search needs
-
-enum-known-over : tie.Need-enum-known-over
-enum-known-over c = search needs
-
-refuse-requires : tie.Need-refuse-requires
-refuse-requires c κs = search needs
-
-enum-told : tie.Need-enum-told
-enum-told c = search needs
-
 returns-2 : tie.Need-returns-2
 returns-2 c p s n hp hw hf cap =
     c .refuse .ensures ∙ judged (c .before .before .before .before) _ (c .before .before .over .given .1) p s n hp hw hf cap
@@ -60,12 +45,5 @@ returns-3 c = judged (c .before .before) _ (c .enum-told .given .1)
 pub judge-load-spec : {M : Type 1} → statement M
 judge-load-spec =
     tie.close
-    (tie.spec
-    returns
-    loads-of-requires
-    first-over-requires
-    enum-known-over
-    refuse-requires
-    enum-told
-    returns-2
-    returns-3)
+    (tie.spec returns (λ c κs. search needs) (λ c κs. search needs) (λ c. search needs) (λ c κs. search needs)
+    (λ c. search needs) returns-2 returns-3)

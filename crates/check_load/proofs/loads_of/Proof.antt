@@ -1,5 +1,5 @@
 -- `check_load::loads_of` meets its contract. Assumes nothing.
-use Prim.Native.Nat.{ℕ, _+_, _*_, _-_, _≤_, _<_}
+use Prim.Native.Nat.{ℕ, _*_, _-_, _≤_, _<_}
 use mathlib.Core.Path.{_≡_, refl, sym, ap, _∙_}
 use native.Mathlib.Nat.{le-of-eq}
 use native.Mathlib.Omega.{arith}
@@ -30,29 +30,11 @@ loop-holds c = (
   (λ d lt. getD-replicate {A = ℕ} 240 d 0 0 (omega arith) ∙ sym (load-none _ _ _ d)),
 )
 
-element-copy-out-add-runs : tie.Need-element-copy-out-add-runs Inv-loop μ-loop
-element-copy-out-add-runs c = omega arith
-
-element-copy-out-add-runs-2 : tie.Need-element-copy-out-add-runs-2 Inv-loop μ-loop
-element-copy-out-add-runs-2 c = omega arith
-
-mul-add-runs : tie.Need-mul-add-runs Inv-loop μ-loop
-mul-add-runs c = omega arith
-
-element-copy-out-add-runs-3 : tie.Need-element-copy-out-add-runs-3 Inv-loop μ-loop
-element-copy-out-add-runs-3 c = omega arith
-
 add-runs-requires : tie.Need-add-runs-requires Inv-loop μ-loop
 add-runs-requires c κs =
     let l = c .before .before .before .before .before .loop in
     let i = l .inv in
     (i .3 (l .x) (omega arith), i .2, i .4, (λ d lt. omega (arith, i .5 d lt)))
-
-add-x : tie.Need-add-x Inv-loop μ-loop
-add-x c = omega arith
-
-loop-less : tie.Need-loop-less Inv-loop μ-loop
-loop-less c = omega arith
 
 loop-again : tie.Need-loop-again Inv-loop μ-loop
 loop-again c =
@@ -81,16 +63,5 @@ returns c d lt =
 pub loads-of-spec : {M : Type 1} → statement M
 loads-of-spec =
     tie.close
-    (tie.spec
-    Inv-loop
-    μ-loop
-    loop-holds
-    element-copy-out-add-runs
-    element-copy-out-add-runs-2
-    mul-add-runs
-    element-copy-out-add-runs-3
-    add-runs-requires
-    add-x
-    loop-less
-    loop-again
-    returns)
+    (tie.spec Inv-loop μ-loop loop-holds (λ c. omega arith) (λ c. omega arith) (λ c. omega arith) (λ c. omega arith)
+    add-runs-requires (λ c. omega arith) (λ c. omega arith) loop-again returns)

@@ -10,16 +10,10 @@ use borrow.Author.Needs.{needs}
 use Rattle.check_pair.proofs.check_lengths.Statement.{statement}
 use Rattle.check_pair.proofs.check_lengths.Tie as tie
 
-refuse-requires : tie.Need-refuse-requires
-refuse-requires c κs = search needs
-
 returns : tie.Need-returns
 unfolding judgementOf shortEnough provided
 returns c = let a = c .before .before .before .before .args in
     rw (lt-leb (length (now (a .program))) 8192 (c .before .if1 .taken)) (c .refuse .ensures)
-
-refuse-requires-2 : tie.Need-refuse-requires-2
-refuse-requires-2 c κs = search needs
 
 returns-2 : tie.Need-returns-2
 unfolding judgementOf shortEnough provided
@@ -39,4 +33,4 @@ returns-3 c = let a = c .before .before .before .before .args in
 
 pub check-lengths-spec : {M : Type 1} → statement M
 check-lengths-spec =
-    tie.close (tie.spec refuse-requires returns refuse-requires-2 returns-2 returns-3)
+    tie.close (tie.spec (λ c κs. search needs) returns (λ c κs. search needs) returns-2 returns-3)

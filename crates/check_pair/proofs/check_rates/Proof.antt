@@ -1,7 +1,7 @@
 -- `check_pair::check_rates` meets its contract. Assumes nothing.
 use mathlib.Core.Path.{refl, _∙_}
 use borrow.Author.Needs.{needs}
-use Rattle.text_schedule.proofs.Arranged.{few-signals}
+use Rattle.text_program.proofs.ByIndex.{few-signals}
 use Rattle.check_pair.specs.Steps.{ratesOf}
 use Rattle.check_pair.proofs.Verdicts.{
   answers-then,
@@ -16,18 +16,6 @@ use Rattle.check_pair.proofs.Verdicts.{
 use Rattle.check_pair.proofs.check_rates.Statement.{statement}
 use Rattle.check_pair.proofs.check_rates.Tie as tie
 
-declared-and-rated-requires : tie.Need-declared-and-rated-requires
-declared-and-rated-requires c κs = search needs
-
-enum-told : tie.Need-enum-told
-enum-told c = search needs
-
-enum-told-2 : tie.Need-enum-told-2
-enum-told-2 c = search needs
-
-unrated-requires : tie.Need-unrated-requires
-unrated-requires c κs = search needs
-
 returns : tie.Need-returns
 unfolding ratesOf
 returns c p e t =
@@ -38,18 +26,6 @@ returns c p e t =
 hypercycle-requires : tie.Need-hypercycle-requires
 hypercycle-requires c κs = let known = c .before .before .before .before .before .before .before .pre in
     few-signals _ _ _ (known .1) (known .2)
-
-enum-known-cycles : tie.Need-enum-known-cycles
-enum-known-cycles c = search needs
-
-enum-told-3 : tie.Need-enum-told-3
-enum-told-3 c = search needs
-
-judged-cycles-requires : tie.Need-judged-cycles-requires
-judged-cycles-requires c κs = search needs
-
-unrated-requires-2 : tie.Need-unrated-requires-2
-unrated-requires-2 c κs = search needs
 
 returns-2 : tie.Need-returns-2
 unfolding ratesOf
@@ -62,9 +38,6 @@ returns-2 c p e t =
     (h .before .before .before .enum-told .given .1))
     (answers-stop _ _ _ _ _ (cycles-refused _ _ _ (h .hypercycle .ensures p n (t .periods)) (told .1))
     (c .unrated2 .ensures ∙ c .before .judged-cycles .ensures _ (told .1)))
-
-linked-requires : tie.Need-linked-requires
-linked-requires c κs = search needs
 
 returns-3 : tie.Need-returns-3
 unfolding ratesOf
@@ -80,17 +53,6 @@ returns-3 c p e t =
 pub check-rates-spec : {M : Type 1} → statement M
 check-rates-spec =
     tie.close
-    (tie.spec
-    declared-and-rated-requires
-    enum-told
-    enum-told-2
-    unrated-requires
-    returns
-    hypercycle-requires
-    enum-known-cycles
-    enum-told-3
-    judged-cycles-requires
-    unrated-requires-2
-    returns-2
-    linked-requires
+    (tie.spec (λ c κs. search needs) (λ c. search needs) (λ c. search needs) (λ c κs. search needs) returns hypercycle-requires
+    (λ c. search needs) (λ c. search needs) (λ c κs. search needs) (λ c κs. search needs) returns-2 (λ c κs. search needs)
     returns-3)

@@ -30,12 +30,6 @@ reads-met e p s g = judgement-fine _ _ (e .before .before .check-reads .ensures 
 check-reads-requires : tie.Need-check-reads-requires
 check-reads-requires c κs = c .before .before .pre
 
-enum-told : tie.Need-enum-told
-enum-told c = search needs
-
-enum-told-2 : tie.Need-enum-told-2
-enum-told-2 c = search needs
-
 returns : tie.Need-returns
 unfolding runsOf
 returns c p s g =
@@ -45,12 +39,6 @@ returns c p s g =
 
 check-load-requires : tie.Need-check-load-requires
 check-load-requires c κs = (_, start c .pre .0)
-
-enum-told-3 : tie.Need-enum-told-3
-enum-told-3 c = search needs
-
-enum-told-4 : tie.Need-enum-told-4
-enum-told-4 c = search needs
 
 returns-2 : tie.Need-returns-2
 unfolding runsOf
@@ -80,14 +68,5 @@ returns-3 c p s g =
 pub check-runs-spec : {M : Type 1} → statement M
 check-runs-spec =
     tie.close
-    (tie.spec
-    check-reads-requires
-    enum-told
-    enum-told-2
-    returns
-    check-load-requires
-    enum-told-3
-    enum-told-4
-    returns-2
-    check-latency-requires
-    returns-3)
+    (tie.spec check-reads-requires (λ c. search needs) (λ c. search needs) returns check-load-requires (λ c. search needs)
+    (λ c. search needs) returns-2 check-latency-requires returns-3)

@@ -10,21 +10,6 @@ use Rattle.text_schedule.proofs.Puts.{scheduled-refused}
 use Rattle.check_pair.proofs.check_schedule.Statement.{statement}
 use Rattle.check_pair.proofs.check_schedule.Tie as tie
 
-read-schedule-requires : tie.Need-read-schedule-requires
-read-schedule-requires c κs = search needs
-
-enum-known-ended : tie.Need-enum-known-ended
-enum-known-ended c = search needs
-
-enum-told : tie.Need-enum-told
-enum-told c = search needs
-
-judged-end-requires : tie.Need-judged-end-requires
-judged-end-requires c κs = search needs
-
-unplaced-requires : tie.Need-unplaced-requires
-unplaced-requires c κs = search needs
-
 returns : tie.Need-returns
 unfolding scheduleFor
 returns c p n per =
@@ -50,12 +35,5 @@ returns-2 c p n per =
 pub check-schedule-spec : {M : Type 1} → statement M
 check-schedule-spec =
     tie.close
-    (tie.spec
-    read-schedule-requires
-    enum-known-ended
-    enum-told
-    judged-end-requires
-    unplaced-requires
-    returns
-    place-signals-requires
-    returns-2)
+    (tie.spec (λ c κs. search needs) (λ c. search needs) (λ c. search needs) (λ c κs. search needs) (λ c κs. search needs)
+    returns place-signals-requires returns-2)

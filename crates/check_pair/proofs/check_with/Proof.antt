@@ -5,12 +5,13 @@ use borrow.Author.Needs.{needs}
 use Rattle.model.specs.Rules.Compile.{shortEnough}
 use Rattle.model.specs.Rules.Outcome.{accepted}
 use Rattle.model.specs.Rules.Schedule.{Schedule}
-use Rattle.check_rates.specs.Answers.{ReadAs}
+use Rattle.text_program.specs.Tables.{ReadAs}
 use Rattle.text_program.specs.declared.Tables.{Tables}
 use Rattle.text_schedule.specs.Arranged.{Arranged}
 use Rattle.text_schedule.specs.Slots.{ScheduledAs}
 use Rattle.text_schedule.specs.declared.PairTables.{PairTables}
-use Rattle.text_schedule.proofs.Arranged.{few-signals, short-hypercycle, ordered}
+use Rattle.text_schedule.proofs.Arranged.{short-hypercycle, ordered}
+use Rattle.text_program.proofs.ByIndex.{few-signals}
 use Rattle.check_pair.specs.Answers.{RatedAs}
 use Rattle.check_pair.specs.Steps.{ratesOf, scheduleFor, stepsOf}
 use Rattle.check_pair.proofs.Verdicts.{
@@ -110,18 +111,6 @@ arranged e =
       },
     )
 
-check-lengths-requires : tie.Need-check-lengths-requires
-check-lengths-requires c κs = search needs
-
-enum-told : tie.Need-enum-told
-enum-told c = search needs
-
-enum-told-2 : tie.Need-enum-told-2
-enum-told-2 c = search needs
-
-refused-requires : tie.Need-refused-requires
-refused-requires c κs = search needs
-
 returns : tie.Need-returns
 unfolding stepsOf
 returns c =
@@ -135,18 +124,6 @@ read-program-requires c κs =
     let b = c .before in
     let l = short-program _ _ (short b) in
     (l, start b .pre l)
-
-enum-told-3 : tie.Need-enum-told-3
-enum-told-3 c = search needs
-
-enum-told-4 : tie.Need-enum-told-4
-enum-told-4 c = search needs
-
-refused-requires-2 : tie.Need-refused-requires-2
-refused-requires-2 c κs = search needs
-
-same-length : tie.Need-same-length
-same-length c = search needs
 
 returns-2 : tie.Need-returns-2
 unfolding stepsOf
@@ -162,18 +139,6 @@ check-rates-requires : tie.Need-check-rates-requires
 check-rates-requires c κs =
     let e = c .before .before in
     program-read _ _ _ (e .before .before .before .before .read-program .ensures) (e .enum-told3 .given .1)
-
-enum-told-5 : tie.Need-enum-told-5
-enum-told-5 c = search needs
-
-enum-told-6 : tie.Need-enum-told-6
-enum-told-6 c = search needs
-
-refused-requires-3 : tie.Need-refused-requires-3
-refused-requires-3 c κs = search needs
-
-same-length-2 : tie.Need-same-length-2
-same-length-2 c = search needs
 
 returns-3 : tie.Need-returns-3
 unfolding stepsOf
@@ -191,15 +156,6 @@ check-schedule-requires c κs =
     let x = looked (c .before .before .before .before) in
     let g = read x in
     (few-signals _ _ _ (g .1) (g .2), short-schedule _ _ (short (lengths x)))
-
-enum-told-7 : tie.Need-enum-told-7
-enum-told-7 c = search needs
-
-enum-told-8 : tie.Need-enum-told-8
-enum-told-8 c = search needs
-
-refused-requires-4 : tie.Need-refused-requires-4
-refused-requires-4 c κs = search needs
 
 same-length-3 : tie.Need-same-length-3
 same-length-3 c =
@@ -228,9 +184,6 @@ check-runs-requires c κs =
     let x = known (e .before .before) in
     let g = read x in
     ((g .0, a .0, a .2), program-read _ _ _ (x .before .before .before .before .read-program .ensures) (x .enum-told3 .given .1))
-
-same-length-4 : tie.Need-same-length-4
-same-length-4 c = search needs
 
 returns-5 : tie.Need-returns-5
 unfolding stepsOf
@@ -264,30 +217,8 @@ returns-5 c =
 pub check-with-spec : {M : Type 1} → statement M
 check-with-spec =
     tie.close
-    (tie.spec
-    check-lengths-requires
-    enum-told
-    enum-told-2
-    refused-requires
-    returns
-    read-program-requires
-    enum-told-3
-    enum-told-4
-    refused-requires-2
-    same-length
-    returns-2
-    check-rates-requires
-    enum-told-5
-    enum-told-6
-    refused-requires-3
-    same-length-2
-    returns-3
-    check-schedule-requires
-    enum-told-7
-    enum-told-8
-    refused-requires-4
-    same-length-3
-    returns-4
-    check-runs-requires
-    same-length-4
-    returns-5)
+    (tie.spec (λ c κs. search needs) (λ c. search needs) (λ c. search needs) (λ c κs. search needs) returns
+    read-program-requires (λ c. search needs) (λ c. search needs) (λ c κs. search needs) (λ c. search needs) returns-2
+    check-rates-requires (λ c. search needs) (λ c. search needs) (λ c κs. search needs) (λ c. search needs) returns-3
+    check-schedule-requires (λ c. search needs) (λ c. search needs) (λ c κs. search needs) same-length-3 returns-4
+    check-runs-requires (λ c. search needs) returns-5)

@@ -3,12 +3,6 @@ use borrow.Author.Needs.{needs}
 use Rattle.check_pair.proofs.judged_cycles.Statement.{statement}
 use Rattle.check_pair.proofs.judged_cycles.Tie as tie
 
-enum-told : tie.Need-enum-told
-enum-told c = search needs
-
-enum-known-cycles : tie.Need-enum-known-cycles
-enum-known-cycles c = search needs
-
 returns : tie.Need-returns
 returns c f e = cc (c .enum-told .given .1)
 
@@ -16,4 +10,4 @@ returns-2 : tie.Need-returns-2
 returns-2 c f e = cc (c .before .cycles .given .1)
 
 pub judged-cycles-spec : {M : Type 1} → statement M
-judged-cycles-spec = tie.close (tie.spec enum-told enum-known-cycles returns returns-2)
+judged-cycles-spec = tie.close (tie.spec (λ c. search needs) (λ c. search needs) returns returns-2)

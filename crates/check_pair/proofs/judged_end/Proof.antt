@@ -3,12 +3,6 @@ use borrow.Author.Needs.{needs}
 use Rattle.check_pair.proofs.judged_end.Statement.{statement}
 use Rattle.check_pair.proofs.judged_end.Tie as tie
 
-enum-told : tie.Need-enum-told
-enum-told c = search needs
-
-enum-known-ended : tie.Need-enum-known-ended
-enum-known-ended c = search needs
-
 returns : tie.Need-returns
 returns c f e = cc (c .enum-told .given .1)
 
@@ -16,4 +10,4 @@ returns-2 : tie.Need-returns-2
 returns-2 c f e = cc (c .before .ended .given .1)
 
 pub judged-end-spec : {M : Type 1} → statement M
-judged-end-spec = tie.close (tie.spec enum-told enum-known-ended returns returns-2)
+judged-end-spec = tie.close (tie.spec (λ c. search needs) (λ c. search needs) returns returns-2)

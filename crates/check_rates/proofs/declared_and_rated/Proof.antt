@@ -3,7 +3,8 @@ use mathlib.Core.Path.{ap, _∙_}
 use Rattle.model.specs.Rules.Outcome.{lowest}
 use Rattle.basics.specs.Judgement.{judgementOf}
 use Rattle.check_rates.specs.Answers.{readRates, lowerOf}
-use Rattle.check_rates.proofs.Judging.{both-rates, indexed, few-signals, periods-of}
+use Rattle.check_rates.proofs.Judging.{both-rates, periods-of}
+use Rattle.text_program.proofs.ByIndex.{few-signals, indexed}
 use borrow.Author.Needs.{needs}
 use Rattle.check_rates.proofs.declared_and_rated.Statement.{statement}
 use Rattle.check_rates.proofs.declared_and_rated.Tie as tie
@@ -11,16 +12,13 @@ use Rattle.check_rates.proofs.declared_and_rated.Tie as tie
 judge-reads-requires : tie.Need-judge-reads-requires
 judge-reads-requires c κs =
     let c6 = c .before .before .before .before .before .before in
-    (few-signals _ _ _ (c6 .pre), indexed _ _ _ (c6 .pre))
+    (few-signals _ _ _ (c6 .pre .1) (c6 .pre .2), indexed _ _ _ (c6 .pre))
 
 judge-links-requires : tie.Need-judge-links-requires
 judge-links-requires c κs =
     let c5 = c .before .before .before .before .before in
     let c7 = c5 .before .before in
     (c7 .pre .0, c7 .pre .1, c7 .pre .2)
-
-lower-requires : tie.Need-lower-requires
-lower-requires c κs = search needs
 
 returns : tie.Need-returns
 returns c =
@@ -33,4 +31,4 @@ returns c =
 
 pub declared-and-rated-spec : {M : Type 1} → statement M
 declared-and-rated-spec =
-    tie.close (tie.spec judge-reads-requires judge-links-requires lower-requires returns)
+    tie.close (tie.spec judge-reads-requires judge-links-requires (λ c κs. search needs) returns)

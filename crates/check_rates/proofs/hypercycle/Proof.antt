@@ -7,7 +7,7 @@ use borrow.Author.Needs.{needs}
 use Rattle.model.specs.Rules.Program.{Program}
 use Rattle.model.specs.Rules.Rates.{hypercycleOf, hypercycle}
 use Rattle.text_program.specs.Tables.{PeriodsOf}
-use Rattle.check_rates.specs.Answers.{cyclesOf}
+use Rattle.check_rates.specs.Answers.{cyclesAnswer}
 use Rattle.check_rates.proofs.Multiples.{leftFrom, cycle-start, cycle-here, cycle-later, cycle-over}
 use Rattle.check_rates.proofs.hypercycle.Statement.{statement}
 use Rattle.check_rates.proofs.hypercycle.Tie as tie
@@ -23,22 +23,13 @@ abbrev μ-loop : tie.MeasureT-loop
 loop-holds : tie.Need-loop-holds Inv-loop μ-loop
 loop-holds c = (omega arith, λ p n t. cycle-start p)
 
-add-next : tie.Need-add-next Inv-loop μ-loop
-add-next c = omega arith
-
-is-multiple-requires : tie.Need-is-multiple-requires Inv-loop μ-loop
-is-multiple-requires c κs = search needs
-
 returns : tie.Need-returns Inv-loop μ-loop
-unfolding cyclesOf
+unfolding cyclesAnswer
 returns c =
     let l = c .before .before .before .loop in
     let lt : l .h < 240 = omega (arith, c .before .before .loop-test .taken) in
     λ p n t.
-    sym (ap cyclesOf (l .inv .1 p n t ∙ cycle-here p (l .h) lt (sym (c .before .is-multiple .ensures p n t) ∙ c .if1 .taken)))
-
-loop-less : tie.Need-loop-less Inv-loop μ-loop
-loop-less c = omega arith
+    sym (ap cyclesAnswer (l .inv .1 p n t ∙ cycle-here p (l .h) lt (sym (c .before .is-multiple .ensures p n t) ∙ c .if1 .taken)))
 
 loop-again : tie.Need-loop-again Inv-loop μ-loop
 loop-again c =
@@ -51,21 +42,13 @@ loop-again c =
     )
 
 returns-2 : tie.Need-returns-2 Inv-loop μ-loop
-unfolding cyclesOf
+unfolding cyclesAnswer
 returns-2 c =
     let l = c .before .loop in
-    λ p n t. sym (ap cyclesOf (l .inv .1 p n t ∙ cycle-over p (l .h) (omega (arith, c .loop-test .left, l .inv .0))))
+    λ p n t. sym (ap cyclesAnswer (l .inv .1 p n t ∙ cycle-over p (l .h) (omega (arith, c .loop-test .left, l .inv .0))))
 
 pub hypercycle-spec : {M : Type 1} → statement M
 hypercycle-spec =
     tie.close
-    (tie.spec
-    Inv-loop
-    μ-loop
-    loop-holds
-    add-next
-    is-multiple-requires
-    returns
-    loop-less
-    loop-again
+    (tie.spec Inv-loop μ-loop loop-holds (λ c. omega arith) (λ c κs. search needs) returns (λ c. omega arith) loop-again
     returns-2)

@@ -1,5 +1,5 @@
 -- `check_rates::is_linked` meets its contract. Assumes nothing.
-use Prim.Native.Nat.{ℕ, _+_, _≤_, _<_}
+use Prim.Native.Nat.{_+_, _≤_, _<_}
 use mathlib.Core.Path.{_≡_, sym, _∙_}
 use native.Mathlib.Omega.{arith}
 use denote.Ref.{now}
@@ -9,7 +9,7 @@ use Rattle.model.specs.Rules.Outcome.{accepted}
 use Rattle.model.specs.Rules.Program.{Program, parseProgram}
 use Rattle.text_program.specs.Tables.{TablesOf, chainAt}
 use Rattle.check_rates.proofs.Counting.{found-one, found-none}
-use Rattle.check_rates.proofs.Judging.{indexed, few-signals}
+use Rattle.text_program.proofs.ByIndex.{few-signals, indexed}
 use Rattle.check_rates.proofs.Linking.{
   LinksLeft,
   link-inside,
@@ -49,9 +49,6 @@ mul-at c = omega (arith, few c)
 array-read-at : tie.Need-array-read-at Inv-loop μ-loop
 array-read-at c = few c
 
-in-program-requires : tie.Need-in-program-requires Inv-loop μ-loop
-in-program-requires c κs = search needs
-
 add-at : tie.Need-add-at Inv-loop μ-loop
 add-at c =
     let s = c .before .before .before .before .before .before in
@@ -68,9 +65,6 @@ loop-holds : tie.Need-loop-holds Inv-loop μ-loop
 loop-holds c =
     let s = c .before .before .before .before .before .before in
     λ p q t. rw (c .in-program .ensures) (chain-begins _ _ _ (s .pre .1) p q t)
-
-in-program-requires-2 : tie.Need-in-program-requires-2 Inv-loop μ-loop
-in-program-requires-2 c κs = search needs
 
 add-second : tie.Need-add-second Inv-loop μ-loop
 add-second c = omega (arith, inside (c .before))
@@ -93,13 +87,7 @@ one-read-requires c κs =
     let c10 = c5 .before .before .before .before .before in
     let c12 = c10 .before .before in
     let s = c12 in
-    (few-signals _ _ _ (s .pre .0), indexed _ _ _ (s .pre .0))
-
-enum-told : tie.Need-enum-told Inv-loop μ-loop
-enum-told c = search needs
-
-enum-told-2 : tie.Need-enum-told-2 Inv-loop μ-loop
-enum-told-2 c = search needs
+    (few-signals _ _ _ (s .pre .0 .1) (s .pre .0 .2), indexed _ _ _ (s .pre .0))
 
 returns : tie.Need-returns Inv-loop μ-loop
 returns c =
@@ -135,27 +123,6 @@ returns-2 c = λ p q t. sym (link-over _ _ _ _ _ (c .before .loop .inv p q t) (o
 pub is-linked-spec : {M : Type 1} → statement M
 is-linked-spec =
     tie.close
-    (tie.spec
-    Inv-loop
-    μ-loop
-    mul-at
-    array-read-at
-    in-program-requires
-    add-at
-    mul-left
-    array-read-left
-    loop-holds
-    in-program-requires-2
-    add-second
-    add-before
-    shared-slice-read-before
-    add-signal
-    shared-slice-read-signal
-    one-read-requires
-    enum-told
-    enum-told-2
-    returns
-    sub-left
-    loop-less
-    loop-again
-    returns-2)
+    (tie.spec Inv-loop μ-loop mul-at array-read-at (λ c κs. search needs) add-at mul-left array-read-left loop-holds
+    (λ c κs. search needs) add-second add-before shared-slice-read-before add-signal shared-slice-read-signal one-read-requires
+    (λ c. search needs) (λ c. search needs) returns sub-left loop-less loop-again returns-2)

@@ -44,20 +44,8 @@ here c p n t =
 loop-holds : tie.Need-loop-holds Inv-loop μ-loop
 loop-holds c = (omega arith, λ p n t. refl)
 
-element-copy-out-divides : tie.Need-element-copy-out-divides Inv-loop μ-loop
-element-copy-out-divides c = omega arith
-
-divides-requires : tie.Need-divides-requires Inv-loop μ-loop
-divides-requires c κs = search needs
-
 returns : tie.Need-returns Inv-loop μ-loop
 returns c = λ p n t. sym (here (c .before) p n t ∙ rw (not-true (c .before .divides .result) (c .if1 .taken)))
-
-add-s : tie.Need-add-s Inv-loop μ-loop
-add-s c = omega arith
-
-loop-less : tie.Need-loop-less Inv-loop μ-loop
-loop-less c = omega arith
 
 loop-again : tie.Need-loop-again Inv-loop μ-loop
 loop-again c = (omega arith, λ p n t. here (c .before) p n t ∙ rw (not-false (c .before .divides .result) (c .if1 .left)))
@@ -69,14 +57,5 @@ returns-2 c = λ p n t. sym (c .before .loop .inv .1 p n t ∙
 pub is-multiple-spec : {M : Type 1} → statement M
 is-multiple-spec =
     tie.close
-    (tie.spec
-    Inv-loop
-    μ-loop
-    loop-holds
-    element-copy-out-divides
-    divides-requires
-    returns
-    add-s
-    loop-less
-    loop-again
-    returns-2)
+    (tie.spec Inv-loop μ-loop loop-holds (λ c. omega arith) (λ c κs. search needs) returns (λ c. omega arith) (λ c. omega arith)
+    loop-again returns-2)

@@ -1,5 +1,5 @@
 -- `check_rates::judge_links` meets its contract. Assumes nothing.
-use Prim.Native.Nat.{ℕ, suc, _+_, _*_, _-_, _≤_, _<_}
+use Prim.Native.Nat.{ℕ, _+_, _*_, _-_, _≤_, _<_}
 use mathlib.Core.List.{List}
 use mathlib.Core.Path.{_≡_, refl, sym, ap, subst, _∙_}
 use native.Mathlib.Omega.{arith}
@@ -23,18 +23,18 @@ use Rattle.text_program.proofs.ByIndex.{
   check-refuses,
 }
 use Rattle.text_program.proofs.Rising.{linkPlaces, rising-program}
-use Rattle.check_rates.specs.Answers.{linkRates, ReadAs}
+use Rattle.check_rates.specs.Answers.{linkRates}
+use Rattle.text_program.specs.Tables.{ReadAs}
 use Rattle.check_rates.proofs.Judging.{
   linkAs,
   link-there,
   chains-are,
-  few-chains,
   length-is,
-  chain-inside,
   link-seen,
   link-inside,
   one-link,
 }
+use Rattle.check_rates.proofs.Linking.{few-chains, chain-inside}
 use Rattle.check_rates.proofs.judge_links.Statement.{statement}
 use Rattle.check_rates.proofs.judge_links.Tie as tie
 
@@ -74,10 +74,10 @@ module _ (b : tie.In-loop Inv-loop2 μ-loop2 Inv-loop μ-loop) where
   lt = b .loop-test .taken
 
   below : x < 16
-  below = omega (arith, lt, few-chains text t read (read .0) (read .1))
+  below = omega (arith, lt, few-chains text t read)
 
   inside : getD (t .starts) x 0 + 4 ≤ length text
-  inside = chain-inside text t read (read .0) (read .1) x lt
+  inside = chain-inside text t x lt read
 
   -- and a LINK
   module _ (i : ℕ) (li : i < getD (t .lengths) x 0) where
@@ -86,18 +86,28 @@ module _ (b : tie.In-loop Inv-loop2 μ-loop2 Inv-loop μ-loop) where
 
 -- where a LINK stands
 module _ (c : tie.After-in-program2 Inv-loop2 μ-loop2 Inv-loop μ-loop) where
+  abbrev chain : tie.In-loop Inv-loop2 μ-loop2 Inv-loop μ-loop
+  chain = c .before .before .before .before
+
   abbrev i : ℕ
   i = c .before .before .loop2 .i
+
+  abbrev place : ℕ
+  place = getD (t chain .starts) (x chain) 0 + 4 + 2 * i
 
   -- after the LINKs before it
   passed : c .in-program2 .result * i ≡ 2 * i
   passed = ap (λ (k : ℕ). k * i) (c .in-program2 .ensures)
 
-  stands :
-      getD (t (c .before .before .before .before) .starts) (x (c .before .before .before .before)) 0 +
-      c .before .before .before .in-program .result + c .in-program2 .result * i ≡
-      getD (t (c .before .before .before .before) .starts) (x (c .before .before .before .before)) 0 + 4 + 2 * i
+  stands : getD (t chain .starts) (x chain) 0 + c .before .before .before .in-program .result + c .in-program2 .result * i ≡ place
   stands = omega (arith, passed, c .before .before .before .in-program .ensures)
+
+  -- in the text
+  ends : (place + 2 ≤ length (text chain)) × (length (text chain) ≤ 18446744073709551615)
+  ends = (
+    within chain i (c .before .loop2-test .taken),
+    omega (arith, chain .before .before .before .before .before .good .0 .1),
+  )
 
 loop-holds : tie.Need-loop-holds Inv-loop2 μ-loop2 Inv-loop μ-loop
 unfolding linkPlaces
@@ -112,9 +122,6 @@ mul-first c = omega (arith, below c)
 
 array-read-first : tie.Need-array-read-first Inv-loop2 μ-loop2 Inv-loop μ-loop
 array-read-first c = omega (arith, below c)
-
-in-program-requires : tie.Need-in-program-requires Inv-loop2 μ-loop2 Inv-loop μ-loop
-in-program-requires c κs = search needs
 
 add-first : tie.Need-add-first Inv-loop2 μ-loop2 Inv-loop μ-loop
 add-first c = omega (arith, inside (c .before), c .before .before .before .before .before .before .good .0 .1)
@@ -133,72 +140,17 @@ loop2-holds c = (
       (omega (arith, lt (c .before), chains-are _ (t (c .before)) (read (c .before)) p e)) (c .before .before .loop .inv .1 p e),
 )
 
-in-program-requires-2 : tie.Need-in-program-requires-2 Inv-loop2 μ-loop2 Inv-loop μ-loop
-in-program-requires-2 c κs = search needs
-
 mul-at : tie.Need-mul-at Inv-loop2 μ-loop2 Inv-loop μ-loop
-mul-at c =
-    let c3 = c .before .before .before in
-    let c4 = c3 .before in
-    let c9 = c4 .before .before .before .before .before in
-    omega (
-      arith,
-      passed c,
-      c3 .in-program .ensures,
-      within c4 (c .before .before .loop2 .i) (c .before .loop2-test .taken),
-      c9 .good .0 .1,
-    )
+mul-at c = omega (arith, passed c, ends c)
 
 add-at : tie.Need-add-at Inv-loop2 μ-loop2 Inv-loop μ-loop
-add-at c =
-    let c3 = c .before .before .before in
-    let c4 = c3 .before in
-    let c9 = c4 .before .before .before .before .before in
-    omega (
-      arith,
-      passed c,
-      c3 .in-program .ensures,
-      within c4 (c .before .before .loop2 .i) (c .before .loop2-test .taken),
-      c9 .good .0 .1,
-    )
+add-at c = omega (arith, passed c, stands c, ends c)
 
 add-wide : tie.Need-add-wide Inv-loop2 μ-loop2 Inv-loop μ-loop
-add-wide c =
-    let c3 = c .before .before .before in
-    let c4 = c3 .before in
-    let c9 = c4 .before .before .before .before .before in
-    omega (
-      arith,
-      passed c,
-      c3 .in-program .ensures,
-      within c4 (c .before .before .loop2 .i) (c .before .loop2-test .taken),
-      c9 .good .0 .1,
-    )
+add-wide c = omega (arith, passed c, stands c, ends c)
 
 shared-slice-read-wide : tie.Need-shared-slice-read-wide Inv-loop2 μ-loop2 Inv-loop μ-loop
-shared-slice-read-wide c =
-    let c3 = c .before .before .before in
-    let c4 = c3 .before in
-    let c5 = c4 .before in
-    omega (
-      arith,
-      passed (c .before),
-      c4 .in-program .ensures,
-      within c5 (c3 .loop2 .i)
-          (c .before .before .loop2-test .taken),
-    )
-
-wide-requires : tie.Need-wide-requires Inv-loop2 μ-loop2 Inv-loop μ-loop
-wide-requires c κs = search needs
-
-judge-rate-requires : tie.Need-judge-rate-requires Inv-loop2 μ-loop2 Inv-loop μ-loop
-judge-rate-requires c κs = search needs
-
-enum-told : tie.Need-enum-told Inv-loop2 μ-loop2 Inv-loop μ-loop
-enum-told c = search needs
-
-enum-told-2 : tie.Need-enum-told-2 Inv-loop2 μ-loop2 Inv-loop μ-loop
-enum-told-2 c = search needs
+shared-slice-read-wide c = omega (arith, stands (c .before), ends (c .before))
 
 returns : tie.Need-returns Inv-loop2 μ-loop2 Inv-loop μ-loop
 unfolding judgementOf
@@ -279,33 +231,7 @@ returns-2 c =
 pub judge-links-spec : {M : Type 1} → statement M
 judge-links-spec =
     tie.close
-    (tie.spec
-    Inv-loop2
-    μ-loop2
-    Inv-loop
-    μ-loop
-    loop-holds
-    mul-first
-    array-read-first
-    in-program-requires
-    add-first
-    mul-links
-    array-read-links
-    loop2-holds
-    in-program-requires-2
-    mul-at
-    add-at
-    add-wide
-    shared-slice-read-wide
-    wide-requires
-    judge-rate-requires
-    enum-told
-    enum-told-2
-    returns
-    add-i
-    loop2-less
-    loop2-again
-    add-chain
-    loop-less
-    loop-again
-    returns-2)
+    (tie.spec Inv-loop2 μ-loop2 Inv-loop μ-loop loop-holds mul-first array-read-first (λ c κs. search needs) add-first mul-links
+    array-read-links loop2-holds (λ c κs. search needs) mul-at add-at add-wide shared-slice-read-wide (λ c κs. search needs)
+    (λ c κs. search needs) (λ c. search needs) (λ c. search needs) returns add-i loop2-less loop2-again add-chain loop-less
+    loop-again returns-2)

@@ -5,15 +5,9 @@ use borrow.Author.Needs.{needs}
 use Rattle.check_rates.proofs.judge_rate.Statement.{statement}
 use Rattle.check_rates.proofs.judge_rate.Tie as tie
 
-refuse-requires : tie.Need-refuse-requires
-refuse-requires c κs = search needs
-
 returns : tie.Need-returns
 unfolding rateJudged
 returns c = rw (not-true (c .before .before .args .declared) (c .before .if1 .taken)) (c .refuse .ensures)
-
-refuse-requires-2 : tie.Need-refuse-requires-2
-refuse-requires-2 c κs = search needs
 
 returns-2 : tie.Need-returns-2
 unfolding rateJudged
@@ -29,4 +23,4 @@ returns-3 c =
 
 pub judge-rate-spec : {M : Type 1} → statement M
 judge-rate-spec =
-    tie.close (tie.spec refuse-requires returns refuse-requires-2 returns-2 returns-3)
+    tie.close (tie.spec (λ c κs. search needs) returns (λ c κs. search needs) returns-2 returns-3)

@@ -5,21 +5,6 @@ use borrow.Author.Needs.{needs}
 use Rattle.check_rates.proofs.judge_read.Statement.{statement}
 use Rattle.check_rates.proofs.judge_read.Tie as tie
 
-wide-requires : tie.Need-wide-requires
-wide-requires c κs = search needs
-
-period-at-requires : tie.Need-period-at-requires
-period-at-requires c κs = search needs
-
-period-at-requires-2 : tie.Need-period-at-requires-2
-period-at-requires-2 c κs = search needs
-
-period-rule-requires : tie.Need-period-rule-requires
-period-rule-requires c κs = search needs
-
-judge-rate-requires : tie.Need-judge-rate-requires
-judge-rate-requires c κs = search needs
-
 returns : tie.Need-returns
 unfolding readJudged
 returns c =
@@ -35,10 +20,5 @@ returns c =
 pub judge-read-spec : {M : Type 1} → statement M
 judge-read-spec =
     tie.close
-    (tie.spec
-    wide-requires
-    period-at-requires
-    period-at-requires-2
-    period-rule-requires
-    judge-rate-requires
+    (tie.spec (λ c κs. search needs) (λ c κs. search needs) (λ c κs. search needs) (λ c κs. search needs) (λ c κs. search needs)
     returns)

@@ -1,7 +1,7 @@
 -- `check_rates::judge_reads` meets its contract. Assumes nothing.
-use Prim.Native.Nat.{ℕ, suc, _+_, _-_, _≤_, _<_}
+use Prim.Native.Nat.{ℕ, _+_, _-_, _≤_, _<_}
 use mathlib.Core.List.{List}
-use mathlib.Core.Path.{_≡_, refl, sym, ap, subst, _∙_}
+use mathlib.Core.Path.{_≡_, sym, ap, subst, _∙_}
 use native.Mathlib.Omega.{arith}
 use denote.Ref.{now}
 use lib.ListN.{length, getD}
@@ -12,24 +12,7 @@ use Rattle.basics.specs.Judgement.{judgementOf}
 use Rattle.text_command.specs.Operator.{ReadStands}
 use Rattle.text_program.specs.Tables.{PeriodsOf, Indexed}
 use Rattle.basics.specs.declared.Judged.the-variants as Judged
-use Rattle.text_program.proofs.ByIndex.{
-  Ahead,
-  Before,
-  faultsOf,
-  reads-in,
-  check-starts,
-  check-enters,
-  check-leaves,
-  check-ends,
-  check-passes,
-  check-refuses,
-  counted,
-  all-seen,
-  seen,
-  in-table,
-  read-stands,
-  rises-at,
-}
+use Rattle.text_program.proofs.ByIndex.{Ahead, Before, reads-in, check-starts, check-enters, check-leaves, check-ends, check-passes, check-refuses, counted, all-seen, seen, in-table, read-stands, rises-at}
 use Rattle.text_program.proofs.Rising.{allPlaces, rising-program}
 use Rattle.check_rates.specs.Answers.{readRates}
 use Rattle.check_rates.proofs.Judging.{readAs, read-there, all-rates, one-read}
@@ -109,9 +92,6 @@ mul-wider c = omega (arith, c .before .before .before .before .pre .0)
 element-copy-out-wider : tie.Need-element-copy-out-wider Inv-loop2 μ-loop2 Inv-loop μ-loop
 element-copy-out-wider c = omega (arith, c .before .before .before .before .pre .0)
 
-wider-requires : tie.Need-wider-requires Inv-loop2 μ-loop2 Inv-loop μ-loop
-wider-requires c κs = search needs
-
 loop2-holds : tie.Need-loop2-holds Inv-loop2 μ-loop2 Inv-loop μ-loop
 loop2-holds c =
     let c3 = c .before .before .before in
@@ -136,20 +116,8 @@ mul-wider-2 c = omega (arith, c .loop2-test .taken, c .before .before .wider .en
 shared-slice-read-wider : tie.Need-shared-slice-read-wider Inv-loop2 μ-loop2 Inv-loop μ-loop
 shared-slice-read-wider c = here (c .before)
 
-wider-requires-2 : tie.Need-wider-requires-2 Inv-loop2 μ-loop2 Inv-loop μ-loop
-wider-requires-2 c κs = search needs
-
 taken-at-requires : tie.Need-taken-at-requires Inv-loop2 μ-loop2 Inv-loop μ-loop
 taken-at-requires c κs = subst (ReadStands _) (sym (c .wider2 .ensures .0)) (stands (c .before .before))
-
-judge-read-requires : tie.Need-judge-read-requires Inv-loop2 μ-loop2 Inv-loop μ-loop
-judge-read-requires c κs = search needs
-
-enum-told : tie.Need-enum-told Inv-loop2 μ-loop2 Inv-loop μ-loop
-enum-told c = search needs
-
-enum-told-2 : tie.Need-enum-told-2 Inv-loop2 μ-loop2 Inv-loop μ-loop
-enum-told-2 c = search needs
 
 returns : tie.Need-returns Inv-loop2 μ-loop2 Inv-loop μ-loop
 unfolding judgementOf
@@ -233,29 +201,6 @@ returns-2 c =
 pub judge-reads-spec : {M : Type 1} → statement M
 judge-reads-spec =
     tie.close
-    (tie.spec
-    Inv-loop2
-    μ-loop2
-    Inv-loop
-    μ-loop
-    loop-holds
-    add-wider
-    mul-wider
-    element-copy-out-wider
-    wider-requires
-    loop2-holds
-    mul-wider-2
-    shared-slice-read-wider
-    wider-requires-2
-    taken-at-requires
-    judge-read-requires
-    enum-told
-    enum-told-2
-    returns
-    add-i
-    loop2-less
-    loop2-again
-    add-reader
-    loop-less
-    loop-again
-    returns-2)
+    (tie.spec Inv-loop2 μ-loop2 Inv-loop μ-loop loop-holds add-wider mul-wider element-copy-out-wider (λ c κs. search needs)
+    loop2-holds mul-wider-2 shared-slice-read-wider (λ c κs. search needs) taken-at-requires (λ c κs. search needs)
+    (λ c. search needs) (λ c. search needs) returns add-i loop2-less loop2-again add-reader loop-less loop-again returns-2)

@@ -48,9 +48,6 @@ mul-refuse c = omega (arith, few c)
 array-read-refuse : tie.Need-array-read-refuse Inv-loop μ-loop
 array-read-refuse c = few c
 
-refuse-requires : tie.Need-refuse-requires Inv-loop μ-loop
-refuse-requires c κs = search needs
-
 returns : tie.Need-returns Inv-loop μ-loop
 unfolding judgementOf
 returns c =
@@ -90,16 +87,5 @@ returns-2 c =
 pub linked-spec : {M : Type 1} → statement M
 linked-spec =
     tie.close
-    (tie.spec
-    Inv-loop
-    μ-loop
-    loop-holds
-    is-linked-requires
-    mul-refuse
-    array-read-refuse
-    refuse-requires
-    returns
-    add-chain
-    loop-less
-    loop-again
-    returns-2)
+    (tie.spec Inv-loop μ-loop loop-holds is-linked-requires mul-refuse array-read-refuse (λ c κs. search needs) returns
+    add-chain loop-less loop-again returns-2)

@@ -5,18 +5,6 @@ use borrow.Author.Needs.{needs}
 use Rattle.check_rates.proofs.lower.Statement.{statement}
 use Rattle.check_rates.proofs.lower.Tie as tie
 
-enum-told : tie.Need-enum-told
-enum-told c = search needs
-
-enum-known-a : tie.Need-enum-known-a
-enum-known-a c = search needs
-
-enum-told-2 : tie.Need-enum-told-2
-enum-told-2 c = search needs
-
-enum-known-b : tie.Need-enum-known-b
-enum-known-b c = search needs
-
 returns : tie.Need-returns
 unfolding lowerOf
 returns c =
@@ -42,12 +30,5 @@ returns-4 c =
 pub lower-spec : {M : Type 1} → statement M
 lower-spec =
     tie.close
-    (tie.spec
-    enum-told
-    enum-known-a
-    enum-told-2
-    enum-known-b
-    returns
-    returns-2
-    returns-3
+    (tie.spec (λ c. search needs) (λ c. search needs) (λ c. search needs) (λ c. search needs) returns returns-2 returns-3
     returns-4)

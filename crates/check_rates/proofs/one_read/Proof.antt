@@ -2,7 +2,7 @@
 use Prim.Native.Nat.{ℕ, _+_, _-_, _≤_, _<_}
 use mathlib.Core.List.{List}
 use mathlib.Core.Logic.{⊎-elim}
-use mathlib.Core.Path.{_≡_, sym, ap, subst, _∙_}
+use mathlib.Core.Path.{_≡_, subst}
 use native.Mathlib.Omega.{arith}
 use denote.Ref.{now}
 use lib.ListN.{length, getD}
@@ -119,9 +119,6 @@ module _ (d : tie.After-loop Inv-loop μ-loop) where
       omega (arith, v .1, d .loop-test .left, d .before .before .wider2 .ensures .0) in
       over (ix o) p e (w o) (x o) (d .before .loop .i) (lt o) _ (d .before .before .before .before .wider .ensures .0) (v .0) h
 
-wide-requires : tie.Need-wide-requires Inv-loop μ-loop
-wide-requires c κs = search needs
-
 returns : tie.Need-returns Inv-loop μ-loop
 returns c =
     let s = c .before .before .before .before in
@@ -134,9 +131,6 @@ mul-wider c = omega (arith, below c)
 element-copy-out-wider : tie.Need-element-copy-out-wider Inv-loop μ-loop
 element-copy-out-wider c = omega (arith, below c)
 
-wider-requires : tie.Need-wider-requires Inv-loop μ-loop
-wider-requires c κs = search needs
-
 add-wider : tie.Need-add-wider Inv-loop μ-loop
 add-wider c = omega (arith, below (c .before .before))
 
@@ -145,9 +139,6 @@ mul-wider-2 c = omega (arith, below (c .before .before))
 
 element-copy-out-wider-2 : tie.Need-element-copy-out-wider-2 Inv-loop μ-loop
 element-copy-out-wider-2 c = omega (arith, below (c .before .before))
-
-wider-requires-2 : tie.Need-wider-requires-2 Inv-loop μ-loop
-wider-requires-2 c κs = search needs
 
 loop-holds : tie.Need-loop-holds Inv-loop μ-loop
 loop-holds c =
@@ -164,9 +155,6 @@ mul-wider-3 c = omega (arith, c .loop-test .taken, c .before .before .wider2 .en
 
 shared-slice-read-wider : tie.Need-shared-slice-read-wider Inv-loop μ-loop
 shared-slice-read-wider c = here (c .before)
-
-wider-requires-3 : tie.Need-wider-requires-3 Inv-loop μ-loop
-wider-requires-3 c κs = search needs
 
 add-if2 : tie.Need-add-if2 Inv-loop μ-loop
 add-if2 c = omega (arith, stands-inside (stands (c .before .before)), c .wider3 .ensures)
@@ -212,27 +200,6 @@ returns-3 c =
 pub one-read-spec : {M : Type 1} → statement M
 one-read-spec =
     tie.close
-    (tie.spec
-    Inv-loop
-    μ-loop
-    wide-requires
-    returns
-    mul-wider
-    element-copy-out-wider
-    wider-requires
-    add-wider
-    mul-wider-2
-    element-copy-out-wider-2
-    wider-requires-2
-    loop-holds
-    mul-wider-3
-    shared-slice-read-wider
-    wider-requires-3
-    add-if2
-    shared-slice-read-if2
-    add-many
-    add-i
-    loop-less
-    loop-again
-    returns-2
-    returns-3)
+    (tie.spec Inv-loop μ-loop (λ c κs. search needs) returns mul-wider element-copy-out-wider (λ c κs. search needs) add-wider
+    mul-wider-2 element-copy-out-wider-2 (λ c κs. search needs) loop-holds mul-wider-3 shared-slice-read-wider
+    (λ c κs. search needs) add-if2 shared-slice-read-if2 add-many add-i loop-less loop-again returns-2 returns-3)

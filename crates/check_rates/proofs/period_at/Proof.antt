@@ -5,9 +5,6 @@ use borrow.Author.Needs.{needs}
 use Rattle.check_rates.proofs.period_at.Statement.{statement}
 use Rattle.check_rates.proofs.period_at.Tie as tie
 
-element-copy-out-result : tie.Need-element-copy-out-result
-element-copy-out-result c = search needs
-
 returns : tie.Need-returns
 unfolding periodAt
 returns c = rw (lt-ltb (c .before .before .args .signal) 64 (c .before .if1 .taken))
@@ -17,4 +14,4 @@ unfolding periodAt
 returns-2 c = rw (le-ltb (c .before .args .signal) 64 (c .if1 .left))
 
 pub period-at-spec : {M : Type 1} → statement M
-period-at-spec = tie.close (tie.spec element-copy-out-result returns returns-2)
+period-at-spec = tie.close (tie.spec (λ c. search needs) returns returns-2)

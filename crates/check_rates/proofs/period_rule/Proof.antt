@@ -1,7 +1,7 @@
 -- `check_rates::period_rule` meets its contract. Assumes nothing.
 use Prim.Native.Nat.{ℕ, _*_, _≤_, _<_}
 use mathlib.Core.Bool.{cond}
-use mathlib.Core.Path.{_≡_, refl, ap, _∙_}
+use mathlib.Core.Path.{_≡_, refl, ap}
 use native.Mathlib.Nat.{mul-le-mul-right}
 use native.Mathlib.Omega.{arith}
 use borrow.Author.Needs.{needs}
@@ -9,7 +9,8 @@ use lib.Dec.{eqb}
 use Rattle.model.specs.Rules.Rates.{periodRule}
 use Rattle.model.specs.declared.Kind.{Kind}
 use Rattle.model.specs.declared.Kind.the-variants.{Now, Last, When, LastWhen, Current}
-use Rattle.check_rates.specs.Answers.{factorOf, isCurrent}
+use Rattle.check_rates.specs.Answers.{factorOf}
+use Rattle.read_rule.specs.Lines.{isCurrent}
 use Rattle.check_rates.proofs.period_rule.Statement.{statement}
 use Rattle.check_rates.proofs.period_rule.Tie as tie
 
@@ -26,27 +27,6 @@ one-product When w r n = refl
 one-product LastWhen w r n = refl
 one-product Current w r n = refl
 
-factor-of-requires : tie.Need-factor-of-requires
-factor-of-requires c κs = search needs
-
-wide-requires : tie.Need-wide-requires
-wide-requires c κs = search needs
-
-is-current-requires : tie.Need-is-current-requires
-is-current-requires c κs = search needs
-
-either-requires : tie.Need-either-requires
-either-requires c κs = search needs
-
-wide-requires-2 : tie.Need-wide-requires-2
-wide-requires-2 c κs = search needs
-
-either-requires-2 : tie.Need-either-requires-2
-either-requires-2 c κs = search needs
-
-wide-requires-3 : tie.Need-wide-requires-3
-wide-requires-3 c κs = search needs
-
 mul-result : tie.Need-mul-result
 mul-result c =
     let shorter = c .wide3 in
@@ -62,8 +42,8 @@ returns c =
       l .wide2 .ensures .0,
       f .wide .ensures .0,
       c .wide3 .ensures .0,
-      l .before .either .ensures,
-      c .before .either2 .ensures,
+      l .before .select .ensures,
+      c .before .select2 .ensures,
       f .before .factor-of .ensures,
       l .before .before .is-current .ensures,
     )
@@ -72,13 +52,5 @@ returns c =
 pub period-rule-spec : {M : Type 1} → statement M
 period-rule-spec =
     tie.close
-    (tie.spec
-    factor-of-requires
-    wide-requires
-    is-current-requires
-    either-requires
-    wide-requires-2
-    either-requires-2
-    wide-requires-3
-    mul-result
-    returns)
+    (tie.spec (λ c κs. search needs) (λ c κs. search needs) (λ c κs. search needs) (λ c κs. search needs) (λ c κs. search needs)
+    (λ c κs. search needs) (λ c κs. search needs) mul-result returns)

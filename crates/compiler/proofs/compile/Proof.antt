@@ -44,18 +44,6 @@ laid-out : (l : tie.After-lay-out) → let q = pair (checked l) .0 in
     LaidOut (q .program) (q .schedule) (checked l .before .before .check-pair .result .pair .hypercycle) (l .lay-out .result)
 laid-out l = l .lay-out .ensures _ _ _ (pair (checked l) .2 .prepared)
 
-check-pair-requires : tie.Need-check-pair-requires
-check-pair-requires c κs = search needs
-
-enum-told : tie.Need-enum-told
-enum-told c = search needs
-
-enum-told-2 : tie.Need-enum-told-2
-enum-told-2 c = search needs
-
-refused-requires : tie.Need-refused-requires
-refused-requires c κs = search needs
-
 returns : tie.Need-returns
 returns c =
     let told = c .before .enum-told2 .given .1 in
@@ -111,9 +99,6 @@ emit-tail-requires c κs =
       tail-room _ _ _ (q .0) _ _ (q .1) (q .2 .hyper) (l .tail-ends) (e .if1 .left) (image-is k) (l .ends) (tail-is k),
     )
 
-same-length : tie.Need-same-length
-same-length c = search needs
-
 returns-3 : tie.Need-returns-3
 returns-3 c =
     let k = c .before .before .before .before .before .before .before .before in
@@ -126,15 +111,5 @@ returns-3 c =
 pub compile-spec : {M : Type 1} → statement M
 compile-spec =
     tie.close
-    (tie.spec
-    check-pair-requires
-    enum-told
-    enum-told-2
-    refused-requires
-    returns
-    lay-out-requires
-    returns-2
-    emit-requires
-    emit-tail-requires
-    same-length
-    returns-3)
+    (tie.spec (λ c κs. search needs) (λ c. search needs) (λ c. search needs) (λ c κs. search needs) returns lay-out-requires
+    returns-2 emit-requires emit-tail-requires (λ c. search needs) returns-3)

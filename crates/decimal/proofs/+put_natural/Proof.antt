@@ -1,12 +1,9 @@
 -- `decimal::put_natural` meets its contract. Assumes nothing.
 use Rattle.decimal.proofs.Puts.{put-one, put-then, put-is, put-length}
-use Rattle.model.proofs.Bench.Decimals.{natural-one, natural-more, natural-length}
-use Rattle.model.specs.Rules.Decimal.{natural, digit}
-use Rattle.decimal.specs.Put.{Put}
+use Rattle.model.proofs.Bench.Decimals.{natural-one, natural-more}
 use lib.ListN.{length, length-append}
-use mathlib.Core.Path.{_≡_, refl, sym, ap, _∙_}
-use mathlib.Core.List.{List, [], _∷_, _++_}
-use Prim.Native.Nat.{_+_, _≤_, _/_, _%_}
+use mathlib.Core.Path.{sym, ap}
+use Prim.Native.Nat.{_+_}
 use borrow.Author.Needs.{needs}
 use native.Mathlib.Omega.{arith}
 use Prim.Native.Nat.{ℕ, _<_}
@@ -128,18 +125,7 @@ pub +put-natural-spec : {M : Type 1} → statement M
   put-natural-below t,
   put-natural.Post,
 )
-    (put-natural-at t)
-    put-natural.Post
-    (put-natural-add-out t)
-    (put-natural-cast-out t)
-    (put-natural-slice-write-out t)
-    (put-natural-add-result t)
-    (put-natural-same-length t)
-    (put-natural-returns t)
-    (put-natural-put-natural-requires t)
-    (put-natural-add-out-2 t)
-    (put-natural-cast-out-2 t)
-    (put-natural-slice-write-out-2 t)
-    (put-natural-add-result-2 t)
-    (put-natural-same-length-2 t)
-    (put-natural-returns-2 t)
+    (put-natural-at t) put-natural.Post (put-natural-add-out t) (put-natural-cast-out t) (put-natural-slice-write-out t)
+    (put-natural-add-result t) (put-natural-same-length t) (put-natural-returns t) (put-natural-put-natural-requires t)
+    (put-natural-add-out-2 t) (put-natural-cast-out-2 t) (put-natural-slice-write-out-2 t) (put-natural-add-result-2 t)
+    (put-natural-same-length-2 t) (put-natural-returns-2 t)

@@ -1,13 +1,12 @@
 -- `decimal::put_decimal` meets its contract. Assumes nothing.
 use Rattle.decimal.proofs.Puts.{decimal-minus, decimal-plus, put-one, put-then, put-is, put-length}
 use Rattle.model.specs.Rules.Decimal.{natural, decimal}
-use Rattle.decimal.specs.Put.{Put}
 use Rattle.word.proofs.Locals.{of-local, minus}
 use Rattle.model.specs.Rules.Word.{bitsOf}
-use lib.ListN.{length, length-append, length-set}
-use mathlib.Core.Path.{_≡_, refl, sym, ap, _∙_}
-use mathlib.Core.List.{List, [], _∷_, _++_}
-use Prim.Native.Nat.{ℕ, _+_, _-_, _≤_}
+use lib.ListN.{length, length-set}
+use mathlib.Core.Path.{_≡_, sym, ap, _∙_}
+use mathlib.Core.List.{_∷_}
+use Prim.Native.Nat.{ℕ, _+_, _-_}
 use native.Mathlib.Omega.{arith}
 use borrow.Author.Needs.{needs}
 use Rattle.decimal.proofs.put_decimal.Statement.{statement}
@@ -29,17 +28,11 @@ positive e =
     decimal-plus (s .args .w) (s .fits .w .sfits) (e .if1 .left) ∙
     ap natural (sym (of-local (s .fits .w) (e .before .bits .ensures)))
 
-bits-requires : tie.Need-bits-requires
-bits-requires c κs = search needs
-
 slice-write-out : tie.Need-slice-write-out
 slice-write-out c = let s = c .before .before .before in omega (arith, s .pre, ap length (negative c))
 
 add-digits : tie.Need-add-digits
 add-digits c = let s = c .before .before .before in omega (arith, s .pre, ap length (negative c))
-
-sub-size : tie.Need-sub-size
-sub-size c = search needs
 
 add-size : tie.Need-add-size
 add-size c =
@@ -67,24 +60,11 @@ put-natural-requires-2 c κs =
     let s = e .before .before .before in
     omega (arith, s .pre, ap length (positive e))
 
-same-length-2 : tie.Need-same-length-2
-same-length-2 c = search needs
-
 returns-2 : tie.Need-returns-2
 returns-2 c = put-is (sym (positive (c .before .before .before .before))) (c .before .before .put-natural2 .ensures)
 
 pub put-decimal-spec : {M : Type 1} → statement M
 put-decimal-spec =
     tie.close
-    (tie.spec
-    bits-requires
-    slice-write-out
-    add-digits
-    sub-size
-    add-size
-    put-natural-requires
-    same-length
-    returns
-    put-natural-requires-2
-    same-length-2
-    returns-2)
+    (tie.spec (λ c κs. search needs) slice-write-out add-digits (λ c. search needs) add-size put-natural-requires same-length
+    returns put-natural-requires-2 (λ c. search needs) returns-2)

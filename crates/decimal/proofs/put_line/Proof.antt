@@ -2,22 +2,21 @@
 use Prim.Native.Nat.{_*_}
 use Rattle.decimal.proofs.Puts.{spaced-more, spaced-none, line-is, put-one, put-then, put-is, put-length}
 use Rattle.model.proofs.Bench.Decimals.{natural-length, decimal-length}
-use Rattle.model.specs.Rules.Decimal.{natural, decimal, spaced, lineOf}
-use Rattle.decimal.specs.Put.{Put}
+use Rattle.model.specs.Rules.Decimal.{natural, decimal, spaced}
+use Rattle.decimal.specs.PutBytes.{PutBytes}
 use Rattle.word.proofs.Locals.{kept}
 use lib.Seq.{take-all}
-use lib.ListN.{length, getD, take, length-append, length-set}
-use lib.IntN.{ℤ, pos}
-use mathlib.Core.Path.{_≡_, refl, sym, ap, subst, _∙_}
-use mathlib.Core.List.{List, [], _∷_, _++_}
-use Prim.Native.Nat.{ℕ, _+_, _-_, _≤_, _<_}
+use lib.ListN.{length, getD, take, length-set}
+use lib.IntN.{pos}
+use mathlib.Core.Path.{_≡_, sym, ap, _∙_}
+use Prim.Native.Nat.{_+_, _-_, _≤_}
 use borrow.Author.Needs.{needs}
 use native.Mathlib.Omega.{arith}
 use Rattle.decimal.proofs.put_line.Statement.{statement}
 use Rattle.decimal.proofs.put_line.Tie as tie
 
 abbrev Inv-loop : tie.InvT-loop
-Inv-loop out₀ number words at₀ i₀ out at i = Put out₀ at₀ (spaced (take i words)) out at × (i ≤ length words) × (at ≤ 10 + 12 * i)
+Inv-loop out₀ number words at₀ i₀ out at i = PutBytes out₀ at₀ (spaced (take i words)) out at × (i ≤ length words) × (at ≤ 10 + 12 * i)
 
 abbrev μ-loop : tie.MeasureT-loop
 μ-loop out₀ number words at₀ i₀ out at i = length words - i
@@ -28,7 +27,7 @@ start l = l .before .before .before .before .before .before
 first : (l : tie.At-loop Inv-loop μ-loop) →
     let s = start l in
     let n = l .before .before .before .put-natural in
-    Put (s .args .out .now) 0 (natural (s .args .number)) (n .last .0) (n .result)
+    PutBytes (s .args .out .now) 0 (natural (s .args .number)) (n .last .0) (n .result)
 first l = l .before .before .before .put-natural .ensures
 
 size : (l : tie.At-loop Inv-loop μ-loop) → 1024 ≤ length (l .loop .out)
@@ -52,12 +51,6 @@ loop-holds c = let s = c .before .before .before .before .before in
           (arith, p .ends, natural-length 9 (s .args .number) (omega (arith, s .fits .number))),
     )
 
-mul-w : tie.Need-mul-w Inv-loop μ-loop
-mul-w c = search needs
-
-shared-slice-copy-out-w : tie.Need-shared-slice-copy-out-w Inv-loop μ-loop
-shared-slice-copy-out-w c = search needs
-
 slice-write-out : tie.Need-slice-write-out Inv-loop μ-loop
 slice-write-out c =
     let l = c .before .before in
@@ -80,12 +73,6 @@ put-decimal-requires c κs = let l = c .before .before .before in
       decimal-length w
           (c .before .w .given),
     )))
-
-add-i : tie.Need-add-i Inv-loop μ-loop
-add-i c = omega arith
-
-loop-less : tie.Need-loop-less Inv-loop μ-loop
-loop-less c = omega arith
 
 loop-again : tie.Need-loop-again Inv-loop μ-loop
 loop-again c =
@@ -119,20 +106,5 @@ returns c = let l = c .before in
 pub put-line-spec : {M : Type 1} → statement M
 put-line-spec =
     tie.close
-    (tie.spec
-    Inv-loop
-    μ-loop
-    put-natural-requires
-    loop-holds
-    mul-w
-    shared-slice-copy-out-w
-    slice-write-out
-    add-next
-    put-decimal-requires
-    add-i
-    loop-less
-    loop-again
-    slice-write-out-2
-    add-result
-    same-length
-    returns)
+    (tie.spec Inv-loop μ-loop put-natural-requires loop-holds (λ c. search needs) (λ c. search needs) slice-write-out add-next
+    put-decimal-requires (λ c. omega arith) (λ c. omega arith) loop-again slice-write-out-2 add-result same-length returns)

@@ -18,26 +18,14 @@ write-requires c κs = tt
 loop-holds : tie.Need-loop-holds Inv-loop μ-loop
 loop-holds c = tt
 
-mul-write-next : tie.Need-mul-write-next Inv-loop μ-loop
-mul-write-next c = search needs
-
-shared-slice-copy-out-write-next : tie.Need-shared-slice-copy-out-write-next Inv-loop μ-loop
-shared-slice-copy-out-write-next c = search needs
-
 write-next-requires : tie.Need-write-next-requires Inv-loop μ-loop
 write-next-requires c κs = tt
-
-add-i : tie.Need-add-i Inv-loop μ-loop
-add-i c = search needs
 
 loop-less : tie.Need-loop-less Inv-loop μ-loop
 loop-less c = omega (arith, c .before .before .loop-test .taken)
 
 loop-again : tie.Need-loop-again Inv-loop μ-loop
 loop-again c = tt
-
-slice-aggregate-write : tie.Need-slice-aggregate-write Inv-loop μ-loop
-slice-aggregate-write c = search needs
 
 write-requires-2 : tie.Need-write-requires-2 Inv-loop μ-loop
 write-requires-2 c κs = tt
@@ -48,17 +36,5 @@ returns c = tt
 pub write-words-spec : {M : Type 1} → statement M
 write-words-spec =
     tie.close
-    (tie.spec
-    Inv-loop
-    μ-loop
-    write-requires
-    loop-holds
-    mul-write-next
-    shared-slice-copy-out-write-next
-    write-next-requires
-    add-i
-    loop-less
-    loop-again
-    slice-aggregate-write
-    write-requires-2
-    returns)
+    (tie.spec Inv-loop μ-loop write-requires loop-holds (λ c. search needs) (λ c. search needs) write-next-requires
+    (λ c. search needs) loop-less loop-again (λ c. search needs) write-requires-2 returns)

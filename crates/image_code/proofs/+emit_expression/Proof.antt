@@ -114,15 +114,6 @@ module _ (t : ℕ) (c : lts.After-operator-at (known t) (given t) own.Post) wher
 operator-at-requires : (t : ℕ) → lts.Need-operator-at-requires (known t) (given t) own.Post
 operator-at-requires t c κs = spells-stands (c .before .pre .1 .0 .spelled)
 
-enum-known-decoded : (t : ℕ) → lts.Need-enum-known-decoded (known t) (given t) own.Post
-enum-known-decoded t c = search needs
-
-slice-aggregate-put-push : (t : ℕ) → lts.Need-slice-aggregate-put-push (known t) (given t) own.Post
-slice-aggregate-put-push t c = search needs
-
-in-expression-requires : (t : ℕ) → lts.Need-in-expression-requires (known t) (given t) own.Post
-in-expression-requires t c κs = search needs
-
 add-put-push : (t : ℕ) → lts.Need-add-put-push (known t) (given t) own.Post
 add-put-push t c =
     let c3 = c .before .before .before in
@@ -135,15 +126,6 @@ put-push-requires t c κs =
     let c5 = c3 .before .before in
     omega (arith, word-length (c3 .decoded .given .0 .0), no-rooms (rooms-at t c5 _ (c3 .decoded .given .1)))
 
-enum-known-decoded-2 : (t : ℕ) → lts.Need-enum-known-decoded-2 (known t) (given t) own.Post
-enum-known-decoded-2 t c = search needs
-
-slice-aggregate-put-access : (t : ℕ) → lts.Need-slice-aggregate-put-access (known t) (given t) own.Post
-slice-aggregate-put-access t c = search needs
-
-of-read-requires : (t : ℕ) → lts.Need-of-read-requires (known t) (given t) own.Post
-of-read-requires t c κs = search needs
-
 add-put-access : (t : ℕ) → lts.Need-add-put-access (known t) (given t) own.Post
 add-put-access t c =
     let c3 = c .before .before .before in
@@ -155,12 +137,6 @@ put-access-requires t c κs =
     let c3 = c .before .before .before in
     let c5 = c3 .before .before in
     omega (arith, no-rooms (rooms-at t c5 _ (c3 .decoded2 .given .1)))
-
-enum-known-decoded-3 : (t : ℕ) → lts.Need-enum-known-decoded-3 (known t) (given t) own.Post
-enum-known-decoded-3 t c = search needs
-
-in-expression-requires-2 : (t : ℕ) → lts.Need-in-expression-requires-2 (known t) (given t) own.Post
-in-expression-requires-2 t c κs = search needs
 
 add-first-at : (t : ℕ) → lts.Need-add-first-at (known t) (given t) own.Post
 add-first-at t c =
@@ -198,12 +174,6 @@ emit-expression-requires-2 t c κs =
       (first-room (rest-rooms (rooms-at t c7 _ e) first), counted t c7),
     )
 
-slice-aggregate-put-operator : (t : ℕ) → lts.Need-slice-aggregate-put-operator (known t) (given t) own.Post
-slice-aggregate-put-operator t c = search needs
-
-binary-byte-requires : (t : ℕ) → lts.Need-binary-byte-requires (known t) (given t) own.Post
-binary-byte-requires t c κs = search needs
-
 put-operator-requires : (t : ℕ) → lts.Need-put-operator-requires (known t) (given t) own.Post
 put-operator-requires t c κs =
     let c4 = c .before .before .before .before in
@@ -213,12 +183,6 @@ put-operator-requires t c κs =
     let first = rw (c6 .in-expression2 .ensures) at (c4 .emit-expression .ensures .1) in
     let second = c .before .before .emit-expression2 .ensures .1 in
     omega (arith, no-rooms (rest-rooms (rest-rooms (rooms-at t c10 _ (c8 .decoded3 .given .1)) first) second))
-
-enum-known-decoded-4 : (t : ℕ) → lts.Need-enum-known-decoded-4 (known t) (given t) own.Post
-enum-known-decoded-4 t c = search needs
-
-in-expression-requires-3 : (t : ℕ) → lts.Need-in-expression-requires-3 (known t) (given t) own.Post
-in-expression-requires-3 t c κs = search needs
 
 add-operand-at : (t : ℕ) → lts.Need-add-operand-at (known t) (given t) own.Post
 add-operand-at t c =
@@ -239,12 +203,6 @@ emit-expression-requires-3 t c κs =
       (rw (c .before .in-expression3 .ensures) (first-room (rooms-at t c5 _ e)), counted t c5),
     )
 
-slice-aggregate-put-operator-2 : (t : ℕ) → lts.Need-slice-aggregate-put-operator-2 (known t) (given t) own.Post
-slice-aggregate-put-operator-2 t c = search needs
-
-unary-byte-requires : (t : ℕ) → lts.Need-unary-byte-requires (known t) (given t) own.Post
-unary-byte-requires t c κs = search needs
-
 put-operator-requires-2 : (t : ℕ) → lts.Need-put-operator-requires-2 (known t) (given t) own.Post
 put-operator-requires-2 t c κs =
     let c4 = c .before .before .before .before in
@@ -252,12 +210,6 @@ put-operator-requires-2 t c κs =
     let c8 = c6 .before .before in
     let operand = rw (c4 .in-expression3 .ensures) at (c .before .before .emit-expression3 .ensures .1) in
     omega (arith, no-rooms (rest-rooms (rooms-at t c8 _ (c6 .decoded4 .given .1)) operand))
-
-enum-told : (t : ℕ) → lts.Need-enum-told (known t) (given t) own.Post
-enum-told t c = search needs
-
-in-expression-requires-4 : (t : ℕ) → lts.Need-in-expression-requires-4 (known t) (given t) own.Post
-in-expression-requires-4 t c κs = search needs
 
 add-condition-at : (t : ℕ) → lts.Need-add-condition-at (known t) (given t) own.Post
 add-condition-at t c =
@@ -312,9 +264,6 @@ emit-expression-requires-6 t c κs =
       omega (arith, some t c8 _ e),
       (first-room (rest-rooms (rest-rooms (rooms-at t c8 _ e) condition) first), counted t c8),
     )
-
-slice-aggregate-put-operator-3 : (t : ℕ) → lts.Need-slice-aggregate-put-operator-3 (known t) (given t) own.Post
-slice-aggregate-put-operator-3 t c = search needs
 
 put-operator-requires-3 : (t : ℕ) → lts.Need-put-operator-requires-3 (known t) (given t) own.Post
 put-operator-requires-3 t c κs =
@@ -396,49 +345,13 @@ returns-6 t c =
 pub +emit-expression-spec : {M : Type 1} → statement M
 +emit-expression-spec =
     close μ (λ t. lts.spec (known t) (given t) own.Post
-    (operator-at-requires t)
-    (enum-known-decoded t)
-    (slice-aggregate-put-push t)
-    (in-expression-requires t)
-    (add-put-push t)
-    (put-push-requires t)
-    (enum-known-decoded-2 t)
-    (slice-aggregate-put-access t)
-    (of-read-requires t)
-    (add-put-access t)
-    (put-access-requires t)
-    (enum-known-decoded-3 t)
-    (in-expression-requires-2 t)
-    (add-first-at t)
-    (sub-emit-expression t)
-    (emit-expression-requires t)
-    (sub-emit-expression-2 t)
-    (emit-expression-requires-2 t)
-    (slice-aggregate-put-operator t)
-    (binary-byte-requires t)
-    (put-operator-requires t)
-    (enum-known-decoded-4 t)
-    (in-expression-requires-3 t)
-    (add-operand-at t)
-    (sub-emit-expression-3 t)
-    (emit-expression-requires-3 t)
-    (slice-aggregate-put-operator-2 t)
-    (unary-byte-requires t)
-    (put-operator-requires-2 t)
-    (enum-told t)
-    (in-expression-requires-4 t)
-    (add-condition-at t)
-    (sub-emit-expression-4 t)
-    (emit-expression-requires-4 t)
-    (sub-emit-expression-5 t)
-    (emit-expression-requires-5 t)
-    (sub-emit-expression-6 t)
-    (emit-expression-requires-6 t)
-    (slice-aggregate-put-operator-3 t)
-    (put-operator-requires-3 t)
-    (returns t)
-    (returns-2 t)
-    (returns-3 t)
-    (returns-4 t)
-    (returns-5 t)
-    (returns-6 t))
+    (operator-at-requires t) (λ c. search needs) (λ c. search needs) (λ c κs. search needs) (add-put-push t)
+    (put-push-requires t) (λ c. search needs) (λ c. search needs) (λ c κs. search needs) (add-put-access t)
+    (put-access-requires t) (λ c. search needs) (λ c κs. search needs) (add-first-at t) (sub-emit-expression t)
+    (emit-expression-requires t) (sub-emit-expression-2 t) (emit-expression-requires-2 t) (λ c. search needs)
+    (λ c κs. search needs) (put-operator-requires t) (λ c. search needs) (λ c κs. search needs) (add-operand-at t)
+    (sub-emit-expression-3 t) (emit-expression-requires-3 t) (λ c. search needs) (λ c κs. search needs)
+    (put-operator-requires-2 t) (λ c. search needs) (λ c κs. search needs) (add-condition-at t) (sub-emit-expression-4 t)
+    (emit-expression-requires-4 t) (sub-emit-expression-5 t) (emit-expression-requires-5 t) (sub-emit-expression-6 t)
+    (emit-expression-requires-6 t) (λ c. search needs) (put-operator-requires-3 t) (returns t) (returns-2 t) (returns-3 t)
+    (returns-4 t) (returns-5 t) (returns-6 t))

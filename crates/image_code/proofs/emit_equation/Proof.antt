@@ -5,9 +5,6 @@ use Rattle.image_code.proofs.Signals.{place-inside, equation-room, stor
 use Rattle.image_code.proofs.emit_equation.Statement.{statement}
 use Rattle.image_code.proofs.emit_equation.Tie as tie
 
-in-program-requires : tie.Need-in-program-requires
-in-program-requires c κs = search needs
-
 add-emit-expression : tie.Need-add-emit-expression
 add-emit-expression c =
     let c4 = c .before .before .before .before in
@@ -37,4 +34,4 @@ returns c =
 
 pub emit-equation-spec : {M : Type 1} → statement M
 emit-equation-spec =
-    tie.close (tie.spec in-program-requires add-emit-expression emit-expression-requires put-access-requires returns)
+    tie.close (tie.spec (λ c κs. search needs) add-emit-expression emit-expression-requires put-access-requires returns)

@@ -15,9 +15,6 @@ shared-slice-read-if1 c =
 emit-equation-requires : tie.Need-emit-equation-requires
 emit-equation-requires c κs = (c .before .before .before .before .before .before .pre, c .before .before .if1 .taken)
 
-same-length : tie.Need-same-length
-same-length c = search needs
-
 -- the slice is back as the call left it, for it is the one that the call gives back
 returns : tie.Need-returns
 returns c =
@@ -35,9 +32,6 @@ put-access-requires-2 c κs =
     let first = c3 .put-access .ensures in
     omega (arith, sample-room (c5 .if1 .left) (c9 .pre), first .ends, puts-length first)
 
-same-length-2 : tie.Need-same-length-2
-same-length-2 c = search needs
-
 returns-2 : tie.Need-returns-2
 returns-2 c =
     let c6 = c .before .before .before .before .before .before in
@@ -47,12 +41,5 @@ returns-2 c =
 pub emit-signal-spec : {M : Type 1} → statement M
 emit-signal-spec =
     tie.close
-    (tie.spec
-    shared-slice-read-if1
-    emit-equation-requires
-    same-length
-    returns
-    put-access-requires
-    put-access-requires-2
-    same-length-2
-    returns-2)
+    (tie.spec shared-slice-read-if1 emit-equation-requires (λ c. search needs) returns put-access-requires put-access-requires-2
+    (λ c. search needs) returns-2)

@@ -13,20 +13,8 @@ use borrow.Author.Needs.{needs}
 use Rattle.image_code.proofs.put_push.Statement.{statement}
 use Rattle.image_code.proofs.put_push.Tie as tie
 
-slice-write-out : tie.Need-slice-write-out
-slice-write-out c = search needs
-
-add-operand : tie.Need-add-operand
-add-operand c = search needs
-
 put-word-requires : tie.Need-put-word-requires
 put-word-requires c κs = simp length-set (omega arith)
-
-in-code-requires : tie.Need-in-code-requires
-in-code-requires c κs = search needs
-
-add-t11 : tie.Need-add-t11
-add-t11 c = search needs
 
 same-length : tie.Need-same-length
 same-length c = ap length (c .before .before .before .put-word .ensures) ∙ simp (length-sets, length-set)
@@ -47,11 +35,5 @@ returns c =
 
 pub put-push-spec : {M : Type 1} → statement M
 put-push-spec =
-    tie.close (tie.spec
-    slice-write-out
-    add-operand
-    put-word-requires
-    in-code-requires
-    add-t11
-    same-length
-    returns)
+    tie.close (tie.spec (λ c. search needs) (λ c. search needs) put-word-requires (λ c κs. search needs) (λ c. search needs)
+    same-length returns)

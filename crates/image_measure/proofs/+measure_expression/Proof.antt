@@ -101,27 +101,12 @@ module _ (t : ℕ) (c : lts.After-operator-at (known t) (given t) own.Post) wher
 operator-at-requires : (t : ℕ) → lts.Need-operator-at-requires (known t) (given t) own.Post
 operator-at-requires t c κs = spells-stands (c .before .pre .1 .0 .spelled)
 
-enum-told : (t : ℕ) → lts.Need-enum-told (known t) (given t) own.Post
-enum-told t c = search needs
-
-in-expression-requires : (t : ℕ) → lts.Need-in-expression-requires (known t) (given t) own.Post
-in-expression-requires t c κs = search needs
-
 add-leaf : (t : ℕ) → lts.Need-add-leaf (known t) (given t) own.Post
 add-leaf t c = omega (
   arith,
   inside t (c .before .before .before) _ (c .before .enum-told .given .1),
   short t (c .before .before .before),
 )
-
-leaf-requires : (t : ℕ) → lts.Need-leaf-requires (known t) (given t) own.Post
-leaf-requires t c κs = search needs
-
-enum-known-decoded : (t : ℕ) → lts.Need-enum-known-decoded (known t) (given t) own.Post
-enum-known-decoded t c = search needs
-
-of-read-requires : (t : ℕ) → lts.Need-of-read-requires (known t) (given t) own.Post
-of-read-requires t c κs = search needs
 
 add-leaf-2 : (t : ℕ) → lts.Need-add-leaf-2 (known t) (given t) own.Post
 add-leaf-2 t c = omega (
@@ -130,15 +115,6 @@ add-leaf-2 t c = omega (
   c .of-read .ensures,
   short t (c .before .before .before .before),
 )
-
-leaf-requires-2 : (t : ℕ) → lts.Need-leaf-requires-2 (known t) (given t) own.Post
-leaf-requires-2 t c κs = search needs
-
-enum-told-2 : (t : ℕ) → lts.Need-enum-told-2 (known t) (given t) own.Post
-enum-told-2 t c = search needs
-
-in-expression-requires-2 : (t : ℕ) → lts.Need-in-expression-requires-2 (known t) (given t) own.Post
-in-expression-requires-2 t c κs = search needs
 
 add-measure-expression : (t : ℕ) → lts.Need-add-measure-expression (known t) (given t) own.Post
 add-measure-expression t c = omega
@@ -203,12 +179,6 @@ operated-requires t c κs = let s = two t (c .before) in
       short t (c .before .before .before .before .before .before),
     )
 
-enum-told-3 : (t : ℕ) → lts.Need-enum-told-3 (known t) (given t) own.Post
-enum-told-3 t c = search needs
-
-in-expression-requires-3 : (t : ℕ) → lts.Need-in-expression-requires-3 (known t) (given t) own.Post
-in-expression-requires-3 t c κs = search needs
-
 add-measure-expression-2 : (t : ℕ) → lts.Need-add-measure-expression-2 (known t) (given t) own.Post
 add-measure-expression-2 t c =
     omega (arith, inside t (c .before .before .before) _ (c .before .enum-told3 .given .1), short t (c .before .before .before))
@@ -229,12 +199,6 @@ operated-requires-2 t c κs = let s =
     small (first-nests (all t (c .before .before .before .before) _ (c .before .before .enum-told3 .given .1)))
     (rw (c .before .in-expression3 .ensures) at (c .measure-expression3 .ensures)) in
     omega (arith, s .fits, s .within, short t (c .before .before .before .before))
-
-enum-told-4 : (t : ℕ) → lts.Need-enum-told-4 (known t) (given t) own.Post
-enum-told-4 t c = search needs
-
-in-expression-requires-4 : (t : ℕ) → lts.Need-in-expression-requires-4 (known t) (given t) own.Post
-in-expression-requires-4 t c κs = search needs
 
 add-measure-expression-3 : (t : ℕ) → lts.Need-add-measure-expression-3 (known t) (given t) own.Post
 add-measure-expression-3 t c =
@@ -386,45 +350,12 @@ returns-6 t c = absurd (no-operator (c .before .operator-at .result) (c .match .
 pub +measure-expression-spec : {M : Type 1} → statement M
 +measure-expression-spec =
     close μ (λ t. lts.spec (known t) (given t) own.Post
-    (operator-at-requires t)
-    (enum-told t)
-    (in-expression-requires t)
-    (add-leaf t)
-    (leaf-requires t)
-    (enum-known-decoded t)
-    (of-read-requires t)
-    (add-leaf-2 t)
-    (leaf-requires-2 t)
-    (enum-told-2 t)
-    (in-expression-requires-2 t)
-    (add-measure-expression t)
-    (sub-measure-expression t)
-    (measure-expression-requires t)
-    (sub-measure-expression-2 t)
-    (measure-expression-requires-2 t)
-    (joined-requires t)
-    (operated-requires t)
-    (enum-told-3 t)
-    (in-expression-requires-3 t)
-    (add-measure-expression-2 t)
-    (sub-measure-expression-3 t)
-    (measure-expression-requires-3 t)
-    (operated-requires-2 t)
-    (enum-told-4 t)
-    (in-expression-requires-4 t)
-    (add-measure-expression-3 t)
-    (sub-measure-expression-4 t)
-    (measure-expression-requires-4 t)
-    (sub-measure-expression-5 t)
-    (measure-expression-requires-5 t)
-    (sub-measure-expression-6 t)
-    (measure-expression-requires-6 t)
-    (joined-requires-2 t)
-    (joined-requires-3 t)
-    (operated-requires-3 t)
-    (returns t)
-    (returns-2 t)
-    (returns-3 t)
-    (returns-4 t)
-    (returns-5 t)
-    (returns-6 t))
+    (operator-at-requires t) (λ c. search needs) (λ c κs. search needs) (add-leaf t) (λ c κs. search needs) (λ c. search needs)
+    (λ c κs. search needs) (add-leaf-2 t) (λ c κs. search needs) (λ c. search needs) (λ c κs. search needs)
+    (add-measure-expression t) (sub-measure-expression t) (measure-expression-requires t) (sub-measure-expression-2 t)
+    (measure-expression-requires-2 t) (joined-requires t) (operated-requires t) (λ c. search needs) (λ c κs. search needs)
+    (add-measure-expression-2 t) (sub-measure-expression-3 t) (measure-expression-requires-3 t) (operated-requires-2 t)
+    (λ c. search needs) (λ c κs. search needs) (add-measure-expression-3 t) (sub-measure-expression-4 t)
+    (measure-expression-requires-4 t) (sub-measure-expression-5 t) (measure-expression-requires-5 t)
+    (sub-measure-expression-6 t) (measure-expression-requires-6 t) (joined-requires-2 t) (joined-requires-3 t)
+    (operated-requires-3 t) (returns t) (returns-2 t) (returns-3 t) (returns-4 t) (returns-5 t) (returns-6 t))

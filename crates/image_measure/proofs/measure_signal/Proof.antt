@@ -57,9 +57,6 @@ module _ (m : tie.After-measure-expression) where
 shared-slice-read-if1 : tie.Need-shared-slice-read-if1
 shared-slice-read-if1 c = inside (c .before .before) .0
 
-in-program-requires : tie.Need-in-program-requires
-in-program-requires c κs = search needs
-
 add-measure-expression : tie.Need-add-measure-expression
 add-measure-expression c =
     let s = start (c .before .before) in
@@ -96,12 +93,5 @@ returns-2 c =
 pub measure-signal-spec : {M : Type 1} → statement M
 measure-signal-spec =
     tie.close
-    (tie.spec
-    shared-slice-read-if1
-    in-program-requires
-    add-measure-expression
-    measure-expression-requires
-    add-total
-    cast-commands
-    returns
-    returns-2)
+    (tie.spec shared-slice-read-if1 (λ c κs. search needs) add-measure-expression measure-expression-requires add-total
+    cast-commands returns returns-2)

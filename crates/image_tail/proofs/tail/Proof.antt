@@ -11,21 +11,6 @@ use Rattle.image_tail.proofs.tail.Tie as tie
 well : (e : tie.Else1) → wellFormed (e .before .before .image-in .result .now) ≡ true
 well e = sym (e .before .well-formed .ensures) ∙ not-false _ (e .if1 .left)
 
-image-in-requires : tie.Need-image-in-requires
-image-in-requires c κs = search needs
-
-well-formed-requires : tie.Need-well-formed-requires
-well-formed-requires c κs = search needs
-
-sub-result : tie.Need-sub-result
-sub-result c = search needs
-
-part-result-start : tie.Need-part-result-start
-part-result-start c = search needs
-
-part-result-end : tie.Need-part-result-end
-part-result-end c = search needs
-
 returns : tie.Need-returns
 returns c =
     let t = c .before in
@@ -38,23 +23,11 @@ sub-result-2 c = inside (c .before .before .image-in .ensures) (well c)
 part-result-start-2 : tie.Need-part-result-start-2
 part-result-start-2 c = inside (c .before .before .image-in .ensures) (well c)
 
-part-result-end-2 : tie.Need-part-result-end-2
-part-result-end-2 c = search needs
-
 returns-2 : tie.Need-returns-2
 returns-2 c = let e = c .before in reads-rest (e .before .before .image-in .ensures) (well e)
 
 pub tail-spec : {M : Type 1} → statement M
 tail-spec =
     tie.close
-    (tie.spec
-    image-in-requires
-    well-formed-requires
-    sub-result
-    part-result-start
-    part-result-end
-    returns
-    sub-result-2
-    part-result-start-2
-    part-result-end-2
-    returns-2)
+    (tie.spec (λ c κs. search needs) (λ c κs. search needs) (λ c. search needs) (λ c. search needs) (λ c. search needs) returns
+    sub-result-2 part-result-start-2 (λ c. search needs) returns-2)

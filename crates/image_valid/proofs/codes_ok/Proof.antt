@@ -53,20 +53,11 @@ code k e =
     let o = k .before .before .before .before .before in
     rw (← (turn o .loop .inv .2), ← (ends o), ← (start (turn o) .pre .1)) (sym (k .code-ok .ensures) ∙ e)
 
-shapes-requires : tie.Need-shapes-requires Inv-loop μ-loop
-shapes-requires c κs = search needs
-
-wide-requires : tie.Need-wide-requires Inv-loop μ-loop
-wide-requires c κs = search needs
-
 code-offset-requires : tie.Need-code-offset-requires Inv-loop μ-loop
 code-offset-requires c κs = let s = c .before .before .before in (s .pre .0, c .wide .ensures .0 ∙ s .pre .1)
 
 loop-holds : tie.Need-loop-holds Inv-loop μ-loop
 loop-holds c = (all-none _, omega arith, c .code-offset .ensures)
-
-wide-requires-2 : tie.Need-wide-requires-2 Inv-loop μ-loop
-wide-requires-2 c κs = search needs
 
 add-code-offset : tie.Need-add-code-offset Inv-loop μ-loop
 add-code-offset c = omega (arith, c .wide2 .ensures .1)
@@ -111,12 +102,6 @@ returns-3 c =
       le-leb _ _ (e .if2 .left),
     ) (code k (not-true _ (c .if3 .taken))))
 
-add-x : tie.Need-add-x Inv-loop μ-loop
-add-x c = omega arith
-
-loop-less : tie.Need-loop-less Inv-loop μ-loop
-loop-less c = omega arith
-
 loop-again : tie.Need-loop-again Inv-loop μ-loop
 loop-again c =
     let k = c .before in
@@ -141,23 +126,6 @@ returns-4 c =
 pub codes-ok-spec : {M : Type 1} → statement M
 codes-ok-spec =
     tie.close
-    (tie.spec
-    Inv-loop
-    μ-loop
-    shapes-requires
-    wide-requires
-    code-offset-requires
-    loop-holds
-    wide-requires-2
-    add-code-offset
-    code-offset-requires-2
-    returns
-    returns-2
-    part-code-ok-start
-    part-code-ok-end
-    code-ok-requires
-    returns-3
-    add-x
-    loop-less
-    loop-again
-    returns-4)
+    (tie.spec Inv-loop μ-loop (λ c κs. search needs) (λ c κs. search needs) code-offset-requires loop-holds
+    (λ c κs. search needs) add-code-offset code-offset-requires-2 returns returns-2 part-code-ok-start part-code-ok-end
+    code-ok-requires returns-3 (λ c. omega arith) (λ c. omega arith) loop-again returns-4)

@@ -1,6 +1,6 @@
 -- `image_valid::entries_ok` meets its contract. Assumes nothing.
 use mathlib.Core.Path.{_≡_, sym, _∙_}
-use Prim.Native.Nat.{_+_, _*_, _≤_}
+use Prim.Native.Nat.{_≤_}
 use native.Mathlib.Omega.{arith}
 use Rattle.model.specs.Rules.Image.{listsAt}
 use Rattle.model.specs.Rules.Machine.{hyperOf, countOf}
@@ -26,17 +26,11 @@ begins a =
 holds : (o : tie.After-code-offset) → o .before .lists-at .result ≤ o .code-offset .result
 holds o = rw (begins (o .before), o .code-offset .ensures) (room _ (listed (start o)))
 
-wide-requires : tie.Need-wide-requires
-wide-requires c κs = search needs
-
 lists-at-requires : tie.Need-lists-at-requires
 lists-at-requires c κs =
     let s = c .before .before in
     let h = head _ (s .pre .0) in
     (omega (arith, c .wide .ensures .0, s .pre .2, h .signals), omega (arith, s .pre .3, h .hyper))
-
-code-offset-requires : tie.Need-code-offset-requires
-code-offset-requires c κs = search needs
 
 returns : tie.Need-returns
 returns c =
@@ -54,9 +48,6 @@ part-greatest-start c = holds (c .before)
 part-greatest-end : tie.Need-part-greatest-end
 part-greatest-end c = let o = c .before in rw (o .code-offset .ensures) (listed (start o) .end)
 
-greatest-requires : tie.Need-greatest-requires
-greatest-requires c κs = search needs
-
 returns-2 : tie.Need-returns-2
 returns-2 c =
     let e = c .before .before in
@@ -68,13 +59,5 @@ returns-2 c =
 pub entries-ok-spec : {M : Type 1} → statement M
 entries-ok-spec =
     tie.close
-    (tie.spec
-    wide-requires
-    lists-at-requires
-    code-offset-requires
-    returns
-    sub-greatest
-    part-greatest-start
-    part-greatest-end
-    greatest-requires
-    returns-2)
+    (tie.spec (λ c κs. search needs) lists-at-requires (λ c κs. search needs) returns sub-greatest part-greatest-start
+    part-greatest-end (λ c κs. search needs) returns-2)

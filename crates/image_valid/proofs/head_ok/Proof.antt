@@ -10,25 +10,10 @@ returns : tie.Need-returns
 unfolding headOk
 returns c = rw (lt-leb 4 _ (c .if1 .taken))
 
-stated-length-requires : tie.Need-stated-length-requires
-stated-length-requires c κs = search needs
-
 returns-2 : tie.Need-returns-2
 unfolding headOk
 returns-2 c = let o = c .before in
     rw (le-leb 4 _ (o .before .if1 .left), ne-eqb _ _ (λ e. c .if2 .taken (o .stated-length .ensures ∙ e)))
-
-shared-slice-read-wide : tie.Need-shared-slice-read-wide
-shared-slice-read-wide c = search needs
-
-wide-requires : tie.Need-wide-requires
-wide-requires c κs = search needs
-
-shared-slice-read-wide-2 : tie.Need-shared-slice-read-wide-2
-shared-slice-read-wide-2 c = search needs
-
-wide-requires-2 : tie.Need-wide-requires-2
-wide-requires-2 c κs = search needs
 
 returns-3 : tie.Need-returns-3
 unfolding headOk
@@ -76,9 +61,6 @@ returns-5 c =
       lt-leb _ 64 (c .if5 .taken),
     )
 
-lists-at-requires : tie.Need-lists-at-requires
-lists-at-requires c κs = search needs
-
 returns-6 : tie.Need-returns-6
 unfolding headOk
 returns-6 c =
@@ -100,16 +82,5 @@ returns-6 c =
 pub head-ok-spec : {M : Type 1} → statement M
 head-ok-spec =
     tie.close
-    (tie.spec
-    returns
-    stated-length-requires
-    returns-2
-    shared-slice-read-wide
-    wide-requires
-    shared-slice-read-wide-2
-    wide-requires-2
-    returns-3
-    returns-4
-    returns-5
-    lists-at-requires
-    returns-6)
+    (tie.spec returns (λ c κs. search needs) returns-2 (λ c. search needs) (λ c κs. search needs) (λ c. search needs)
+    (λ c κs. search needs) returns-3 returns-4 returns-5 (λ c κs. search needs) returns-6)

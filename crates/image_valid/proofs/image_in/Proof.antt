@@ -5,9 +5,6 @@ use borrow.Author.Needs.{needs}
 use Rattle.image_valid.proofs.image_in.Statement.{statement}
 use Rattle.image_valid.proofs.image_in.Tie as tie
 
-image-length-requires : tie.Need-image-length-requires
-image-length-requires c κs = search needs
-
 slice-aggregate-result : tie.Need-slice-aggregate-result
 slice-aggregate-result c = simp length-take (omega (arith, c .before .image-length .ensures .0))
 
@@ -15,4 +12,4 @@ returns : tie.Need-returns
 returns c = c .before .image-length .ensures .1
 
 pub image-in-spec : {M : Type 1} → statement M
-image-in-spec = tie.close (tie.spec image-length-requires slice-aggregate-result returns)
+image-in-spec = tie.close (tie.spec (λ c κs. search needs) slice-aggregate-result returns)

@@ -14,23 +14,11 @@ lent w = w .before .before .before .before .before .args .lent .now
 returns : tie.Need-returns
 returns c = (omega arith, lends-short _ (c .if1 .taken))
 
-stated-length-requires : tie.Need-stated-length-requires
-stated-length-requires c κs = search needs
-
-shared-slice-read-wide : tie.Need-shared-slice-read-wide
-shared-slice-read-wide c = search needs
-
-wide-requires : tie.Need-wide-requires
-wide-requires c κs = search needs
-
 returns-2 : tie.Need-returns-2
 returns-2 c =
     let w = c .before in
     let o = w .before .before in
     (omega (arith, c .if2 .taken), lends-all (lent w) _ _ (o .stated-length .ensures) (w .wide .ensures .0) (c .if2 .taken))
-
-mul-if3 : tie.Need-mul-if3
-mul-if3 c = search needs
 
 add-if3 : tie.Need-add-if3
 unfolding twoAt
@@ -55,13 +43,5 @@ returns-4 c =
 pub image-length-spec : {M : Type 1} → statement M
 image-length-spec =
     tie.close
-    (tie.spec
-    returns
-    stated-length-requires
-    shared-slice-read-wide
-    wide-requires
-    returns-2
-    mul-if3
-    add-if3
-    returns-3
-    returns-4)
+    (tie.spec returns (λ c κs. search needs) (λ c. search needs) (λ c κs. search needs) returns-2 (λ c. search needs) add-if3
+    returns-3 returns-4)

@@ -2,7 +2,7 @@
 use mathlib.Core.Path.{_≡_, sym, ap, _∙_}
 use mathlib.Core.Bool.{Bool, true, false}
 use mathlib.Core.List.{List}
-use Prim.Native.Nat.{ℕ, _+_, _-_, _*_, _≤_}
+use Prim.Native.Nat.{ℕ, _+_, _-_, _≤_}
 use native.Mathlib.Omega.{arith}
 use borrow.Author.Tests.{le-leb, lt-leb, eq-eqb, ne-eqb}
 use lib.Dec.{leb, eqb}
@@ -68,9 +68,6 @@ returns c =
 loop-holds : tie.Need-loop-holds Inv-loop μ-loop
 loop-holds c = (all-none _, omega arith, c .before .before .list-offset .ensures)
 
-add-list-offset : tie.Need-add-list-offset Inv-loop μ-loop
-add-list-offset c = omega arith
-
 list-offset-requires-2 : tie.Need-list-offset-requires-2 Inv-loop μ-loop
 list-offset-requires-2 c κs = let s = c .before .before .before .before .before .before in
     (s .pre .0, s .pre .1, omega (arith, s .pre .2))
@@ -86,12 +83,6 @@ returns-2 c =
     all-fails _ _ (l .loop .c) (omega (arith, o .before .loop-test .taken, start l .pre .2))
     (rw (← (l .loop .inv .2), ← (o .list-offset2 .ensures)) (lt-leb _ _ (c .if2 .taken))) in
     rw (first i, falls)
-
-add-c : tie.Need-add-c Inv-loop μ-loop
-add-c c = omega arith
-
-loop-less : tie.Need-loop-less Inv-loop μ-loop
-loop-less c = omega arith
 
 loop-again : tie.Need-loop-again Inv-loop μ-loop
 loop-again c =
@@ -137,19 +128,5 @@ returns-4 c =
 pub lists-ok-spec : {M : Type 1} → statement M
 lists-ok-spec =
     tie.close
-    (tie.spec
-    Inv-loop
-    μ-loop
-    list-offset-requires
-    lists-at-requires
-    returns
-    loop-holds
-    add-list-offset
-    list-offset-requires-2
-    returns-2
-    add-c
-    loop-less
-    loop-again
-    code-offset-requires
-    returns-3
-    returns-4)
+    (tie.spec Inv-loop μ-loop list-offset-requires lists-at-requires returns loop-holds (λ c. omega arith)
+    list-offset-requires-2 returns-2 (λ c. omega arith) (λ c. omega arith) loop-again code-offset-requires returns-3 returns-4)

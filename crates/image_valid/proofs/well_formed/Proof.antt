@@ -16,23 +16,14 @@ listed : (e : tie.Else2) → listsOk (e .before .before .before .before .before 
     true
 listed e = sym (e .before .lists-ok .ensures) ∙ not-false _ (e .if2 .left)
 
-head-ok-requires : tie.Need-head-ok-requires
-head-ok-requires c κs = search needs
-
 returns : tie.Need-returns
 returns c = sym (without-head _ (sym (c .before .head-ok .ensures) ∙ not-true _ (c .if1 .taken)))
 
 shared-slice-read-wide : tie.Need-shared-slice-read-wide
 shared-slice-read-wide c = omega (arith, head _ (good (c .before)) .four)
 
-wide-requires : tie.Need-wide-requires
-wide-requires c κs = search needs
-
 shared-slice-read-n : tie.Need-shared-slice-read-n
 shared-slice-read-n c = omega (arith, head _ (good (c .before .before .before)) .four)
-
-wide-requires-2 : tie.Need-wide-requires-2
-wide-requires-2 c κs = search needs
 
 lists-ok-requires : tie.Need-lists-ok-requires
 lists-ok-requires c κs = let w = c .before .before in (good (w .before .before), c .wide2 .ensures .0, w .wide .ensures .0)
@@ -68,16 +59,5 @@ returns-4 c =
 pub well-formed-spec : {M : Type 1} → statement M
 well-formed-spec =
     tie.close
-    (tie.spec
-    head-ok-requires
-    returns
-    shared-slice-read-wide
-    wide-requires
-    shared-slice-read-n
-    wide-requires-2
-    lists-ok-requires
-    returns-2
-    entries-ok-requires
-    returns-3
-    codes-ok-requires
-    returns-4)
+    (tie.spec (λ c κs. search needs) returns shared-slice-read-wide (λ c κs. search needs) shared-slice-read-n
+    (λ c κs. search needs) lists-ok-requires returns-2 entries-ok-requires returns-3 codes-ok-requires returns-4)

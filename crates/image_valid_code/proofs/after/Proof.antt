@@ -8,18 +8,9 @@ use borrow.Author.Needs.{needs}
 use Rattle.image_valid_code.proofs.after.Statement.{statement}
 use Rattle.image_valid_code.proofs.after.Tie as tie
 
-add-if1 : tie.Need-add-if1
-add-if1 c = search needs
-
 returns : tie.Need-returns
 unfolding afterOf
 returns c = simp (lt-ltb _ _ (c .if1 .taken))
-
-wide-requires : tie.Need-wide-requires
-wide-requires c κs = search needs
-
-wide-requires-2 : tie.Need-wide-requires-2
-wide-requires-2 c κs = search needs
 
 mul-if2 : tie.Need-mul-if2
 mul-if2 c = let a = c .before .before .before .args in
@@ -37,12 +28,6 @@ under w h = rw (w .before .wide .ensures .0, w .wide2 .ensures .0) at h
 returns-2 : tie.Need-returns-2
 unfolding afterOf
 returns-2 c = simp (le-ltb _ _ (c .before .before .before .if1 .left), le-leb _ _ (over (c .before) (c .if2 .taken)))
-
-add-result : tie.Need-add-result
-add-result c = search needs
-
-sub-result : tie.Need-sub-result
-sub-result c = search needs
 
 returns-3 : tie.Need-returns-3
 unfolding afterOf
@@ -62,12 +47,6 @@ returns-4 c = simp (
   ne-eqb _ _ (c .if4 .left),
 )
 
-add-result-2 : tie.Need-add-result-2
-add-result-2 c = search needs
-
-sub-result-2 : tie.Need-sub-result-2
-sub-result-2 c = search needs
-
 returns-5 : tie.Need-returns-5
 unfolding afterOf
 returns-5 c = simp (
@@ -79,17 +58,5 @@ returns-5 c = simp (
 pub after-spec : {M : Type 1} → statement M
 after-spec =
     tie.close
-    (tie.spec
-    add-if1
-    returns
-    wide-requires
-    wide-requires-2
-    mul-if2
-    returns-2
-    add-result
-    sub-result
-    returns-3
-    returns-4
-    add-result-2
-    sub-result-2
-    returns-5)
+    (tie.spec (λ c. search needs) returns (λ c κs. search needs) (λ c κs. search needs) mul-if2 returns-2 (λ c. search needs)
+    (λ c. search needs) returns-3 returns-4 (λ c. search needs) (λ c. search needs) returns-5)

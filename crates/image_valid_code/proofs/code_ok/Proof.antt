@@ -8,7 +8,7 @@ use borrow.Author.Tests.{lt-ltb, le-ltb}
 use lib.Dec.{eqb, ltb}
 use lib.ListN.{length, getD}
 use Rattle.model.specs.Rules.Machine.{codeOkFrom, codeOk}
-use Rattle.image_valid_code.specs.Shape.{shapeOf, lengthOf, afterOf, lastOf}
+use Rattle.image_valid_code.specs.Shape.{shapeOf, commandBytes, afterOf, lastOf}
 use Rattle.image_valid_code.proofs.Turns.{turn, goes, stops, short, shape-most, length-some, step, commandOf}
 use Rattle.image_valid_code.proofs.code_ok.Statement.{statement}
 use Rattle.image_valid_code.proofs.code_ok.Tie as tie
@@ -50,7 +50,7 @@ module _ (d : tie.After-shape Inv-loop μ-loop) where
 going : (a : tie.After-after Inv-loop μ-loop) → let l = a .before .before .before .before .before .before in let s =
     l .before .before in let code = s .args .code .now in
     codeOk code (s .args .n) (s .args .own) ≡ cond (ltb 32 (a .after .result)) false
-    (codeOkFrom (l .loop .inv .0 .0 - 1) code (s .args .n) (s .args .own) (l .loop .at + lengthOf (getD code (l .loop .at) 0))
+    (codeOkFrom (l .loop .inv .0 .0 - 1) code (s .args .n) (s .args .own) (l .loop .at + commandBytes (getD code (l .loop .at) 0))
     (a .after .result))
 going a =
     let d = a .before .before in
@@ -66,31 +66,7 @@ going a =
     ∙ goes (l .loop .inv .0 .0 - 1) code (l .loop .at) (s .args .n) (s .args .own) (l .loop .h) (i .loop-test .taken)
     (l .loop .inv .2) (some d) b (λ e. a .before .if1 .left (d .shape .ensures ∙ e))
     ∙ ap (λ (r : ℕ). cond (ltb 32 r) false
-    (codeOkFrom (l .loop .inv .0 .0 - 1) code (s .args .n) (s .args .own) (l .loop .at + lengthOf b) r)) same
-
-add-loop : tie.Need-add-loop Inv-loop μ-loop
-add-loop c = search needs
-
-shared-slice-read-byte : tie.Need-shared-slice-read-byte Inv-loop μ-loop
-shared-slice-read-byte c = search needs
-
-add-x : tie.Need-add-x Inv-loop μ-loop
-add-x c = search needs
-
-shared-slice-read-x : tie.Need-shared-slice-read-x Inv-loop μ-loop
-shared-slice-read-x c = search needs
-
-shape-requires : tie.Need-shape-requires Inv-loop μ-loop
-shape-requires c κs = search needs
-
-is-last-requires : tie.Need-is-last-requires Inv-loop μ-loop
-is-last-requires c κs = search needs
-
-in-code-requires : tie.Need-in-code-requires Inv-loop μ-loop
-in-code-requires c κs = search needs
-
-add-result : tie.Need-add-result Inv-loop μ-loop
-add-result c = search needs
+    (codeOkFrom (l .loop .inv .0 .0 - 1) code (s .args .n) (s .args .own) (l .loop .at + commandBytes b) r)) same
 
 returns : tie.Need-returns Inv-loop μ-loop
 returns c =
@@ -109,9 +85,6 @@ after-requires c κs = (c .before .before .before .before .before .loop .inv .2,
 
 returns-3 : tie.Need-returns-3 Inv-loop μ-loop
 returns-3 c = sym (going (c .before) ∙ rw (lt-ltb _ _ (c .if3 .taken)) refl)
-
-length-of-requires : tie.Need-length-of-requires Inv-loop μ-loop
-length-of-requires c κs = search needs
 
 add-at : tie.Need-add-at Inv-loop μ-loop
 add-at c =
@@ -153,24 +126,6 @@ returns-4 c = let l = c .before in sym (sym (l .loop .inv .0 .2) ∙ short _ _ _
 pub code-ok-spec : {M : Type 1} → statement M
 code-ok-spec =
     tie.close
-    (tie.spec
-    Inv-loop
-    μ-loop
-    loop-holds
-    add-loop
-    shared-slice-read-byte
-    add-x
-    shared-slice-read-x
-    shape-requires
-    is-last-requires
-    in-code-requires
-    add-result
-    returns
-    returns-2
-    after-requires
-    returns-3
-    length-of-requires
-    add-at
-    loop-less
-    loop-again
-    returns-4)
+    (tie.spec Inv-loop μ-loop loop-holds (λ c. search needs) (λ c. search needs) (λ c. search needs) (λ c. search needs)
+    (λ c κs. search needs) (λ c κs. search needs) (λ c κs. search needs) (λ c. search needs) returns returns-2 after-requires
+    returns-3 (λ c κs. search needs) add-at loop-less loop-again returns-4)

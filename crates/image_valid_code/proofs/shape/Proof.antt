@@ -6,15 +6,6 @@ use borrow.Author.Needs.{needs}
 use Rattle.image_valid_code.proofs.shape.Statement.{statement}
 use Rattle.image_valid_code.proofs.shape.Tie as tie
 
-wide-requires : tie.Need-wide-requires
-wide-requires c κs = search needs
-
-element-copy-out-wide : tie.Need-element-copy-out-wide
-element-copy-out-wide c = search needs
-
-wide-requires-2 : tie.Need-wide-requires-2
-wide-requires-2 c κs = search needs
-
 returns : tie.Need-returns
 returns c =
     let w = c .before .before in
@@ -24,4 +15,4 @@ returns c =
     w .before .pre .entry b small
 
 pub shape-spec : {M : Type 1} → statement M
-shape-spec = tie.close (tie.spec wide-requires element-copy-out-wide wide-requires-2 returns)
+shape-spec = tie.close (tie.spec (λ c κs. search needs) (λ c. search needs) (λ c κs. search needs) returns)

@@ -11,42 +11,6 @@ use borrow.Author.Needs.{needs}
 use Rattle.image_valid_code.proofs.shapes.Statement.{statement}
 use Rattle.image_valid_code.proofs.shapes.Tie as tie
 
-array-write-table : tie.Need-array-write-table
-array-write-table c = search needs
-
-array-write-table-2 : tie.Need-array-write-table-2
-array-write-table-2 c = search needs
-
-array-write-table-3 : tie.Need-array-write-table-3
-array-write-table-3 c = search needs
-
-array-write-table-4 : tie.Need-array-write-table-4
-array-write-table-4 c = search needs
-
-array-write-table-5 : tie.Need-array-write-table-5
-array-write-table-5 c = search needs
-
-array-write-table-6 : tie.Need-array-write-table-6
-array-write-table-6 c = search needs
-
-array-write-table-7 : tie.Need-array-write-table-7
-array-write-table-7 c = search needs
-
-array-write-table-8 : tie.Need-array-write-table-8
-array-write-table-8 c = search needs
-
-array-write-table-9 : tie.Need-array-write-table-9
-array-write-table-9 c = search needs
-
-array-write-table-10 : tie.Need-array-write-table-10
-array-write-table-10 c = search needs
-
-array-write-table-11 : tie.Need-array-write-table-11
-array-write-table-11 c = search needs
-
-array-write-table-12 : tie.Need-array-write-table-12
-array-write-table-12 c = search needs
-
 -- an entry of the table is right
 right : ℕ → ℕ → Bool
 right b x = eqb x (shapeOf b)
@@ -62,17 +26,6 @@ returns c = whole _ tt refl
 pub shapes-spec : {M : Type 1} → statement M
 shapes-spec =
     tie.close
-    (tie.spec
-    array-write-table
-    array-write-table-2
-    array-write-table-3
-    array-write-table-4
-    array-write-table-5
-    array-write-table-6
-    array-write-table-7
-    array-write-table-8
-    array-write-table-9
-    array-write-table-10
-    array-write-table-11
-    array-write-table-12
-    returns)
+    (tie.spec (λ c. search needs) (λ c. search needs) (λ c. search needs) (λ c. search needs) (λ c. search needs)
+    (λ c. search needs) (λ c. search needs) (λ c. search needs) (λ c. search needs) (λ c. search needs) (λ c. search needs)
+    (λ c. search needs) returns)

@@ -1,14 +1,15 @@
 -- `image_write::count_runs` meets its contract. Assumes nothing.
 use Prim.Native.Nat.{ℕ, _+_, _*_, _-_, _≤_, _<_}
 use mathlib.Core.Bool.{cond}
-use mathlib.Core.Path.{_≡_, refl, ap, _∙_}
+use mathlib.Core.Path.{_≡_, refl, ap}
 use native.Mathlib.Nat.{le-of-eq}
 use native.Mathlib.Omega.{arith}
 use denote.Ref.{now}
 use lib.ListN.{length, getD, getD-replicate}
 use borrow.Author.Needs.{needs}
 use Rattle.model.specs.Rules.Reads.{due}
-use Rattle.image_write.specs.Lists.{rateAt, listBy}
+use Rattle.text_program.specs.Tables.{rateAt}
+use Rattle.image_write.specs.Lists.{listBy}
 use Rattle.model.proofs.Basics.Left.{parts-length}
 use Rattle.image_write.proofs.Listed.{run-size, listFrom, list-starts, list-step, list-ends}
 use Rattle.image_write.proofs.count_runs.Statement.{statement}
@@ -38,9 +39,6 @@ loop-holds c =
 
 element-copy-out-wide : tie.Need-element-copy-out-wide Inv-loop μ-loop
 element-copy-out-wide c = omega (arith, c .before .before .pre .0 .few)
-
-wide-requires : tie.Need-wide-requires Inv-loop μ-loop
-wide-requires c κs = search needs
 
 -- the signal of the turn
 small : (w : tie.After-wide Inv-loop μ-loop) → w .wide .result < 64
@@ -116,16 +114,5 @@ returns c =
 pub count-runs-spec : {M : Type 1} → statement M
 count-runs-spec =
     tie.close
-    (tie.spec
-    Inv-loop
-    μ-loop
-    loop-holds
-    element-copy-out-wide
-    wide-requires
-    element-copy-out-add-runs
-    element-copy-out-add-runs-2
-    add-runs-requires
-    add-i
-    loop-less
-    loop-again
-    returns)
+    (tie.spec Inv-loop μ-loop loop-holds element-copy-out-wide (λ c κs. search needs) element-copy-out-add-runs
+    element-copy-out-add-runs-2 add-runs-requires add-i loop-less loop-again returns)

@@ -6,7 +6,7 @@ use native.Mathlib.Omega.{arith}
 use lib.ListN.{length}
 use Rattle.model.specs.Rules.Image.{joined, offsets, records, listsAt}
 use Rattle.model.specs.Rules.Word.{twoBytes}
-use Rattle.image_write.specs.Codes.{signalsOf, codesFrom}
+use Rattle.image_write.specs.Codes.{declaredBy, codesFrom}
 use Rattle.image_write.specs.Lists.{listsBy, pairs}
 use Rattle.model.proofs.Basics.Left.{Left, starts, room, turn, done}
 use Rattle.image_write.proofs.Imaged.{
@@ -39,16 +39,16 @@ module _ (s : tie.Start) where
   lists = listsBy (s .args .periods .now) (s .args .order .now) (s .args .phases .now) count (s .args .h)
 
   abbrev codes : List (List ℕ)
-  codes = codesFrom 0 (signalsOf (s .args .text .now))
+  codes = codesFrom 0 (declaredBy (s .args .text .now))
 
   abbrev recorded : List ℕ
-  recorded = records (signalsOf (s .args .text .now)) (offsets (codesBy (s .args .h) count lists) codes)
+  recorded = records (declaredBy (s .args .text .now)) (offsets (codesBy (s .args .h) count lists) codes)
 
   abbrev paired : List ℕ
   paired = pairs (offsets (listsAt count (s .args .h)) lists)
 
   abbrev image : List ℕ
-  image = imageBy (s .args .h) count (signalsOf (s .args .text .now)) lists codes
+  image = imageBy (s .args .h) count (declaredBy (s .args .text .now)) lists codes
 
   -- what is left of it
   abbrev Rest : List ℕ → ℕ → List ℕ → Type 0
@@ -174,9 +174,6 @@ emit-codes-requires c κs =
     let s = c26 in
     (declared (s .pre .ready .prepared), room (last (joined (codes s))) (after-lists c4) (space s))
 
-same-length : tie.Need-same-length
-same-length c = search needs
-
 returns : tie.Need-returns
 returns c =
     let c5 = c .before .before .before .before .before in
@@ -193,11 +190,5 @@ returns c =
 pub emit-spec : {M : Type 1} → statement M
 emit-spec =
     tie.close
-    (tie.spec
-    put-head-requires
-    emit-records-requires
-    emit-offsets-requires
-    emit-lists-requires
-    emit-codes-requires
-    same-length
-    returns)
+    (tie.spec put-head-requires emit-records-requires emit-offsets-requires emit-lists-requires emit-codes-requires
+    (λ c. search needs) returns)

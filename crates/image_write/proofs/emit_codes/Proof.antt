@@ -7,7 +7,7 @@ use borrow.Author.Needs.{needs}
 use lib.ListN.{length}
 use Rattle.model.specs.Rules.Image.{joined}
 use Rattle.model.specs.Rules.Program.{Signal}
-use Rattle.image_write.specs.Codes.{signalsOf, codesFrom}
+use Rattle.image_write.specs.Codes.{declaredBy, codesFrom}
 use Rattle.model.proofs.Basics.Left.{Left, starts, room, turn, done}
 use Rattle.image_write.proofs.Coded.{nth, codesLeft, codes-start, codes-next, codes-end}
 use Rattle.image_write.proofs.emit_codes.Statement.{statement}
@@ -15,7 +15,7 @@ use Rattle.image_write.proofs.emit_codes.Tie as tie
 
 abbrev Inv-loop : tie.InvT-loop
 Inv-loop text places n out₀ to end₀ x₀ out end x =
-    (x ≤ n) × Left out₀ to (joined (codesFrom 0 (signalsOf text))) out end (codesLeft (signalsOf text) x)
+    (x ≤ n) × Left out₀ to (joined (codesFrom 0 (declaredBy text))) out end (codesLeft (declaredBy text) x)
 
 abbrev μ-loop : tie.MeasureT-loop
 μ-loop text places n out₀ to end₀ x₀ out end x = n - x
@@ -29,7 +29,7 @@ module _ (w : tie.After-wider Inv-loop μ-loop) where
   s = named .before .before .before .before .before
 
   abbrev g : List Signal
-  g = signalsOf (s .args .text .now)
+  g = declaredBy (s .args .text .now)
 
   abbrev x : ℕ
   x = named .before .before .loop .x
@@ -44,7 +44,7 @@ module _ (w : tie.After-wider Inv-loop μ-loop) where
   stands = s .pre .0 .stands x lt ∙ sym (w .wider .ensures .0)
 
 loop-holds : tie.Need-loop-holds Inv-loop μ-loop
-loop-holds c = (omega arith, rw (codes-start (signalsOf (c .before .before .args .text .now))) starts)
+loop-holds c = (omega arith, rw (codes-start (declaredBy (c .before .before .args .text .now))) starts)
 
 narrow-requires : tie.Need-narrow-requires Inv-loop μ-loop
 narrow-requires c κs = omega (arith, c .before .before .before .before .pre .0 .few)
@@ -54,9 +54,6 @@ mul-wider c = omega (arith, c .before .before .before .before .before .pre .0 .f
 
 element-copy-out-wider : tie.Need-element-copy-out-wider Inv-loop μ-loop
 element-copy-out-wider c = omega (arith, c .before .before .before .before .before .pre .0 .few)
-
-wider-requires : tie.Need-wider-requires Inv-loop μ-loop
-wider-requires c κs = search needs
 
 emit-signal-requires : tie.Need-emit-signal-requires Inv-loop μ-loop
 emit-signal-requires c κs =
@@ -89,23 +86,11 @@ same-length c = c .before .loop .inv .1 .size
 returns : tie.Need-returns Inv-loop μ-loop
 returns c =
     let b = c .before .before .before .before in
-    done (codes-end (signalsOf (b .args .text .now)) (c .before .loop .x) (omega (arith, b .pre .0 .count-is)))
+    done (codes-end (declaredBy (b .args .text .now)) (c .before .loop .x) (omega (arith, b .pre .0 .count-is)))
     (c .before .loop .inv .1)
 
 pub emit-codes-spec : {M : Type 1} → statement M
 emit-codes-spec =
     tie.close
-    (tie.spec
-    Inv-loop
-    μ-loop
-    loop-holds
-    narrow-requires
-    mul-wider
-    element-copy-out-wider
-    wider-requires
-    emit-signal-requires
-    add-x
-    loop-less
-    loop-again
-    same-length
-    returns)
+    (tie.spec Inv-loop μ-loop loop-holds narrow-requires mul-wider element-copy-out-wider (λ c κs. search needs)
+    emit-signal-requires add-x loop-less loop-again same-length returns)

@@ -8,8 +8,9 @@ use lib.ListN.{length, getD}
 use Rattle.model.specs.Rules.Image.{joined}
 use Rattle.model.specs.Rules.Reads.{due}
 use Rattle.model.specs.Rules.Writing.{Wrote}
+use Rattle.text_program.specs.Tables.{rateAt}
 use Rattle.image_write.specs.Cursors.{listsAfter, Pending, Splits}
-use Rattle.image_write.specs.Lists.{rateAt, listBy, listsBy}
+use Rattle.image_write.specs.Lists.{listBy, listsBy}
 use Rattle.image_write.proofs.Cursors.{pending-same, pending-start, pending-done}
 use Rattle.image_write.proofs.Listed.{listFrom, list-starts, list-step, list-ends}
 use Rattle.image_write.proofs.emit_lists.Statement.{statement}
@@ -76,9 +77,6 @@ loop-holds c =
 element-copy-out-x : tie.Need-element-copy-out-x Inv-loop μ-loop
 element-copy-out-x c = omega (arith, c .before .before .before .pre .0 .0 .few)
 
-wide-requires : tie.Need-wide-requires Inv-loop μ-loop
-wide-requires c κs = search needs
-
 element-copy-out-emit-runs : tie.Need-element-copy-out-emit-runs Inv-loop μ-loop
 element-copy-out-emit-runs c = below (c .before)
 
@@ -128,9 +126,6 @@ mul-wider c = omega (arith, c .before .before .before .pre .0 .2)
 element-copy-out-wider : tie.Need-element-copy-out-wider Inv-loop μ-loop
 element-copy-out-wider c = omega (arith, c .before .before .before .pre .0 .2)
 
-wider-requires : tie.Need-wider-requires Inv-loop μ-loop
-wider-requires c κs = search needs
-
 add-result : tie.Need-add-result Inv-loop μ-loop
 add-result c =
     let l = c .before .before .before .loop in
@@ -154,21 +149,6 @@ returns c =
 pub emit-lists-spec : {M : Type 1} → statement M
 emit-lists-spec =
     tie.close
-    (tie.spec
-    Inv-loop
-    μ-loop
-    loop-holds
-    element-copy-out-x
-    wide-requires
-    element-copy-out-emit-runs
-    element-copy-out-emit-runs-2
-    emit-runs-requires
-    add-i
-    loop-less
-    loop-again
-    mul-wider
-    element-copy-out-wider
-    wider-requires
-    add-result
-    same-length
-    returns)
+    (tie.spec Inv-loop μ-loop loop-holds element-copy-out-x (λ c κs. search needs) element-copy-out-emit-runs
+    element-copy-out-emit-runs-2 emit-runs-requires add-i loop-less loop-again mul-wider element-copy-out-wider
+    (λ c κs. search needs) add-result same-length returns)

@@ -3,7 +3,7 @@ use Prim.Native.Nat.{ℕ, _+_, _-_, _≤_, _<_}
 use mathlib.Core.List.{List}
 use mathlib.Core.Path.{_≡_, refl, sym, ap, subst, _∙_}
 use native.Mathlib.Omega.{arith}
-use lib.ListN.{length, getD, set, length-set}
+use lib.ListN.{length, getD, length-set}
 use lib.Seq.{getD-set-same, getD-set-other}
 use borrow.Author.Needs.{needs}
 use Rattle.model.specs.Rules.Image.{joined, offsets}
@@ -129,9 +129,6 @@ array-read-widest c =
     let t = c .before .before .before .before in
     omega (arith, t .loop-test .taken, start-of (t .before) .pre .1 .2)
 
-widest-requires : tie.Need-widest-requires Inv-loop μ-loop
-widest-requires c κs = search needs
-
 add-before : tie.Need-add-before Inv-loop μ-loop
 add-before c = omega (arith, further c, few (s c))
 
@@ -210,27 +207,6 @@ returns c =
 pub emit-offsets-spec : {M : Type 1} → statement M
 emit-offsets-spec =
     tie.close
-    (tie.spec
-    Inv-loop
-    μ-loop
-    count-runs-requires
-    loop-holds
-    cast-starts
-    mul-starts
-    element-write-starts
-    add-put-offset
-    put-offset-requires
-    mul-widest
-    array-read-widest
-    widest-requires
-    add-before
-    add-c
-    loop-less
-    loop-again
-    cast-starts-2
-    mul-starts-2
-    element-write-starts-2
-    add-put-offset-2
-    put-offset-requires-2
-    same-length
-    returns)
+    (tie.spec Inv-loop μ-loop count-runs-requires loop-holds cast-starts mul-starts element-write-starts add-put-offset
+    put-offset-requires mul-widest array-read-widest (λ c κs. search needs) add-before add-c loop-less loop-again cast-starts-2
+    mul-starts-2 element-write-starts-2 add-put-offset-2 put-offset-requires-2 same-length returns)

@@ -7,7 +7,7 @@ use lib.ListN.{length, getD}
 use borrow.Author.Needs.{needs}
 use Rattle.model.specs.Rules.Image.{offsets, records}
 use Rattle.model.specs.Rules.Program.{Signal}
-use Rattle.image_write.specs.Codes.{signalsOf, codesFrom}
+use Rattle.image_write.specs.Codes.{declaredBy, codesFrom}
 use Rattle.model.proofs.Basics.Left.{Left, starts, room, turn, done}
 use Rattle.image_write.proofs.Coded.{
   nth,
@@ -26,8 +26,8 @@ use Rattle.image_write.proofs.emit_records.Tie as tie
 
 abbrev Inv-loop : tie.InvT-loop
 Inv-loop text places n codes start out₀ to end₀ x₀ out end x =
-    let s = offsets start (codesFrom 0 (signalsOf text)) in
-    (x ≤ n) × Left out₀ to (records (signalsOf text) s) out end (recordsLeft (signalsOf text) s x)
+    let s = offsets start (codesFrom 0 (declaredBy text)) in
+    (x ≤ n) × Left out₀ to (records (declaredBy text) s) out end (recordsLeft (declaredBy text) s x)
 
 abbrev μ-loop : tie.MeasureT-loop
 μ-loop text places n codes start out₀ to end₀ x₀ out end x = n - x
@@ -35,7 +35,7 @@ abbrev μ-loop : tie.MeasureT-loop
 -- what the records are made of
 module _ (s : tie.Start Inv-loop μ-loop) where
   abbrev g : List Signal
-  g = signalsOf (s .args .text .now)
+  g = declaredBy (s .args .text .now)
 
   abbrev at : List ℕ
   at = offsets (s .args .start) (codesFrom 0 g)
@@ -68,17 +68,11 @@ mul-wider c = omega (arith, c .before .before .before .before .pre .0 .few)
 element-copy-out-wider : tie.Need-element-copy-out-wider Inv-loop μ-loop
 element-copy-out-wider c = omega (arith, c .before .before .before .before .pre .0 .few)
 
-wider-requires : tie.Need-wider-requires Inv-loop μ-loop
-wider-requires c κs = search needs
-
 mul-wider-2 : tie.Need-mul-wider-2 Inv-loop μ-loop
 mul-wider-2 c = omega (arith, s c .pre .0 .few, c .before .before .loop-test .taken)
 
 element-copy-out-wider-2 : tie.Need-element-copy-out-wider-2 Inv-loop μ-loop
 element-copy-out-wider-2 c = omega (arith, s c .pre .0 .few, c .before .before .loop-test .taken)
-
-wider-requires-2 : tie.Need-wider-requires-2 Inv-loop μ-loop
-wider-requires-2 c κs = search needs
 
 -- where the signal is declared
 stands : (d : tie.After-wider2 Inv-loop μ-loop) →
@@ -143,20 +137,6 @@ returns c =
 pub emit-records-spec : {M : Type 1} → statement M
 emit-records-spec =
     tie.close
-    (tie.spec
-    Inv-loop
-    μ-loop
-    loop-holds
-    mul-wider
-    element-copy-out-wider
-    wider-requires
-    mul-wider-2
-    element-copy-out-wider-2
-    wider-requires-2
-    add-put-record
-    put-record-requires
-    add-x
-    loop-less
-    loop-again
-    same-length
+    (tie.spec Inv-loop μ-loop loop-holds mul-wider element-copy-out-wider (λ c κs. search needs) mul-wider-2
+    element-copy-out-wider-2 (λ c κs. search needs) add-put-record put-record-requires add-x loop-less loop-again same-length
     returns)

@@ -1,11 +1,11 @@
 -- `image_write::emit_runs` meets its contract. Assumes nothing.
-use Prim.Native.Nat.{ℕ, _+_, _-_, _≤_, _<_}
+use Prim.Native.Nat.{ℕ, _+_, _-_, _<_}
 use mathlib.Core.Bool.{true}
 use mathlib.Core.List.{List, _∷_}
 use mathlib.Core.Path.{_≡_, sym, ap, _∙_}
 use native.Mathlib.Omega.{arith}
 use borrow.Author.Needs.{needs}
-use lib.ListN.{length, getD, length-set}
+use lib.ListN.{length, length-set}
 use Rattle.check_load.proofs.Runs.{due-first, due-next}
 use Rattle.model.specs.Rules.Reads.{Rate, due}
 use Rattle.image_write.specs.Cursors.{Pending, Splits, Open}
@@ -90,12 +90,6 @@ module _ (w : tie.After-wider Inv-loop μ-loop) where
             (others (begun .old) (begun .new) (begun .splits)) room,
       )
 
-wide-requires : tie.Need-wide-requires Inv-loop μ-loop
-wide-requires c κs = search needs
-
-wide-requires-2 : tie.Need-wide-requires-2 Inv-loop μ-loop
-wide-requires-2 c κs = search needs
-
 loop-holds : tie.Need-loop-holds Inv-loop μ-loop
 loop-holds c =
     let b = c .before .before .before in
@@ -113,9 +107,6 @@ mul-wider c = omega (arith, c .before .before .before .before .before .pre .1)
 
 element-copy-out-wider : tie.Need-element-copy-out-wider Inv-loop μ-loop
 element-copy-out-wider c = omega (arith, c .before .before .before .before .before .pre .1)
-
-wider-requires : tie.Need-wider-requires Inv-loop μ-loop
-wider-requires c κs = search needs
 
 add-out : tie.Need-add-out Inv-loop μ-loop
 add-out c = omega (arith, inside c, pending c .size, begun c .pending .size)
@@ -173,23 +164,6 @@ returns c =
 pub emit-runs-spec : {M : Type 1} → statement M
 emit-runs-spec =
     tie.close
-    (tie.spec
-    Inv-loop
-    μ-loop
-    wide-requires
-    wide-requires-2
-    loop-holds
-    mul-wider
-    element-copy-out-wider
-    wider-requires
-    add-out
-    slice-write-out
-    add-nexts
-    cast-nexts
-    mul-nexts
-    element-write-nexts
-    add-c
-    loop-less
-    loop-again
-    same-length
-    returns)
+    (tie.spec Inv-loop μ-loop (λ c κs. search needs) (λ c κs. search needs) loop-holds mul-wider element-copy-out-wider
+    (λ c κs. search needs) add-out slice-write-out add-nexts cast-nexts mul-nexts element-write-nexts add-c loop-less loop-again
+    same-length returns)

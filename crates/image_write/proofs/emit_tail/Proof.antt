@@ -2,7 +2,6 @@
 use Prim.Native.Nat.{ℕ, _-_, _≤_}
 use mathlib.Core.List.{List}
 use native.Mathlib.Omega.{arith}
-use lib.ListN.{length}
 use Rattle.model.specs.Rules.Word.{twoBytes}
 use Rattle.image_write.specs.Tail.{entryBy, tailBy}
 use Rattle.image_write.proofs.Joined.{joinedFrom, joined-starts, joined-step, joined-ends}
@@ -80,17 +79,5 @@ returns c =
 pub emit-tail-spec : {M : Type 1} → statement M
 emit-tail-spec =
     tie.close
-    (tie.spec
-    Inv-loop
-    μ-loop
-    loop-holds
-    mul-put-entry
-    element-copy-out-put-entry
-    element-copy-out-put-entry-2
-    element-copy-out-put-entry-3
-    put-entry-requires
-    add-x
-    loop-less
-    loop-again
-    same-length
-    returns)
+    (tie.spec Inv-loop μ-loop loop-holds mul-put-entry element-copy-out-put-entry element-copy-out-put-entry-2
+    element-copy-out-put-entry-3 put-entry-requires add-x loop-less loop-again same-length returns)

@@ -1,5 +1,5 @@
 -- `image_write::lay_out` meets its contract. Assumes nothing.
-use Prim.Native.Nat.{ℕ, _+_, _*_, _≤_, _<_}
+use Prim.Native.Nat.{ℕ, _+_, _≤_, _<_}
 use mathlib.Core.Path.{sym, ap, _∙_}
 use native.Mathlib.Omega.{arith}
 use borrow.Author.Needs.{needs}
@@ -45,9 +45,6 @@ mul-wider c = omega (arith, few (c .before .before .before) .0)
 array-read-wider : tie.Need-array-read-wider
 array-read-wider c = omega (arith, few (c .before .before .before) .0)
 
-wider-requires : tie.Need-wider-requires
-wider-requires c κs = search needs
-
 add-end : tie.Need-add-end
 add-end c = omega (arith, start-most (c .before), c .wider .ensures .1)
 
@@ -73,14 +70,5 @@ returns c =
 pub lay-out-spec : {M : Type 1} → statement M
 lay-out-spec =
     tie.close
-    (tie.spec
-    lists-at-requires
-    lists-length-requires
-    add-code
-    mul-wider
-    array-read-wider
-    wider-requires
-    add-end
-    mul-written
-    add-written
-    returns)
+    (tie.spec lists-at-requires lists-length-requires add-code mul-wider array-read-wider (λ c κs. search needs) add-end
+    mul-written add-written returns)

@@ -3,7 +3,6 @@ use Prim.Native.Nat.{_+_, _-_, _≤_}
 use mathlib.Core.Path.{_≡_}
 use native.Mathlib.Omega.{arith}
 use lib.ListN.{length}
-use borrow.Author.Needs.{needs}
 use Rattle.model.specs.Rules.Image.{joined}
 use Rattle.image_write.specs.Lists.{listsBy}
 use Rattle.image_write.proofs.Counted.{lengthFrom, length-starts, length-step, length-ends}
@@ -62,9 +61,6 @@ add-total c =
 add-i : tie.Need-add-i Inv-loop μ-loop
 add-i c = omega (arith, c .before .before .before .before .pre .0 .few)
 
-loop-less : tie.Need-loop-less Inv-loop μ-loop
-loop-less c = omega arith
-
 loop-again : tie.Need-loop-again Inv-loop μ-loop
 loop-again c = (omega arith, next c)
 
@@ -80,14 +76,5 @@ returns c =
 pub lists-length-spec : {M : Type 1} → statement M
 lists-length-spec =
     tie.close
-    (tie.spec
-    Inv-loop
-    μ-loop
-    loop-holds
-    element-copy-out-run-count
-    run-count-requires
-    add-total
-    add-i
-    loop-less
-    loop-again
-    returns)
+    (tie.spec Inv-loop μ-loop loop-holds element-copy-out-run-count run-count-requires add-total add-i (λ c. omega arith)
+    loop-again returns)

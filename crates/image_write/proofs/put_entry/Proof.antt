@@ -32,12 +32,6 @@ module _ (c : tie.After-slice-known2) where
   here : c .before .before .put-offset .result ≡ start .args .to + 2
   here = omega (arith, labelled .ends, two-long (start .args .label))
 
-wider-requires : tie.Need-wider-requires
-wider-requires c κs = search needs
-
-put-offset-requires : tie.Need-put-offset-requires
-put-offset-requires c κs = search needs
-
 slice-write-out : tie.Need-slice-write-out
 slice-write-out c = omega (arith, here c, wrote-size (labelled c), start c .pre)
 
@@ -59,12 +53,5 @@ returns c = after (labelled c) (put-both _ _ _ _)
 pub put-entry-spec : {M : Type 1} → statement M
 put-entry-spec =
     tie.close
-    (tie.spec
-    wider-requires
-    put-offset-requires
-    slice-write-out
-    add-out
-    slice-write-out-2
-    add-result
-    same-length
+    (tie.spec (λ c κs. search needs) (λ c κs. search needs) slice-write-out add-out slice-write-out-2 add-result same-length
     returns)

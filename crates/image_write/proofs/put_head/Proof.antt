@@ -7,15 +7,6 @@ use borrow.Author.Needs.{needs}
 use Rattle.image_write.proofs.put_head.Statement.{statement}
 use Rattle.image_write.proofs.put_head.Tie as tie
 
-narrow-requires : tie.Need-narrow-requires
-narrow-requires c κs = search needs
-
-slice-write-out : tie.Need-slice-write-out
-slice-write-out c = search needs
-
-narrow-requires-2 : tie.Need-narrow-requires-2
-narrow-requires-2 c κs = search needs
-
 slice-write-out-2 : tie.Need-slice-write-out-2
 slice-write-out-2 c = simp length-set (omega arith)
 
@@ -35,11 +26,5 @@ returns c =
 pub put-head-spec : {M : Type 1} → statement M
 put-head-spec =
     tie.close
-    (tie.spec
-    narrow-requires
-    slice-write-out
-    narrow-requires-2
-    slice-write-out-2
-    put-offset-requires
-    same-length
-    returns)
+    (tie.spec (λ c κs. search needs) (λ c. search needs) (λ c κs. search needs) slice-write-out-2 put-offset-requires
+    same-length returns)

@@ -5,18 +5,9 @@ use borrow.Author.Needs.{needs}
 use Rattle.image_write.proofs.put_offset.Statement.{statement}
 use Rattle.image_write.proofs.put_offset.Tie as tie
 
-put-two-requires : tie.Need-put-two-requires
-put-two-requires c κs = search needs
-
-add-result : tie.Need-add-result
-add-result c = search needs
-
-same-length : tie.Need-same-length
-same-length c = search needs
-
 returns : tie.Need-returns
 unfolding twoBytes
 returns c = record { holds = c .before .before .put-two .ensures; ends = refl }
 
 pub put-offset-spec : {M : Type 1} → statement M
-put-offset-spec = tie.close (tie.spec put-two-requires add-result same-length returns)
+put-offset-spec = tie.close (tie.spec (λ c κs. search needs) (λ c. search needs) (λ c. search needs) returns)

@@ -13,24 +13,6 @@ use borrow.Author.Needs.{needs}
 use Rattle.image_write.proofs.put_record.Statement.{statement}
 use Rattle.image_write.proofs.put_record.Tie as tie
 
-add-word-at : tie.Need-add-word-at
-add-word-at c = search needs
-
-word-at-requires : tie.Need-word-at-requires
-word-at-requires c κs = search needs
-
-put-word-requires : tie.Need-put-word-requires
-put-word-requires c κs = search needs
-
-add-after : tie.Need-add-after
-add-after c = search needs
-
-put-offset-requires : tie.Need-put-offset-requires
-put-offset-requires c κs = search needs
-
-same-length : tie.Need-same-length
-same-length c = search needs
-
 returns : tie.Need-returns
 returns c =
     let c6 = c .before .before .before .before .before .before in
@@ -49,11 +31,5 @@ returns c =
 pub put-record-spec : {M : Type 1} → statement M
 put-record-spec =
     tie.close
-    (tie.spec
-    add-word-at
-    word-at-requires
-    put-word-requires
-    add-after
-    put-offset-requires
-    same-length
-    returns)
+    (tie.spec (λ c. search needs) (λ c κs. search needs) (λ c κs. search needs) (λ c. search needs) (λ c κs. search needs)
+    (λ c. search needs) returns)

@@ -21,21 +21,6 @@ phase-is c = rw (c .wide3 .ensures .0, c .before .before .before .before .wide .
 below : (c : tie.After-wide3) → c .wide3 .result < c .before .before .wide2 .result
 below c = rw (period-is c, phase-is c) (c .before .before .before .before .before .pre .1)
 
-wide-requires : tie.Need-wide-requires
-wide-requires c κs = search needs
-
-element-copy-out-wide : tie.Need-element-copy-out-wide
-element-copy-out-wide c = search needs
-
-wide-requires-2 : tie.Need-wide-requires-2
-wide-requires-2 c κs = search needs
-
-element-copy-out-wide-2 : tie.Need-element-copy-out-wide-2
-element-copy-out-wide-2 c = search needs
-
-wide-requires-3 : tie.Need-wide-requires-3
-wide-requires-3 c κs = search needs
-
 add-result : tie.Need-add-result
 add-result c = omega (arith, c .before .before .wide2 .ensures .1, c .before .before .before .before .before .pre .2)
 
@@ -55,14 +40,5 @@ returns c = rw (phase-is c, period-is c, add-one)
 pub run-count-spec : {M : Type 1} → statement M
 run-count-spec =
     tie.close
-    (tie.spec
-    wide-requires
-    element-copy-out-wide
-    wide-requires-2
-    element-copy-out-wide-2
-    wide-requires-3
-    add-result
-    add-result-2
-    sub-result
-    div-result
-    returns)
+    (tie.spec (λ c κs. search needs) (λ c. search needs) (λ c κs. search needs) (λ c. search needs) (λ c κs. search needs)
+    add-result add-result-2 sub-result div-result returns)

@@ -10,9 +10,6 @@ Inv-loop tail n x₀ x = x ≤ n
 abbrev μ-loop : tie.MeasureT-loop
 μ-loop tail n x₀ x = n - x
 
-loop-holds : tie.Need-loop-holds Inv-loop μ-loop
-loop-holds c = omega arith
-
 mul-print-entry : tie.Need-mul-print-entry Inv-loop μ-loop
 mul-print-entry c = omega (arith, c .loop-test .taken, c .before .before .before .good)
 
@@ -34,13 +31,4 @@ returns c = tt
 pub print-tail-spec : {M : Type 1} → statement M
 print-tail-spec =
     tie.close
-    (tie.spec
-    Inv-loop
-    μ-loop
-    loop-holds
-    mul-print-entry
-    print-entry-requires
-    add-x
-    loop-less
-    loop-again
-    returns)
+    (tie.spec Inv-loop μ-loop (λ c. omega arith) mul-print-entry print-entry-requires add-x loop-less loop-again returns)

@@ -6,22 +6,10 @@ use borrow.Author.Needs.{needs}
 use Rattle.larderlate.proofs.code_of_compiled.Statement.{statement}
 use Rattle.larderlate.proofs.code_of_compiled.Tie as tie
 
-enum-known-compiled : tie.Need-enum-known-compiled
-enum-known-compiled c = search needs
-
-enum-known-compiled-2 : tie.Need-enum-known-compiled-2
-enum-known-compiled-2 c = search needs
-
-code-of-fault-requires : tie.Need-code-of-fault-requires
-code-of-fault-requires c κs = search needs
-
-returns : tie.Need-returns
-returns c = search needs
-
 returns-2 : tie.Need-returns-2
 returns-2 c = c .code-of-fault .ensures ∙ ap (λ x. codeNumber (compiledOf x)) (sym (c .before .before .compiled2 .given .1))
 
 pub code-of-compiled-spec : {M : Type 1} → statement M
 code-of-compiled-spec =
     tie.close
-    (tie.spec enum-known-compiled enum-known-compiled-2 code-of-fault-requires returns returns-2)
+    (tie.spec (λ c. search needs) (λ c. search needs) (λ c κs. search needs) (λ c. search needs) returns-2)

@@ -6,18 +6,6 @@ use borrow.Author.Needs.{needs}
 use Rattle.larderlate.proofs.code_of_reported.Statement.{statement}
 use Rattle.larderlate.proofs.code_of_reported.Tie as tie
 
-enum-known-reported : tie.Need-enum-known-reported
-enum-known-reported c = search needs
-
-enum-known-reported-2 : tie.Need-enum-known-reported-2
-enum-known-reported-2 c = search needs
-
-code-of-fault-requires : tie.Need-code-of-fault-requires
-code-of-fault-requires c κs = search needs
-
-returns : tie.Need-returns
-returns c = search needs
-
 returns-2 : tie.Need-returns-2
 returns-2 c = c .code-of-fault .ensures ∙
     ap (λ x. codeNumber (lengthIn (reportedOf x))) (sym (c .before .before .reported2 .given .1))
@@ -25,4 +13,4 @@ returns-2 c = c .code-of-fault .ensures ∙
 pub code-of-reported-spec : {M : Type 1} → statement M
 code-of-reported-spec =
     tie.close
-    (tie.spec enum-known-reported enum-known-reported-2 code-of-fault-requires returns returns-2)
+    (tie.spec (λ c. search needs) (λ c. search needs) (λ c κs. search needs) (λ c. search needs) returns-2)

@@ -5,19 +5,10 @@ use Rattle.larderlate.specs.Code.{codeNumber}
 use Rattle.larderlate.proofs.larderlate_board_load.Statement.{statement}
 use Rattle.larderlate.proofs.larderlate_board_load.Tie as tie
 
-load-requires : tie.Need-load-requires
-load-requires c κs = search needs
-
-code-of-ran-requires : tie.Need-code-of-ran-requires
-code-of-ran-requires c κs = search needs
-
-same-length : tie.Need-same-length
-same-length c = search needs
-
 returns : tie.Need-returns
 returns c =
     let l = c .before .before .load .ensures in
     (c .code-of-ran .ensures ∙ ap codeNumber (l .0), l .1)
 
 pub larderlate-board-load-spec : {M : Type 1} → statement M
-larderlate-board-load-spec = tie.close (tie.spec load-requires code-of-ran-requires same-length returns)
+larderlate-board-load-spec = tie.close (tie.spec (λ c κs. search needs) (λ c κs. search needs) (λ c. search needs) returns)

@@ -5,16 +5,10 @@ use Rattle.larderlate.specs.Code.{codeNumber}
 use Rattle.larderlate.proofs.larderlate_board_mark.Statement.{statement}
 use Rattle.larderlate.proofs.larderlate_board_mark.Tie as tie
 
-mark-requires : tie.Need-mark-requires
-mark-requires c κs = search needs
-
-code-of-ran-requires : tie.Need-code-of-ran-requires
-code-of-ran-requires c κs = search needs
-
 returns : tie.Need-returns
 returns c =
     let m = c .before .mark .ensures in
     (c .code-of-ran .ensures ∙ ap codeNumber (m .0), m .1)
 
 pub larderlate-board-mark-spec : {M : Type 1} → statement M
-larderlate-board-mark-spec = tie.close (tie.spec mark-requires code-of-ran-requires returns)
+larderlate-board-mark-spec = tie.close (tie.spec (λ c κs. search needs) (λ c κs. search needs) returns)

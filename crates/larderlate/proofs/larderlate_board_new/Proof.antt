@@ -3,11 +3,8 @@ use borrow.Author.Needs.{needs}
 use Rattle.larderlate.proofs.larderlate_board_new.Statement.{statement}
 use Rattle.larderlate.proofs.larderlate_board_new.Tie as tie
 
-new-record-requires : tie.Need-new-record-requires
-new-record-requires c κs = search needs
-
 returns : tie.Need-returns
 returns c = c .new-record .ensures
 
 pub larderlate-board-new-spec : {M : Type 1} → statement M
-larderlate-board-new-spec = tie.close (tie.spec new-record-requires returns)
+larderlate-board-new-spec = tie.close (tie.spec (λ c κs. search needs) returns)

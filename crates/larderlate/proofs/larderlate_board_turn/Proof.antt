@@ -7,18 +7,6 @@ use Rattle.larderlate.specs.Code.{codeNumber}
 use Rattle.larderlate.proofs.larderlate_board_turn.Statement.{statement}
 use Rattle.larderlate.proofs.larderlate_board_turn.Tie as tie
 
-turn-requires : tie.Need-turn-requires
-turn-requires c κs = search needs
-
-tell-turn-requires : tie.Need-tell-turn-requires
-tell-turn-requires c κs = search needs
-
-code-of-turned-requires : tie.Need-code-of-turned-requires
-code-of-turned-requires c κs = search needs
-
-same-length : tie.Need-same-length
-same-length c = search needs
-
 returns : tie.Need-returns
 returns c =
     let c4 = c .before .before .before .before in
@@ -30,4 +18,4 @@ returns c =
 
 pub larderlate-board-turn-spec : {M : Type 1} → statement M
 larderlate-board-turn-spec =
-    tie.close (tie.spec turn-requires tell-turn-requires code-of-turned-requires same-length returns)
+    tie.close (tie.spec (λ c κs. search needs) (λ c κs. search needs) (λ c κs. search needs) (λ c. search needs) returns)

@@ -5,15 +5,6 @@ use borrow.Author.Needs.{needs}
 use Rattle.larderlate.proofs.larderlate_cycle.Statement.{statement}
 use Rattle.larderlate.proofs.larderlate_cycle.Tie as tie
 
-cycle-requires : tie.Need-cycle-requires
-cycle-requires c κs = search needs
-
-code-of-cycled-requires : tie.Need-code-of-cycled-requires
-code-of-cycled-requires c κs = search needs
-
-same-length : tie.Need-same-length
-same-length c = search needs
-
 returns : tie.Need-returns
 returns c =
     let e = c .before .before .cycle .ensures in
@@ -21,4 +12,4 @@ returns c =
 
 pub larderlate-cycle-spec : {M : Type 1} → statement M
 larderlate-cycle-spec =
-    tie.close (tie.spec cycle-requires code-of-cycled-requires same-length returns)
+    tie.close (tie.spec (λ c κs. search needs) (λ c κs. search needs) (λ c. search needs) returns)

@@ -6,18 +6,6 @@ use borrow.Author.Needs.{needs}
 use Rattle.larderlate.proofs.larderlate_report.Statement.{statement}
 use Rattle.larderlate.proofs.larderlate_report.Tie as tie
 
-report-requires : tie.Need-report-requires
-report-requires c κs = search needs
-
-written-of-reported-requires : tie.Need-written-of-reported-requires
-written-of-reported-requires c κs = search needs
-
-stack-of-reported-requires : tie.Need-stack-of-reported-requires
-stack-of-reported-requires c κs = search needs
-
-code-of-reported-requires : tie.Need-code-of-reported-requires
-code-of-reported-requires c κs = search needs
-
 returns : tie.Need-returns
 returns c =
     let w = c .before .before .before in
@@ -37,9 +25,4 @@ returns c =
 pub larderlate-report-spec : {M : Type 1} → statement M
 larderlate-report-spec =
     tie.close
-    (tie.spec
-    report-requires
-    written-of-reported-requires
-    stack-of-reported-requires
-    code-of-reported-requires
-    returns)
+    (tie.spec (λ c κs. search needs) (λ c κs. search needs) (λ c κs. search needs) (λ c κs. search needs) returns)

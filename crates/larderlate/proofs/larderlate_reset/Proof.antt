@@ -5,15 +5,6 @@ use borrow.Author.Needs.{needs}
 use Rattle.larderlate.proofs.larderlate_reset.Statement.{statement}
 use Rattle.larderlate.proofs.larderlate_reset.Tie as tie
 
-reset-requires : tie.Need-reset-requires
-reset-requires c κs = search needs
-
-code-of-ran-requires : tie.Need-code-of-ran-requires
-code-of-ran-requires c κs = search needs
-
-same-length : tie.Need-same-length
-same-length c = search needs
-
 returns : tie.Need-returns
 returns c =
     let e = c .before .before .reset .ensures in
@@ -21,4 +12,4 @@ returns c =
 
 pub larderlate-reset-spec : {M : Type 1} → statement M
 larderlate-reset-spec =
-    tie.close (tie.spec reset-requires code-of-ran-requires same-length returns)
+    tie.close (tie.spec (λ c κs. search needs) (λ c κs. search needs) (λ c. search needs) returns)

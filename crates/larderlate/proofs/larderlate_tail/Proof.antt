@@ -10,12 +10,6 @@ use Rattle.larderlate.proofs.larderlate_tail.Tie as tie
 read : (e : tie.Else1) → Read (e .before .tail .ensures)
 read e = none-refused (e .before .tail .ensures) (e .if1 .left)
 
-tail-requires : tie.Need-tail-requires
-tail-requires c κs = search needs
-
-code-of-fault-requires : tie.Need-code-of-fault-requires
-code-of-fault-requires c κs = search needs
-
 returns : tie.Need-returns
 returns c =
     let t = c .before in
@@ -29,4 +23,4 @@ returns-2 c = rw (read c .accepts) (refl, omega (arith, read c .starts))
 
 pub larderlate-tail-spec : {M : Type 1} → statement M
 larderlate-tail-spec =
-    tie.close (tie.spec tail-requires code-of-fault-requires returns sub-start returns-2)
+    tie.close (tie.spec (λ c κs. search needs) (λ c κs. search needs) returns sub-start returns-2)

@@ -32,9 +32,6 @@ run-latency-requires : tie.Need-run-latency-requires Inv-loop μ-loop
 run-latency-requires c κs = let l = c .before .loop in
     (l .inv .0, l .inv .1, l .inv .2 _ (c .loop-test .taken), omega (arith, l .inv .3))
 
-is-late-requires : tie.Need-is-late-requires Inv-loop μ-loop
-is-late-requires c κs = search needs
-
 returns : tie.Need-returns Inv-loop μ-loop
 returns c =
     let c3 = c .before .before .before in
@@ -50,9 +47,6 @@ returns c =
 
 add-i : tie.Need-add-i Inv-loop μ-loop
 add-i c = omega (arith, c .before .before .before .before .loop .inv .3)
-
-loop-less : tie.Need-loop-less Inv-loop μ-loop
-loop-less c = omega arith
 
 loop-again : tie.Need-loop-again Inv-loop μ-loop
 loop-again c =
@@ -83,15 +77,5 @@ returns-2 c =
 pub all-in-time-spec : {M : Type 1} → statement M
 all-in-time-spec =
     tie.close
-    (tie.spec
-    Inv-loop
-    μ-loop
-    loop-holds
-    add-run-latency
-    run-latency-requires
-    is-late-requires
-    returns
-    add-i
-    loop-less
-    loop-again
-    returns-2)
+    (tie.spec Inv-loop μ-loop loop-holds add-run-latency run-latency-requires (λ c κs. search needs) returns add-i
+    (λ c. omega arith) loop-again returns-2)

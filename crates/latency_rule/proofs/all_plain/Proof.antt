@@ -1,13 +1,14 @@
 -- `latency_rule::all_plain` meets its contract. Assumes nothing.
 use Prim.Native.Nat.{_-_, _≤_}
 use mathlib.Core.Bool.{true}
-use mathlib.Core.Path.{_≡_, refl, sym, ap, subst, _∙_}
+use mathlib.Core.Path.{_≡_, refl, sym, subst, _∙_}
 use native.Mathlib.Omega.{arith}
 use borrow.Author.Needs.{needs}
 use borrow.Author.Tests.{not-true, not-false}
 use lib.ListN.{getD}
 use Rattle.model.specs.Rules.Search.{allBelow}
-use Rattle.latency_rule.specs.Back.{noHop, isPlain, allPlain}
+use Rattle.latency_rule.specs.Back.{noHop, allPlain}
+use Rattle.read_rule.specs.Lines.{isPlain}
 use Rattle.latency_rule.proofs.Hops.{all-fails, all-more}
 use Rattle.latency_rule.proofs.all_plain.Statement.{statement}
 use Rattle.latency_rule.proofs.all_plain.Tie as tie
@@ -28,9 +29,6 @@ mul-hop c = omega (arith, c .before .loop .inv .1)
 array-copy-out-hop : tie.Need-array-copy-out-hop Inv-loop μ-loop
 array-copy-out-hop c = omega (arith, c .before .loop .inv .1)
 
-is-plain-requires : tie.Need-is-plain-requires Inv-loop μ-loop
-is-plain-requires c κs = search needs
-
 returns : tie.Need-returns Inv-loop μ-loop
 returns c =
     let c3 = c .before .before .before in
@@ -40,12 +38,6 @@ returns c =
     let a = c5 .args in
     sym (all-fails (a .count) (l .i) (λ j. isPlain (getD (a .t1) j noHop .kind)) (c3 .loop-test .taken)
     (sym (c .before .is-plain .ensures) ∙ not-true (c .before .is-plain .result) (c .if1 .taken)))
-
-add-i : tie.Need-add-i Inv-loop μ-loop
-add-i c = omega arith
-
-loop-less : tie.Need-loop-less Inv-loop μ-loop
-loop-less c = omega arith
 
 loop-again : tie.Need-loop-again Inv-loop μ-loop
 loop-again c =
@@ -67,15 +59,5 @@ returns-2 c =
 pub all-plain-spec : {M : Type 1} → statement M
 all-plain-spec =
     tie.close
-    (tie.spec
-    Inv-loop
-    μ-loop
-    loop-holds
-    mul-hop
-    array-copy-out-hop
-    is-plain-requires
-    returns
-    add-i
-    loop-less
-    loop-again
-    returns-2)
+    (tie.spec Inv-loop μ-loop loop-holds mul-hop array-copy-out-hop (λ c κs. search needs) returns (λ c. omega arith)
+    (λ c. omega arith) loop-again returns-2)

@@ -9,14 +9,8 @@ use Rattle.latency_rule.proofs.cycle_of.Tie as tie
 product : (s : tie.Start) → s .args .k * s .args .timing .period ≤ 255000000
 product s = times-byte (s .args .k) (s .args .timing .period) (s .pre) (omega arith)
 
-cast-result : tie.Need-cast-result
-cast-result c = search needs
-
 mul-result : tie.Need-mul-result
 mul-result c = omega (arith, product (c .before))
-
-cast-result-2 : tie.Need-cast-result-2
-cast-result-2 c = search needs
 
 add-result : tie.Need-add-result
 add-result c = omega (arith, product (c .before .before))
@@ -25,4 +19,4 @@ returns : tie.Need-returns
 returns c = omega (arith, product (c .before .before))
 
 pub cycle-of-spec : {M : Type 1} → statement M
-cycle-of-spec = tie.close (tie.spec cast-result mul-result cast-result-2 add-result returns)
+cycle-of-spec = tie.close (tie.spec (λ c. search needs) mul-result (λ c. search needs) add-result returns)

@@ -8,21 +8,6 @@ use Rattle.latency_rule.proofs.Alike.{one-decides}
 use Rattle.latency_rule.proofs.deciding_runs.Statement.{statement}
 use Rattle.latency_rule.proofs.deciding_runs.Tie as tie
 
-returns : tie.Need-returns
-returns c = search needs
-
-returns-2 : tie.Need-returns-2
-returns-2 c = search needs
-
-returns-3 : tie.Need-returns-3
-returns-3 c = search needs
-
-all-plain-requires : tie.Need-all-plain-requires
-all-plain-requires c κs = search needs
-
-returns-4 : tie.Need-returns-4
-returns-4 c = search needs
-
 returns-5 : tie.Need-returns-5
 returns-5 c =
     let b = c .before in
@@ -33,4 +18,4 @@ returns-5 c =
 
 pub deciding-runs-spec : {M : Type 1} → statement M
 deciding-runs-spec =
-    tie.close (tie.spec returns returns-2 returns-3 all-plain-requires returns-4 returns-5)
+    tie.close (tie.spec (λ c. search needs) (λ c. search needs) (λ c. search needs) (λ c κs. search needs) (λ c. search needs) returns-5)

@@ -17,9 +17,6 @@ abbrev μ-loop : tie.MeasureT-loop
 loop-holds : tie.Need-loop-holds Inv-loop μ-loop
 loop-holds c = (omega arith, c .pre .0, c .pre .1, c .pre .2, refl)
 
-sub-hop : tie.Need-sub-hop Inv-loop μ-loop
-sub-hop c = omega arith
-
 mul-hop : tie.Need-mul-hop Inv-loop μ-loop
 mul-hop c = omega (arith, c .before .loop .inv .0, c .before .loop .inv .1)
 
@@ -40,15 +37,6 @@ returns c =
     let q = back-at (a .t1) (l .left) (l .element) (c .before .entry-of .result) (c3 .loop-test .taken)
     (c .before .entry-of .ensures) in
     (sym (l .inv .4 ∙ rw (c .if1 .taken) at q), tt)
-
-sub-element : tie.Need-sub-element Inv-loop μ-loop
-sub-element c = omega arith
-
-sub-left : tie.Need-sub-left Inv-loop μ-loop
-sub-left c = omega arith
-
-loop-less : tie.Need-loop-less Inv-loop μ-loop
-loop-less c = omega arith
 
 loop-again : tie.Need-loop-again Inv-loop μ-loop
 loop-again c =
@@ -79,17 +67,5 @@ returns-2 c =
 pub go-back-spec : {M : Type 1} → statement M
 go-back-spec =
     tie.close
-    (tie.spec
-    Inv-loop
-    μ-loop
-    loop-holds
-    sub-hop
-    mul-hop
-    array-copy-out-hop
-    entry-of-requires
-    returns
-    sub-element
-    sub-left
-    loop-less
-    loop-again
-    returns-2)
+    (tie.spec Inv-loop μ-loop loop-holds (λ c. omega arith) mul-hop array-copy-out-hop entry-of-requires returns
+    (λ c. omega arith) (λ c. omega arith) (λ c. omega arith) loop-again returns-2)

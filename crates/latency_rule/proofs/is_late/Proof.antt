@@ -3,17 +3,8 @@ use borrow.Author.Needs.{needs}
 use Rattle.latency_rule.proofs.is_late.Statement.{statement}
 use Rattle.latency_rule.proofs.is_late.Tie as tie
 
-enum-known-latency : tie.Need-enum-known-latency
-enum-known-latency c = search needs
-
-enum-told : tie.Need-enum-told
-enum-told c = search needs
-
 returns : tie.Need-returns
 returns c = rw (c .before .latency .given .1)
 
-returns-2 : tie.Need-returns-2
-returns-2 c = search needs
-
 pub is-late-spec : {M : Type 1} → statement M
-is-late-spec = tie.close (tie.spec enum-known-latency enum-told returns returns-2)
+is-late-spec = tie.close (tie.spec (λ c. search needs) (λ c. search needs) returns (λ c. search needs))

@@ -7,20 +7,11 @@ use Rattle.latency_rule.specs.Back.{timelyBy}
 use Rattle.latency_rule.proofs.is_timely.Statement.{statement}
 use Rattle.latency_rule.proofs.is_timely.Tie as tie
 
-deciding-runs-requires : tie.Need-deciding-runs-requires
-deciding-runs-requires c κs = search needs
-
-enum-told : tie.Need-enum-told
-enum-told c = search needs
-
 one-in-time-requires : tie.Need-one-in-time-requires
 one-in-time-requires c κs =
     let f = c .before .before .before .pre in
     let d = c .before .before .deciding-runs .ensures in
     (f .0, f .1, λ i lt. f .2 i (omega (arith, d .within)), omega (arith, d .within, f .3))
-
-enum-told-2 : tie.Need-enum-told-2
-enum-told-2 c = search needs
 
 all-in-time-requires : tie.Need-all-in-time-requires
 all-in-time-requires c κs =
@@ -43,11 +34,5 @@ returns-2 c =
 pub is-timely-spec : {M : Type 1} → statement M
 is-timely-spec =
     tie.close
-    (tie.spec
-    deciding-runs-requires
-    enum-told
-    one-in-time-requires
-    enum-told-2
-    all-in-time-requires
-    returns
+    (tie.spec (λ c κs. search needs) (λ c. search needs) one-in-time-requires (λ c. search needs) all-in-time-requires returns
     returns-2)

@@ -6,26 +6,8 @@ use borrow.Author.Needs.{needs}
 use Rattle.latency_rule.proofs.run_latency.Statement.{statement}
 use Rattle.latency_rule.proofs.run_latency.Tie as tie
 
-go-back-requires : tie.Need-go-back-requires
-go-back-requires c κs = search needs
-
-enum-known-found : tie.Need-enum-known-found
-enum-known-found c = search needs
-
 cycle-of-requires : tie.Need-cycle-of-requires
 cycle-of-requires c κs = subst SmallFound (c .before .found .given .1) (c .before .before .before .go-back .ensures .1)
-
-cycle-of-requires-2 : tie.Need-cycle-of-requires-2
-cycle-of-requires-2 c κs = search needs
-
-cycles-between-requires : tie.Need-cycles-between-requires
-cycles-between-requires c κs = search needs
-
-add-latency : tie.Need-add-latency
-add-latency c = search needs
-
-enum-told : tie.Need-enum-told
-enum-told c = search needs
 
 returns : tie.Need-returns
 unfolding runLatencyBy latencyOf
@@ -45,13 +27,5 @@ returns-2 c = rw (sym (c .before .before .go-back .ensures .0) ∙ c .enum-told 
 pub run-latency-spec : {M : Type 1} → statement M
 run-latency-spec =
     tie.close
-    (tie.spec
-    go-back-requires
-    enum-known-found
-    cycle-of-requires
-    cycle-of-requires-2
-    cycles-between-requires
-    add-latency
-    enum-told
-    returns
-    returns-2)
+    (tie.spec (λ c κs. search needs) (λ c. search needs) cycle-of-requires (λ c κs. search needs) (λ c κs. search needs)
+    (λ c. search needs) (λ c. search needs) returns returns-2)

@@ -1,35 +1,19 @@
 -- `machine::cycle` meets its contract. Assumes nothing.
-use native.Mathlib.Omega.{arith}
 use Rattle.machine.proofs.Answers.{gives-refusal, gives-done}
 use Rattle.machine.proofs.Judging.{judged-refused, judged-runs, runs-done}
 use borrow.Author.Needs.{needs}
 use Rattle.machine.proofs.cycle.Statement.{statement}
 use Rattle.machine.proofs.cycle.Tie as tie
 
-judge-cycle-requires : tie.Need-judge-cycle-requires
-judge-cycle-requires c κs = search needs
-
-stopped-requires : tie.Need-stopped-requires
-stopped-requires c κs = search needs
-
-same-length : tie.Need-same-length
-same-length c = search needs
-
 returns : tie.Need-returns
 returns c =
     let j = c .before .before in
     gives-refusal (judged-refused (j .judge-cycle .ensures) (c .before .if1 .taken)) (c .stopped .ensures)
 
-image-in-requires : tie.Need-image-in-requires
-image-in-requires c κs = search needs
-
 run-cycle-requires : tie.Need-run-cycle-requires
 run-cycle-requires c κs =
     let i = c .before in
     judged-runs (i .before .before .judge-cycle .ensures) (i .before .if1 .left) (i .image-in .ensures)
-
-same-length-2 : tie.Need-same-length-2
-same-length-2 c = search needs
 
 returns-2 : tie.Need-returns-2
 returns-2 c =
@@ -41,12 +25,5 @@ returns-2 c =
 pub cycle-spec : {M : Type 1} → statement M
 cycle-spec =
     tie.close
-    (tie.spec
-    judge-cycle-requires
-    stopped-requires
-    same-length
-    returns
-    image-in-requires
-    run-cycle-requires
-    same-length-2
-    returns-2)
+    (tie.spec (λ c κs. search needs) (λ c κs. search needs) (λ c. search needs) returns (λ c κs. search needs)
+    run-cycle-requires (λ c. search needs) returns-2)

@@ -31,9 +31,6 @@ top s = head _ (formed _ (s .pre .0) .good)
 long : (l : tie.At-loop Inv-loop μ-loop) → length (l .loop .state) ≡ length (start l .args .state .now)
 long l = l .loop .inv .1 ∙ length-set (start l .args .state .now) 0 (pos 0)
 
-slice-set-of-state : tie.Need-slice-set-of-state Inv-loop μ-loop
-slice-set-of-state c = omega arith
-
 loop-holds : tie.Need-loop-holds Inv-loop μ-loop
 loop-holds c = let s = c .before in
     (begun-none (s .args .image .now) (s .args .state .now) (omega (arith, s .pre .2)), refl, omega arith)
@@ -54,9 +51,6 @@ mul-w c = omega (arith, top (start (c .before .before .before)) .signals)
 
 slice-set-from-w : tie.Need-slice-set-from-w Inv-loop μ-loop
 slice-set-from-w c = let l = c .before .before .before in omega (arith, long l, start l .pre .2)
-
-loop-less : tie.Need-loop-less Inv-loop μ-loop
-loop-less c = omega arith
 
 loop-again : tie.Need-loop-again Inv-loop μ-loop
 loop-again c =
@@ -89,17 +83,5 @@ returns c =
 pub initial-words-spec : {M : Type 1} → statement M
 initial-words-spec =
     tie.close
-    (tie.spec
-    Inv-loop
-    μ-loop
-    slice-set-of-state
-    loop-holds
-    record-at-requires
-    word-at-requires
-    add-x
-    mul-w
-    slice-set-from-w
-    loop-less
-    loop-again
-    same-length
-    returns)
+    (tie.spec Inv-loop μ-loop (λ c. omega arith) loop-holds record-at-requires word-at-requires add-x mul-w slice-set-from-w
+    (λ c. omega arith) loop-again same-length returns)

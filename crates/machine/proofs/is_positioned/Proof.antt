@@ -1,10 +1,9 @@
 -- `machine::is_positioned` meets its contract. Assumes nothing.
-use mathlib.Core.Path.{_≡_, sym, ap, _∙_}
+use mathlib.Core.Path.{sym}
 use native.Mathlib.Omega.{arith}
-use lib.Dec.{ltb}
 use lib.IntN.{ℤ, pos}
 use lib.ListN.{getD}
-use Rattle.model.specs.Rules.Machine.{hyperOf, positionOf}
+use Rattle.model.specs.Rules.Machine.{hyperOf}
 use Rattle.image_valid.proofs.Parts.{head, formed}
 use Rattle.machine.proofs.Lists.{Position, position, no-position}
 use borrow.Author.Needs.{needs}
@@ -20,9 +19,6 @@ stood e = position _ (e .before .position .given) (e .if1 .left)
 
 shared-slice-read-wide : tie.Need-shared-slice-read-wide
 shared-slice-read-wide c = omega (arith, head _ (formed _ (c .before .before .pre .0) .good) .four)
-
-wide-requires : tie.Need-wide-requires
-wide-requires c κs = search needs
 
 shared-slice-copy-out-position : tie.Need-shared-slice-copy-out-position
 shared-slice-copy-out-position c = c .before .before .before .pre .1
@@ -43,10 +39,4 @@ returns-2 c =
 pub is-positioned-spec : {M : Type 1} → statement M
 is-positioned-spec =
     tie.close
-    (tie.spec
-    shared-slice-read-wide
-    wide-requires
-    shared-slice-copy-out-position
-    returns
-    cast-c
-    returns-2)
+    (tie.spec shared-slice-read-wide (λ c κs. search needs) shared-slice-copy-out-position returns cast-c returns-2)

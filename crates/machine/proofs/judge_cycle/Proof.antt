@@ -52,12 +52,6 @@ stands : (e : tie.Else3) → let w = long e .before in
     isPosition (hyperOf (here w)) (getD (start w .args .state .now) 0 (pos 0)) ≡ true
 stands e = sym (e .before .is-positioned .ensures) ∙ not-false _ (e .if3 .left)
 
-image-in-requires : tie.Need-image-in-requires
-image-in-requires c κs = search needs
-
-well-formed-requires : tie.Need-well-formed-requires
-well-formed-requires c κs = search needs
-
 returns : tie.Need-returns
 returns c =
     let w = c .before in
@@ -66,9 +60,6 @@ returns c =
 
 shared-slice-read-wide : tie.Need-shared-slice-read-wide
 shared-slice-read-wide c = omega (arith, head _ (formed _ (well (c .before)) .good) .four)
-
-wide-requires : tie.Need-wide-requires
-wide-requires c κs = search needs
 
 returns-2 : tie.Need-returns-2
 returns-2 c =
@@ -111,14 +102,5 @@ returns-5 c =
 pub judge-cycle-spec : {M : Type 1} → statement M
 judge-cycle-spec =
     tie.close
-    (tie.spec
-    image-in-requires
-    well-formed-requires
-    returns
-    shared-slice-read-wide
-    wide-requires
-    returns-2
-    is-positioned-requires
-    returns-3
-    returns-4
-    returns-5)
+    (tie.spec (λ c κs. search needs) (λ c κs. search needs) returns shared-slice-read-wide (λ c κs. search needs) returns-2
+    is-positioned-requires returns-3 returns-4 returns-5)

@@ -9,15 +9,6 @@ use borrow.Author.Needs.{needs}
 use Rattle.machine.proofs.next_position.Statement.{statement}
 use Rattle.machine.proofs.next_position.Tie as tie
 
-add-if1 : tie.Need-add-if1
-add-if1 c = search needs
-
-add-result : tie.Need-add-result
-add-result c = search needs
-
-cast-result : tie.Need-cast-result
-cast-result c = search needs
-
 returns : tie.Need-returns
 unfolding nextPosition
 returns c = rw (eq-eqb _ _ (c .if1 .taken))
@@ -27,4 +18,4 @@ unfolding nextPosition
 returns-2 c = rw (ne-eqb _ _ (c .if1 .left)) (toZ-pos w32 (c .before .args .c + 1) (omega arith))
 
 pub next-position-spec : {M : Type 1} → statement M
-next-position-spec = tie.close (tie.spec add-if1 add-result cast-result returns returns-2)
+next-position-spec = tie.close (tie.spec (λ c. search needs) (λ c. search needs) (λ c. search needs) returns returns-2)

@@ -30,15 +30,6 @@ checked w = w .before .before
 abbrev state : tie.After-wide → List ℤ
 state w = part (checked w) .before .before .args .state .now
 
-image-in-requires : tie.Need-image-in-requires
-image-in-requires c κs = search needs
-
-well-formed-requires : tie.Need-well-formed-requires
-well-formed-requires c κs = search needs
-
-refused-requires : tie.Need-refused-requires
-refused-requires c κs = search needs
-
 returns : tie.Need-returns
 returns c =
     let w = c .before .before in
@@ -48,12 +39,6 @@ returns c =
 
 shared-slice-read-wide : tie.Need-shared-slice-read-wide
 shared-slice-read-wide c = omega (arith, head _ (formed _ (well (c .before)) .good) .four)
-
-wide-requires : tie.Need-wide-requires
-wide-requires c κs = search needs
-
-refused-requires-2 : tie.Need-refused-requires-2
-refused-requires-2 c κs = search needs
 
 returns-2 : tie.Need-returns-2
 returns-2 c =
@@ -67,9 +52,6 @@ returns-2 c =
 initial-words-requires : tie.Need-initial-words-requires
 initial-words-requires c κs = let e = c .before in let w = e .before in (well (checked w), w .wide .ensures .0, e .if2 .left)
 
-same-length : tie.Need-same-length
-same-length c = search needs
-
 returns-3 : tie.Need-returns-3
 returns-3 c =
     let e = c .before .before .before in
@@ -82,15 +64,5 @@ returns-3 c =
 pub reset-spec : {M : Type 1} → statement M
 reset-spec =
     tie.close
-    (tie.spec
-    image-in-requires
-    well-formed-requires
-    refused-requires
-    returns
-    shared-slice-read-wide
-    wide-requires
-    refused-requires-2
-    returns-2
-    initial-words-requires
-    same-length
-    returns-3)
+    (tie.spec (λ c κs. search needs) (λ c κs. search needs) (λ c κs. search needs) returns shared-slice-read-wide
+    (λ c κs. search needs) (λ c κs. search needs) returns-2 initial-words-requires (λ c. search needs) returns-3)

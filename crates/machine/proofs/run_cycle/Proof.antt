@@ -9,17 +9,7 @@ use lib.IntN.{ℤ, pos, natAbs}
 use lib.ListN.{length, getD, set}
 use mir.Syntax.{w32}
 use mir.Val.{toZ, ofZ}
-use Rattle.model.specs.Rules.Machine.{
-  hyperOf,
-  countOf,
-  listOf,
-  runSignals,
-  countSignals,
-  positionOf,
-  nextPosition,
-  cycleWords,
-  cycleCount,
-}
+use Rattle.model.specs.Rules.Machine.{hyperOf, listOf, runSignals, countSignals, positionOf, nextPosition, cycleWords, cycleCount}
 use Rattle.model.proofs.Images.Counts.{image-short, lists-inside}
 use Rattle.word.proofs.Locals.{kept}
 use Rattle.image_valid.proofs.Parts.{head, lists, entries, formed}
@@ -76,14 +66,8 @@ inside r = rw (list-is r) (lists-inside (image (r .before)) _)
 shared-slice-read-wide : tie.Need-shared-slice-read-wide
 shared-slice-read-wide c = omega (arith, head _ (formed _ (c .before .before .pre .formed) .good) .four)
 
-wide-requires : tie.Need-wide-requires
-wide-requires c κs = search needs
-
 shared-slice-read-n : tie.Need-shared-slice-read-n
 shared-slice-read-n c = omega (arith, head _ (formed _ (c .before .before .before .before .pre .formed) .good) .four)
-
-slice-copy-out-position : tie.Need-slice-copy-out-position
-slice-copy-out-position c = search needs
 
 cast-c : tie.Need-cast-c
 cast-c c = rw (here c .back) (tt, record { fits = omega (arith, here c .small) })
@@ -111,12 +95,6 @@ next-position-requires c κs =
       omega (arith, hyper q, head _ (formed _ (start q .pre .formed) .good) .hyper),
     )
 
-slice-set-from-next : tie.Need-slice-set-from-next
-slice-set-from-next c = search needs
-
-same-length : tie.Need-same-length
-same-length c = search needs
-
 returns : tie.Need-returns
 unfolding cycleWords
 returns c =
@@ -129,15 +107,5 @@ returns c =
 pub run-cycle-spec : {M : Type 1} → statement M
 run-cycle-spec =
     tie.close
-    (tie.spec
-    shared-slice-read-wide
-    wide-requires
-    shared-slice-read-n
-    slice-copy-out-position
-    cast-c
-    run-list-requires
-    run-signals-requires
-    next-position-requires
-    slice-set-from-next
-    same-length
-    returns)
+    (tie.spec shared-slice-read-wide (λ c κs. search needs) shared-slice-read-n (λ c. search needs) cast-c run-list-requires
+    run-signals-requires next-position-requires (λ c. search needs) (λ c. search needs) returns)

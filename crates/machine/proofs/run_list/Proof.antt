@@ -24,9 +24,6 @@ rises o = let s = start o in rw (o .before .list-offset .ensures, o .list-offset
 shared-slice-read-wide : tie.Need-shared-slice-read-wide
 shared-slice-read-wide c = omega (arith, top (c .before .before) .four)
 
-wide-requires : tie.Need-wide-requires
-wide-requires c κs = search needs
-
 list-offset-requires : tie.Need-list-offset-requires
 list-offset-requires c κs = let s = c .before .before .before in
     (formed _ (s .pre .0) .good, c .wide .ensures .0, omega (arith, s .pre .1))
@@ -55,13 +52,5 @@ returns c = let o = c .before in rw (← (o .list-offset2 .ensures), ← (o .bef
 pub run-list-spec : {M : Type 1} → statement M
 run-list-spec =
     tie.close
-    (tie.spec
-    shared-slice-read-wide
-    wide-requires
-    list-offset-requires
-    add-list-offset
-    list-offset-requires-2
-    sub-result
-    part-result-start
-    part-result-end
-    returns)
+    (tie.spec shared-slice-read-wide (λ c κs. search needs) list-offset-requires add-list-offset list-offset-requires-2
+    sub-result part-result-start part-result-end returns)

@@ -6,7 +6,7 @@ use Prim.Native.Nat.{ℕ, _+_, _-_, _≤_, _<_}
 use native.Mathlib.Omega.{arith}
 use borrow.Author.Needs.{needs}
 use lib.IntN.{ℤ}
-use lib.ListN.{length, take, drop, set, length-set, length-take, length-drop}
+use lib.ListN.{length, drop, set, length-set, length-take, length-drop}
 use mir.Syntax.{w32}
 use mir.Val.{toZ, ofZ}
 use Rattle.model.specs.Rules.Machine.{
@@ -86,17 +86,8 @@ this o =
     (o .before .code-offset .ensures ∙ ap (codeOffset image) own)
     (o .code-offset2 .ensures ∙ ap (λ (k : ℕ). codeOffset image (k + 1)) own)
 
-wide-requires : tie.Need-wide-requires Inv-loop μ-loop
-wide-requires c κs = search needs
-
 loop-holds : tie.Need-loop-holds Inv-loop μ-loop
 loop-holds c = (refl, refl, omega arith, omega arith)
-
-shared-slice-read-x : tie.Need-shared-slice-read-x Inv-loop μ-loop
-shared-slice-read-x c = omega arith
-
-wide-requires-2 : tie.Need-wide-requires-2 Inv-loop μ-loop
-wide-requires-2 c κs = search needs
 
 code-offset-requires : tie.Need-code-offset-requires Inv-loop μ-loop
 code-offset-requires c κs = let l = c .before .before .before in let s = start l in
@@ -167,12 +158,6 @@ add-total c =
     let s = start (turn (r .before .before .before)) in
     omega (arith, counts r, signals-fit (s .args .image .now) (s .args .list .now) (s .pre .1 .1 .2) (s .pre .1 .1 .3))
 
-add-i : tie.Need-add-i Inv-loop μ-loop
-add-i c = omega arith
-
-loop-less : tie.Need-loop-less Inv-loop μ-loop
-loop-less c = omega arith
-
 loop-again : tie.Need-loop-again Inv-loop μ-loop
 loop-again c =
     let r = c .before .before in
@@ -208,26 +193,6 @@ returns c =
 pub run-signals-spec : {M : Type 1} → statement M
 run-signals-spec =
     tie.close
-    (tie.spec
-    Inv-loop
-    μ-loop
-    wide-requires
-    loop-holds
-    shared-slice-read-x
-    wide-requires-2
-    code-offset-requires
-    add-code-offset
-    code-offset-requires-2
-    sub-run-code
-    part-run-code-start
-    part-run-code-end
-    run-code-requires
-    add-w
-    mul-w
-    slice-set-from-w
-    add-total
-    add-i
-    loop-less
-    loop-again
-    same-length
-    returns)
+    (tie.spec Inv-loop μ-loop (λ c κs. search needs) loop-holds (λ c. omega arith) (λ c κs. search needs) code-offset-requires
+    add-code-offset code-offset-requires-2 sub-run-code part-run-code-start part-run-code-end run-code-requires add-w mul-w
+    slice-set-from-w add-total (λ c. omega arith) (λ c. omega arith) loop-again same-length returns)

@@ -6,7 +6,7 @@ use mathlib.Core.Path.{_≡_, refl, ap, _∙_}
 use native.Mathlib.Omega.{arith}
 use borrow.Author.Tests.{eqb-true}
 use lib.Dec.{eqb}
-use Rattle.model.specs.Says.Feasible.{All, Met, Feasible, Multiple}
+use Rattle.model.specs.Says.Feasible.{All, Met, Feasible}
 use Rattle.model.specs.Rules.Latency.{readAmong, readsBack, backwards, used, onward, back, source, latencyOf}
 use Rattle.model.specs.Rules.Program.{Program, Link, Chain, Read, count, signalAt, bodyReads}
 use Rattle.model.specs.Rules.Rates.{countReads, isLinked}

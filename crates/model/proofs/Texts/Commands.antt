@@ -2,19 +2,19 @@
 use Prim.Native.Nat.{ℕ, _+_, _≤_, _<_}
 use mathlib.Core.Bool.{Bool, true, false, cond}
 use mathlib.Core.List.{List}
-use mathlib.Core.Logic.{_⊎_, inl, inr}
+use mathlib.Core.Logic.{inl, inr}
 use mathlib.Core.Path.{_≡_, refl, subst}
 use native.Mathlib.Omega.{arith}
 use borrow.Author.Tests.{eqb-false}
 use lib.Dec.{eqb}
-use lib.ListN.{length, getD}
+use lib.ListN.{length}
 use mir.Facts.{sfits-toZ}
 use mir.Syntax.{w32}
 use mir.Val.{SFits}
 use Rattle.model.specs.Rules.Command.{indexOf, declarationAt, operatorAt}
 use Rattle.model.specs.Rules.Width.{inProgram, inExpression, readWidth}
 use Rattle.model.specs.Rules.Word.{byteAt, twoAt, fourAt, wordOf, wordAt, AreBytes}
-use Rattle.model.specs.Says.Written.{InPeriods, InIndices, DeclarationWritten, OperatorWritten, OperatorByte}
+use Rattle.model.specs.Says.Written.{InIndices, DeclarationWritten, OperatorWritten, OperatorByte}
 use Rattle.model.specs.declared.Declaration.{Declaration}
 use Rattle.model.specs.declared.Declaration.the-variants as Declaration
 use Rattle.model.specs.declared.Index.{Index}

@@ -6,10 +6,10 @@ use mathlib.Core.Logic.{_↔_, inl, inr}
 use mathlib.Core.Path.{_≡_, refl, _∙_}
 use native.Mathlib.Omega.{arith}
 use borrow.Author.Tests.{ltb-true, lt-ltb, eqb-true}
-use lib.Dec.{ltb, eqb}
+use lib.Dec.{eqb}
 use lib.ListN.{length}
 use Rattle.model.specs.Rules.Command.{isOperator, isSignal}
-use Rattle.model.specs.Rules.Outcome.{Outcome, accepted, provided}
+use Rattle.model.specs.Rules.Outcome.{Outcome, accepted}
 use Rattle.model.specs.Rules.Program.{
   Program,
   Limit,

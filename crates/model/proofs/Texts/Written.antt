@@ -4,7 +4,7 @@ use Prim.Native.Nat.{ℕ, _+_, _≤_, _<_}
 use mathlib.Core.Bool.{Bool, true, false, cond, _&&_, _||_, false≢true, and-eq-true-iff}
 use mathlib.Core.List.{List}
 use mathlib.Core.Logic.{_↔_, _⊎_, inl, inr}
-use mathlib.Core.Path.{_≡_, refl, sym, ap, subst, _∙_}
+use mathlib.Core.Path.{_≡_, refl, sym, subst, _∙_}
 use native.Mathlib.Omega.{arith}
 use borrow.Author.Tests.{
   leb-true,
@@ -36,7 +36,7 @@ use Rattle.model.specs.Rules.Command.{
   operatorOf,
   operatorAt,
 }
-use Rattle.model.specs.Rules.Image.{binaryByte, unaryByte}
+use Rattle.model.specs.Rules.Image.{binaryByte}
 use Rattle.model.specs.Rules.Width.{inProgram, inExpression, inSchedule, inCode, readWidth}
 use Rattle.model.specs.Rules.Machine.{operatorCode, wholeCode, codeAt}
 use Rattle.model.specs.Rules.Schedule.{scheduleCommandAt}
@@ -74,7 +74,6 @@ use Rattle.model.specs.declared.Operator.{Operator}
 use Rattle.model.specs.declared.Operator.the-variants as Operator
 use Rattle.model.specs.declared.ScheduleCommand.{ScheduleCommand}
 use Rattle.model.specs.declared.ScheduleCommand.the-variants as ScheduleCommand
-use Rattle.model.specs.declared.Unary.{Unary}
 use Rattle.model.specs.declared.Unary.the-variants.{Negate}
 use Rattle.model.proofs.Basics.Outcomes.{not-true-false}
 use Rattle.model.proofs.Texts.Picks.{

@@ -1,6 +1,6 @@
 -- Program text: one byte of command, then operands.
 use Prim.Native.Nat.{ℕ, _+_}
-use mathlib.Core.Bool.{Bool, true, false, cond, _&&_, _||_}
+use mathlib.Core.Bool.{Bool, cond, _&&_, _||_}
 use mathlib.Core.List.{List}
 use lib.Dec.{leb, ltb, eqb}
 use lib.ListN.{length}
@@ -17,7 +17,6 @@ use Rattle.model.specs.declared.Mode.{Mode}
 use Rattle.model.specs.declared.Mode.the-variants.{Exists, Backward}
 use Rattle.model.specs.declared.Operator.{Operator}
 use Rattle.model.specs.declared.Operator.the-variants as Operator
-use Rattle.model.specs.declared.Sampled.{Sampled}
 use Rattle.model.specs.declared.Unary.the-variants.{Negate}
 
 -- A command of n bytes: it ends early where fewer are left.

@@ -1,6 +1,6 @@
 -- The compiler's verdict on a program and a schedule, and what compile leaves in the buffer (17).
 use Prim.Native.Nat.{ℕ}
-use mathlib.Core.Bool.{Bool, _&&_}
+use mathlib.Core.Bool.{_&&_}
 use mathlib.Core.List.{List, _++_}
 use lib.Dec.{leb}
 use lib.ListN.{length, drop}

@@ -1,6 +1,6 @@
 -- Load (15): the weight of the signals run in a cycle.
-use Prim.Native.Nat.{ℕ, _+_}
-use mathlib.Core.Bool.{Bool, true, false, cond}
+use Prim.Native.Nat.{ℕ}
+use mathlib.Core.Bool.{Bool, false, cond}
 use lib.Dec.{ltb}
 use Rattle.model.specs.Rules.Outcome.{Outcome, accepted, refuse}
 use Rattle.model.specs.Rules.Program.{Program, Limit, unlimited, limit, count, signalAt, weightOf}

@@ -1,11 +1,10 @@
 -- Rates: the period rules (7, 8), the hypercycle (9), the links of chains (10).
-use Prim.Native.Nat.{ℕ, zero, suc, _+_, _*_, _%_}
-use mathlib.Core.Bool.{Bool, true, false, cond, _&&_}
-use mathlib.Core.List.{List, [], _∷_, _++_, map}
+use Prim.Native.Nat.{ℕ, suc, _+_, _*_, _%_}
+use mathlib.Core.Bool.{Bool, true, cond, _&&_}
+use mathlib.Core.List.{List, [], _∷_, _++_}
 use lib.Dec.{ltb, eqb}
-use lib.ListN.{length}
-use Rattle.model.specs.Rules.Outcome.{Outcome, accepted, refuse, fault, _▷_, provided, lowest}
-use Rattle.model.specs.Rules.Program.{Program, Signal, Chain, Link, Read, Body, count, signalAt, bodyReads}
+use Rattle.model.specs.Rules.Outcome.{Outcome, accepted, refuse, fault, lowest}
+use Rattle.model.specs.Rules.Program.{Program, Signal, Link, Read, count, signalAt, bodyReads}
 use Rattle.model.specs.Rules.Search.{firstBelow, joinFrom}
 use Rattle.model.specs.declared.Fault.{Fault}
 use Rattle.model.specs.declared.Found.{Found}

@@ -1,12 +1,12 @@
 -- Reads: which element each uses, its line and its order, and when it is met (14).
 -- Elements are counted with the initial word first: entry 0 of a signal's history is its initial word (element −1 of the
 -- paper), and entry j + 1 is its element j.
-use Prim.Native.Nat.{ℕ, zero, suc, _+_, _*_, _-_, _/_, _%_, min}
+use Prim.Native.Nat.{ℕ, suc, _+_, _*_, _-_, _/_, _%_, min}
 use mathlib.Core.Bool.{Bool, true, false, cond, not, _&&_, _||_, Bool·beq}
 use mathlib.Core.List.{List, [], _∷_}
 use lib.Dec.{leb, ltb, eqb}
 use Rattle.model.specs.Rules.Outcome.{Outcome, fault, lowest}
-use Rattle.model.specs.Rules.Program.{Program, Signal, Read, count, signalAt, bodyReads}
+use Rattle.model.specs.Rules.Program.{Program, Read, signalAt, bodyReads}
 use Rattle.model.specs.Rules.Schedule.{Schedule, phaseOf}
 use Rattle.model.specs.Rules.Search.{firstBelow, isFound, foundOr, joinFrom}
 use Rattle.model.specs.declared.Found.{Found}

@@ -1,6 +1,6 @@
 -- What a pair needs, told before an image is written: L, L + 4N with the tail, the highest stack use of any signal, and the
 -- commands of each cycle.
-use Prim.Native.Nat.{ℕ, zero, suc, _+_, _-_, max}
+use Prim.Native.Nat.{ℕ, _+_, _-_, max}
 use mathlib.Core.List.{List, [], _∷_, _++_}
 use lib.ListN.{length, replicate}
 use Rattle.model.specs.Rules.Compile.{Pair, pairOf}

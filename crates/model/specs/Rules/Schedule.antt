@@ -1,11 +1,11 @@
 -- Schedule text (11), and the schedule that it gives a program (12, 13).
 use Prim.Native.Nat.{ℕ, zero, suc, _+_}
-use mathlib.Core.Bool.{Bool, true, false, cond, _||_}
+use mathlib.Core.Bool.{Bool, false, cond, _||_}
 use mathlib.Core.List.{List, [], _∷_, _++_, map}
 use lib.Dec.{leb, ltb, eqb}
 use lib.ListN.{length, getD}
 use Rattle.model.specs.Rules.Outcome.{Outcome, accepted, refuse, fault, _▷_, provided, lowest, Parsed, parsed}
-use Rattle.model.specs.Rules.Program.{Program, Signal, count, signalAt}
+use Rattle.model.specs.Rules.Program.{Program, count, signalAt}
 use Rattle.model.specs.Rules.Search.{allBelow, table}
 use Rattle.model.specs.Rules.Width.{inSchedule}
 use Rattle.model.specs.Rules.Word.{byteAt}

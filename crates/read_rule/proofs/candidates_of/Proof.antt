@@ -7,27 +7,6 @@ use Rattle.read_rule.proofs.Searches.{search-one, search-from}
 use Rattle.read_rule.proofs.candidates_of.Statement.{statement}
 use Rattle.read_rule.proofs.candidates_of.Tie as tie
 
-lowest-index-requires : tie.Need-lowest-index-requires
-lowest-index-requires c κs = search needs
-
-enum-known-index : tie.Need-enum-known-index
-enum-known-index c = search needs
-
-wide-requires : tie.Need-wide-requires
-wide-requires c κs = search needs
-
-wide-requires-2 : tie.Need-wide-requires-2
-wide-requires-2 c κs = search needs
-
-add-t9 : tie.Need-add-t9
-add-t9 c = search needs
-
-enum-told : tie.Need-enum-told
-enum-told c = search needs
-
-wide-requires-3 : tie.Need-wide-requires-3
-wide-requires-3 c κs = search needs
-
 returns : tie.Need-returns
 returns c =
     let i = c .before .before .before .index .given in
@@ -49,13 +28,5 @@ returns-2 c =
 pub candidates-of-spec : {M : Type 1} → statement M
 candidates-of-spec =
     tie.close
-    (tie.spec
-    lowest-index-requires
-    enum-known-index
-    wide-requires
-    wide-requires-2
-    add-t9
-    enum-told
-    wide-requires-3
-    returns
-    returns-2)
+    (tie.spec (λ c κs. search needs) (λ c. search needs) (λ c κs. search needs) (λ c κs. search needs) (λ c. search needs)
+    (λ c. search needs) (λ c κs. search needs) returns returns-2)

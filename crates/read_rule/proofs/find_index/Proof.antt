@@ -6,15 +6,6 @@ use Rattle.read_rule.proofs.Lines.{found-is}
 use Rattle.read_rule.proofs.find_index.Statement.{statement}
 use Rattle.read_rule.proofs.find_index.Tie as tie
 
-line-of-requires : tie.Need-line-of-requires
-line-of-requires c κs = search needs
-
-candidates-of-requires : tie.Need-candidates-of-requires
-candidates-of-requires c κs = search needs
-
-settle-requires : tie.Need-settle-requires
-settle-requires c κs = search needs
-
 returns : tie.Need-returns
 unfolding indexFound
 returns c =
@@ -27,4 +18,4 @@ returns c =
 
 pub find-index-spec : {M : Type 1} → statement M
 find-index-spec =
-    tie.close (tie.spec line-of-requires candidates-of-requires settle-requires returns)
+    tie.close (tie.spec (λ c κs. search needs) (λ c κs. search needs) (λ c κs. search needs) returns)

@@ -1,16 +1,15 @@
 -- `read_rule::is_met` meets its contract. Assumes nothing.
-use Prim.Native.Nat.{ℕ, _+_, _-_}
-use mathlib.Core.Bool.{Bool, true, false, not, _&&_, _||_, Bool·beq}
-use mathlib.Core.Path.{_≡_, refl, sym, ap, _∙_}
+use Prim.Native.Nat.{_+_, _-_}
+use mathlib.Core.Bool.{Bool·beq}
+use mathlib.Core.Path.{_≡_, sym, ap, _∙_}
 use native.Mathlib.Omega.{arith}
 use borrow.Author.Needs.{needs}
 use borrow.Author.Tests.{eq-eqb, ne-eqb}
 use lib.Dec.{eqb}
-use Rattle.model.specs.Rules.Reads.{lineHolds, share, ordered, writerFirst}
-use Rattle.model.specs.Rules.Search.{isFound, firstFrom}
+use Rattle.model.specs.Rules.Reads.{lineHolds, share, ordered}
+use Rattle.model.specs.Rules.Search.{isFound}
 use Rattle.model.specs.declared.Found.{Found}
-use Rattle.model.specs.declared.Found.the-variants.{At}
-use Rattle.read_rule.specs.Lines.{lineOf, numberAt, meetsAt, Paced}
+use Rattle.read_rule.specs.Lines.{numberAt, Paced}
 use Rattle.read_rule.specs.Reads.{rateIn, indexBy, metBy}
 use Rattle.read_rule.specs.declared.Line.{Line}
 use Rattle.read_rule.proofs.Searches.{search-below, found-holds}
@@ -55,21 +54,6 @@ shared c q =
     share-is (a .w) (a .r) (q .read-below) (q .reader-below) (a .kind) (a .sampled .factor) i (q .positive) (q .rule)
     (index-line (a .kind) (rateIn (a .w)) (rateIn (a .r)) (a .sampled .factor) i (a .sampled .index) (sym (found-index s) ∙ f .1))
 
-line-of-requires : tie.Need-line-of-requires
-line-of-requires c κs = search needs
-
-candidates-of-requires : tie.Need-candidates-of-requires
-candidates-of-requires c κs = search needs
-
-settle-requires : tie.Need-settle-requires
-settle-requires c κs = search needs
-
-enum-known-found : tie.Need-enum-known-found
-enum-known-found c = search needs
-
-enum-told : tie.Need-enum-told
-enum-told c = search needs
-
 returns : tie.Need-returns
 unfolding metBy
 returns c = λ q. rw (line-found (c .before .before) _ (c .enum-told .given .1))
@@ -85,12 +69,6 @@ number-at-requires c κs =
         search-below _ (n .result .from) (n .result .to) _ (sym (t .settle .ensures) ∙ c .before .found .given .1),
       ),
     )
-
-add-if1 : tie.Need-add-if1
-add-if1 c = search needs
-
-wants-first-requires : tie.Need-wants-first-requires
-wants-first-requires c κs = search needs
 
 returns-2 : tie.Need-returns-2
 unfolding metBy ordered
@@ -110,15 +88,5 @@ returns-3 c = λ q.
 pub is-met-spec : {M : Type 1} → statement M
 is-met-spec =
     tie.close
-    (tie.spec
-    line-of-requires
-    candidates-of-requires
-    settle-requires
-    enum-known-found
-    enum-told
-    returns
-    number-at-requires
-    add-if1
-    wants-first-requires
-    returns-2
-    returns-3)
+    (tie.spec (λ c κs. search needs) (λ c κs. search needs) (λ c κs. search needs) (λ c. search needs) (λ c. search needs)
+    returns number-at-requires (λ c. search needs) (λ c κs. search needs) returns-2 returns-3)

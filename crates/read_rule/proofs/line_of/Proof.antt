@@ -3,7 +3,7 @@ use Prim.Native.Nat.{ℕ, _≤_}
 use mathlib.Core.Bool.{Bool, true, false, cond}
 use native.Mathlib.Omega.{arith}
 use borrow.Author.Needs.{needs}
-use Rattle.read_rule.specs.Lines.{lineOf}
+use Rattle.read_rule.specs.Lines.{lineIn}
 use Rattle.read_rule.proofs.line_of.Statement.{statement}
 use Rattle.read_rule.proofs.line_of.Tie as tie
 
@@ -55,59 +55,11 @@ module _ (c : tie.After-either6) where
   ahead-small : c .either6 .result ≤ 256
   ahead-small = c .either6 .ensures .1 (omega (arith, c .before .minus .ensures, step-small)) (omega arith)
 
-is-plain-requires : tie.Need-is-plain-requires
-is-plain-requires c κs = search needs
-
-is-current-requires : tie.Need-is-current-requires
-is-current-requires c κs = search needs
-
-wide-requires : tie.Need-wide-requires
-wide-requires c κs = search needs
-
-wide-requires-2 : tie.Need-wide-requires-2
-wide-requires-2 c κs = search needs
-
-either-requires : tie.Need-either-requires
-either-requires c κs = search needs
-
-wide-requires-3 : tie.Need-wide-requires-3
-wide-requires-3 c κs = search needs
-
-wide-requires-4 : tie.Need-wide-requires-4
-wide-requires-4 c κs = search needs
-
-either-requires-2 : tie.Need-either-requires-2
-either-requires-2 c κs = search needs
-
-wide-requires-5 : tie.Need-wide-requires-5
-wide-requires-5 c κs = search needs
-
-wide-requires-6 : tie.Need-wide-requires-6
-wide-requires-6 c κs = search needs
-
-either-requires-3 : tie.Need-either-requires-3
-either-requires-3 c κs = search needs
-
-either-requires-4 : tie.Need-either-requires-4
-either-requires-4 c κs = search needs
-
-either-requires-5 : tie.Need-either-requires-5
-either-requires-5 c κs = search needs
-
-is-before-requires : tie.Need-is-before-requires
-is-before-requires c κs = search needs
-
-minus-requires : tie.Need-minus-requires
-minus-requires c κs = search needs
-
-either-requires-6 : tie.Need-either-requires-6
-either-requires-6 c κs = search needs
-
 add-t13 : tie.Need-add-t13
 add-t13 c = omega (arith, start-small c, ahead-small c)
 
 returns : tie.Need-returns
-unfolding lineOf
+unfolding lineIn
 returns c =
     let l = stride-at c in
     let p = step-at c in
@@ -157,22 +109,7 @@ returns c =
 pub line-of-spec : {M : Type 1} → statement M
 line-of-spec =
     tie.close
-    (tie.spec
-    is-plain-requires
-    is-current-requires
-    wide-requires
-    wide-requires-2
-    either-requires
-    wide-requires-3
-    wide-requires-4
-    either-requires-2
-    wide-requires-5
-    wide-requires-6
-    either-requires-3
-    either-requires-4
-    either-requires-5
-    is-before-requires
-    minus-requires
-    either-requires-6
-    add-t13
-    returns)
+    (tie.spec (λ c κs. search needs) (λ c κs. search needs) (λ c κs. search needs) (λ c κs. search needs) (λ c κs. search needs)
+    (λ c κs. search needs) (λ c κs. search needs) (λ c κs. search needs) (λ c κs. search needs) (λ c κs. search needs)
+    (λ c κs. search needs) (λ c κs. search needs) (λ c κs. search needs) (λ c κs. search needs) (λ c κs. search needs)
+    (λ c κs. search needs) add-t13 returns)

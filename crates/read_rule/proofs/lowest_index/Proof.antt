@@ -1,5 +1,5 @@
 -- `read_rule::lowest_index` meets its contract. Assumes nothing.
-use Prim.Native.Nat.{suc, _+_, _*_, _-_, _/_, _≤_}
+use Prim.Native.Nat.{suc, _-_, _/_, _≤_}
 use native.Mathlib.Nat.{mul-le-mul-left, mul-le-mul-right, div-mul-le-self}
 use native.Mathlib.Omega.{arith}
 use borrow.Author.Needs.{needs}
@@ -11,18 +11,6 @@ use Rattle.read_rule.proofs.lowest_index.Tie as tie
 
 returns : tie.Need-returns
 returns c = λ k l. absurd (omega arith)
-
-sub-past : tie.Need-sub-past
-sub-past c = search needs
-
-add-past : tie.Need-add-past
-add-past c = search needs
-
-minus-requires : tie.Need-minus-requires
-minus-requires c κs = search needs
-
-div-result : tie.Need-div-result
-div-result c = search needs
 
 returns-2 : tie.Need-returns-2
 unfolding meetsAt between
@@ -45,4 +33,4 @@ returns-2 c =
 
 pub lowest-index-spec : {M : Type 1} → statement M
 lowest-index-spec =
-    tie.close (tie.spec returns sub-past add-past minus-requires div-result returns-2)
+    tie.close (tie.spec returns (λ c. search needs) (λ c. search needs) (λ c κs. search needs) (λ c. search needs) returns-2)

@@ -10,18 +10,12 @@ use Rattle.read_rule.specs.Lines.{numberAt, meetsAt}
 use Rattle.read_rule.proofs.meets.Statement.{statement}
 use Rattle.read_rule.proofs.meets.Tie as tie
 
-number-at-requires : tie.Need-number-at-requires
-number-at-requires c κs = search needs
-
 returns : tie.Need-returns
 unfolding meetsAt between
 returns c =
     let n = c .before .before in
     let a = n .before .args in
     rw (lt-leb (a .line .cycle) (numberAt (a .line) (a .index)) (omega (arith, n .number-at .ensures, c .if1 .taken)))
-
-add-result : tie.Need-add-result
-add-result c = search needs
 
 returns-2 : tie.Need-returns-2
 unfolding meetsAt between
@@ -32,4 +26,4 @@ returns-2 c =
     (ap (λ x. ltb x (a .line .cycle + a .line .step)) (n .number-at .ensures))
 
 pub meets-spec : {M : Type 1} → statement M
-meets-spec = tie.close (tie.spec number-at-requires returns add-result returns-2)
+meets-spec = tie.close (tie.spec (λ c κs. search needs) returns (λ c. search needs) returns-2)

@@ -19,8 +19,5 @@ add-result c =
       s .pre .0 .origin-small,
     )
 
-returns : tie.Need-returns
-returns c = search needs
-
 pub number-at-spec : {M : Type 1} → statement M
-number-at-spec = tie.close (tie.spec mul-result add-result returns)
+number-at-spec = tie.close (tie.spec mul-result add-result (λ c. search needs))

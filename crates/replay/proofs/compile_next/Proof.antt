@@ -4,83 +4,19 @@ use Rattle.replay.proofs.Starts.{taken}
 use Rattle.replay.proofs.compile_next.Statement.{statement}
 use Rattle.replay.proofs.compile_next.Tie as tie
 
-slice-aggregate-fill : tie.Need-slice-aggregate-fill
-slice-aggregate-fill c = search needs
-
-fill-requires : tie.Need-fill-requires
-fill-requires c κs = search needs
-
-slice-aggregate-fill-2 : tie.Need-slice-aggregate-fill-2
-slice-aggregate-fill-2 c = search needs
-
-fill-requires-2 : tie.Need-fill-requires-2
-fill-requires-2 c κs = search needs
-
-slice-aggregate-fill-3 : tie.Need-slice-aggregate-fill-3
-slice-aggregate-fill-3 c = search needs
-
-fill-requires-3 : tie.Need-fill-requires-3
-fill-requires-3 c κs = search needs
-
-stop-requires : tie.Need-stop-requires
-stop-requires c κs = search needs
-
-returns : tie.Need-returns
-returns c = search needs
-
-slice-aggregate-set-all : tie.Need-slice-aggregate-set-all
-slice-aggregate-set-all c = search needs
-
-array-read-set-all : tie.Need-array-read-set-all
-array-read-set-all c = search needs
-
-set-all-requires : tie.Need-set-all-requires
-set-all-requires c κs = search needs
-
-array-share-prefix-program : tie.Need-array-share-prefix-program
-array-share-prefix-program c = search needs
-
 slice-aggregate-compile : tie.Need-slice-aggregate-compile
 slice-aggregate-compile c = taken _ _ (search needs)
-
-array-share-prefix-schedule : tie.Need-array-share-prefix-schedule
-array-share-prefix-schedule c = search needs
 
 slice-aggregate-compile-2 : tie.Need-slice-aggregate-compile-2
 slice-aggregate-compile-2 c = taken _ _ (search needs)
 
-array-borrow-prefix-buffer : tie.Need-array-borrow-prefix-buffer
-array-borrow-prefix-buffer c = search needs
-
 slice-aggregate-compile-3 : tie.Need-slice-aggregate-compile-3
 slice-aggregate-compile-3 c = taken _ _ (search needs)
-
-compile-requires : tie.Need-compile-requires
-compile-requires c κs = search needs
-
-returns-2 : tie.Need-returns-2
-returns-2 c = search needs
 
 pub compile-next-spec : {M : Type 1} → statement M
 compile-next-spec =
     tie.close
-    (tie.spec
-    slice-aggregate-fill
-    fill-requires
-    slice-aggregate-fill-2
-    fill-requires-2
-    slice-aggregate-fill-3
-    fill-requires-3
-    stop-requires
-    returns
-    slice-aggregate-set-all
-    array-read-set-all
-    set-all-requires
-    array-share-prefix-program
-    slice-aggregate-compile
-    array-share-prefix-schedule
-    slice-aggregate-compile-2
-    array-borrow-prefix-buffer
-    slice-aggregate-compile-3
-    compile-requires
-    returns-2)
+    (tie.spec (λ c. search needs) (λ c κs. search needs) (λ c. search needs) (λ c κs. search needs) (λ c. search needs)
+    (λ c κs. search needs) (λ c κs. search needs) (λ c. search needs) (λ c. search needs) (λ c. search needs)
+    (λ c κs. search needs) (λ c. search needs) slice-aggregate-compile (λ c. search needs) slice-aggregate-compile-2
+    (λ c. search needs) slice-aggregate-compile-3 (λ c κs. search needs) (λ c. search needs))

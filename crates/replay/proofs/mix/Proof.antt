@@ -15,11 +15,5 @@ cast-mixed c = omega (arith, small c)
 mul-result : tie.Need-mul-result
 mul-result c = omega (arith, small c)
 
-cast-result : tie.Need-cast-result
-cast-result c = search needs
-
-returns : tie.Need-returns
-returns c = search needs
-
 pub mix-spec : {M : Type 1} → statement M
-mix-spec = tie.close (tie.spec cast-mixed mul-result cast-result returns)
+mix-spec = tie.close (tie.spec cast-mixed mul-result (λ c. search needs) (λ c. search needs))

@@ -1,6 +1,5 @@
 -- `replay::run` is safe and ends. Assumes nothing.
 use mathlib.Core.Path.{_≡_, refl}
-use native.Mathlib.Omega.{arith}
 use lib.ListN.{length}
 use borrow.Author.Needs.{needs}
 use Rattle.replay.proofs.run.Statement.{statement}
@@ -13,20 +12,11 @@ Inv-loop image₀ state₀ lent₀ record₀ turns₀ image state lent words tur
 abbrev μ-loop : tie.MeasureT-loop
 μ-loop image₀ state₀ lent₀ record₀ turns₀ image state lent words turns = turns
 
-larderlate-board-new-requires : tie.Need-larderlate-board-new-requires Inv-loop μ-loop
-larderlate-board-new-requires c κs = search needs
-
 loop-holds : tie.Need-loop-holds Inv-loop μ-loop
 loop-holds c = (refl, refl)
 
 step-requires : tie.Need-step-requires Inv-loop μ-loop
 step-requires c κs = tt
-
-sub-turns : tie.Need-sub-turns Inv-loop μ-loop
-sub-turns c = search needs
-
-loop-less : tie.Need-loop-less Inv-loop μ-loop
-loop-less c = search needs
 
 loop-again : tie.Need-loop-again Inv-loop μ-loop
 loop-again c = (search needs, search needs)
@@ -52,18 +42,5 @@ returns-2 c = tt
 pub run-spec : {M : Type 1} → statement M
 run-spec =
     tie.close
-    (tie.spec
-    Inv-loop
-    μ-loop
-    larderlate-board-new-requires
-    loop-holds
-    step-requires
-    sub-turns
-    loop-less
-    loop-again
-    same-length
-    same-length-2
-    returns
-    same-length-3
-    same-length-4
-    returns-2)
+    (tie.spec Inv-loop μ-loop (λ c κs. search needs) loop-holds step-requires (λ c. search needs) (λ c. search needs) loop-again
+    same-length same-length-2 returns same-length-3 same-length-4 returns-2)

@@ -4,12 +4,6 @@ use borrow.Author.Needs.{needs}
 use Rattle.run_code.proofs.leaf_length.Statement.{statement}
 use Rattle.run_code.proofs.leaf_length.Tie as tie
 
-in-code-requires : tie.Need-in-code-requires
-in-code-requires c κs = search needs
-
-in-code-requires-2 : tie.Need-in-code-requires-2
-in-code-requires-2 c κs = search needs
-
 returns : tie.Need-returns
 returns c = rw (eq-eqb _ _ (c .before .if1 .taken)) (c .in-code .ensures)
 
@@ -17,4 +11,4 @@ returns-2 : tie.Need-returns-2
 returns-2 c = rw (ne-eqb _ _ (c .before .if1 .left)) (c .in-code2 .ensures)
 
 pub leaf-length-spec : {M : Type 1} → statement M
-leaf-length-spec = tie.close (tie.spec in-code-requires in-code-requires-2 returns returns-2)
+leaf-length-spec = tie.close (tie.spec (λ c κs. search needs) (λ c κs. search needs) returns returns-2)

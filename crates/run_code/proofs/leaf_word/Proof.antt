@@ -63,15 +63,6 @@ add-wide c = omega (arith, two c)
 shared-slice-read-wide : tie.Need-shared-slice-read-wide
 shared-slice-read-wide c = omega (arith, two (c .before))
 
-wide-requires : tie.Need-wide-requires
-wide-requires c κs = search needs
-
-add-result : tie.Need-add-result
-add-result c = search needs
-
-mul-result : tie.Need-mul-result
-mul-result c = search needs
-
 shared-slice-copy-out-result : tie.Need-shared-slice-copy-out-result
 shared-slice-copy-out-result c = omega (arith, c .before .wide .ensures .0, at-load c .1)
 
@@ -81,9 +72,6 @@ returns-2 c =
     let s = start (t .before .before .before) in
     kept _ (c .result .given) ∙ ap (λ (x : ℕ). getD (s .args .state .now) (x + 1) (pos 0)) (t .before .wide .ensures .0) ∙
     rw (at-load t .2)
-
-mul-result-2 : tie.Need-mul-result-2
-mul-result-2 c = search needs
 
 shared-slice-copy-out-result-2 : tie.Need-shared-slice-copy-out-result-2
 shared-slice-copy-out-result-2 c = omega (arith, c .before .wide .ensures .0, at-fetch c .1)
@@ -98,18 +86,6 @@ returns-3 c =
 pub leaf-word-spec : {M : Type 1} → statement M
 leaf-word-spec =
     tie.close
-    (tie.spec
-    shared-slice-read-byte
-    add-word-at
-    word-at-requires
-    returns
-    add-wide
-    shared-slice-read-wide
-    wide-requires
-    add-result
-    mul-result
-    shared-slice-copy-out-result
-    returns-2
-    mul-result-2
-    shared-slice-copy-out-result-2
-    returns-3)
+    (tie.spec shared-slice-read-byte add-word-at word-at-requires returns add-wide shared-slice-read-wide (λ c κs. search needs)
+    (λ c. search needs) (λ c. search needs) shared-slice-copy-out-result returns-2 (λ c. search needs)
+    shared-slice-copy-out-result-2 returns-3)

@@ -151,12 +151,6 @@ then-operator o = rw (o .operator .ensures) at (then-binary (o .before) .2)
 few : (l : tie.At-loop Inv-loop μ-loop) → l .loop .count ≤ 65535
 few l = omega (arith, l .loop .inv .counts, code-most (code l), start l .pre .4)
 
-in-code-requires : tie.Need-in-code-requires Inv-loop μ-loop
-in-code-requires c κs = search needs
-
-new-requires : tie.Need-new-requires Inv-loop μ-loop
-new-requires c κs = search needs
-
 loop-holds : tie.Need-loop-holds Inv-loop μ-loop
 unfolding codeOk runCode countCode
 loop-holds c =
@@ -169,12 +163,6 @@ loop-holds c =
       counts = omega arith;
       most = omega (arith, c .new .ensures .1);
     }
-
-shared-slice-read-byte : tie.Need-shared-slice-read-byte Inv-loop μ-loop
-shared-slice-read-byte c = search needs
-
-add-at : tie.Need-add-at Inv-loop μ-loop
-add-at c = search needs
 
 add-count : tie.Need-add-count Inv-loop μ-loop
 add-count c = omega (arith, few (c .before .before))
@@ -194,9 +182,6 @@ returns c =
 unary-requires : tie.Need-unary-requires Inv-loop μ-loop
 unary-requires c κs = (negated _ _ _ _ _ Negate (at-negate c) .0, c .before .before .before .loop .inv .most)
 
-loop-less : tie.Need-loop-less Inv-loop μ-loop
-loop-less c = omega arith
-
 loop-again : tie.Need-loop-again Inv-loop μ-loop
 loop-again c =
     rw (one (c .before .before .before .before))
@@ -204,9 +189,6 @@ loop-again c =
 
 choose-requires : tie.Need-choose-requires Inv-loop μ-loop
 choose-requires c κs = (chosen _ _ _ _ _ (at-if c) .0, c .before .before .before .loop .inv .most)
-
-loop-less-2 : tie.Need-loop-less-2 Inv-loop μ-loop
-loop-less-2 c = omega arith
 
 loop-again-2 : tie.Need-loop-again-2 Inv-loop μ-loop
 loop-again-2 c =
@@ -285,9 +267,6 @@ operator-requires-2 c κs = (at-binary c .0, at-binary c .1)
 binary-requires : tie.Need-binary-requires Inv-loop μ-loop
 binary-requires c κs = (combined _ _ _ _ _ (at-operator c) .0, c .before .before .before .before .before .loop .inv .most)
 
-loop-less-5 : tie.Need-loop-less-5 Inv-loop μ-loop
-loop-less-5 c = omega arith
-
 loop-again-5 : tie.Need-loop-again-5 Inv-loop μ-loop
 loop-again-5 c =
     rw (one (c .before .before .before .before .before .before))
@@ -300,40 +279,8 @@ returns-3 c = ended _ _ _ _ _ (c .loop-test .left) (c .before .loop .inv)
 pub run-code-spec : {M : Type 1} → statement M
 run-code-spec =
     tie.close
-    (tie.spec
-    Inv-loop
-    μ-loop
-    in-code-requires
-    new-requires
-    loop-holds
-    shared-slice-read-byte
-    add-at
-    add-count
-    pop-requires
-    returns
-    unary-requires
-    loop-less
-    loop-again
-    choose-requires
-    loop-less-2
-    loop-again-2
-    leaf-word-requires
-    leaf-length-requires
-    add-at-2
-    shared-slice-read-next
-    add-count-2
-    returns-2
-    operator-requires
-    binary-with-requires
-    add-at-3
-    add-count-3
-    push-requires
-    loop-less-3
-    loop-again-3
-    loop-less-4
-    loop-again-4
-    operator-requires-2
-    binary-requires
-    loop-less-5
-    loop-again-5
-    returns-3)
+    (tie.spec Inv-loop μ-loop (λ c κs. search needs) (λ c κs. search needs) loop-holds (λ c. search needs) (λ c. search needs)
+    add-count pop-requires returns unary-requires (λ c. omega arith) loop-again choose-requires (λ c. omega arith) loop-again-2
+    leaf-word-requires leaf-length-requires add-at-2 shared-slice-read-next add-count-2 returns-2 operator-requires
+    binary-with-requires add-at-3 add-count-3 push-requires loop-less-3 loop-again-3 loop-less-4 loop-again-4
+    operator-requires-2 binary-requires (λ c. omega arith) loop-again-5 returns-3)

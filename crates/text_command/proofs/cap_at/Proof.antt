@@ -9,24 +9,12 @@ use borrow.Author.Needs.{needs}
 use Rattle.text_command.proofs.cap_at.Statement.{statement}
 use Rattle.text_command.proofs.cap_at.Tie as tie
 
-sub-left : tie.Need-sub-left
-sub-left c = search needs
-
-in-program-requires : tie.Need-in-program-requires
-in-program-requires c κs = search needs
-
 returns : tie.Need-returns
 unfolding declarationOf
 returns c =
     let a = c .before .before .before .args in
     let s = now (a .text) in
     rw (lt-leb (a .at + 5) (length s) (omega arith))
-
-add-four-at : tie.Need-add-four-at
-add-four-at c = search needs
-
-four-at-requires : tie.Need-four-at-requires
-four-at-requires c κs = search needs
 
 returns-2 : tie.Need-returns-2
 unfolding declarationOf
@@ -36,4 +24,4 @@ returns-2 c =
     rw (le-leb (a .at + 5) (length s) (omega arith), c .four-at .ensures)
 
 pub cap-at-spec : {M : Type 1} → statement M
-cap-at-spec = tie.close (tie.spec sub-left in-program-requires returns add-four-at four-at-requires returns-2)
+cap-at-spec = tie.close (tie.spec (λ c. search needs) (λ c κs. search needs) returns (λ c. search needs) (λ c κs. search needs) returns-2)

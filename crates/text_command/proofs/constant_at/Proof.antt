@@ -10,24 +10,12 @@ use borrow.Author.Needs.{needs}
 use Rattle.text_command.proofs.constant_at.Statement.{statement}
 use Rattle.text_command.proofs.constant_at.Tie as tie
 
-sub-left : tie.Need-sub-left
-sub-left c = search needs
-
-in-expression-requires : tie.Need-in-expression-requires
-in-expression-requires c κs = search needs
-
 returns : tie.Need-returns
 unfolding operatorOf
 returns c =
     let a = c .before .before .before .args in
     let s = now (a .text) in
     rw (lt-leb (a .at + 5) (length s) (omega arith))
-
-add-word-at : tie.Need-add-word-at
-add-word-at c = search needs
-
-word-at-requires : tie.Need-word-at-requires
-word-at-requires c κs = search needs
 
 returns-2 : tie.Need-returns-2
 unfolding operatorOf
@@ -37,4 +25,4 @@ returns-2 c =
     rw (le-leb (a .at + 5) (length s) (omega arith), kept _ (c .word-at .ok), c .word-at .ensures)
 
 pub constant-at-spec : {M : Type 1} → statement M
-constant-at-spec = tie.close (tie.spec sub-left in-expression-requires returns add-word-at word-at-requires returns-2)
+constant-at-spec = tie.close (tie.spec (λ c. search needs) (λ c κs. search needs) returns (λ c. search needs) (λ c κs. search needs) returns-2)

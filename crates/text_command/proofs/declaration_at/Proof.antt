@@ -31,27 +31,6 @@ returns c =
     let a = c .before .before .args in
     rw (le-ltb (a .at) (length (now (a .text))) (omega arith))
 
-shared-slice-read-byte : tie.Need-shared-slice-read-byte
-shared-slice-read-byte c = search needs
-
-input-at-requires : tie.Need-input-at-requires
-input-at-requires c κs = search needs
-
-equation-at-requires : tie.Need-equation-at-requires
-equation-at-requires c κs = search needs
-
-latency-at-requires : tie.Need-latency-at-requires
-latency-at-requires c κs = search needs
-
-link-at-requires : tie.Need-link-at-requires
-link-at-requires c κs = search needs
-
-cap-at-requires : tie.Need-cap-at-requires
-cap-at-requires c κs = search needs
-
-tag-at-requires : tie.Need-tag-at-requires
-tag-at-requires c κs = search needs
-
 returns-2 : tie.Need-returns-2
 unfolding declarationOf
 returns-2 c = sym (inside (c .before .before) ∙ rw (c .match .keys1))
@@ -94,20 +73,6 @@ returns-9 c =
 pub declaration-at-spec : {M : Type 1} → statement M
 declaration-at-spec =
     tie.close
-    (tie.spec
-    returns
-    shared-slice-read-byte
-    input-at-requires
-    equation-at-requires
-    latency-at-requires
-    link-at-requires
-    cap-at-requires
-    tag-at-requires
-    returns-2
-    returns-3
-    returns-4
-    returns-5
-    returns-6
-    returns-7
-    returns-8
-    returns-9)
+    (tie.spec returns (λ c. search needs) (λ c κs. search needs) (λ c κs. search needs) (λ c κs. search needs)
+    (λ c κs. search needs) (λ c κs. search needs) (λ c κs. search needs) returns-2 returns-3 returns-4 returns-5 returns-6
+    returns-7 returns-8 returns-9)

@@ -12,24 +12,12 @@ use borrow.Author.Needs.{needs}
 use Rattle.text_command.proofs.equation_at.Statement.{statement}
 use Rattle.text_command.proofs.equation_at.Tie as tie
 
-sub-left : tie.Need-sub-left
-sub-left c = search needs
-
 returns : tie.Need-returns
 unfolding declarationOf
 returns c =
     let a = c .before .before .args in
     let s = now (a .text) in
     rw (lt-leb (a .at + 2) (length s) (omega arith))
-
-add-period : tie.Need-add-period
-add-period c = search needs
-
-shared-slice-read-period : tie.Need-shared-slice-read-period
-shared-slice-read-period c = search needs
-
-is-period-requires : tie.Need-is-period-requires
-is-period-requires c κs = search needs
 
 returns-2 : tie.Need-returns-2
 unfolding declarationOf
@@ -38,9 +26,6 @@ returns-2 c =
     let s = now (a .text) in
     let n : isPeriod (getD s (a .at + 1) 0) ≡ false = sym (c .before .is-period .ensures) ∙ not-true _ (c .if2 .taken) in
     rw (le-leb (a .at + 2) (length s) (omega arith), n)
-
-in-program-requires : tie.Need-in-program-requires
-in-program-requires c κs = search needs
 
 returns-3 : tie.Need-returns-3
 unfolding declarationOf
@@ -52,18 +37,6 @@ returns-3 c =
     let n : isPeriod (getD s (a .at + 1) 0) ≡ true = sym (c3 .is-period .ensures) ∙
     not-false _ (c .before .before .if2 .left) in
     rw (le-leb (a .at + 2) (length s) (omega arith), n, lt-leb (a .at + 8) (length s) (omega arith))
-
-add-word-at : tie.Need-add-word-at
-add-word-at c = search needs
-
-word-at-requires : tie.Need-word-at-requires
-word-at-requires c κs = search needs
-
-add-two-at : tie.Need-add-two-at
-add-two-at c = search needs
-
-two-at-requires : tie.Need-two-at-requires
-two-at-requires c κs = search needs
 
 returns-4 : tie.Need-returns-4
 unfolding declarationOf
@@ -86,17 +59,6 @@ returns-4 c =
 pub equation-at-spec : {M : Type 1} → statement M
 equation-at-spec =
     tie.close
-    (tie.spec
-    sub-left
-    returns
-    add-period
-    shared-slice-read-period
-    is-period-requires
-    returns-2
-    in-program-requires
-    returns-3
-    add-word-at
-    word-at-requires
-    add-two-at
-    two-at-requires
+    (tie.spec (λ c. search needs) returns (λ c. search needs) (λ c. search needs) (λ c κs. search needs) returns-2
+    (λ c κs. search needs) returns-3 (λ c. search needs) (λ c κs. search needs) (λ c. search needs) (λ c κs. search needs)
     returns-4)

@@ -9,24 +9,12 @@ use borrow.Author.Needs.{needs}
 use Rattle.text_command.proofs.link_at.Statement.{statement}
 use Rattle.text_command.proofs.link_at.Tie as tie
 
-sub-left : tie.Need-sub-left
-sub-left c = search needs
-
-in-program-requires : tie.Need-in-program-requires
-in-program-requires c κs = search needs
-
 returns : tie.Need-returns
 unfolding declarationOf
 returns c =
     let a = c .before .before .before .args in
     let s = now (a .text) in
     rw (lt-leb (a .at + 2) (length s) (omega arith))
-
-add-t4 : tie.Need-add-t4
-add-t4 c = search needs
-
-shared-slice-read-t7 : tie.Need-shared-slice-read-t7
-shared-slice-read-t7 c = search needs
 
 returns-2 : tie.Need-returns-2
 unfolding declarationOf
@@ -36,4 +24,4 @@ returns-2 c =
     rw (le-leb (a .at + 2) (length s) (omega arith))
 
 pub link-at-spec : {M : Type 1} → statement M
-link-at-spec = tie.close (tie.spec sub-left in-program-requires returns add-t4 shared-slice-read-t7 returns-2)
+link-at-spec = tie.close (tie.spec (λ c. search needs) (λ c κs. search needs) returns (λ c. search needs) (λ c. search needs) returns-2)

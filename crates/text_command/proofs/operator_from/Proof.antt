@@ -1,9 +1,9 @@
 -- `text_command::operator_from` meets its contract. Assumes nothing.
 use Prim.Native.Nat.{ℕ, _≤_, _<_}
 use mathlib.Core.List.{List}
-use mathlib.Core.Path.{_≡_, refl, sym, ap, _∙_}
+use mathlib.Core.Path.{_≡_, sym, ap, _∙_}
 use native.Mathlib.Omega.{arith}
-use borrow.Author.Tests.{lt-ltb, le-ltb}
+use borrow.Author.Tests.{le-ltb}
 use denote.Ref.{now}
 use lib.ListN.{length}
 use Rattle.model.specs.Rules.Command.{operatorOf, operatorAt}
@@ -13,35 +13,20 @@ use Rattle.model.specs.declared.Operator.the-variants as Operator
 use Rattle.model.specs.declared.Unary.the-variants.{Negate}
 use Rattle.text_command.specs.Operator.{restricted, operatorFrom}
 use Rattle.text_command.proofs.Least.{constant-kept, plain-kept, plain-allowed, sampled-bounded}
-use Rattle.text_command.proofs.Operands.{plain-is, sampled-is, binary-is, unknown-is}
+use Rattle.text_command.proofs.Operands.{at-byte, plain-is, sampled-is, binary-is, unknown-is}
 use borrow.Author.Needs.{needs}
 use Rattle.text_command.proofs.operator_from.Statement.{statement}
 use Rattle.text_command.proofs.operator_from.Tie as tie
 
--- At a byte that is there it is the operator of that byte, restricted.
+-- The operator of a byte that is there, restricted.
 here : (least : ℕ) (text : List ℕ) (at : ℕ) (o : Operator) → at < length text → o ≡ operatorOf (byteAt text at) text at →
     restricted least o ≡ operatorFrom least text at
-unfolding operatorFrom operatorAt
-here least text at o lt e = rw (lt-ltb _ _ lt) (ap (restricted least) e)
+unfolding operatorFrom
+here least text at o lt e = ap (restricted least) (e ∙ sym (at-byte text at lt))
 
 returns : tie.Need-returns
 unfolding operatorFrom operatorAt
 returns c = rw (le-ltb _ _ (c .if1 .taken))
-
-shared-slice-read-byte : tie.Need-shared-slice-read-byte
-shared-slice-read-byte c = search needs
-
-constant-at-requires : tie.Need-constant-at-requires
-constant-at-requires c κs = search needs
-
-kind-of-requires : tie.Need-kind-of-requires
-kind-of-requires c κs = search needs
-
-plain-read-requires : tie.Need-plain-read-requires
-plain-read-requires c κs = search needs
-
-kind-of-requires-2 : tie.Need-kind-of-requires-2
-kind-of-requires-2 c κs = search needs
 
 sampled-read-requires : tie.Need-sampled-read-requires
 sampled-read-requires c κs =
@@ -50,9 +35,6 @@ sampled-read-requires c κs =
       rw (c .kind-of2 .ensures)
           (sampled-bounded _ _ (omega (arith, c .before .before .if3 .left)) (omega (arith, c .before .if4 .taken))),
     )
-
-binary-of-requires : tie.Need-binary-of-requires
-binary-of-requires c κs = search needs
 
 returns-2 : tie.Need-returns-2
 returns-2 c =
@@ -120,21 +102,6 @@ returns-10 c =
 pub operator-from-spec : {M : Type 1} → statement M
 operator-from-spec =
     tie.close
-    (tie.spec
-    returns
-    shared-slice-read-byte
-    constant-at-requires
-    kind-of-requires
-    plain-read-requires
-    kind-of-requires-2
-    sampled-read-requires
-    binary-of-requires
-    returns-2
-    returns-3
-    returns-4
-    returns-5
-    returns-6
-    returns-7
-    returns-8
-    returns-9
-    returns-10)
+    (tie.spec returns (λ c. search needs) (λ c κs. search needs) (λ c κs. search needs) (λ c κs. search needs)
+    (λ c κs. search needs) sampled-read-requires (λ c κs. search needs) returns-2 returns-3 returns-4 returns-5
+    returns-6 returns-7 returns-8 returns-9 returns-10)

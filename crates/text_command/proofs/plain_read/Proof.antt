@@ -9,23 +9,11 @@ use borrow.Author.Needs.{needs}
 use Rattle.text_command.proofs.plain_read.Statement.{statement}
 use Rattle.text_command.proofs.plain_read.Tie as tie
 
-sub-left : tie.Need-sub-left
-sub-left c = search needs
-
-in-expression-requires : tie.Need-in-expression-requires
-in-expression-requires c κs = search needs
-
 returns : tie.Need-returns
 unfolding plainRead
 returns c =
     let a = c .before .before .before .args in
     rw (lt-leb (a .at + 2) (length (now (a .text))) (omega arith))
-
-add-signal : tie.Need-add-signal
-add-signal c = search needs
-
-shared-slice-read-signal : tie.Need-shared-slice-read-signal
-shared-slice-read-signal c = search needs
 
 returns-2 : tie.Need-returns-2
 unfolding plainRead
@@ -35,4 +23,4 @@ returns-2 c =
 
 pub plain-read-spec : {M : Type 1} → statement M
 plain-read-spec =
-    tie.close (tie.spec sub-left in-expression-requires returns add-signal shared-slice-read-signal returns-2)
+    tie.close (tie.spec (λ c. search needs) (λ c κs. search needs) returns (λ c. search needs) (λ c. search needs) returns-2)

@@ -16,39 +16,12 @@ use Rattle.text_command.proofs.Shape.{sampledAt}
 use Rattle.text_command.proofs.sampled_read.Statement.{statement}
 use Rattle.text_command.proofs.sampled_read.Tie as tie
 
-sub-left : tie.Need-sub-left
-sub-left c = search needs
-
-in-expression-requires : tie.Need-in-expression-requires
-in-expression-requires c κs = search needs
-
 returns : tie.Need-returns
 unfolding sampledRead
 returns c =
     let a = c .before .before .before .args in
     let s = now (a .text) in
     rw (lt-leb (a .at + 4) (length s) (omega arith))
-
-add-signal : tie.Need-add-signal
-add-signal c = search needs
-
-shared-slice-read-signal : tie.Need-shared-slice-read-signal
-shared-slice-read-signal c = search needs
-
-add-place : tie.Need-add-place
-add-place c = search needs
-
-shared-slice-read-place : tie.Need-shared-slice-read-place
-shared-slice-read-place c = search needs
-
-add-factor : tie.Need-add-factor
-add-factor c = search needs
-
-shared-slice-read-factor : tie.Need-shared-slice-read-factor
-shared-slice-read-factor c = search needs
-
-is-period-requires : tie.Need-is-period-requires
-is-period-requires c κs = search needs
 
 returns-2 : tie.Need-returns-2
 unfolding sampledRead
@@ -57,9 +30,6 @@ returns-2 c =
     let s = now (a .text) in
     let n : isFactor (getD s (a .at + 3) 0) ≡ false = sym (c .before .is-period .ensures) ∙ not-true _ (c .if2 .taken) in
     rw (le-leb (a .at + 4) (length s) (omega arith), n)
-
-is-index-requires : tie.Need-is-index-requires
-is-index-requires c κs = search needs
 
 returns-3 : tie.Need-returns-3
 unfolding sampledRead
@@ -105,9 +75,6 @@ returns-4 c =
     let e = c .before in
     rw (whole e, factor e, index e, bounded e (sampledAt (text e) (at e)) ∙ lt-leb _ _ (c .if4 .taken))
 
-index-of-requires : tie.Need-index-of-requires
-index-of-requires c κs = search needs
-
 returns-5 : tie.Need-returns-5
 unfolding sampledRead
 returns-5 c =
@@ -117,20 +84,6 @@ returns-5 c =
 pub sampled-read-spec : {M : Type 1} → statement M
 sampled-read-spec =
     tie.close
-    (tie.spec
-    sub-left
-    in-expression-requires
-    returns
-    add-signal
-    shared-slice-read-signal
-    add-place
-    shared-slice-read-place
-    add-factor
-    shared-slice-read-factor
-    is-period-requires
-    returns-2
-    is-index-requires
-    returns-3
-    returns-4
-    index-of-requires
-    returns-5)
+    (tie.spec (λ c. search needs) (λ c κs. search needs) returns (λ c. search needs) (λ c. search needs) (λ c. search needs)
+    (λ c. search needs) (λ c. search needs) (λ c. search needs) (λ c κs. search needs) returns-2 (λ c κs. search needs)
+    returns-3 returns-4 (λ c κs. search needs) returns-5)

@@ -16,9 +16,6 @@ returns c =
     let s = now (a .text) in
     rw (le-ltb (a .at) (length s) (omega arith))
 
-shared-slice-read-byte : tie.Need-shared-slice-read-byte
-shared-slice-read-byte c = search needs
-
 returns-2 : tie.Need-returns-2
 unfolding scheduleCommandAt
 returns-2 c =
@@ -37,12 +34,6 @@ returns-3 c =
       ne-eqb (getD s (a .at) 0) 64 (c .if3 .taken),
     )
 
-sub-left : tie.Need-sub-left
-sub-left c = search needs
-
-in-schedule-requires : tie.Need-in-schedule-requires
-in-schedule-requires c κs = search needs
-
 returns-4 : tie.Need-returns-4
 unfolding scheduleCommandAt
 returns-4 c =
@@ -56,18 +47,6 @@ returns-4 c =
       eq-eqb (getD s (a .at) 0) 64 (c .before .before .if3 .left),
       lt-leb (a .at + 3) (length s) (omega arith),
     )
-
-add-t5 : tie.Need-add-t5
-add-t5 c = search needs
-
-shared-slice-read-t8 : tie.Need-shared-slice-read-t8
-shared-slice-read-t8 c = search needs
-
-add-t10 : tie.Need-add-t10
-add-t10 c = search needs
-
-shared-slice-read-t12 : tie.Need-shared-slice-read-t12
-shared-slice-read-t12 c = search needs
 
 returns-5 : tie.Need-returns-5
 unfolding scheduleCommandAt
@@ -87,16 +66,5 @@ returns-5 c =
 pub schedule-command-at-spec : {M : Type 1} → statement M
 schedule-command-at-spec =
     tie.close
-    (tie.spec
-    returns
-    shared-slice-read-byte
-    returns-2
-    returns-3
-    sub-left
-    in-schedule-requires
-    returns-4
-    add-t5
-    shared-slice-read-t8
-    add-t10
-    shared-slice-read-t12
-    returns-5)
+    (tie.spec returns (λ c. search needs) returns-2 returns-3 (λ c. search needs) (λ c κs. search needs) returns-4
+    (λ c. search needs) (λ c. search needs) (λ c. search needs) (λ c. search needs) returns-5)

@@ -6,9 +6,6 @@ use Rattle.text_command.specs.declared.Taken.{Taken}
 use Rattle.text_command.proofs.standing_read.Statement.{statement}
 use Rattle.text_command.proofs.standing_read.Tie as tie
 
-taken-at-requires : tie.Need-taken-at-requires
-taken-at-requires c κs = search needs
-
 returns : tie.Need-returns
 returns c =
     let s = c .before .before .before .pre in
@@ -16,4 +13,4 @@ returns c =
     sym (s .is)
 
 pub standing-read-spec : {M : Type 1} → statement M
-standing-read-spec = tie.close (tie.spec taken-at-requires returns)
+standing-read-spec = tie.close (tie.spec (λ c κs. search needs) returns)

@@ -9,24 +9,12 @@ use borrow.Author.Needs.{needs}
 use Rattle.text_command.proofs.tag_at.Statement.{statement}
 use Rattle.text_command.proofs.tag_at.Tie as tie
 
-sub-left : tie.Need-sub-left
-sub-left c = search needs
-
-in-program-requires : tie.Need-in-program-requires
-in-program-requires c κs = search needs
-
 returns : tie.Need-returns
 unfolding declarationOf
 returns c =
     let a = c .before .before .before .args in
     let s = now (a .text) in
     rw (lt-leb (a .at + 3) (length s) (omega arith))
-
-add-two-at : tie.Need-add-two-at
-add-two-at c = search needs
-
-two-at-requires : tie.Need-two-at-requires
-two-at-requires c κs = search needs
 
 returns-2 : tie.Need-returns-2
 unfolding declarationOf
@@ -36,4 +24,4 @@ returns-2 c =
     rw (le-leb (a .at + 3) (length s) (omega arith), c .two-at .ensures)
 
 pub tag-at-spec : {M : Type 1} → statement M
-tag-at-spec = tie.close (tie.spec sub-left in-program-requires returns add-two-at two-at-requires returns-2)
+tag-at-spec = tie.close (tie.spec (λ c. search needs) (λ c κs. search needs) returns (λ c. search needs) (λ c κs. search needs) returns-2)

@@ -1,9 +1,7 @@
 -- `text_command::taken_at` meets its contract. Assumes nothing.
 use Prim.Native.Nat.{ℕ}
 use mathlib.Core.List.{List}
-use mathlib.Core.Path.{sym, ap, _∙_}
 use native.Mathlib.Omega.{arith}
-use denote.Ref.{now}
 use borrow.Author.Needs.{needs}
 use Rattle.text_command.specs.Operator.{ReadStands}
 use Rattle.text_command.proofs.Shape.{Shape, read-shape, place-inside, read-is}
@@ -23,12 +21,6 @@ add-signal c = omega (arith, shape (c .before .before .pre) .inside)
 shared-slice-read-signal : tie.Need-shared-slice-read-signal
 shared-slice-read-signal c = omega (arith, shape (c .before .before .before .pre) .inside)
 
-kind-of-requires : tie.Need-kind-of-requires
-kind-of-requires c κs = search needs
-
-index-place-requires : tie.Need-index-place-requires
-index-place-requires c κs = search needs
-
 add-place : tie.Need-add-place
 add-place c =
     let c5 = c .before .before .before .before .before in
@@ -38,12 +30,6 @@ shared-slice-read-select : tie.Need-shared-slice-read-select
 shared-slice-read-select c =
     let c6 = c .before .before .before .before .before .before in
     omega (arith, place-inside _ _ (shape (c6 .pre)), c .before .index-place .ensures)
-
-select-requires : tie.Need-select-requires
-select-requires c κs = search needs
-
-index-of-requires : tie.Need-index-of-requires
-index-of-requires c κs = search needs
 
 add-select : tie.Need-add-select
 add-select c =
@@ -56,9 +42,6 @@ shared-slice-read-select-2 c =
     let c4 = c .before .before .before .before in
     let c9 = c4 .before .before .before .before .before in
     omega (arith, place-inside _ _ (shape (c9 .pre)), c4 .index-place .ensures)
-
-select-requires-2 : tie.Need-select-requires-2
-select-requires-2 c κs = search needs
 
 returns : tie.Need-returns
 returns c =
@@ -81,17 +64,6 @@ returns c =
 pub taken-at-spec : {M : Type 1} → statement M
 taken-at-spec =
     tie.close
-    (tie.spec
-    shared-slice-read-byte
-    add-signal
-    shared-slice-read-signal
-    kind-of-requires
-    index-place-requires
-    add-place
-    shared-slice-read-select
-    select-requires
-    index-of-requires
-    add-select
-    shared-slice-read-select-2
-    select-requires-2
-    returns)
+    (tie.spec shared-slice-read-byte add-signal shared-slice-read-signal (λ c κs. search needs) (λ c κs. search needs) add-place
+    shared-slice-read-select (λ c κs. search needs) (λ c κs. search needs) add-select shared-slice-read-select-2
+    (λ c κs. search needs) returns)

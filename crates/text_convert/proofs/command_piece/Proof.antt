@@ -14,30 +14,6 @@ returns : tie.Need-returns
 unfolding commandAt declarationAt
 returns c = rw (List·getD-eq-default {A = ℕ} _ 0 (c .if1 .taken), le-ltb _ _ (c .if1 .taken))
 
-shared-slice-read-expression : tie.Need-shared-slice-read-expression
-shared-slice-read-expression c = search needs
-
-expression-requires : tie.Need-expression-requires
-expression-requires c κs = search needs
-
-enum-told : tie.Need-enum-told
-enum-told c = search needs
-
-operator-from-requires : tie.Need-operator-from-requires
-operator-from-requires c κs = search needs
-
-operator-piece-requires : tie.Need-operator-piece-requires
-operator-piece-requires c κs = search needs
-
-enum-told-2 : tie.Need-enum-told-2
-enum-told-2 c = search needs
-
-declaration-at-requires : tie.Need-declaration-at-requires
-declaration-at-requires c κs = search needs
-
-declaration-width-requires : tie.Need-declaration-width-requires
-declaration-width-requires c κs = search needs
-
 returns-2 : tie.Need-returns-2
 unfolding commandAt
 returns-2 c =
@@ -53,15 +29,5 @@ returns-3 c =
 pub command-piece-spec : {M : Type 1} → statement M
 command-piece-spec =
     tie.close
-    (tie.spec
-    returns
-    shared-slice-read-expression
-    expression-requires
-    enum-told
-    operator-from-requires
-    operator-piece-requires
-    enum-told-2
-    declaration-at-requires
-    declaration-width-requires
-    returns-2
-    returns-3)
+    (tie.spec returns (λ c. search needs) (λ c κs. search needs) (λ c. search needs) (λ c κs. search needs)
+    (λ c κs. search needs) (λ c. search needs) (λ c κs. search needs) (λ c κs. search needs) returns-2 returns-3)

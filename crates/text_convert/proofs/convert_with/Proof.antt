@@ -19,33 +19,12 @@ module _ (e : tie.After-enum-told) where
   fine : (p : Program) × (parseWith 1 (now (start .args .program)) ≡ accepted p)
   fine = read-fine _ _ _ (e .before .before .before .before .read-program .ensures) (e .enum-told .given .1)
 
-read-program-requires : tie.Need-read-program-requires
-read-program-requires c κs = search needs
-
-enum-known-judged : tie.Need-enum-known-judged
-enum-known-judged c = search needs
-
-same-length : tie.Need-same-length
-same-length c = search needs
-
 returns : tie.Need-returns
 returns c =
     let c5 = c .before .before .before .before .before in
     let c10 = c5 .before .before .before .before .before in
     convert-refused _ _ (c10 .pre .0) _
     (read-refused _ _ _ _ (c5 .read-program .ensures) (c .before .judged .given .1))
-
-enum-told : tie.Need-enum-told
-enum-told c = search needs
-
-rewritten-length-requires : tie.Need-rewritten-length-requires
-rewritten-length-requires c κs = search needs
-
-refuse-requires : tie.Need-refuse-requires
-refuse-requires c κs = search needs
-
-same-length-2 : tie.Need-same-length-2
-same-length-2 c = search needs
 
 returns-2 : tie.Need-returns-2
 returns-2 c =
@@ -54,15 +33,6 @@ returns-2 c =
     let g =
     convert-short _ _ (start (l .before) .pre .0) (k .0) (k .1) _ (l .rewritten-length .ensures) (c .before .if1 .taken) in
     (ap compiledOf (c .refuse .ensures) ∙ g .0, g .1)
-
-write-requires : tie.Need-write-requires
-write-requires c κs = search needs
-
-same-length-3 : tie.Need-same-length-3
-same-length-3 c = search needs
-
-same-length-4 : tie.Need-same-length-4
-same-length-4 c = search needs
 
 returns-3 : tie.Need-returns-3
 returns-3 c =
@@ -76,17 +46,6 @@ returns-3 c =
 pub convert-with-spec : {M : Type 1} → statement M
 convert-with-spec =
     tie.close
-    (tie.spec
-    read-program-requires
-    enum-known-judged
-    same-length
-    returns
-    enum-told
-    rewritten-length-requires
-    refuse-requires
-    same-length-2
-    returns-2
-    write-requires
-    same-length-3
-    same-length-4
+    (tie.spec (λ c κs. search needs) (λ c. search needs) (λ c. search needs) returns (λ c. search needs) (λ c κs. search needs)
+    (λ c κs. search needs) (λ c. search needs) returns-2 (λ c κs. search needs) (λ c. search needs) (λ c. search needs)
     returns-3)

@@ -7,36 +7,18 @@ use borrow.Author.Needs.{needs}
 use Rattle.text_convert.proofs.put.Statement.{statement}
 use Rattle.text_convert.proofs.put.Tie as tie
 
-enum-known-piece : tie.Need-enum-known-piece
-enum-known-piece c = search needs
-
 copy-requires : tie.Need-copy-requires
 copy-requires c κs = rw (c .before .before .piece .given .1) at (c .before .before .before .before .before .before .pre)
 
-enum-known-piece-2 : tie.Need-enum-known-piece-2
-enum-known-piece-2 c = search needs
-
 slice-write-out : tie.Need-slice-write-out
 slice-write-out c = omega (arith, rw (c .before .piece2 .given .1) at (c .before .before .before .before .before .pre .1))
-
-add-out : tie.Need-add-out
-add-out c = search needs
 
 slice-write-out-2 : tie.Need-slice-write-out-2
 slice-write-out-2 c =
     simp length-set (omega (arith, rw (c .before .piece2 .given .1) at (c .before .before .before .before .before .pre .1)))
 
-add-result : tie.Need-add-result
-add-result c = search needs
-
-same-length : tie.Need-same-length
-same-length c = search needs
-
 returns : tie.Need-returns
 returns c = rw (c .before .before .before .before .before .piece .given .1) (c .before .before .copy .ensures)
-
-same-length-2 : tie.Need-same-length-2
-same-length-2 c = search needs
 
 returns-2 : tie.Need-returns-2
 returns-2 c = rw (c .before .piece2 .given .1) (record { holds = simp towards-suc; ends = refl })
@@ -44,15 +26,5 @@ returns-2 c = rw (c .before .piece2 .given .1) (record { holds = simp towards-su
 pub put-spec : {M : Type 1} → statement M
 put-spec =
     tie.close
-    (tie.spec
-    enum-known-piece
-    copy-requires
-    enum-known-piece-2
-    slice-write-out
-    add-out
-    slice-write-out-2
-    add-result
-    same-length
-    returns
-    same-length-2
-    returns-2)
+    (tie.spec (λ c. search needs) copy-requires (λ c. search needs) slice-write-out (λ c. search needs) slice-write-out-2
+    (λ c. search needs) (λ c. search needs) returns (λ c. search needs) returns-2)

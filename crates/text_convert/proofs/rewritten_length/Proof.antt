@@ -26,27 +26,12 @@ now-turn c = turn-of _ _ _ _ (omega arith) (omega arith) (c .command-piece .ensu
 loop-holds : tie.Need-loop-holds Inv-loop μ-loop
 loop-holds c = (omega arith, omega arith, omega (arith, ap length (rewrite-starts (c .before .args .text .now))))
 
-command-piece-requires : tie.Need-command-piece-requires Inv-loop μ-loop
-command-piece-requires c κs = search needs
-
-length-of-requires : tie.Need-length-of-requires Inv-loop μ-loop
-length-of-requires c κs = search needs
-
 add-total : tie.Need-add-total Inv-loop μ-loop
 add-total c =
     let t = now-turn (c .before) in omega (arith, t .inside, t .short, c .length-of .ensures)
 
-width-of-requires : tie.Need-width-of-requires Inv-loop μ-loop
-width-of-requires c κs = search needs
-
 add-at : tie.Need-add-at Inv-loop μ-loop
 add-at c = let t = now-turn (c .before .before) in omega (arith, t .inside, c .width-of .ensures)
-
-sub-left : tie.Need-sub-left Inv-loop μ-loop
-sub-left c = search needs
-
-loop-less : tie.Need-loop-less Inv-loop μ-loop
-loop-less c = search needs
 
 loop-again : tie.Need-loop-again Inv-loop μ-loop
 loop-again c =
@@ -71,16 +56,5 @@ returns c =
 pub rewritten-length-spec : {M : Type 1} → statement M
 rewritten-length-spec =
     tie.close
-    (tie.spec
-    Inv-loop
-    μ-loop
-    loop-holds
-    command-piece-requires
-    length-of-requires
-    add-total
-    width-of-requires
-    add-at
-    sub-left
-    loop-less
-    loop-again
-    returns)
+    (tie.spec Inv-loop μ-loop loop-holds (λ c κs. search needs) (λ c κs. search needs) add-total (λ c κs. search needs) add-at
+    (λ c. search needs) (λ c. search needs) loop-again returns)

@@ -1,6 +1,5 @@
 -- `text_convert::write` meets its contract. Assumes nothing.
-use Prim.Native.Nat.{_+_, _≤_}
-use mathlib.Core.Path.{_≡_, ap}
+use Prim.Native.Nat.{_≤_}
 use native.Mathlib.Omega.{arith}
 use borrow.Author.Needs.{needs}
 use lib.ListN.{length}
@@ -26,9 +25,6 @@ now-turn c = turn-of _ _ _ _ (omega arith) (omega arith) (c .command-piece .ensu
 loop-holds : tie.Need-loop-holds Inv-loop μ-loop
 loop-holds c = (omega arith, rw (rewrite-starts (c .before .before .args .text .now)) starts)
 
-command-piece-requires : tie.Need-command-piece-requires Inv-loop μ-loop
-command-piece-requires c κs = search needs
-
 put-requires : tie.Need-put-requires Inv-loop μ-loop
 put-requires c κs =
     let c3 = c .before .before .before in
@@ -36,18 +32,9 @@ put-requires c κs =
     let t = now-turn (c .before) in
     (t .inside, rw (← (t .size)) (room (t .parts) (c3 .loop .inv .1) (omega (arith, c6 .pre))))
 
-width-of-requires : tie.Need-width-of-requires Inv-loop μ-loop
-width-of-requires c κs = search needs
-
 add-at : tie.Need-add-at Inv-loop μ-loop
 add-at c =
     let t = now-turn (c .before .before .before .before .before) in omega (arith, t .inside, c .width-of .ensures)
-
-sub-left : tie.Need-sub-left Inv-loop μ-loop
-sub-left c = search needs
-
-loop-less : tie.Need-loop-less Inv-loop μ-loop
-loop-less c = search needs
 
 loop-again : tie.Need-loop-again Inv-loop μ-loop
 loop-again c =
@@ -69,16 +56,5 @@ returns c =
 pub write-spec : {M : Type 1} → statement M
 write-spec =
     tie.close
-    (tie.spec
-    Inv-loop
-    μ-loop
-    loop-holds
-    command-piece-requires
-    put-requires
-    width-of-requires
-    add-at
-    sub-left
-    loop-less
-    loop-again
-    same-length
-    returns)
+    (tie.spec Inv-loop μ-loop loop-holds (λ c κs. search needs) put-requires (λ c κs. search needs) add-at (λ c. search needs)
+    (λ c. search needs) loop-again same-length returns)

@@ -16,7 +16,7 @@ use Rattle.model.specs.declared.Operator.{Operator}
 use Rattle.model.specs.declared.Operator.the-variants as Operator
 use Rattle.model.specs.declared.Kind.{Kind}
 use Rattle.model.specs.declared.Sampled.{Sampled}
-use Rattle.text_program.specs.Walks.{Room, Walks}
+use Rattle.text_program.specs.Walks.{WalkRoom, Walks}
 use Rattle.text_program.specs.declared.Walk.{Walk}
 use Rattle.text_program.specs.declared.Walked.{Walked}
 use Rattle.text_program.specs.declared.Walked.the-variants as Walked
@@ -103,7 +103,7 @@ module _ (t : ℕ) (c : lts.After-operator-from (known t) (given t) own.Post) wh
   abbrev size : ℕ
   size = length (now (c .before .before .before .before .args .reads))
 
-  room : Room (length text) at count to size
+  room : WalkRoom (length text) at count to size
   room = c .before .before .before .before .pre .1
 
   module _ (o : Operator) (e : c .operator-from .result ≡ o) where
@@ -132,6 +132,16 @@ module _ (t : ℕ) (c : lts.After-operator-from (known t) (given t) own.Post) wh
       parsed-spans least depth text at (read (record { place = at; kind = kind; operands = x })) (at + readWidth kind)
       (read-step e) .inside
 
+  -- It ends in the text, and has an entry left in the table.
+  read-fits : {kind : Kind} {x : Sampled} → c .operator-from .result ≡ Operator.Read kind x →
+      (at + readWidth kind ≤ 8192) × (count < size) × (count ≤ 4096)
+  read-fits {kind} e =
+      let h = read-inside e in (
+        omega (arith, h, room .short),
+        omega (arith, h, read-least kind, room .table, room .few),
+        omega (arith, h, room .short, room .few),
+      )
+
   -- where an operand is read
   one : {l′ : List ℕ} {r : Walked} {a : Walk} →
       Walks (parseExpr least (depth - 1) text (at + 1)) (now (c .before .before .before .before .args .reads)) count to l′ r →
@@ -143,160 +153,42 @@ module _ (t : ℕ) (c : lts.After-operator-from (known t) (given t) own.Post) wh
       Ahead (length text) (length l′) b
   more h w e = ahead least text (depth - 1) (h .left) w e
 
-too-deep-requires : (t : ℕ) → lts.Need-too-deep-requires (known t) (given t) own.Post
-too-deep-requires t c κs = search needs
-
 returns : (t : ℕ) → lts.Need-returns (known t) (given t) own.Post
 returns t c = rw (c .before .before .if1 .taken) (walks-deep _ _ _ (c .too-deep .ensures))
-
-operator-from-requires : (t : ℕ) → lts.Need-operator-from-requires (known t) (given t) own.Post
-operator-from-requires t c κs = search needs
-
-enum-told : (t : ℕ) → lts.Need-enum-told (known t) (given t) own.Post
-enum-told t c = search needs
-
-refuse-walk-requires : (t : ℕ) → lts.Need-refuse-walk-requires (known t) (given t) own.Post
-refuse-walk-requires t c κs = search needs
-
-enum-told-2 : (t : ℕ) → lts.Need-enum-told-2 (known t) (given t) own.Post
-enum-told-2 t c = search needs
-
-refuse-walk-requires-2 : (t : ℕ) → lts.Need-refuse-walk-requires-2 (known t) (given t) own.Post
-refuse-walk-requires-2 t c κs = search needs
-
-enum-told-3 : (t : ℕ) → lts.Need-enum-told-3 (known t) (given t) own.Post
-enum-told-3 t c = search needs
-
-refuse-walk-requires-3 : (t : ℕ) → lts.Need-refuse-walk-requires-3 (known t) (given t) own.Post
-refuse-walk-requires-3 t c κs = search needs
-
-enum-told-4 : (t : ℕ) → lts.Need-enum-told-4 (known t) (given t) own.Post
-enum-told-4 t c = search needs
-
-in-expression-requires : (t : ℕ) → lts.Need-in-expression-requires (known t) (given t) own.Post
-in-expression-requires t c κs = search needs
 
 add-moved-on : (t : ℕ) → lts.Need-add-moved-on (known t) (given t) own.Post
 add-moved-on t c =
     let c3 = c .before .before .before in
     omega (arith, constant-inside t c3 (c .before .enum-told4 .given .1), room t c3 .short, room t c3 .small)
 
-in-code-requires : (t : ℕ) → lts.Need-in-code-requires (known t) (given t) own.Post
-in-code-requires t c κs = search needs
-
 add-moved-on-2 : (t : ℕ) → lts.Need-add-moved-on-2 (known t) (given t) own.Post
 add-moved-on-2 t c =
     let c4 = c .before .before .before .before in
     omega (arith, constant-inside t c4 (c .before .before .enum-told4 .given .1), room t c4 .short, room t c4 .small)
 
-moved-on-requires : (t : ℕ) → lts.Need-moved-on-requires (known t) (given t) own.Post
-moved-on-requires t c κs = search needs
-
-enum-known-operator : (t : ℕ) → lts.Need-enum-known-operator (known t) (given t) own.Post
-enum-known-operator t c = search needs
-
 cast-reads : (t : ℕ) → lts.Need-cast-reads (known t) (given t) own.Post
-cast-reads t c =
-    let c3 = c .before .before .before in
-    omega (
-      arith,
-      read-inside t c3 (c .before .operator .given .1),
-      read-least (c .before .operator .given .0 .0),
-      width-most (c .before .operator .given .0 .0),
-      room t c3 .short,
-      room t c3 .table,
-      room t c3 .few,
-      room t c3 .small,
-    )
+cast-reads t c = omega (arith, read-fits t (c .before .before .before) (c .before .operator .given .1) .0)
 
 mul-reads : (t : ℕ) → lts.Need-mul-reads (known t) (given t) own.Post
-mul-reads t c =
-    let c3 = c .before .before .before in
-    omega (
-      arith,
-      read-inside t c3 (c .before .operator .given .1),
-      read-least (c .before .operator .given .0 .0),
-      width-most (c .before .operator .given .0 .0),
-      room t c3 .short,
-      room t c3 .table,
-      room t c3 .few,
-      room t c3 .small,
-    )
+mul-reads t c = omega (arith, read-fits t (c .before .before .before) (c .before .operator .given .1) .1 .1)
 
 slice-write-reads : (t : ℕ) → lts.Need-slice-write-reads (known t) (given t) own.Post
-slice-write-reads t c =
-    let c3 = c .before .before .before in
-    omega (
-      arith,
-      read-inside t c3 (c .before .operator .given .1),
-      read-least (c .before .operator .given .0 .0),
-      width-most (c .before .operator .given .0 .0),
-      room t c3 .short,
-      room t c3 .table,
-      room t c3 .few,
-      room t c3 .small,
-    )
-
-of-read-requires : (t : ℕ) → lts.Need-of-read-requires (known t) (given t) own.Post
-of-read-requires t c κs = search needs
+slice-write-reads t c = omega (arith, read-fits t (c .before .before .before) (c .before .operator .given .1) .1 .0)
 
 add-moved-on-3 : (t : ℕ) → lts.Need-add-moved-on-3 (known t) (given t) own.Post
 add-moved-on-3 t c =
-    let c4 = c .before .before .before .before in
-    omega (
-      arith,
-      read-inside t c4 (c .before .before .operator .given .1),
-      read-least (c .before .before .operator .given .0 .0),
-      width-most (c .before .before .operator .given .0 .0),
-      room t c4 .short,
-      room t c4 .table,
-      room t c4 .few,
-      room t c4 .small,
-      c .of-read .ensures,
-    )
+    let f = read-fits t (c .before .before .before .before) (c .before .before .operator .given .1) in
+    omega (arith, f .0, c .of-read .ensures)
 
 add-moved-on-4 : (t : ℕ) → lts.Need-add-moved-on-4 (known t) (given t) own.Post
 add-moved-on-4 t c =
-    let c4 = c .before .before .before .before in
-    omega (
-      arith,
-      read-inside t c4 (c .before .before .operator .given .1),
-      read-least (c .before .before .operator .given .0 .0),
-      width-most (c .before .before .operator .given .0 .0),
-      room t c4 .short,
-      room t c4 .table,
-      room t c4 .few,
-      room t c4 .small,
-      c .of-read .ensures,
-    )
-
-in-code-requires-2 : (t : ℕ) → lts.Need-in-code-requires-2 (known t) (given t) own.Post
-in-code-requires-2 t c κs = search needs
+    let f = read-fits t (c .before .before .before .before) (c .before .before .operator .given .1) in
+    omega (arith, f .1 .1)
 
 add-moved-on-5 : (t : ℕ) → lts.Need-add-moved-on-5 (known t) (given t) own.Post
 add-moved-on-5 t c =
-    let c3 = c .before .before .before in
-    let c5 = c3 .before .before in
-    omega (
-      arith,
-      read-inside t c5 (c3 .operator .given .1),
-      read-least (c3 .operator .given .0 .0),
-      width-most (c3 .operator .given .0 .0),
-      room t c5 .short,
-      room t c5 .table,
-      room t c5 .few,
-      room t c5 .small,
-      c .before .of-read .ensures,
-    )
-
-moved-on-requires-2 : (t : ℕ) → lts.Need-moved-on-requires-2 (known t) (given t) own.Post
-moved-on-requires-2 t c κs = search needs
-
-enum-told-5 : (t : ℕ) → lts.Need-enum-told-5 (known t) (given t) own.Post
-enum-told-5 t c = search needs
-
-in-expression-requires-2 : (t : ℕ) → lts.Need-in-expression-requires-2 (known t) (given t) own.Post
-in-expression-requires-2 t c κs = search needs
+    let c5 = c .before .before .before .before .before in
+    omega (arith, read-fits t c5 (c .before .before .before .operator .given .1) .0, room t c5 .small)
 
 add-first-at : (t : ℕ) → lts.Need-add-first-at (known t) (given t) own.Post
 add-first-at t c =
@@ -307,24 +199,12 @@ add-first-at t c =
       room t c3 .short,
     )
 
-sub-read-expression : (t : ℕ) → lts.Need-sub-read-expression (known t) (given t) own.Post
-sub-read-expression t c = search needs
-
 read-expression-requires : (t : ℕ) → lts.Need-read-expression-requires (known t) (given t) own.Post
 read-expression-requires t c κs =
     let c4 = c .before .before .before .before in
     let c6 = c4 .before .before in
     let c8 = c6 .before .before in
     (omega (arith, c6 .if1 .left, c8 .pre .0), rw (c .before .in-expression2 .ensures) (room-after 1 (room t c4)))
-
-enum-known-first : (t : ℕ) → lts.Need-enum-known-first (known t) (given t) own.Post
-enum-known-first t c = search needs
-
-enum-told-6 : (t : ℕ) → lts.Need-enum-told-6 (known t) (given t) own.Post
-enum-told-6 t c = search needs
-
-same-length : (t : ℕ) → lts.Need-same-length (known t) (given t) own.Post
-same-length t c = search needs
 
 returns-2 : (t : ℕ) → lts.Need-returns-2 (known t) (given t) own.Post
 unfolding node
@@ -335,9 +215,6 @@ returns-2 t c =
     let c9 = c7 .before .before in
     rw (step t c9 _ (c7 .enum-told5 .given .1)) (stop _ _ (rw (c6 .in-expression2 .ensures) at
     (c4 .read-expression .ensures)) (c .enum-told6 .given .1))
-
-sub-read-expression-2 : (t : ℕ) → lts.Need-sub-read-expression-2 (known t) (given t) own.Post
-sub-read-expression-2 t c = search needs
 
 read-expression-requires-2 : (t : ℕ) → lts.Need-read-expression-requires-2 (known t) (given t) own.Post
 read-expression-requires-2 t c κs =
@@ -354,15 +231,6 @@ read-expression-requires-2 t c κs =
       one t c11 (rw (c8 .in-expression2 .ensures) at (c6 .read-expression .ensures)) (c .before .before .first .given .1) .left,
     )
 
-enum-known-second : (t : ℕ) → lts.Need-enum-known-second (known t) (given t) own.Post
-enum-known-second t c = search needs
-
-enum-told-7 : (t : ℕ) → lts.Need-enum-told-7 (known t) (given t) own.Post
-enum-told-7 t c = search needs
-
-same-length-2 : (t : ℕ) → lts.Need-same-length-2 (known t) (given t) own.Post
-same-length-2 t c = search needs
-
 returns-3 : (t : ℕ) → lts.Need-returns-3 (known t) (given t) own.Post
 unfolding node
 returns-3 t c =
@@ -376,9 +244,6 @@ returns-3 t c =
     (go-on _ _ (rw (c13 .in-expression2 .ensures) at (c11 .read-expression .ensures)) (c7 .first .given .1)
     (λ x m. stop _ _ (c4 .read-expression2 .ensures) (c .enum-told7 .given .1)))
 
-in-code-requires-3 : (t : ℕ) → lts.Need-in-code-requires-3 (known t) (given t) own.Post
-in-code-requires-3 t c κs = search needs
-
 add-moved-on-6 : (t : ℕ) → lts.Need-add-moved-on-6 (known t) (given t) own.Post
 add-moved-on-6 t c =
     let c3 = c .before .before .before in
@@ -391,15 +256,6 @@ add-moved-on-6 t c =
     c19 (one t c19 (rw (c16 .in-expression2 .ensures) at (c14 .read-expression .ensures)) (c10 .first .given .1))
     (c7 .read-expression2 .ensures) (c3 .second .given .1) in omega (arith, h .left .short, h .left .small, h .inside)
 
-moved-on-requires-3 : (t : ℕ) → lts.Need-moved-on-requires-3 (known t) (given t) own.Post
-moved-on-requires-3 t c κs = search needs
-
-enum-told-8 : (t : ℕ) → lts.Need-enum-told-8 (known t) (given t) own.Post
-enum-told-8 t c = search needs
-
-in-expression-requires-3 : (t : ℕ) → lts.Need-in-expression-requires-3 (known t) (given t) own.Post
-in-expression-requires-3 t c κs = search needs
-
 add-operand-at : (t : ℕ) → lts.Need-add-operand-at (known t) (given t) own.Post
 add-operand-at t c =
     let c3 = c .before .before .before in
@@ -409,24 +265,12 @@ add-operand-at t c =
       room t c3 .short,
     )
 
-sub-read-expression-3 : (t : ℕ) → lts.Need-sub-read-expression-3 (known t) (given t) own.Post
-sub-read-expression-3 t c = search needs
-
 read-expression-requires-3 : (t : ℕ) → lts.Need-read-expression-requires-3 (known t) (given t) own.Post
 read-expression-requires-3 t c κs =
     let c4 = c .before .before .before .before in
     let c6 = c4 .before .before in
     let c8 = c6 .before .before in
     (omega (arith, c6 .if1 .left, c8 .pre .0), rw (c .before .in-expression3 .ensures) (room-after 1 (room t c4)))
-
-enum-known-operand : (t : ℕ) → lts.Need-enum-known-operand (known t) (given t) own.Post
-enum-known-operand t c = search needs
-
-enum-told-9 : (t : ℕ) → lts.Need-enum-told-9 (known t) (given t) own.Post
-enum-told-9 t c = search needs
-
-same-length-3 : (t : ℕ) → lts.Need-same-length-3 (known t) (given t) own.Post
-same-length-3 t c = search needs
 
 returns-4 : (t : ℕ) → lts.Need-returns-4 (known t) (given t) own.Post
 unfolding node
@@ -438,9 +282,6 @@ returns-4 t c =
     rw (step t c9 _ (c7 .enum-told8 .given .1)) (stop _ _ (rw (c6 .in-expression3 .ensures) at
     (c4 .read-expression3 .ensures)) (c .enum-told9 .given .1))
 
-in-code-requires-4 : (t : ℕ) → lts.Need-in-code-requires-4 (known t) (given t) own.Post
-in-code-requires-4 t c κs = search needs
-
 add-moved-on-7 : (t : ℕ) → lts.Need-add-moved-on-7 (known t) (given t) own.Post
 add-moved-on-7 t c =
     let c3 = c .before .before .before in
@@ -449,15 +290,6 @@ add-moved-on-7 t c =
     let c12 = c9 .before .before .before in
     let h = one t c12 (rw (c9 .in-expression3 .ensures) at (c7 .read-expression3 .ensures))
     (c3 .operand .given .1) in omega (arith, h .left .short, h .left .small, h .inside)
-
-moved-on-requires-4 : (t : ℕ) → lts.Need-moved-on-requires-4 (known t) (given t) own.Post
-moved-on-requires-4 t c κs = search needs
-
-enum-told-10 : (t : ℕ) → lts.Need-enum-told-10 (known t) (given t) own.Post
-enum-told-10 t c = search needs
-
-in-expression-requires-4 : (t : ℕ) → lts.Need-in-expression-requires-4 (known t) (given t) own.Post
-in-expression-requires-4 t c κs = search needs
 
 add-condition-at : (t : ℕ) → lts.Need-add-condition-at (known t) (given t) own.Post
 add-condition-at t c =
@@ -468,24 +300,12 @@ add-condition-at t c =
       room t c3 .short,
     )
 
-sub-read-expression-4 : (t : ℕ) → lts.Need-sub-read-expression-4 (known t) (given t) own.Post
-sub-read-expression-4 t c = search needs
-
 read-expression-requires-4 : (t : ℕ) → lts.Need-read-expression-requires-4 (known t) (given t) own.Post
 read-expression-requires-4 t c κs =
     let c4 = c .before .before .before .before in
     let c6 = c4 .before .before in
     let c8 = c6 .before .before in
     (omega (arith, c6 .if1 .left, c8 .pre .0), rw (c .before .in-expression4 .ensures) (room-after 1 (room t c4)))
-
-enum-known-condition : (t : ℕ) → lts.Need-enum-known-condition (known t) (given t) own.Post
-enum-known-condition t c = search needs
-
-enum-told-11 : (t : ℕ) → lts.Need-enum-told-11 (known t) (given t) own.Post
-enum-told-11 t c = search needs
-
-same-length-4 : (t : ℕ) → lts.Need-same-length-4 (known t) (given t) own.Post
-same-length-4 t c = search needs
 
 returns-5 : (t : ℕ) → lts.Need-returns-5 (known t) (given t) own.Post
 unfolding node
@@ -496,9 +316,6 @@ returns-5 t c =
     let c9 = c7 .before .before in
     rw (step t c9 _ (c7 .enum-told10 .given .1)) (stop _ _ (rw (c6 .in-expression4 .ensures) at
     (c4 .read-expression4 .ensures)) (c .enum-told11 .given .1))
-
-sub-read-expression-5 : (t : ℕ) → lts.Need-sub-read-expression-5 (known t) (given t) own.Post
-sub-read-expression-5 t c = search needs
 
 read-expression-requires-5 : (t : ℕ) → lts.Need-read-expression-requires-5 (known t) (given t) own.Post
 read-expression-requires-5 t c κs =
@@ -516,15 +333,6 @@ read-expression-requires-5 t c κs =
           (c .before .before .condition .given .1) .left,
     )
 
-enum-known-first-2 : (t : ℕ) → lts.Need-enum-known-first-2 (known t) (given t) own.Post
-enum-known-first-2 t c = search needs
-
-enum-told-12 : (t : ℕ) → lts.Need-enum-told-12 (known t) (given t) own.Post
-enum-told-12 t c = search needs
-
-same-length-5 : (t : ℕ) → lts.Need-same-length-5 (known t) (given t) own.Post
-same-length-5 t c = search needs
-
 returns-6 : (t : ℕ) → lts.Need-returns-6 (known t) (given t) own.Post
 unfolding node
 returns-6 t c =
@@ -537,9 +345,6 @@ returns-6 t c =
     rw (step t c16 _ (c14 .enum-told10 .given .1))
     (go-on _ _ (rw (c13 .in-expression4 .ensures) at (c11 .read-expression4 .ensures)) (c7 .condition .given .1)
     (λ x m. stop _ _ (c4 .read-expression5 .ensures) (c .enum-told12 .given .1)))
-
-sub-read-expression-6 : (t : ℕ) → lts.Need-sub-read-expression-6 (known t) (given t) own.Post
-sub-read-expression-6 t c = search needs
 
 read-expression-requires-6 : (t : ℕ) → lts.Need-read-expression-requires-6 (known t) (given t) own.Post
 read-expression-requires-6 t c κs =
@@ -554,15 +359,6 @@ read-expression-requires-6 t c κs =
       more t c18 (one t c18 (rw (c15 .in-expression4 .ensures) at (c13 .read-expression4 .ensures)) (c9 .condition .given .1))
           (c6 .read-expression5 .ensures) (c .before .before .first2 .given .1) .left,
     )
-
-enum-known-second-2 : (t : ℕ) → lts.Need-enum-known-second-2 (known t) (given t) own.Post
-enum-known-second-2 t c = search needs
-
-enum-told-13 : (t : ℕ) → lts.Need-enum-told-13 (known t) (given t) own.Post
-enum-told-13 t c = search needs
-
-same-length-6 : (t : ℕ) → lts.Need-same-length-6 (known t) (given t) own.Post
-same-length-6 t c = search needs
 
 returns-7 : (t : ℕ) → lts.Need-returns-7 (known t) (given t) own.Post
 unfolding node
@@ -580,9 +376,6 @@ returns-7 t c =
     (λ x m. go-on _ _ (c11 .read-expression5 .ensures) (c7 .first2 .given .1)
     (λ y n. stop _ _ (c4 .read-expression6 .ensures) (c .enum-told13 .given .1))))
 
-in-code-requires-5 : (t : ℕ) → lts.Need-in-code-requires-5 (known t) (given t) own.Post
-in-code-requires-5 t c κs = search needs
-
 add-moved-on-8 : (t : ℕ) → lts.Need-add-moved-on-8 (known t) (given t) own.Post
 add-moved-on-8 t c =
     let c3 = c .before .before .before in
@@ -597,9 +390,6 @@ add-moved-on-8 t c =
     c26 (more t c26 (one t c26 (rw (c23 .in-expression4 .ensures) at (c21 .read-expression4 .ensures)) (c17 .condition .given .1))
     (c14 .read-expression5 .ensures) (c10 .first2 .given .1)) (c7 .read-expression6 .ensures) (c3 .second2 .given .1) in
     omega (arith, h .left .short, h .left .small, h .inside)
-
-moved-on-requires-5 : (t : ℕ) → lts.Need-moved-on-requires-5 (known t) (given t) own.Post
-moved-on-requires-5 t c κs = search needs
 
 returns-8 : (t : ℕ) → lts.Need-returns-8 (known t) (given t) own.Post
 unfolding node
@@ -629,9 +419,6 @@ returns-11 t c =
     rw (step t c5 _ (c3 .enum-told4 .given .1))
     (walks-constant _ _ (rw (c .before .before .in-expression .ensures, c .before .in-code .ensures) at (c .moved-on .ensures)))
 
-same-length-7 : (t : ℕ) → lts.Need-same-length-7 (known t) (given t) own.Post
-same-length-7 t c = search needs
-
 returns-12 : (t : ℕ) → lts.Need-returns-12 (known t) (given t) own.Post
 unfolding node
 returns-12 t c =
@@ -639,9 +426,6 @@ returns-12 t c =
     let c6 = c4 .before .before in
     rw (read-step t c6 (c4 .operator .given .1))
     (walks-read _ (rw (c .before .before .of-read .ensures, c .before .in-code2 .ensures) at (c .moved-on2 .ensures)))
-
-same-length-8 : (t : ℕ) → lts.Need-same-length-8 (known t) (given t) own.Post
-same-length-8 t c = search needs
 
 returns-13 : (t : ℕ) → lts.Need-returns-13 (known t) (given t) own.Post
 unfolding node
@@ -657,9 +441,6 @@ returns-13 t c =
     (go-on _ _ (rw (c17 .in-expression2 .ensures) at (c15 .read-expression .ensures)) (c11 .first .given .1)
     (λ x m. go-on _ _ (c8 .read-expression2 .ensures) (c4 .second .given .1)
     (λ y n. walks-two x m y n _ (rw (c .before .before .in-code3 .ensures) at (c .moved-on3 .ensures)))))
-
-same-length-9 : (t : ℕ) → lts.Need-same-length-9 (known t) (given t) own.Post
-same-length-9 t c = search needs
 
 returns-14 : (t : ℕ) → lts.Need-returns-14 (known t) (given t) own.Post
 unfolding node
@@ -701,94 +482,19 @@ returns-15 t c =
 pub +read-expression-spec : {M : Type 1} → statement M
 +read-expression-spec =
     close μ (λ t. lts.spec (known t) (given t) own.Post
-    (too-deep-requires t)
-    (returns t)
-    (operator-from-requires t)
-    (enum-told t)
-    (refuse-walk-requires t)
-    (enum-told-2 t)
-    (refuse-walk-requires-2 t)
-    (enum-told-3 t)
-    (refuse-walk-requires-3 t)
-    (enum-told-4 t)
-    (in-expression-requires t)
-    (add-moved-on t)
-    (in-code-requires t)
-    (add-moved-on-2 t)
-    (moved-on-requires t)
-    (enum-known-operator t)
-    (cast-reads t)
-    (mul-reads t)
-    (slice-write-reads t)
-    (of-read-requires t)
-    (add-moved-on-3 t)
-    (add-moved-on-4 t)
-    (in-code-requires-2 t)
-    (add-moved-on-5 t)
-    (moved-on-requires-2 t)
-    (enum-told-5 t)
-    (in-expression-requires-2 t)
-    (add-first-at t)
-    (sub-read-expression t)
-    (read-expression-requires t)
-    (enum-known-first t)
-    (enum-told-6 t)
-    (same-length t)
-    (returns-2 t)
-    (sub-read-expression-2 t)
-    (read-expression-requires-2 t)
-    (enum-known-second t)
-    (enum-told-7 t)
-    (same-length-2 t)
-    (returns-3 t)
-    (in-code-requires-3 t)
-    (add-moved-on-6 t)
-    (moved-on-requires-3 t)
-    (enum-told-8 t)
-    (in-expression-requires-3 t)
-    (add-operand-at t)
-    (sub-read-expression-3 t)
-    (read-expression-requires-3 t)
-    (enum-known-operand t)
-    (enum-told-9 t)
-    (same-length-3 t)
-    (returns-4 t)
-    (in-code-requires-4 t)
-    (add-moved-on-7 t)
-    (moved-on-requires-4 t)
-    (enum-told-10 t)
-    (in-expression-requires-4 t)
-    (add-condition-at t)
-    (sub-read-expression-4 t)
-    (read-expression-requires-4 t)
-    (enum-known-condition t)
-    (enum-told-11 t)
-    (same-length-4 t)
-    (returns-5 t)
-    (sub-read-expression-5 t)
-    (read-expression-requires-5 t)
-    (enum-known-first-2 t)
-    (enum-told-12 t)
-    (same-length-5 t)
-    (returns-6 t)
-    (sub-read-expression-6 t)
-    (read-expression-requires-6 t)
-    (enum-known-second-2 t)
-    (enum-told-13 t)
-    (same-length-6 t)
-    (returns-7 t)
-    (in-code-requires-5 t)
-    (add-moved-on-8 t)
-    (moved-on-requires-5 t)
-    (returns-8 t)
-    (returns-9 t)
-    (returns-10 t)
-    (returns-11 t)
-    (same-length-7 t)
-    (returns-12 t)
-    (same-length-8 t)
-    (returns-13 t)
-    (same-length-9 t)
-    (returns-14 t)
-    (same-length-10 t)
-    (returns-15 t))
+    (λ c κs. search needs) (returns t) (λ c κs. search needs) (λ c. search needs) (λ c κs. search needs) (λ c. search needs)
+    (λ c κs. search needs) (λ c. search needs) (λ c κs. search needs) (λ c. search needs) (λ c κs. search needs)
+    (add-moved-on t) (λ c κs. search needs) (add-moved-on-2 t) (λ c κs. search needs) (λ c. search needs) (cast-reads t)
+    (mul-reads t) (slice-write-reads t) (λ c κs. search needs) (add-moved-on-3 t) (add-moved-on-4 t) (λ c κs. search needs)
+    (add-moved-on-5 t) (λ c κs. search needs) (λ c. search needs) (λ c κs. search needs) (add-first-at t) (λ c. search needs)
+    (read-expression-requires t) (λ c. search needs) (λ c. search needs) (λ c. search needs) (returns-2 t) (λ c. search needs)
+    (read-expression-requires-2 t) (λ c. search needs) (λ c. search needs) (λ c. search needs) (returns-3 t)
+    (λ c κs. search needs) (add-moved-on-6 t) (λ c κs. search needs) (λ c. search needs) (λ c κs. search needs)
+    (add-operand-at t) (λ c. search needs) (read-expression-requires-3 t) (λ c. search needs) (λ c. search needs)
+    (λ c. search needs) (returns-4 t) (λ c κs. search needs) (add-moved-on-7 t) (λ c κs. search needs) (λ c. search needs)
+    (λ c κs. search needs) (add-condition-at t) (λ c. search needs) (read-expression-requires-4 t) (λ c. search needs)
+    (λ c. search needs) (λ c. search needs) (returns-5 t) (λ c. search needs) (read-expression-requires-5 t) (λ c. search needs)
+    (λ c. search needs) (λ c. search needs) (returns-6 t) (λ c. search needs) (read-expression-requires-6 t) (λ c. search needs)
+    (λ c. search needs) (λ c. search needs) (returns-7 t) (λ c κs. search needs) (add-moved-on-8 t) (λ c κs. search needs)
+    (returns-8 t) (returns-9 t) (returns-10 t) (returns-11 t) (λ c. search needs) (returns-12 t) (λ c. search needs)
+    (returns-13 t) (λ c. search needs) (returns-14 t) (same-length-10 t) (returns-15 t))

@@ -28,30 +28,9 @@ module _ (c : tie.Else1) where
   inside : (p : Program) → hereOf at (declarationHere text at p) ≡ hereOf at (roomFor at p (byteAt text at))
   inside p = ap (hereOf at) (of-byte text at p (c .if1 .left))
 
-refuse-requires : tie.Need-refuse-requires
-refuse-requires c κs = search needs
-
 returns : tie.Need-returns
 unfolding hereOf declarationHere provided _▷_
 returns c = λ p k. rw (le-ltb _ _ (c .before .if1 .taken)) (c .refuse .ensures)
-
-shared-slice-read-byte : tie.Need-shared-slice-read-byte
-shared-slice-read-byte c = search needs
-
-judge-requires : tie.Need-judge-requires
-judge-requires c κs = search needs
-
-judge-requires-2 : tie.Need-judge-requires-2
-judge-requires-2 c κs = search needs
-
-judge-requires-3 : tie.Need-judge-requires-3
-judge-requires-3 c κs = search needs
-
-judge-requires-4 : tie.Need-judge-requires-4
-judge-requires-4 c κs = search needs
-
-refuse-requires-2 : tie.Need-refuse-requires-2
-refuse-requires-2 c κs = search needs
 
 returns-2 : tie.Need-returns-2
 unfolding hereOf roomFor
@@ -101,19 +80,6 @@ returns-8 c = λ p k.
 pub declaration-here-spec : {M : Type 1} → statement M
 declaration-here-spec =
     tie.close
-    (tie.spec
-    refuse-requires
-    returns
-    shared-slice-read-byte
-    judge-requires
-    judge-requires-2
-    judge-requires-3
-    judge-requires-4
-    refuse-requires-2
-    returns-2
-    returns-3
-    returns-4
-    returns-5
-    returns-6
-    returns-7
-    returns-8)
+    (tie.spec (λ c κs. search needs) returns (λ c. search needs) (λ c κs. search needs) (λ c κs. search needs)
+    (λ c κs. search needs) (λ c κs. search needs) (λ c κs. search needs) returns-2 returns-3 returns-4 returns-5 returns-6
+    returns-7 returns-8)

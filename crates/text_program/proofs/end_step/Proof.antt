@@ -10,15 +10,6 @@ use borrow.Author.Needs.{needs}
 use Rattle.text_program.proofs.end_step.Statement.{statement}
 use Rattle.text_program.proofs.end_step.Tie as tie
 
-in-program-requires : tie.Need-in-program-requires
-in-program-requires c κs = search needs
-
-add-next : tie.Need-add-next
-add-next c = search needs
-
-refuse-step-requires : tie.Need-refuse-step-requires
-refuse-step-requires c κs = search needs
-
 returns : tie.Need-returns
 unfolding endOf provided
 returns c =
@@ -33,4 +24,4 @@ returns-2 c =
     rw (le-leb (length (now (a .text))) (a .at + 1) (omega arith))
 
 pub end-step-spec : {M : Type 1} → statement M
-end-step-spec = tie.close (tie.spec in-program-requires add-next refuse-step-requires returns returns-2)
+end-step-spec = tie.close (tie.spec (λ c κs. search needs) (λ c. search needs) (λ c κs. search needs) returns returns-2)

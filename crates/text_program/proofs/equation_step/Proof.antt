@@ -1,38 +1,15 @@
 -- `text_program::equation_step` meets its contract. Assumes nothing.
-use Prim.Native.Nat.{ℕ, _+_}
 use native.Mathlib.Omega.{arith}
 use mathlib.Core.Path.{sym, ap, _∙_}
-use denote.Ref.{now}
-use lib.ListN.{length}
-use Rattle.model.specs.Rules.Program.{parseExpr}
-use Rattle.text_program.specs.Walks.{Room, Walks}
 use Rattle.text_program.proofs.Walks.{ahead, room-after, equationStep, equation-walks}
 use borrow.Author.Needs.{needs}
 use Rattle.text_program.proofs.equation_step.Statement.{statement}
 use Rattle.text_program.proofs.equation_step.Tie as tie
 
-in-program-requires : tie.Need-in-program-requires
-in-program-requires c κs = search needs
-
-add-start : tie.Need-add-start
-add-start c = search needs
-
 read-expression-requires : tie.Need-read-expression-requires
 read-expression-requires c κs =
     let c5 = c .before .before .before .before .before in
     rw (c .before .before .in-program .ensures) (room-after 8 (c5 .pre .1))
-
-enum-known-walked : tie.Need-enum-known-walked
-enum-known-walked c = search needs
-
-enum-told : tie.Need-enum-told
-enum-told c = search needs
-
-step-of-walked-requires : tie.Need-step-of-walked-requires
-step-of-walked-requires c κs = search needs
-
-same-length : tie.Need-same-length
-same-length c = search needs
 
 returns : tie.Need-returns
 returns c =
@@ -41,9 +18,6 @@ returns c =
     let told = c .before .enum-told .given in
     equation-walks _ (rw (c8 .in-program .ensures) at (c5 .read-expression .ensures)) _
     (c .step-of-walked .ensures _ (told .1) ∙ ap (equationStep _) (sym (told .1)))
-
-in-code-requires : tie.Need-in-code-requires
-in-code-requires c κs = search needs
 
 add-adds : tie.Need-add-adds
 add-adds c =
@@ -54,12 +28,6 @@ add-adds c =
     let h = ahead _ _ 16 (room-after 8 (c13 .pre .1)) (rw (c10 .in-program .ensures) at (c7 .read-expression .ensures))
     (c3 .walked .given .1) in
     omega (arith, h .left .short, h .left .small, h .inside)
-
-adds-requires : tie.Need-adds-requires
-adds-requires c κs = search needs
-
-same-length-2 : tie.Need-same-length-2
-same-length-2 c = search needs
 
 returns-2 : tie.Need-returns-2
 returns-2 c =
@@ -72,17 +40,6 @@ returns-2 c =
 pub equation-step-spec : {M : Type 1} → statement M
 equation-step-spec =
     tie.close
-    (tie.spec
-    in-program-requires
-    add-start
-    read-expression-requires
-    enum-known-walked
-    enum-told
-    step-of-walked-requires
-    same-length
-    returns
-    in-code-requires
-    add-adds
-    adds-requires
-    same-length-2
-    returns-2)
+    (tie.spec (λ c κs. search needs) (λ c. search needs) read-expression-requires (λ c. search needs) (λ c. search needs)
+    (λ c κs. search needs) (λ c. search needs) returns (λ c κs. search needs) add-adds (λ c κs. search needs)
+    (λ c. search needs) returns-2)

@@ -5,9 +5,6 @@ use borrow.Author.Needs.{needs}
 use Rattle.text_program.proofs.judge.Statement.{statement}
 use Rattle.text_program.proofs.judge.Tie as tie
 
-refuse-requires : tie.Need-refuse-requires
-refuse-requires c κs = search needs
-
 returns : tie.Need-returns
 unfolding hereOf provided
 returns c = rw (c .if1 .taken)
@@ -17,4 +14,4 @@ unfolding hereOf provided
 returns-2 c = rw (c .before .if1 .left) (c .refuse .ensures)
 
 pub judge-spec : {M : Type 1} → statement M
-judge-spec = tie.close (tie.spec refuse-requires returns returns-2)
+judge-spec = tie.close (tie.spec (λ c κs. search needs) returns returns-2)

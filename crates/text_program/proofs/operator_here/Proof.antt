@@ -8,27 +8,9 @@ use Rattle.text_program.specs.Results.{hereOf}
 use Rattle.text_program.proofs.operator_here.Statement.{statement}
 use Rattle.text_program.proofs.operator_here.Tie as tie
 
-refuse-requires : tie.Need-refuse-requires
-refuse-requires c κs = search needs
-
 returns : tie.Need-returns
 unfolding hereOf operatorHere provided _▷_
 returns c = rw (le-ltb _ _ (c .before .if1 .taken)) (c .refuse .ensures)
-
-shared-slice-read-expression : tie.Need-shared-slice-read-expression
-shared-slice-read-expression c = search needs
-
-expression-requires : tie.Need-expression-requires
-expression-requires c κs = search needs
-
-enum-told : tie.Need-enum-told
-enum-told c = search needs
-
-enum-told-2 : tie.Need-enum-told-2
-enum-told-2 c = search needs
-
-refuse-requires-2 : tie.Need-refuse-requires-2
-refuse-requires-2 c κs = search needs
 
 returns-2 : tie.Need-returns-2
 unfolding hereOf operatorHere provided _▷_
@@ -46,13 +28,5 @@ returns-3 c =
 pub operator-here-spec : {M : Type 1} → statement M
 operator-here-spec =
     tie.close
-    (tie.spec
-    refuse-requires
-    returns
-    shared-slice-read-expression
-    expression-requires
-    enum-told
-    enum-told-2
-    refuse-requires-2
-    returns-2
-    returns-3)
+    (tie.spec (λ c κs. search needs) returns (λ c. search needs) (λ c κs. search needs) (λ c. search needs) (λ c. search needs)
+    (λ c κs. search needs) returns-2 returns-3)

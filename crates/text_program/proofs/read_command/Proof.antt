@@ -69,18 +69,6 @@ module _ (c : tie.After-declaration-at) where
         subst (Stepped least text at label p _ _ _ _) (sym q)
         (step-refused least text at label p _ _ _ (stands p n) k _ is (λ next. h next label p))
 
-declaration-here-requires : tie.Need-declaration-here-requires
-declaration-here-requires c κs = search needs
-
-enum-told : tie.Need-enum-told
-enum-told c = search needs
-
-enum-told-2 : tie.Need-enum-told-2
-enum-told-2 c = search needs
-
-step-of-reached-requires : tie.Need-step-of-reached-requires
-step-of-reached-requires c κs = search needs
-
 returns : tie.Need-returns
 returns c = λ p label k.
     let told = c .before .enum-told2 .given .1 in
@@ -88,53 +76,14 @@ returns c = λ p label k.
     (step-stopped _ _ _ label p _ _ _
     (here-refused _ _ (sym told ∙ c .before .before .before .declaration-here .ensures p k)))
 
-declaration-at-requires : tie.Need-declaration-at-requires
-declaration-at-requires c κs = search needs
-
-enum-told-3 : tie.Need-enum-told-3
-enum-told-3 c = search needs
-
-refuse-step-requires : tie.Need-refuse-step-requires
-refuse-step-requires c κs = search needs
-
-enum-told-4 : tie.Need-enum-told-4
-enum-told-4 c = search needs
-
-refuse-step-requires-2 : tie.Need-refuse-step-requires-2
-refuse-step-requires-2 c κs = search needs
-
-enum-told-5 : tie.Need-enum-told-5
-enum-told-5 c = search needs
-
-refuse-step-requires-3 : tie.Need-refuse-step-requires-3
-refuse-step-requires-3 c κs = search needs
-
-enum-told-6 : tie.Need-enum-told-6
-enum-told-6 c = search needs
-
 end-step-requires : tie.Need-end-step-requires
 end-step-requires c κs = inside (c .before .before) (c .enum-told6 .given .1) (λ e. let z : _≡_ {A = ℕ} 0 1 = cc in omega arith)
-
-enum-known-declaration : tie.Need-enum-known-declaration
-enum-known-declaration c = search needs
-
-in-program-requires : tie.Need-in-program-requires
-in-program-requires c κs = search needs
 
 add-next : tie.Need-add-next
 add-next c =
     let b = c .before .before .before .before in
     let i = inside b (c .before .before .declaration .given .1) (λ e. let z : _≡_ {A = ℕ} 0 1 = cc in omega arith) in
     omega (arith, i, start b .pre .short, start b .pre .small)
-
-in-code-requires : tie.Need-in-code-requires
-in-code-requires c κs = search needs
-
-in-code-requires-2 : tie.Need-in-code-requires-2
-in-code-requires-2 c κs = search needs
-
-add-end : tie.Need-add-end
-add-end c = search needs
 
 add-end-2 : tie.Need-add-end-2
 add-end-2 c =
@@ -144,46 +93,19 @@ add-end-2 c =
     let i = inside b (c4 .declaration .given .1) (λ e. let z : _≡_ {A = ℕ} 0 1 = cc in omega arith) in
     omega (arith, i, start b .pre .short, start b .pre .small)
 
-adds-requires : tie.Need-adds-requires
-adds-requires c κs = search needs
-
-enum-known-declaration-2 : tie.Need-enum-known-declaration-2
-enum-known-declaration-2 c = search needs
-
 equation-step-requires : tie.Need-equation-step-requires
 equation-step-requires c κs =
     let b = c .before .before .before .before in
     (inside b (c .before .before .declaration2 .given .1) (λ e. let z : _≡_ {A = ℕ} 0 1 = cc in omega arith), start b .pre)
 
-enum-told-7 : tie.Need-enum-told-7
-enum-told-7 c = search needs
-
 chain-step-requires : tie.Need-chain-step-requires
 chain-step-requires c κs = inside (c .before .before) (c .enum-told7 .given .1) (λ e. let z : _≡_ {A = ℕ} 0 1 = cc in omega arith)
-
-enum-told-8 : tie.Need-enum-told-8
-enum-told-8 c = search needs
-
-refuse-step-requires-4 : tie.Need-refuse-step-requires-4
-refuse-step-requires-4 c κs = search needs
-
-enum-known-declaration-3 : tie.Need-enum-known-declaration-3
-enum-known-declaration-3 c = search needs
-
-in-program-requires-2 : tie.Need-in-program-requires-2
-in-program-requires-2 c κs = search needs
 
 add-adds : tie.Need-add-adds
 add-adds c =
     let b = c .before .before .before .before in
     let i = inside b (c .before .before .declaration3 .given .1) (λ e. let z : _≡_ {A = ℕ} 0 1 = cc in omega arith) in
     omega (arith, i, start b .pre .short, start b .pre .small)
-
-adds-requires-2 : tie.Need-adds-requires-2
-adds-requires-2 c κs = search needs
-
-enum-known-declaration-4 : tie.Need-enum-known-declaration-4
-enum-known-declaration-4 c = search needs
 
 tag-step-requires : tie.Need-tag-step-requires
 tag-step-requires c κs =
@@ -221,9 +143,6 @@ returns-6 c =
     (rw (c3 .in-program .ensures, c .before .before .in-code .ensures, c .before .in-code2 .ensures) at
     (c .adds .ensures))) (step-input _ _ _ label p _ _ _ (stands b p k) _ _ (is b (c5 .declaration .given .1)))
 
-same-length : tie.Need-same-length
-same-length c = search needs
-
 returns-7 : tie.Need-returns-7
 returns-7 c =
     let c5 = c .before .before .before .before .before in
@@ -259,49 +178,11 @@ returns-11 c = λ p label k.
 pub read-command-spec : {M : Type 1} → statement M
 read-command-spec =
     tie.close
-    (tie.spec
-    declaration-here-requires
-    enum-told
-    enum-told-2
-    step-of-reached-requires
-    returns
-    declaration-at-requires
-    enum-told-3
-    refuse-step-requires
-    enum-told-4
-    refuse-step-requires-2
-    enum-told-5
-    refuse-step-requires-3
-    enum-told-6
-    end-step-requires
-    enum-known-declaration
-    in-program-requires
-    add-next
-    in-code-requires
-    in-code-requires-2
-    add-end
-    add-end-2
-    adds-requires
-    enum-known-declaration-2
-    equation-step-requires
-    enum-told-7
-    chain-step-requires
-    enum-told-8
-    refuse-step-requires-4
-    enum-known-declaration-3
-    in-program-requires-2
-    add-adds
-    adds-requires-2
-    enum-known-declaration-4
-    tag-step-requires
-    returns-2
-    returns-3
-    returns-4
-    returns-5
-    returns-6
-    same-length
-    returns-7
-    returns-8
-    returns-9
-    returns-10
-    returns-11)
+    (tie.spec (λ c κs. search needs) (λ c. search needs) (λ c. search needs) (λ c κs. search needs) returns
+    (λ c κs. search needs) (λ c. search needs) (λ c κs. search needs) (λ c. search needs) (λ c κs. search needs)
+    (λ c. search needs) (λ c κs. search needs) (λ c. search needs) end-step-requires (λ c. search needs) (λ c κs. search needs)
+    add-next (λ c κs. search needs) (λ c κs. search needs) (λ c. search needs) add-end-2 (λ c κs. search needs)
+    (λ c. search needs) equation-step-requires (λ c. search needs) chain-step-requires (λ c. search needs)
+    (λ c κs. search needs) (λ c. search needs) (λ c κs. search needs) add-adds (λ c κs. search needs) (λ c. search needs)
+    tag-step-requires returns-2 returns-3 returns-4 returns-5 returns-6 (λ c. search needs) returns-7 returns-8 returns-9
+    returns-10 returns-11)

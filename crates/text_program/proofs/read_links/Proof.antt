@@ -38,17 +38,11 @@ some n h = omega arith
 loop-holds : tie.Need-loop-holds Inv-loop μ-loop
 loop-holds c = ([], refl, omega arith, refl)
 
-shared-slice-read-if1 : tie.Need-shared-slice-read-if1 Inv-loop μ-loop
-shared-slice-read-if1 c = search needs
-
 returns : tie.Need-returns Inv-loop μ-loop
 unfolding linksOf
 returns c =
     let l = c .before .before .before .loop in
     sym (ap linksOf (l .inv .3 ∙ links-end _ _ (l .next) (l .inv .0) (c .if1 .taken)) ∙ rw (l .inv .1))
-
-refuse-links-requires : tie.Need-refuse-links-requires Inv-loop μ-loop
-refuse-links-requires c κs = search needs
 
 -- a LINK, after the test of its byte
 module _ (c : tie.Else2 Inv-loop μ-loop) where
@@ -76,15 +70,6 @@ returns-2 c =
     (l .inv .3 ∙ ap (λ m. parseLinks m text (l .next) (l .inv .0)) (none (l .count) (omega arith)) ∙
     links-many text (l .next) (l .inv .0) (c .before .before .if1 .left)))
 
-link-at-requires : tie.Need-link-at-requires Inv-loop μ-loop
-link-at-requires c κs = search needs
-
-enum-told : tie.Need-enum-told Inv-loop μ-loop
-enum-told c = search needs
-
-refuse-links-requires-2 : tie.Need-refuse-links-requires-2 Inv-loop μ-loop
-refuse-links-requires-2 c κs = search needs
-
 returns-3 : tie.Need-returns-3 Inv-loop μ-loop
 unfolding linksOf
 returns-3 c =
@@ -95,9 +80,6 @@ returns-3 c =
     links-cut _ (text b) (loop b .loop .next) (read b) (b .before .if1 .left)
     (link-missing (text b) (loop b .loop .next) (c .before .before .link-at .ensures) (c .before .match .keys2))))
 
-in-program-requires : tie.Need-in-program-requires Inv-loop μ-loop
-in-program-requires c κs = search needs
-
 -- a LINK that is there
 there : (c : tie.After-enum-told Inv-loop μ-loop) →
     loop (c .before .before .before) .loop .next + 2 ≤ length (text (c .before .before .before))
@@ -105,9 +87,6 @@ there c = link-there _ _ (c .before .before .link-at .ensures) (c .enum-told .gi
 
 add-next : tie.Need-add-next Inv-loop μ-loop
 add-next c = omega (arith, there (c .before))
-
-add-count : tie.Need-add-count Inv-loop μ-loop
-add-count c = omega arith
 
 loop-less : tie.Need-loop-less Inv-loop μ-loop
 loop-less c = omega (arith, there (c .before))
@@ -131,21 +110,6 @@ returns-4 c =
 pub read-links-spec : {M : Type 1} → statement M
 read-links-spec =
     tie.close
-    (tie.spec
-    Inv-loop
-    μ-loop
-    loop-holds
-    shared-slice-read-if1
-    returns
-    refuse-links-requires
-    returns-2
-    link-at-requires
-    enum-told
-    refuse-links-requires-2
-    returns-3
-    in-program-requires
-    add-next
-    add-count
-    loop-less
-    loop-again
+    (tie.spec Inv-loop μ-loop loop-holds (λ c. search needs) returns (λ c κs. search needs) returns-2 (λ c κs. search needs)
+    (λ c. search needs) (λ c κs. search needs) returns-3 (λ c κs. search needs) add-next (λ c. omega arith) loop-less loop-again
     returns-4)

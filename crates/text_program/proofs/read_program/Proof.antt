@@ -146,24 +146,12 @@ loop-holds c =
 read-command-requires : tie.Need-read-command-requires Inv-loop μ-loop
 read-command-requires c κs = c .before .before .loop .inv .1 .room
 
-enum-known-step : tie.Need-enum-known-step Inv-loop μ-loop
-enum-known-step c = search needs
-
-judged-at-requires : tie.Need-judged-at-requires Inv-loop μ-loop
-judged-at-requires c κs = search needs
-
-same-length : tie.Need-same-length Inv-loop μ-loop
-same-length c = search needs
-
 returns : tie.Need-returns Inv-loop μ-loop
 returns c =
     let b = c .before .before .before .before in
     let top = b .before .before .before in
     program-stops (top .loop .inv .1) (b .before .before .loop-test .taken) _ _ (c .before .match .keys2)
     (b .read-command .ensures _ _ (top .loop .inv .1 .tables .counts)) _ (c .judged-at .ensures)
-
-enum-known-entry : tie.Need-enum-known-entry Inv-loop μ-loop
-enum-known-entry c = search needs
 
 cast-places : tie.Need-cast-places Inv-loop μ-loop
 cast-places c = omega (arith, place-small (c .before .before .before))
@@ -219,9 +207,6 @@ loop-again c = let k = c .before .before .before in (
   signal-next (reading k) (inside k) (added k) (c .before .entry .given .1),
 )
 
-enum-known-entry-2 : tie.Need-enum-known-entry-2 Inv-loop μ-loop
-enum-known-entry-2 c = search needs
-
 mul-starts : tie.Need-mul-starts Inv-loop μ-loop
 mul-starts c = omega (arith, chain (c .before .before .before) (c .before .entry2 .given .1))
 
@@ -246,9 +231,6 @@ loop-again-2 c = let k = c .before .before .before in (
   chain-next (reading k) (inside k) (added k) (c .before .entry2 .given .1),
 )
 
-enum-known-entry-3 : tie.Need-enum-known-entry-3 Inv-loop μ-loop
-enum-known-entry-3 c = search needs
-
 loop-less-3 : tie.Need-loop-less-3 Inv-loop μ-loop
 loop-less-3 c = forward (c .before .before .before)
 
@@ -257,9 +239,6 @@ loop-again-3 c = let k = c .before .before .before in (
   kept-size k ∙ top k .loop .inv .0,
   cap-next (reading k) (inside k) (added k) (c .before .entry3 .given .1),
 )
-
-enum-known-entry-4 : tie.Need-enum-known-entry-4 Inv-loop μ-loop
-enum-known-entry-4 c = search needs
 
 loop-less-4 : tie.Need-loop-less-4 Inv-loop μ-loop
 loop-less-4 c = forward (c .before .before .before)
@@ -270,18 +249,6 @@ loop-again-4 c = let k = c .before .before .before in (
   tag-next (reading k) (inside k) (added k) (c .before .entry4 .given .1),
 )
 
-refuse-step-requires : tie.Need-refuse-step-requires Inv-loop μ-loop
-refuse-step-requires c κs = search needs
-
-judged-at-requires-2 : tie.Need-judged-at-requires-2 Inv-loop μ-loop
-judged-at-requires-2 c κs = search needs
-
-new-requires : tie.Need-new-requires Inv-loop μ-loop
-new-requires c κs = search needs
-
-same-length-2 : tie.Need-same-length-2 Inv-loop μ-loop
-same-length-2 c = search needs
-
 returns-2 : tie.Need-returns-2 Inv-loop μ-loop
 returns-2 c =
     program-ends (c .before .before .before .before .loop .inv .1) (c .before .before .before .loop-test .left) _ _ _
@@ -290,49 +257,9 @@ returns-2 c =
 pub read-program-spec : {M : Type 1} → statement M
 read-program-spec =
     tie.close
-    (tie.spec
-    Inv-loop
-    μ-loop
-    loop-holds
-    read-command-requires
-    enum-known-step
-    judged-at-requires
-    same-length
-    returns
-    enum-known-entry
-    cast-places
-    mul-places
-    array-write-places
-    array-write-periods
-    mul-weights
-    array-write-weights
-    mul-labels
-    array-write-labels
-    add-signals
-    cast-firsts
-    mul-firsts
-    array-write-firsts
-    cast-codes
-    mul-codes
-    array-write-codes
-    loop-less
-    loop-again
-    enum-known-entry-2
-    mul-starts
-    array-write-starts
-    mul-lengths
-    array-write-lengths
-    add-chains
-    loop-less-2
-    loop-again-2
-    enum-known-entry-3
-    loop-less-3
-    loop-again-3
-    enum-known-entry-4
-    loop-less-4
-    loop-again-4
-    refuse-step-requires
-    judged-at-requires-2
-    new-requires
-    same-length-2
-    returns-2)
+    (tie.spec Inv-loop μ-loop loop-holds read-command-requires (λ c. search needs) (λ c κs. search needs) (λ c. search needs)
+    returns (λ c. search needs) cast-places mul-places array-write-places array-write-periods mul-weights array-write-weights
+    mul-labels array-write-labels add-signals cast-firsts mul-firsts array-write-firsts cast-codes mul-codes array-write-codes
+    loop-less loop-again (λ c. search needs) mul-starts array-write-starts mul-lengths array-write-lengths add-chains
+    loop-less-2 loop-again-2 (λ c. search needs) loop-less-3 loop-again-3 (λ c. search needs) loop-less-4 loop-again-4
+    (λ c κs. search needs) (λ c κs. search needs) (λ c κs. search needs) (λ c. search needs) returns-2)

@@ -3,15 +3,6 @@ use borrow.Author.Needs.{needs}
 use Rattle.text_program.proofs.step_of_reached.Statement.{statement}
 use Rattle.text_program.proofs.step_of_reached.Tie as tie
 
-enum-known-reached : tie.Need-enum-known-reached
-enum-known-reached c = search needs
-
-refuse-step-requires : tie.Need-refuse-step-requires
-refuse-step-requires c κs = search needs
-
-enum-known-reached-2 : tie.Need-enum-known-reached-2
-enum-known-reached-2 c = search needs
-
 returns : tie.Need-returns
 returns c f e = cc (c .before .before .reached .given .1)
 
@@ -19,4 +10,4 @@ returns-2 : tie.Need-returns-2
 returns-2 c f e = cc (c .before .reached2 .given .1)
 
 pub step-of-reached-spec : {M : Type 1} → statement M
-step-of-reached-spec = tie.close (tie.spec enum-known-reached refuse-step-requires enum-known-reached-2 returns returns-2)
+step-of-reached-spec = tie.close (tie.spec (λ c. search needs) (λ c κs. search needs) (λ c. search needs) returns returns-2)

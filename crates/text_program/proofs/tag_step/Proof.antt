@@ -27,35 +27,14 @@ module _ (c : tie.After-is-signal) where
   told : c .is-signal .result ≡ isSignal (byteAt text (at + 3))
   told = rw width at (c .is-signal .ensures)
 
-in-program-requires : tie.Need-in-program-requires
-in-program-requires c κs = search needs
-
-add-next : tie.Need-add-next
-add-next c = search needs
-
-refuse-step-requires : tie.Need-refuse-step-requires
-refuse-step-requires c κs = search needs
-
 returns : tie.Need-returns
 returns c = c .refuse-step .ensures ∙ tag-ends _ _ _ _ _ (omega arith)
-
-shared-slice-read-byte : tie.Need-shared-slice-read-byte
-shared-slice-read-byte c = search needs
-
-is-signal-requires : tie.Need-is-signal-requires
-is-signal-requires c κs = search needs
-
-refuse-step-requires-2 : tie.Need-refuse-step-requires-2
-refuse-step-requires-2 c κs = search needs
 
 returns-2 : tie.Need-returns-2
 returns-2 c =
     let k = c .before .before in
     c .refuse-step2 .ensures ∙
     tag-by (text k) (at k) _ _ _ false (omega arith) (sym (told k) ∙ not-true _ (c .before .if2 .taken))
-
-adds-requires : tie.Need-adds-requires
-adds-requires c κs = search needs
 
 returns-3 : tie.Need-returns-3
 returns-3 c =
@@ -66,14 +45,5 @@ returns-3 c =
 pub tag-step-spec : {M : Type 1} → statement M
 tag-step-spec =
     tie.close
-    (tie.spec
-    in-program-requires
-    add-next
-    refuse-step-requires
-    returns
-    shared-slice-read-byte
-    is-signal-requires
-    refuse-step-requires-2
-    returns-2
-    adds-requires
-    returns-3)
+    (tie.spec (λ c κs. search needs) (λ c. search needs) (λ c κs. search needs) returns (λ c. search needs)
+    (λ c κs. search needs) (λ c κs. search needs) returns-2 (λ c κs. search needs) returns-3)

@@ -6,18 +6,6 @@ use borrow.Author.Needs.{needs}
 use Rattle.text_program.proofs.too_deep.Statement.{statement}
 use Rattle.text_program.proofs.too_deep.Tie as tie
 
-operator-here-requires : tie.Need-operator-here-requires
-operator-here-requires c κs = search needs
-
-enum-told : tie.Need-enum-told
-enum-told c = search needs
-
-refuse-walk-requires : tie.Need-refuse-walk-requires
-refuse-walk-requires c κs = search needs
-
-enum-known-here : tie.Need-enum-known-here
-enum-known-here c = search needs
-
 returns : tie.Need-returns
 unfolding deepOf
 returns c =
@@ -33,10 +21,4 @@ returns-2 c =
 pub too-deep-spec : {M : Type 1} → statement M
 too-deep-spec =
     tie.close
-    (tie.spec
-    operator-here-requires
-    enum-told
-    refuse-walk-requires
-    enum-known-here
-    returns
-    returns-2)
+    (tie.spec (λ c κs. search needs) (λ c. search needs) (λ c κs. search needs) (λ c. search needs) returns returns-2)

@@ -30,19 +30,10 @@ below {P} y x (no q) h f g = subst P (omega arith) g
 loop-holds : tie.Need-loop-holds Inv-loop μ-loop
 loop-holds c = (omega arith, c .pre, λ y h. absurd (none y h))
 
-element-copy-out-if1 : tie.Need-element-copy-out-if1 Inv-loop μ-loop
-element-copy-out-if1 c = omega arith
-
 returns : tie.Need-returns Inv-loop μ-loop
 unfolding allRanked
 returns c = sym (not-all _ _ (c .before .before .before .loop .x) (c .before .before .loop-test .taken)
     (rw (eq-eqb _ 64 (c .if1 .taken))))
-
-add-x : tie.Need-add-x Inv-loop μ-loop
-add-x c = omega arith
-
-loop-less : tie.Need-loop-less Inv-loop μ-loop
-loop-less c = omega arith
 
 loop-again : tie.Need-loop-again Inv-loop μ-loop
 loop-again c =
@@ -56,13 +47,4 @@ returns-2 c = sym (true-all _ _ (λ y h. c .before .loop .inv .2 y (omega arith)
 pub all-put-spec : {M : Type 1} → statement M
 all-put-spec =
     tie.close
-    (tie.spec
-    Inv-loop
-    μ-loop
-    loop-holds
-    element-copy-out-if1
-    returns
-    add-x
-    loop-less
-    loop-again
-    returns-2)
+    (tie.spec Inv-loop μ-loop loop-holds (λ c. omega arith) returns (λ c. omega arith) (λ c. omega arith) loop-again returns-2)

@@ -9,30 +9,6 @@ use borrow.Author.Needs.{needs}
 use Rattle.text_schedule.proofs.end_at.Statement.{statement}
 use Rattle.text_schedule.proofs.end_at.Tie as tie
 
-enum-told : tie.Need-enum-told
-enum-told c = search needs
-
-refuse-end-requires : tie.Need-refuse-end-requires
-refuse-end-requires c κs = search needs
-
-enum-told-2 : tie.Need-enum-told-2
-enum-told-2 c = search needs
-
-refuse-end-requires-2 : tie.Need-refuse-end-requires-2
-refuse-end-requires-2 c κs = search needs
-
-enum-told-3 : tie.Need-enum-told-3
-enum-told-3 c = search needs
-
-in-schedule-requires : tie.Need-in-schedule-requires
-in-schedule-requires c κs = search needs
-
-add-next : tie.Need-add-next
-add-next c = search needs
-
-refuse-end-requires-3 : tie.Need-refuse-end-requires-3
-refuse-end-requires-3 c κs = search needs
-
 returns : tie.Need-returns
 unfolding endedOf
 returns c =
@@ -41,9 +17,6 @@ returns c =
     let a = c6 .args in
     rw (c3 .enum-told3 .given .1, lt-leb (length (now (a .text))) (a .at + 1) (omega arith))
     (rw (c .before .before .in-schedule .ensures) at (c .refuse-end3 .ensures))
-
-enum-told-4 : tie.Need-enum-told-4
-enum-told-4 c = search needs
 
 returns-2 : tie.Need-returns-2
 unfolding endedOf
@@ -66,18 +39,6 @@ returns-5 c = rw (c .enum-told4 .given .1)
 pub end-at-spec : {M : Type 1} → statement M
 end-at-spec =
     tie.close
-    (tie.spec
-    enum-told
-    refuse-end-requires
-    enum-told-2
-    refuse-end-requires-2
-    enum-told-3
-    in-schedule-requires
-    add-next
-    refuse-end-requires-3
-    returns
-    enum-told-4
-    returns-2
-    returns-3
-    returns-4
+    (tie.spec (λ c. search needs) (λ c κs. search needs) (λ c. search needs) (λ c κs. search needs) (λ c. search needs)
+    (λ c κs. search needs) (λ c. search needs) (λ c κs. search needs) returns (λ c. search needs) returns-2 returns-3 returns-4
     returns-5)

@@ -1,5 +1,4 @@
 -- `text_schedule::judge_put` meets its contract. Assumes nothing.
-use mathlib.Core.List.{List}
 use mathlib.Core.Path.{sym, ap, subst, _∙_}
 use borrow.Author.Needs.{needs}
 use lib.ListN.{getD}
@@ -8,17 +7,8 @@ use Rattle.text_schedule.proofs.Puts.{put-undeclared, put-twice, put-la
 use Rattle.text_schedule.proofs.judge_put.Statement.{statement}
 use Rattle.text_schedule.proofs.judge_put.Tie as tie
 
-refuse-requires : tie.Need-refuse-requires
-refuse-requires c κs = search needs
-
 returns : tie.Need-returns
 returns c t e = subst (PutJudged t _ _ _) (sym (c .refuse .ensures)) (put-undeclared t _ _ _ (c .before .if1 .taken))
-
-element-copy-out-if2 : tie.Need-element-copy-out-if2
-element-copy-out-if2 c = search needs
-
-refuse-requires-2 : tie.Need-refuse-requires-2
-refuse-requires-2 c κs = search needs
 
 returns-2 : tie.Need-returns-2
 returns-2 c t e =
@@ -26,12 +16,6 @@ returns-2 c t e =
     subst (PutJudged t _ _ _) (sym (c .refuse2 .ensures))
     (put-twice t _ _ _ (i .if1 .left) (i .before .pre)
     (λ z. c .before .if2 .taken (ap (λ l. getD l (i .before .args .signal) 0) (sym e) ∙ z)))
-
-element-copy-out-if3 : tie.Need-element-copy-out-if3
-element-copy-out-if3 c = search needs
-
-refuse-requires-3 : tie.Need-refuse-requires-3
-refuse-requires-3 c κs = search needs
 
 returns-3 : tie.Need-returns-3
 returns-3 c t e =
@@ -51,13 +35,5 @@ returns-4 c t e =
 pub judge-put-spec : {M : Type 1} → statement M
 judge-put-spec =
     tie.close
-    (tie.spec
-    refuse-requires
-    returns
-    element-copy-out-if2
-    refuse-requires-2
-    returns-2
-    element-copy-out-if3
-    refuse-requires-3
-    returns-3
-    returns-4)
+    (tie.spec (λ c κs. search needs) returns (λ c. search needs) (λ c κs. search needs) returns-2 (λ c. search needs)
+    (λ c κs. search needs) returns-3 returns-4)

@@ -82,15 +82,6 @@ loop-holds c = (
       }),
 )
 
-schedule-command-at-requires : tie.Need-schedule-command-at-requires Inv-loop μ-loop
-schedule-command-at-requires c κs = search needs
-
-enum-known-command : tie.Need-enum-known-command Inv-loop μ-loop
-enum-known-command c = search needs
-
-unplaced-requires : tie.Need-unplaced-requires Inv-loop μ-loop
-unplaced-requires c κs = search needs
-
 returns : tie.Need-returns Inv-loop μ-loop
 returns c =
     let m = c .before in
@@ -99,18 +90,6 @@ returns c =
     let g = l .inv .4 p o n per e z in
     let q = next-put (g .spelled) (omega arith) in
     absurd (not-put _ (q .signal) (q .phase) (m .match .keys2) (m .before .schedule-command-at .ensures ∙ q .command))
-
-judge-put-requires : tie.Need-judge-put-requires Inv-loop μ-loop
-judge-put-requires c κs = omega arith
-
-enum-told : tie.Need-enum-told Inv-loop μ-loop
-enum-told c = search needs
-
-enum-told-2 : tie.Need-enum-told-2 Inv-loop μ-loop
-enum-told-2 c = search needs
-
-unplaced-requires-2 : tie.Need-unplaced-requires-2 Inv-loop μ-loop
-unplaced-requires-2 c κs = search needs
 
 returns-2 : tie.Need-returns-2 Inv-loop μ-loop
 returns-2 c =
@@ -124,9 +103,6 @@ returns-2 c =
     (put-refused _ p o (l .at) _ _ (slots j) g (omega arith) (is-put j) _
     (sym told ∙ j .judge-put .ensures (slots j) refl .judged p (g .done) n per (g .after) few))
     (c .unplaced2 .ensures ∙ told)
-
-wide-requires : tie.Need-wide-requires Inv-loop μ-loop
-wide-requires c κs = search needs
 
 -- the entries that the PUT is written to
 module _ (c : tie.After-wide Inv-loop μ-loop) where
@@ -154,15 +130,6 @@ array-write-ranks c = signal-low c
 add-puts : tie.Need-add-puts Inv-loop μ-loop
 add-puts c = omega (arith, puts-few c)
 
-in-schedule-requires : tie.Need-in-schedule-requires Inv-loop μ-loop
-in-schedule-requires c κs = search needs
-
-add-at : tie.Need-add-at Inv-loop μ-loop
-add-at c = omega arith
-
-loop-less : tie.Need-loop-less Inv-loop μ-loop
-loop-less c = omega arith
-
 loop-again : tie.Need-loop-again Inv-loop μ-loop
 loop-again c =
     let w = c .before in
@@ -180,15 +147,6 @@ loop-again c =
           (put-fine _ p o (l .at) _ _ (slots j) g (omega arith) (is-put j) (declared j told) few
           (sym told ∙ j .judge-put .ensures (slots j) refl .judged p (g .done) n per (g .after) few)),
     )
-
-all-put-requires : tie.Need-all-put-requires Inv-loop μ-loop
-all-put-requires c κs = omega arith
-
-refuse-requires : tie.Need-refuse-requires Inv-loop μ-loop
-refuse-requires c κs = search needs
-
-unplaced-requires-3 : tie.Need-unplaced-requires-3 Inv-loop μ-loop
-unplaced-requires-3 c κs = search needs
 
 returns-3 : tie.Need-returns-3 Inv-loop μ-loop
 returns-3 c =
@@ -223,31 +181,7 @@ returns-4 c =
 pub place-signals-spec : {M : Type 1} → statement M
 place-signals-spec =
     tie.close
-    (tie.spec
-    Inv-loop
-    μ-loop
-    loop-holds
-    schedule-command-at-requires
-    enum-known-command
-    unplaced-requires
-    returns
-    judge-put-requires
-    enum-told
-    enum-told-2
-    unplaced-requires-2
-    returns-2
-    wide-requires
-    array-write-order
-    array-write-phases
-    cast-ranks
-    array-write-ranks
-    add-puts
-    in-schedule-requires
-    add-at
-    loop-less
-    loop-again
-    all-put-requires
-    refuse-requires
-    unplaced-requires-3
-    returns-3
-    returns-4)
+    (tie.spec Inv-loop μ-loop loop-holds (λ c κs. search needs) (λ c. search needs) (λ c κs. search needs) returns
+    (λ c κs. omega arith) (λ c. search needs) (λ c. search needs) (λ c κs. search needs) returns-2 (λ c κs. search needs)
+    array-write-order array-write-phases cast-ranks array-write-ranks add-puts (λ c κs. search needs) (λ c. omega arith)
+    (λ c. omega arith) loop-again (λ c κs. omega arith) (λ c κs. search needs) (λ c κs. search needs) returns-3 returns-4)

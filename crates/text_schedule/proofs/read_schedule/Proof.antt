@@ -32,15 +32,6 @@ loop-holds : tie.Need-loop-holds Inv-loop μ-loop
 unfolding parseSchedule
 loop-holds c = ([], length (now (c .before .args .text)), omega arith, refl)
 
-schedule-command-at-requires : tie.Need-schedule-command-at-requires Inv-loop μ-loop
-schedule-command-at-requires c κs = search needs
-
-enum-told : tie.Need-enum-told Inv-loop μ-loop
-enum-told c = search needs
-
-end-at-requires : tie.Need-end-at-requires Inv-loop μ-loop
-end-at-requires c κs = search needs
-
 returns : tie.Need-returns Inv-loop μ-loop
 returns c =
     let c4 = c .before .before .before .before in
@@ -54,14 +45,8 @@ returns c =
     (puts-stop text (l .at) (i .1 - 1) (i .0) _ (c .before .match .keys2)
     (sym (c .before .before .schedule-command-at .ensures))))
 
-in-schedule-requires : tie.Need-in-schedule-requires Inv-loop μ-loop
-in-schedule-requires c κs = search needs
-
 add-at : tie.Need-add-at Inv-loop μ-loop
 add-at c = omega (arith, inside (c .before))
-
-loop-less : tie.Need-loop-less Inv-loop μ-loop
-loop-less c = omega arith
 
 loop-again : tie.Need-loop-again Inv-loop μ-loop
 loop-again c =
@@ -80,9 +65,6 @@ loop-again c =
           (sym (c3 .schedule-command-at .ensures) ∙ c .before .enum-told .given .1),
     )
 
-refuse-end-requires : tie.Need-refuse-end-requires Inv-loop μ-loop
-refuse-end-requires c κs = search needs
-
 returns-2 : tie.Need-returns-2 Inv-loop μ-loop
 unfolding EndedAt
 returns-2 c =
@@ -93,17 +75,5 @@ returns-2 c =
 pub read-schedule-spec : {M : Type 1} → statement M
 read-schedule-spec =
     tie.close
-    (tie.spec
-    Inv-loop
-    μ-loop
-    loop-holds
-    schedule-command-at-requires
-    enum-told
-    end-at-requires
-    returns
-    in-schedule-requires
-    add-at
-    loop-less
-    loop-again
-    refuse-end-requires
-    returns-2)
+    (tie.spec Inv-loop μ-loop loop-holds (λ c κs. search needs) (λ c. search needs) (λ c κs. search needs) returns
+    (λ c κs. search needs) add-at (λ c. omega arith) loop-again (λ c κs. search needs) returns-2)

@@ -1,13 +1,13 @@
 -- Every refusal has a small place: within the text that is refused, below the hypercycle, or L + 4N. Assumes nothing.
 use Prim.Native.Nat.{ℕ, zero, suc, _%_, _≤_, _<_}
 use mathlib.Core.Bool.{Bool}
-use mathlib.Core.List.{List, _++_}
+use mathlib.Core.List.{List}
 use mathlib.Core.Path.{_≡_, refl, ap}
 use native.Mathlib.Nat.{mod-lt}
 use native.Mathlib.Omega.{arith}
-use lib.Dec.{leb, ltb}
-use lib.IntN.{ℤ, pos}
-use lib.ListN.{length, getD, drop}
+use lib.Dec.{leb}
+use lib.IntN.{ℤ}
+use lib.ListN.{length}
 use Rattle.model.specs.Says.Feasible.{Multiple}
 use Rattle.model.specs.Says.Calls.{Call, callOf}
 use Rattle.model.specs.Rules.Compile.{Pair, pairOf, verdictOf, compileJob, compileOf}

@@ -3,7 +3,7 @@
 use Prim.Native.Nat.{ℕ, _≤_}
 use mathlib.Core.List.{List}
 use mathlib.Core.Logic.{_↔_}
-use mathlib.Core.Path.{_≡_, refl, _∙_, sym, subst}
+use mathlib.Core.Path.{_≡_, _∙_}
 use Rattle.model.specs.Says.Feasible.{Multiple}
 use Rattle.model.specs.Rules.Compile.{shortEnough, Pair, pairOf}
 use Rattle.model.specs.Says.Grammar.{LegalWith, LegalProgram, LegalSchedule}

@@ -9,7 +9,7 @@ use borrow.Author.Tests.{ne-eqb}
 use mir.Syntax.{w32}
 use mir.Val.{SFits}
 use lib.IntN.{ℤ, pos, negsuc}
-use lib.ListN.{length, take, drop, take-append-drop}
+use lib.ListN.{length, drop, take-append-drop}
 use Rattle.model.specs.Rules.Command.{indexOf, modeOf}
 use Rattle.theorems.specs.Enums.{
   modeByte,
@@ -28,7 +28,7 @@ use Rattle.theorems.specs.Enums.{
 }
 use Rattle.model.specs.Rules.Width.{readWidth}
 use Rattle.theorems.specs.Nearest.{IsWord}
-use Rattle.model.specs.Rules.Word.{byteAt, twoAt, fourAt, wordAt, twoBytes, fourBytes, wordBytes}
+use Rattle.model.specs.Rules.Word.{byteAt, twoBytes, fourBytes, wordBytes}
 use Rattle.model.specs.Says.Written.{
   InPeriods,
   InIndices,

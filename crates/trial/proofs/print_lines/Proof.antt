@@ -1,14 +1,12 @@
 -- `trial::print_lines` is safe and ends. Assumes nothing.
-use Prim.Native.Nat.{ℕ, suc, _+_, _≤_, _<_}
-use mathlib.Core.Bool.{Bool, true, false, cond}
-use mathlib.Core.List.{List}
-use mathlib.Core.Path.{_≡_, refl, sym, ap, subst, _∙_}
+use Prim.Native.Nat.{suc}
+use mathlib.Core.Bool.{false, cond}
+use mathlib.Core.Path.{_≡_, refl, sym, _∙_}
 use native.Mathlib.Omega.{arith}
 use borrow.Author.Needs.{needs}
-use borrow.Author.Tests.{not-true, not-false}
-use lib.IntN.{ℤ}
+use borrow.Author.Tests.{not-true}
 use lib.ListN.{length, length-take}
-use Rattle.trial_step.specs.Steps.{linesLeft, Underway, Filled}
+use Rattle.trial_step.specs.Steps.{linesLeft, Underway}
 use Rattle.trial_step.proofs.Filling.{falls}
 use Rattle.trial.proofs.print_lines.Statement.{statement}
 use Rattle.trial.proofs.print_lines.Tie as tie
@@ -26,19 +24,10 @@ abbrev μ-loop : tie.MeasureT-loop
 abbrev turn : tie.After-next-block Inv-loop μ-loop → tie.At-loop Inv-loop μ-loop
 turn n = n .before .before .before .before .before
 
-large-buffer-requires : tie.Need-large-buffer-requires Inv-loop μ-loop
-large-buffer-requires c κs = search needs
-
-at-start-requires : tie.Need-at-start-requires Inv-loop μ-loop
-at-start-requires c κs = search needs
-
 loop-holds : tie.Need-loop-holds Inv-loop μ-loop
 loop-holds c =
     let s = c .before .before .before .before in
     (λ e. rw (c .at-start .ensures) (s .pre), refl, refl, sym (c .before .large-buffer .ensures))
-
-slice-aggregate-next-block : tie.Need-slice-aggregate-next-block Inv-loop μ-loop
-slice-aggregate-next-block c = search needs
 
 next-block-requires : tie.Need-next-block-requires Inv-loop μ-loop
 next-block-requires c κs =
@@ -50,12 +39,6 @@ array-share-prefix-block c = c .before .before .before .next-block .ensures .fit
 
 slice-aggregate-write-all : tie.Need-slice-aggregate-write-all Inv-loop μ-loop
 slice-aggregate-write-all c = simp length-take (omega (arith, c .before .before .before .before .next-block .ensures .fits))
-
-write-all-requires : tie.Need-write-all-requires Inv-loop μ-loop
-write-all-requires c κs = search needs
-
-tell-requires : tie.Need-tell-requires Inv-loop μ-loop
-tell-requires c κs = search needs
 
 loop-less : tie.Need-loop-less Inv-loop μ-loop
 loop-less c =
@@ -82,20 +65,6 @@ returns c = tt
 pub print-lines-spec : {M : Type 1} → statement M
 print-lines-spec =
     tie.close
-    (tie.spec
-    Inv-loop
-    μ-loop
-    large-buffer-requires
-    at-start-requires
-    loop-holds
-    slice-aggregate-next-block
-    next-block-requires
-    array-share-prefix-block
-    slice-aggregate-write-all
-    write-all-requires
-    tell-requires
-    loop-less
-    loop-again
-    same-length
-    same-length-2
-    returns)
+    (tie.spec Inv-loop μ-loop (λ c κs. search needs) (λ c κs. search needs) loop-holds (λ c. search needs) next-block-requires
+    array-share-prefix-block slice-aggregate-write-all (λ c κs. search needs) (λ c κs. search needs) loop-less loop-again
+    same-length same-length-2 returns)

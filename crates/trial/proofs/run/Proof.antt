@@ -1,7 +1,7 @@
 -- `trial::run` is safe. Assumes nothing.
 use native.Mathlib.Omega.{arith}
 use borrow.Author.Needs.{needs}
-use lib.ListN.{length, length-take}
+use lib.ListN.{length-take}
 use Rattle.trial_prepare.specs.Prepares.{Started}
 use Rattle.trial_prepare.proofs.Begins.{is-started}
 use Rattle.trial.proofs.run.Statement.{statement}
@@ -14,51 +14,18 @@ started t =
     let k = t .before .before .before in
     is-started _ _ _ (k .prepare .result) (t .enum-told .given .1) (k .prepare .ensures)
 
-prepare-requires : tie.Need-prepare-requires
-prepare-requires c κs = search needs
-
-enum-known-judged : tie.Need-enum-known-judged
-enum-known-judged c = search needs
-
-print-refusal-requires : tie.Need-print-refusal-requires
-print-refusal-requires c κs = search needs
-
-returns : tie.Need-returns
-returns c = search needs
-
-enum-told : tie.Need-enum-told
-enum-told c = search needs
-
 array-share-prefix-image : tie.Need-array-share-prefix-image
 array-share-prefix-image c = started (c .before .before .before) .fits
 
 slice-aggregate-print-lines : tie.Need-slice-aggregate-print-lines
 slice-aggregate-print-lines c = simp length-take (omega (arith, started (c .before .before .before .before) .fits))
 
-slice-aggregate-print-lines-2 : tie.Need-slice-aggregate-print-lines-2
-slice-aggregate-print-lines-2 c = search needs
-
-slice-aggregate-print-lines-3 : tie.Need-slice-aggregate-print-lines-3
-slice-aggregate-print-lines-3 c = search needs
-
 print-lines-requires : tie.Need-print-lines-requires
 print-lines-requires c κs = started (c .before .before .before .before .before .before) .underway
-
-returns-2 : tie.Need-returns-2
-returns-2 c = search needs
 
 pub run-spec : {M : Type 1} → statement M
 run-spec =
     tie.close
-    (tie.spec
-    prepare-requires
-    enum-known-judged
-    print-refusal-requires
-    returns
-    enum-told
-    array-share-prefix-image
-    slice-aggregate-print-lines
-    slice-aggregate-print-lines-2
-    slice-aggregate-print-lines-3
-    print-lines-requires
-    returns-2)
+    (tie.spec (λ c κs. search needs) (λ c. search needs) (λ c κs. search needs) (λ c. search needs) (λ c. search needs)
+    array-share-prefix-image slice-aggregate-print-lines (λ c. search needs) (λ c. search needs) print-lines-requires
+    (λ c. search needs))

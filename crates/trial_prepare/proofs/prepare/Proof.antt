@@ -1,10 +1,8 @@
 -- `trial_prepare::prepare` meets its contract. Assumes nothing.
-use Prim.Native.Nat.{ℕ, _≤_}
-use mathlib.Core.List.{List}
-use mathlib.Core.Path.{_≡_, sym, ap, subst, _∙_}
+use mathlib.Core.Path.{sym, ap, _∙_}
 use native.Mathlib.Omega.{arith}
 use borrow.Author.Needs.{needs}
-use lib.ListN.{length, length-take}
+use lib.ListN.{length-take}
 use Rattle.model.specs.Rules.Compile.{compiledOf}
 use Rattle.trial_prepare.specs.Prepares.{Prepares}
 use Rattle.trial_prepare.proofs.Begins.{Written, Compiles, has-head, first-bytes, compiles, compile-refuses}
@@ -31,15 +29,6 @@ imaged : (l : tie.After-stated-length) → let i = l .before .before .before .be
     (l .stated-length .result)
 imaged l = first-bytes _ _ _ _ (made (l .before .before)) _ (l .stated-length .ensures)
 
-slice-aggregate-compile : tie.Need-slice-aggregate-compile
-slice-aggregate-compile c = search needs
-
-compile-requires : tie.Need-compile-requires
-compile-requires c κs = search needs
-
-enum-known-compiled : tie.Need-enum-known-compiled
-enum-known-compiled c = search needs
-
 array-share-prefix-image : tie.Need-array-share-prefix-image
 array-share-prefix-image c = made c .inside
 
@@ -58,12 +47,6 @@ slice-aggregate-prepare-image c = simp length-take (omega (arith, imaged (c .bef
 prepare-image-requires : tie.Need-prepare-image-requires
 prepare-image-requires c κs = let m = imaged (c .before) in rw (m .here) (m .formed)
 
-enum-known-compiled-2 : tie.Need-enum-known-compiled-2
-enum-known-compiled-2 c = search needs
-
-refused-requires : tie.Need-refused-requires
-refused-requires c κs = search needs
-
 returns : tie.Need-returns
 returns c = prepared _ _ _ _ (imaged (c .before .before)) _ (c .prepare-image .ensures)
 
@@ -81,17 +64,6 @@ returns-2 c =
 pub prepare-spec : {M : Type 1} → statement M
 prepare-spec =
     tie.close
-    (tie.spec
-    slice-aggregate-compile
-    compile-requires
-    enum-known-compiled
-    array-share-prefix-image
-    slice-aggregate-stated-length
-    stated-length-requires
-    array-share-prefix-image-2
-    slice-aggregate-prepare-image
-    prepare-image-requires
-    enum-known-compiled-2
-    refused-requires
-    returns
-    returns-2)
+    (tie.spec (λ c. search needs) (λ c κs. search needs) (λ c. search needs) array-share-prefix-image
+    slice-aggregate-stated-length stated-length-requires array-share-prefix-image-2 slice-aggregate-prepare-image
+    prepare-image-requires (λ c. search needs) (λ c κs. search needs) returns returns-2)

@@ -1,10 +1,10 @@
 -- `trial_script::check_sets` meets its contract. Assumes nothing.
 use Rattle.trial_script.proofs.Walk.{inside, actions-past, actions-here, sets-none, sets-bad, sets-more}
-use Rattle.trial_script.specs.Steps.{widthOf, mayStand}
+use Rattle.trial_script.specs.Steps.{actionWidth, mayStand}
 use Rattle.model.specs.Rules.Script.{scriptCommandAt, scriptAt, inputsOnly}
 use Rattle.trial_script.specs.Inputs.{marked}
 use lib.ListN.{length}
-use Prim.Native.Nat.{ℕ, _+_, _-_, _≤_, _<_}
+use Prim.Native.Nat.{ℕ, _+_, _-_, _≤_}
 use mathlib.Core.List.{List}
 use mathlib.Core.Path.{_≡_, refl, sym, ap, _∙_}
 use mathlib.Core.Bool.{Bool}
@@ -28,8 +28,8 @@ turn w = w .before .before .before
 abbrev text : tie.After-width-of Inv-loop μ-loop → List ℕ
 text w = turn w .before .before .args .text .now
 
-width : (w : tie.After-width-of Inv-loop μ-loop) → w .width-of .result ≡ widthOf (scriptCommandAt (text w) (turn w .loop .at))
-width w = w .width-of .ensures ∙ ap widthOf (w .before .script-command-at .ensures)
+width : (w : tie.After-width-of Inv-loop μ-loop) → w .width-of .result ≡ actionWidth (scriptCommandAt (text w) (turn w .loop .at))
+width w = w .width-of .ensures ∙ ap actionWidth (w .before .script-command-at .ensures)
 
 within : (w : tie.After-width-of Inv-loop μ-loop) → turn w .loop .at + w .width-of .result ≤ length (text w)
 within w = inside (text w) (turn w .loop .at) (w .width-of .result) (width w) (w .before .before .loop-test .taken)
@@ -44,23 +44,11 @@ stands m = let w = m .before .before in m .may-stand .ensures ∙ ap (mayStand (
 loop-holds : tie.Need-loop-holds Inv-loop μ-loop
 loop-holds c = (refl, omega arith)
 
-script-command-at-requires : tie.Need-script-command-at-requires Inv-loop μ-loop
-script-command-at-requires c κs = search needs
-
-width-of-requires : tie.Need-width-of-requires Inv-loop μ-loop
-width-of-requires c κs = search needs
-
 returns : tie.Need-returns Inv-loop μ-loop
 returns c = let w = c .before in
     let l = turn w in
     sym (l .loop .inv .0 ∙ sets-none (isInput w) _
     (actions-here (text w) (l .loop .at) (w .width-of .result) (width w) (c .if1 .taken)))
-
-may-stand-requires : tie.Need-may-stand-requires Inv-loop μ-loop
-may-stand-requires c κs = search needs
-
-refused-requires : tie.Need-refused-requires Inv-loop μ-loop
-refused-requires c κs = search needs
 
 returns-2 : tie.Need-returns-2 Inv-loop μ-loop
 returns-2 c = let t = c .before in
@@ -91,17 +79,5 @@ returns-3 c = let l = c .before in
 pub check-sets-spec : {M : Type 1} → statement M
 check-sets-spec =
     tie.close
-    (tie.spec
-    Inv-loop
-    μ-loop
-    loop-holds
-    script-command-at-requires
-    width-of-requires
-    returns
-    may-stand-requires
-    refused-requires
-    returns-2
-    add-at
-    loop-less
-    loop-again
-    returns-3)
+    (tie.spec Inv-loop μ-loop loop-holds (λ c κs. search needs) (λ c κs. search needs) returns (λ c κs. search needs)
+    (λ c κs. search needs) returns-2 add-at loop-less loop-again returns-3)

@@ -1,11 +1,11 @@
 -- `trial_script::count_cycles` meets its contract. Assumes nothing.
 use Rattle.trial_script.proofs.Walk.{inside, actions-past, actions-here, cycles-none, cycles-more}
-use Rattle.trial_script.specs.Steps.{widthOf, runsOf}
+use Rattle.trial_script.specs.Steps.{actionWidth, cyclesMade}
 use Rattle.model.specs.Rules.Script.{scriptCommandAt, scriptAt, cyclesOf}
 use lib.ListN.{length}
-use Prim.Native.Nat.{ℕ, _+_, _-_, _*_, _≤_, _<_}
+use Prim.Native.Nat.{ℕ, _+_, _-_, _*_, _≤_}
 use mathlib.Core.List.{List}
-use mathlib.Core.Path.{_≡_, refl, sym, ap, _∙_}
+use mathlib.Core.Path.{_≡_, ap, _∙_}
 use borrow.Author.Needs.{needs}
 use native.Mathlib.Omega.{arith}
 use Rattle.trial_script.proofs.count_cycles.Statement.{statement}
@@ -24,8 +24,8 @@ turn w = w .before .before .before
 abbrev text : tie.After-width-of Inv-loop μ-loop → List ℕ
 text w = turn w .before .before .args .text .now
 
-width : (w : tie.After-width-of Inv-loop μ-loop) → w .width-of .result ≡ widthOf (scriptCommandAt (text w) (turn w .loop .at))
-width w = w .width-of .ensures ∙ ap widthOf (w .before .script-command-at .ensures)
+width : (w : tie.After-width-of Inv-loop μ-loop) → w .width-of .result ≡ actionWidth (scriptCommandAt (text w) (turn w .loop .at))
+width w = w .width-of .ensures ∙ ap actionWidth (w .before .script-command-at .ensures)
 
 within : (w : tie.After-width-of Inv-loop μ-loop) → turn w .loop .at + w .width-of .result ≤ length (text w)
 within w = inside (text w) (turn w .loop .at) (w .width-of .result) (width w) (w .before .before .loop-test .taken)
@@ -33,23 +33,11 @@ within w = inside (text w) (turn w .loop .at) (w .width-of .result) (width w) (w
 loop-holds : tie.Need-loop-holds Inv-loop μ-loop
 loop-holds c = (omega arith, omega arith, omega arith)
 
-script-command-at-requires : tie.Need-script-command-at-requires Inv-loop μ-loop
-script-command-at-requires c κs = search needs
-
-width-of-requires : tie.Need-width-of-requires Inv-loop μ-loop
-width-of-requires c κs = search needs
-
 returns : tie.Need-returns Inv-loop μ-loop
 returns c = let w = c .before in
     let l = turn w in
     let none = cycles-none _ (actions-here (text w) (l .loop .at) (w .width-of .result) (width w) (c .if1 .taken)) in
     (omega (arith, none, l .loop .inv .0), omega (arith, l .loop .inv .1, l .before .before .pre))
-
-runs-of-requires : tie.Need-runs-of-requires Inv-loop μ-loop
-runs-of-requires c κs = search needs
-
-wide-requires : tie.Need-wide-requires Inv-loop μ-loop
-wide-requires c κs = search needs
 
 add-total : tie.Need-add-total Inv-loop μ-loop
 add-total c =
@@ -65,8 +53,8 @@ loop-less c = let w = c .before .before .before in omega (arith, within w)
 loop-again : tie.Need-loop-again Inv-loop μ-loop
 loop-again c = let w = c .before .before .before in
     let l = turn w in
-    let runs : c .wide .result ≡ runsOf (scriptCommandAt (text w) (l .loop .at)) =
-    c .wide .ensures .0 ∙ c .before .runs-of .ensures ∙ ap runsOf (w .before .script-command-at .ensures) in
+    let runs : c .wide .result ≡ cyclesMade (scriptCommandAt (text w) (l .loop .at)) =
+    c .wide .ensures .0 ∙ c .before .runs-of .ensures ∙ ap cyclesMade (w .before .script-command-at .ensures) in
     let more = cycles-more (text w) (l .loop .at) (w .width-of .result) (width w) (omega arith) in
     (omega (arith, runs, more, l .loop .inv .0), omega (arith, c .wide .ensures .1, l .loop .inv .1), within w)
 
@@ -78,17 +66,5 @@ returns-2 c = let l = c .before in
 pub count-cycles-spec : {M : Type 1} → statement M
 count-cycles-spec =
     tie.close
-    (tie.spec
-    Inv-loop
-    μ-loop
-    loop-holds
-    script-command-at-requires
-    width-of-requires
-    returns
-    runs-of-requires
-    wide-requires
-    add-total
-    add-at
-    loop-less
-    loop-again
-    returns-2)
+    (tie.spec Inv-loop μ-loop loop-holds (λ c κs. search needs) (λ c κs. search needs) returns (λ c κs. search needs)
+    (λ c κs. search needs) add-total add-at loop-less loop-again returns-2)

@@ -9,30 +9,6 @@ use borrow.Author.Needs.{needs}
 use Rattle.trial_script.proofs.end_at.Statement.{statement}
 use Rattle.trial_script.proofs.end_at.Tie as tie
 
-enum-told : tie.Need-enum-told
-enum-told c = search needs
-
-refused-requires : tie.Need-refused-requires
-refused-requires c κs = search needs
-
-enum-told-2 : tie.Need-enum-told-2
-enum-told-2 c = search needs
-
-refused-requires-2 : tie.Need-refused-requires-2
-refused-requires-2 c κs = search needs
-
-enum-told-3 : tie.Need-enum-told-3
-enum-told-3 c = search needs
-
-in-script-requires : tie.Need-in-script-requires
-in-script-requires c κs = search needs
-
-add-next : tie.Need-add-next
-add-next c = search needs
-
-refused-requires-3 : tie.Need-refused-requires-3
-refused-requires-3 c κs = search needs
-
 returns : tie.Need-returns
 unfolding endingAt provided
 returns c =
@@ -40,12 +16,6 @@ returns c =
     let a = t .before .before .before .args in
     rw (t .enum-told3 .given .1, lt-leb (length (a .text .now)) (a .at + 1) (omega arith))
     (rw (c .before .before .in-script .ensures) at (c .refused3 .ensures))
-
-enum-told-4 : tie.Need-enum-told-4
-enum-told-4 c = search needs
-
-enum-told-5 : tie.Need-enum-told-5
-enum-told-5 c = search needs
 
 returns-2 : tie.Need-returns-2
 unfolding endingAt
@@ -73,20 +43,6 @@ returns-6 c = rw (c .enum-told5 .given .1)
 pub end-at-spec : {M : Type 1} → statement M
 end-at-spec =
     tie.close
-    (tie.spec
-    enum-told
-    refused-requires
-    enum-told-2
-    refused-requires-2
-    enum-told-3
-    in-script-requires
-    add-next
-    refused-requires-3
-    returns
-    enum-told-4
-    enum-told-5
-    returns-2
-    returns-3
-    returns-4
-    returns-5
-    returns-6)
+    (tie.spec (λ c. search needs) (λ c κs. search needs) (λ c. search needs) (λ c κs. search needs) (λ c. search needs)
+    (λ c κs. search needs) (λ c. search needs) (λ c κs. search needs) returns (λ c. search needs) (λ c. search needs) returns-2
+    returns-3 returns-4 returns-5 returns-6)

@@ -7,8 +7,7 @@ use Rattle.model.specs.Rules.Machine.{countOf, codeOffset}
 use lib.Dec.{eqb}
 use borrow.Author.Tests.{lt-ltb, le-ltb}
 use Prim.Native.Nat.{ℕ, _<_}
-use mathlib.Core.List.{List}
-use mathlib.Core.Path.{_≡_, sym, ap, _∙_}
+use mathlib.Core.Path.{ap, _∙_}
 use native.Mathlib.Omega.{arith}
 use borrow.Author.Needs.{needs}
 use Rattle.trial_script.proofs.is_input.Statement.{statement}
@@ -22,12 +21,6 @@ below e = omega (arith, e .before .wide2 .ensures .0, e .before .before .wide .e
 
 shared-slice-read-wide : tie.Need-shared-slice-read-wide
 shared-slice-read-wide c = omega (arith, head _ (formed _ (c .before .before .pre) .good) .four)
-
-wide-requires : tie.Need-wide-requires
-wide-requires c κs = search needs
-
-wide-requires-2 : tie.Need-wide-requires-2
-wide-requires-2 c κs = search needs
 
 returns : tie.Need-returns
 unfolding fetches
@@ -57,11 +50,5 @@ returns-2 c = let e = c .before .before in let s = start e in
 pub is-input-spec : {M : Type 1} → statement M
 is-input-spec =
     tie.close
-    (tie.spec
-    shared-slice-read-wide
-    wide-requires
-    wide-requires-2
-    returns
-    code-offset-requires
-    shared-slice-read-result
-    returns-2)
+    (tie.spec shared-slice-read-wide (λ c κs. search needs) (λ c κs. search needs) returns code-offset-requires
+    shared-slice-read-result returns-2)

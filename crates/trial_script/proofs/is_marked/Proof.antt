@@ -8,15 +8,9 @@ use Rattle.trial_script.specs.Inputs.{marked}
 use Rattle.trial_script.proofs.is_marked.Statement.{statement}
 use Rattle.trial_script.proofs.is_marked.Tie as tie
 
-wide-requires : tie.Need-wide-requires
-wide-requires c κs = search needs
-
-element-copy-out-result : tie.Need-element-copy-out-result
-element-copy-out-result c = search needs
-
 returns : tie.Need-returns
 unfolding marked
 returns c = ap (λ (n : ℕ). eqb (byteAt (c .before .before .args .inputs .now) n) 1) (c .before .wide .ensures .0)
 
 pub is-marked-spec : {M : Type 1} → statement M
-is-marked-spec = tie.close (tie.spec wide-requires element-copy-out-result returns)
+is-marked-spec = tie.close (tie.spec (λ c κs. search needs) (λ c. search needs) returns)

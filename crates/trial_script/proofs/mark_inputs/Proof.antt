@@ -1,13 +1,12 @@
 -- `trial_script::mark_inputs` meets its contract. Assumes nothing.
 use Prim.Native.Nat.{ℕ, _+_, _-_, _≤_, _<_}
 use mathlib.Core.List.{List}
-use mathlib.Core.Path.{_≡_, refl, sym, ap, ap₂, subst, _∙_}
+use mathlib.Core.Path.{_≡_, sym, ap₂, subst}
 use native.Mathlib.Omega.{arith}
 use borrow.Author.Needs.{needs}
-use lib.ListN.{length, set}
+use lib.ListN.{set}
 use Rattle.image_valid.proofs.Parts.{head, formed}
 use Rattle.model.specs.Rules.Machine.{countOf}
-use Rattle.trial_script.specs.Inputs.{fetches, markOf}
 use Rattle.trial_script.proofs.Marks.{Marks, marks-none, marks-more, marks-all}
 use Rattle.trial_script.proofs.mark_inputs.Statement.{statement}
 use Rattle.trial_script.proofs.mark_inputs.Tie as tie
@@ -24,20 +23,8 @@ shared-slice-read-n c = omega (arith, head _ (formed _ (c .before .before .pre) 
 loop-holds : tie.Need-loop-holds Inv-loop μ-loop
 loop-holds c = (marks-none _, omega arith)
 
-mark-of-requires : tie.Need-mark-of-requires Inv-loop μ-loop
-mark-of-requires c κs = search needs
-
-wide-requires : tie.Need-wide-requires Inv-loop μ-loop
-wide-requires c κs = search needs
-
-array-write-inputs : tie.Need-array-write-inputs Inv-loop μ-loop
-array-write-inputs c = search needs
-
 add-x : tie.Need-add-x Inv-loop μ-loop
 add-x c = record { fits = omega (arith, c .before .before .before .before .before .shared-slice-known .given 1 .fits) }
-
-loop-less : tie.Need-loop-less Inv-loop μ-loop
-loop-less c = search needs
 
 loop-again : tie.Need-loop-again Inv-loop μ-loop
 loop-again c =
@@ -60,15 +47,5 @@ returns c y =
 pub mark-inputs-spec : {M : Type 1} → statement M
 mark-inputs-spec =
     tie.close
-    (tie.spec
-    Inv-loop
-    μ-loop
-    shared-slice-read-n
-    loop-holds
-    mark-of-requires
-    wide-requires
-    array-write-inputs
-    add-x
-    loop-less
-    loop-again
-    returns)
+    (tie.spec Inv-loop μ-loop shared-slice-read-n loop-holds (λ c κs. search needs) (λ c κs. search needs) (λ c. search needs)
+    add-x (λ c. search needs) loop-again returns)

@@ -5,9 +5,6 @@ use Rattle.trial_script.specs.Inputs.{markOf}
 use Rattle.trial_script.proofs.mark_of.Statement.{statement}
 use Rattle.trial_script.proofs.mark_of.Tie as tie
 
-is-input-requires : tie.Need-is-input-requires
-is-input-requires c κs = search needs
-
 returns : tie.Need-returns
 returns c = ap markOf (sym (c .if1 .taken) ∙ c .before .is-input .ensures)
 
@@ -15,4 +12,4 @@ returns-2 : tie.Need-returns-2
 returns-2 c = ap markOf (sym (c .if1 .left) ∙ c .before .is-input .ensures)
 
 pub mark-of-spec : {M : Type 1} → statement M
-mark-of-spec = tie.close (tie.spec is-input-requires returns returns-2)
+mark-of-spec = tie.close (tie.spec (λ c κs. search needs) returns returns-2)

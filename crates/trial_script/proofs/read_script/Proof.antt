@@ -1,10 +1,9 @@
 -- `trial_script::read_script` meets its contract. Assumes nothing.
 use Rattle.trial_script.proofs.Walk.{inside, ending-past, ending-here, ending-more}
-use Rattle.model.specs.declared.ScriptCommand.{ScriptCommand}
-use Rattle.trial_script.specs.Steps.{widthOf, endingAt}
+use Rattle.trial_script.specs.Steps.{actionWidth, endingAt}
 use Rattle.model.specs.Rules.Script.{scriptCommandAt, scriptAt}
 use lib.ListN.{length}
-use Prim.Native.Nat.{ℕ, _+_, _-_, _≤_, _<_}
+use Prim.Native.Nat.{ℕ, _+_, _-_, _≤_}
 use mathlib.Core.List.{List}
 use mathlib.Core.Path.{_≡_, refl, sym, ap, _∙_}
 use borrow.Author.Needs.{needs}
@@ -24,23 +23,14 @@ turn w = w .before .before .before
 abbrev text : tie.After-width-of Inv-loop μ-loop → List ℕ
 text w = turn w .before .before .args .text .now
 
-width : (w : tie.After-width-of Inv-loop μ-loop) → w .width-of .result ≡ widthOf (scriptCommandAt (text w) (turn w .loop .at))
-width w = w .width-of .ensures ∙ ap widthOf (w .before .script-command-at .ensures)
+width : (w : tie.After-width-of Inv-loop μ-loop) → w .width-of .result ≡ actionWidth (scriptCommandAt (text w) (turn w .loop .at))
+width w = w .width-of .ensures ∙ ap actionWidth (w .before .script-command-at .ensures)
 
 within : (w : tie.After-width-of Inv-loop μ-loop) → turn w .loop .at + w .width-of .result ≤ length (text w)
 within w = inside (text w) (turn w .loop .at) (w .width-of .result) (width w) (w .before .before .loop-test .taken)
 
 loop-holds : tie.Need-loop-holds Inv-loop μ-loop
 loop-holds c = (refl, omega arith)
-
-script-command-at-requires : tie.Need-script-command-at-requires Inv-loop μ-loop
-script-command-at-requires c κs = search needs
-
-width-of-requires : tie.Need-width-of-requires Inv-loop μ-loop
-width-of-requires c κs = search needs
-
-end-at-requires : tie.Need-end-at-requires Inv-loop μ-loop
-end-at-requires c κs = omega arith
 
 returns : tie.Need-returns Inv-loop μ-loop
 returns c = let t = c .before in
@@ -59,9 +49,6 @@ loop-again : tie.Need-loop-again Inv-loop μ-loop
 loop-again c = let w = c .before in let l = turn w in
     (l .loop .inv .0 ∙ ending-more (text w) (l .loop .at) (w .width-of .result) (width w) (omega arith), within w)
 
-refused-requires : tie.Need-refused-requires Inv-loop μ-loop
-refused-requires c κs = search needs
-
 returns-2 : tie.Need-returns-2 Inv-loop μ-loop
 returns-2 c = let l = c .before .before in
     c .refused .ensures ∙ sym (ending-past (l .before .before .args .text .now) (l .loop .at) (omega arith)) ∙
@@ -70,16 +57,5 @@ returns-2 c = let l = c .before .before in
 pub read-script-spec : {M : Type 1} → statement M
 read-script-spec =
     tie.close
-    (tie.spec
-    Inv-loop
-    μ-loop
-    loop-holds
-    script-command-at-requires
-    width-of-requires
-    end-at-requires
-    returns
-    add-at
-    loop-less
-    loop-again
-    refused-requires
-    returns-2)
+    (tie.spec Inv-loop μ-loop loop-holds (λ c κs. search needs) (λ c κs. search needs) (λ c κs. omega arith) returns add-at
+    loop-less loop-again (λ c κs. search needs) returns-2)

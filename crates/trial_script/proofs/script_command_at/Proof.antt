@@ -30,20 +30,11 @@ returns : tie.Need-returns
 unfolding scriptCommandAt
 returns c = let a = c .before .before .args in rw (le-ltb (a .at) (length (now (a .text))) (omega arith))
 
-sub-left : tie.Need-sub-left
-sub-left c = search needs
-
-shared-slice-read-b : tie.Need-shared-slice-read-b
-shared-slice-read-b c = search needs
-
 returns-2 : tie.Need-returns-2
 unfolding scriptCommandAt
 returns-2 c =
     let s = c .before in
     rw (lt-ltb (offset s) (length (text s)) (omega arith), eq-eqb (byte s) 0x00 (c .if2 .taken))
-
-in-script-requires : tie.Need-in-script-requires
-in-script-requires c κs = search needs
 
 returns-3 : tie.Need-returns-3
 unfolding scriptCommandAt
@@ -56,18 +47,6 @@ returns-3 c =
       eq-eqb (byte s) 0x70 (e .if3 .taken),
       lt-leb (offset s + 6) (length (text s)) (omega arith),
     )
-
-add-t9 : tie.Need-add-t9
-add-t9 c = search needs
-
-shared-slice-read-t12 : tie.Need-shared-slice-read-t12
-shared-slice-read-t12 c = search needs
-
-add-word-at : tie.Need-add-word-at
-add-word-at c = search needs
-
-word-at-requires : tie.Need-word-at-requires
-word-at-requires c κs = search needs
 
 returns-4 : tie.Need-returns-4
 unfolding scriptCommandAt
@@ -82,9 +61,6 @@ returns-4 c =
     )
     (ap (ScriptCommand.Set (getD (text s) (offset s + 1) 0)) (kept _ (c .word-at .ok) ∙ c .word-at .ensures))
 
-in-script-requires-2 : tie.Need-in-script-requires-2
-in-script-requires-2 c κs = search needs
-
 returns-5 : tie.Need-returns-5
 unfolding scriptCommandAt
 returns-5 c =
@@ -97,12 +73,6 @@ returns-5 c =
       eq-eqb (byte s) 0x71 (e .if5 .taken),
       lt-leb (offset s + 2) (length (text s)) (omega arith),
     )
-
-add-t15 : tie.Need-add-t15
-add-t15 c = search needs
-
-shared-slice-read-t18 : tie.Need-shared-slice-read-t18
-shared-slice-read-t18 c = search needs
 
 returns-6 : tie.Need-returns-6
 unfolding scriptCommandAt
@@ -131,21 +101,6 @@ returns-7 c =
 pub script-command-at-spec : {M : Type 1} → statement M
 script-command-at-spec =
     tie.close
-    (tie.spec
-    returns
-    sub-left
-    shared-slice-read-b
-    returns-2
-    in-script-requires
-    returns-3
-    add-t9
-    shared-slice-read-t12
-    add-word-at
-    word-at-requires
-    returns-4
-    in-script-requires-2
-    returns-5
-    add-t15
-    shared-slice-read-t18
-    returns-6
-    returns-7)
+    (tie.spec returns (λ c. search needs) (λ c. search needs) returns-2 (λ c κs. search needs) returns-3 (λ c. search needs)
+    (λ c. search needs) (λ c. search needs) (λ c κs. search needs) returns-4 (λ c κs. search needs) returns-5
+    (λ c. search needs) (λ c. search needs) returns-6 returns-7)

@@ -1,31 +1,12 @@
 -- `trial_step::alter` meets its contract. Assumes nothing.
 use mir.Facts.{toZ-ofZ}
 use Rattle.trial_script.specs.Steps.{altered}
-use lib.ListN.{length, set}
+use lib.ListN.{set}
 use lib.IntN.{ℤ}
-use mathlib.Core.Path.{_≡_, sym, ap, _∙_}
-use mathlib.Core.List.{List}
+use mathlib.Core.Path.{ap, _∙_}
 use borrow.Author.Needs.{needs}
 use Rattle.trial_step.proofs.alter.Statement.{statement}
 use Rattle.trial_step.proofs.alter.Tie as tie
-
-enum-told : tie.Need-enum-told
-enum-told c = search needs
-
-enum-told-2 : tie.Need-enum-told-2
-enum-told-2 c = search needs
-
-enum-told-3 : tie.Need-enum-told-3
-enum-told-3 c = search needs
-
-enum-known-command : tie.Need-enum-known-command
-enum-known-command c = search needs
-
-store-requires : tie.Need-store-requires
-store-requires c κs = search needs
-
-enum-told-4 : tie.Need-enum-told-4
-enum-told-4 c = search needs
 
 returns : tie.Need-returns
 unfolding altered
@@ -38,9 +19,6 @@ returns-2 c = rw (c .enum-told2 .given .1)
 returns-3 : tie.Need-returns-3
 unfolding altered
 returns-3 c = rw (c .enum-told3 .given .1)
-
-same-length : tie.Need-same-length
-same-length c = search needs
 
 returns-4 : tie.Need-returns-4
 unfolding altered
@@ -60,16 +38,5 @@ returns-5 c = rw (c .enum-told4 .given .1)
 pub alter-spec : {M : Type 1} → statement M
 alter-spec =
     tie.close
-    (tie.spec
-    enum-told
-    enum-told-2
-    enum-told-3
-    enum-known-command
-    store-requires
-    enum-told-4
-    returns
-    returns-2
-    returns-3
-    same-length
-    returns-4
-    returns-5)
+    (tie.spec (λ c. search needs) (λ c. search needs) (λ c. search needs) (λ c. search needs) (λ c κs. search needs)
+    (λ c. search needs) returns returns-2 returns-3 (λ c. search needs) returns-4 returns-5)

@@ -1,13 +1,11 @@
 -- `trial_step::next_block` meets its contract. Assumes nothing.
-use Prim.Native.Nat.{ℕ, _+_, _-_, _≤_, _<_}
-use mathlib.Core.List.{List, _++_}
-use mathlib.Core.Path.{_≡_, refl, sym, ap, _∙_}
+use Prim.Native.Nat.{ℕ, _-_, _<_}
+use mathlib.Core.Path.{_≡_, sym, ap, _∙_}
 use native.Mathlib.Omega.{arith}
 use borrow.Author.Needs.{needs}
 use borrow.Rule.Slice.PartMut.{putMid, postOf, same-len-mid, take-put}
-use lib.IntN.{ℤ}
-use lib.ListN.{length, take, length-take, length-drop}
-use Rattle.trial_step.specs.Steps.{linesLeft, Underway, Lined, Stepped, Filled}
+use lib.ListN.{length, length-take, length-drop}
+use Rattle.trial_step.specs.Steps.{linesLeft, Lined}
 use Rattle.trial_step.proofs.Left.{is-lined, is-ended}
 use Rattle.trial_step.proofs.Filling.{Filling, filling-none, filling-all, filling-more}
 use Rattle.trial_step.proofs.next_block.Statement.{statement}
@@ -44,22 +42,10 @@ sub-loop c = c .loop .inv .fits
 sub-next-line : tie.Need-sub-next-line Inv-loop μ-loop
 sub-next-line c = c .before .before .before .loop .inv .fits
 
-part-next-line-start : tie.Need-part-next-line-start Inv-loop μ-loop
-part-next-line-start c = search needs
-
-part-next-line-end : tie.Need-part-next-line-end Inv-loop μ-loop
-part-next-line-end c = search needs
-
 next-line-requires : tie.Need-next-line-requires Inv-loop μ-loop
 next-line-requires c κs =
     let l = c .before .before .before .before in
     (l .loop .inv .underway, simp (length-take, length-drop) (omega (arith, c .before .before .before .loop-test .taken)))
-
-enum-known-next : tie.Need-enum-known-next Inv-loop μ-loop
-enum-known-next c = search needs
-
-enum-told : tie.Need-enum-told Inv-loop μ-loop
-enum-told c = search needs
 
 same-length : tie.Need-same-length Inv-loop μ-loop
 same-length c =
@@ -150,25 +136,6 @@ returns-2 c =
 pub next-block-spec : {M : Type 1} → statement M
 next-block-spec =
     tie.close
-    (tie.spec
-    Inv-loop
-    μ-loop
-    loop-holds
-    sub-loop
-    sub-next-line
-    part-next-line-start
-    part-next-line-end
-    next-line-requires
-    enum-known-next
-    enum-told
-    same-length
-    same-length-2
-    same-length-3
-    returns
-    add-size
-    loop-less
-    loop-again
-    same-length-4
-    same-length-5
-    same-length-6
-    returns-2)
+    (tie.spec Inv-loop μ-loop loop-holds sub-loop sub-next-line (λ c. search needs) (λ c. search needs) next-line-requires
+    (λ c. search needs) (λ c. search needs) same-length same-length-2 same-length-3 returns add-size loop-less loop-again
+    same-length-4 same-length-5 same-length-6 returns-2)

@@ -1,13 +1,12 @@
 -- `trial_step::next_line` meets its contract. Assumes nothing.
 use Rattle.trial_step.proofs.Left.{left-some, left-none, lined, none-left}
 use Rattle.machine.specs.Runnable.{Runnable}
-use Rattle.trial_step.specs.Steps.{callsLeft, soughtCalls, Lined, Stepped}
-use Rattle.model.specs.Says.Calls.{Call, cycle}
+use Rattle.trial_step.specs.Steps.{callsLeft, soughtCalls, StepsOn}
+use Rattle.model.specs.Says.Calls.{cycle}
 use lib.ListN.{length}
-use lib.IntN.{ℤ}
-use Prim.Native.Nat.{ℕ, _+_, _-_, _≤_, _<_}
-use mathlib.Core.List.{List, [], _∷_}
-use mathlib.Core.Path.{_≡_, refl, sym, ap, _∙_}
+use Prim.Native.Nat.{ℕ, _-_}
+use mathlib.Core.List.{_∷_}
+use mathlib.Core.Path.{_≡_, ap, _∙_}
 use native.Mathlib.Omega.{arith}
 use borrow.Author.Needs.{needs}
 use Rattle.trial_step.proofs.next_line.Statement.{statement}
@@ -51,43 +50,19 @@ cycle-calls o =
 print-cycle-requires : tie.Need-print-cycle-requires
 print-cycle-requires c κs = let s = run-start (c .before .before .before) in (s .pre .0 .runnable, s .pre .1)
 
-sub-t24 : tie.Need-sub-t24
-sub-t24 c = search needs
-
 add-t25 : tie.Need-add-t25
 add-t25 c = let t = at-run c in omega (arith, run-start t .pre .0 .few, ap length (run-calls t))
 
-same-length : tie.Need-same-length
-same-length c = search needs
-
-same-length-2 : tie.Need-same-length-2
-same-length-2 c = search needs
-
-same-length-3 : tie.Need-same-length-3
-same-length-3 c = search needs
-
 returns : tie.Need-returns
-unfolding Stepped
+unfolding StepsOn
 returns c =
     let t = at-run c in
     let s = run-start t in
     lined (s .args .progress .at) (s .args .progress .left - 1) (s .pre .0) (s .pre .0 .runnable) (run-calls t)
     (c .before .before .before .print-cycle .ensures)
 
-seek-requires : tie.Need-seek-requires
-seek-requires c κs = search needs
-
-enum-known-sought : tie.Need-enum-known-sought
-enum-known-sought c = search needs
-
-enum-told : tie.Need-enum-told
-enum-told c = search needs
-
-same-length-4 : tie.Need-same-length-4
-same-length-4 c = search needs
-
 returns-2 : tie.Need-returns-2
-unfolding Stepped
+unfolding StepsOn
 returns-2 c =
     let k = c .before .before .before in
     let a = seek-start k .args in
@@ -109,17 +84,8 @@ add-t34 : tie.Need-add-t34
 add-t34 c = let o = c .before .before .before .before .before .before .before .before in
     omega (arith, seek-start (o .before .before .before) .pre .0 .few, ap length (cycle-calls o))
 
-same-length-5 : tie.Need-same-length-5
-same-length-5 c = search needs
-
-same-length-6 : tie.Need-same-length-6
-same-length-6 c = search needs
-
-same-length-7 : tie.Need-same-length-7
-same-length-7 c = search needs
-
 returns-3 : tie.Need-returns-3
-unfolding Stepped
+unfolding StepsOn
 returns-3 c =
     let c3 = c .before .before .before in
     let c8 = c3 .before .before .before .before .before in
@@ -131,22 +97,6 @@ returns-3 c =
 pub next-line-spec : {M : Type 1} → statement M
 next-line-spec =
     tie.close
-    (tie.spec
-    print-cycle-requires
-    sub-t24
-    add-t25
-    same-length
-    same-length-2
-    same-length-3
-    returns
-    seek-requires
-    enum-known-sought
-    enum-told
-    same-length-4
-    returns-2
-    print-cycle-requires-2
-    add-t34
-    same-length-5
-    same-length-6
-    same-length-7
-    returns-3)
+    (tie.spec print-cycle-requires (λ c. search needs) add-t25 (λ c. search needs) (λ c. search needs) (λ c. search needs)
+    returns (λ c κs. search needs) (λ c. search needs) (λ c. search needs) (λ c. search needs) returns-2 print-cycle-requires-2
+    add-t34 (λ c. search needs) (λ c. search needs) (λ c. search needs) returns-3)

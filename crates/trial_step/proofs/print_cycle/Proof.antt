@@ -3,39 +3,21 @@ use Rattle.decimal.proofs.Puts.{put-is}
 use Rattle.machine.specs.Runnable.{Runnable}
 use Rattle.machine.proofs.Runnable.{stays-runnable}
 use Rattle.model.specs.Rules.Decimal.{lineOf}
-use Rattle.model.specs.Rules.Machine.{countOf, cycleWords}
+use Rattle.model.specs.Rules.Machine.{countOf}
 use Rattle.image_valid.proofs.Parts.{head, formed}
-use lib.ListN.{length, getD, take, drop}
-use lib.IntN.{ℤ, pos}
-use Prim.Native.Nat.{ℕ, _+_, _-_, _≤_, _<_}
+use lib.ListN.{take, drop}
+use lib.IntN.{ℤ}
+use Prim.Native.Nat.{ℕ, _+_, _-_}
 use mathlib.Core.List.{List}
-use mathlib.Core.Path.{_≡_, sym, ap, subst, _∙_}
+use mathlib.Core.Path.{_≡_, sym, ap, subst}
 use native.Mathlib.Omega.{arith}
 use borrow.Author.Needs.{needs}
 use Rattle.trial_step.proofs.print_cycle.Statement.{statement}
 use Rattle.trial_step.proofs.print_cycle.Tie as tie
 
-run-cycle-requires : tie.Need-run-cycle-requires
-run-cycle-requires c κs = search needs
-
 shared-slice-read-wide : tie.Need-shared-slice-read-wide
 shared-slice-read-wide c =
     omega (arith, head _ (formed _ (c .before .before .before .before .before .before .pre .0 .formed) .good) .four)
-
-wide-requires : tie.Need-wide-requires
-wide-requires c κs = search needs
-
-add-end : tie.Need-add-end
-add-end c = search needs
-
-sub-put-line : tie.Need-sub-put-line
-sub-put-line c = search needs
-
-part-put-line-start : tie.Need-part-put-line-start
-part-put-line-start c = search needs
-
-part-put-line-end : tie.Need-part-put-line-end
-part-put-line-end c = search needs
 
 put-line-requires : tie.Need-put-line-requires
 put-line-requires c κs = let w = c .before .before .before in
@@ -49,12 +31,6 @@ put-line-requires c κs = let w = c .before .before .before in
       ),
       s .pre .1,
     )
-
-same-length : tie.Need-same-length
-same-length c = search needs
-
-same-length-2 : tie.Need-same-length-2
-same-length-2 c = search needs
 
 returns : tie.Need-returns
 returns c = let w = c .before .before .before .before .before .before in
@@ -74,15 +50,5 @@ returns c = let w = c .before .before .before .before .before .before in
 pub print-cycle-spec : {M : Type 1} → statement M
 print-cycle-spec =
     tie.close
-    (tie.spec
-    run-cycle-requires
-    shared-slice-read-wide
-    wide-requires
-    add-end
-    sub-put-line
-    part-put-line-start
-    part-put-line-end
-    put-line-requires
-    same-length
-    same-length-2
-    returns)
+    (tie.spec (λ c κs. search needs) shared-slice-read-wide (λ c κs. search needs) (λ c. search needs) (λ c. search needs)
+    (λ c. search needs) (λ c. search needs) put-line-requires (λ c. search needs) (λ c. search needs) returns)

@@ -2,13 +2,12 @@
 use Rattle.trial_step.proofs.Left.{seek-step, left-some, left-none}
 use Rattle.trial_step.specs.Steps.{callsLeft}
 use Rattle.trial_script.proofs.Walk.{inside, actions-past, actions-here, calls-none}
-use Rattle.trial_script.specs.Steps.{widthOf, runsOf, altered}
+use Rattle.trial_script.specs.Steps.{actionWidth, cyclesMade, altered}
 use Rattle.model.specs.Rules.Script.{scriptCommandAt, scriptAt, callsFrom}
 use lib.ListN.{length}
-use lib.IntN.{ℤ}
-use Prim.Native.Nat.{ℕ, _+_, _-_, _≤_, _<_}
+use Prim.Native.Nat.{ℕ, _+_, _-_, _≤_}
 use mathlib.Core.List.{List}
-use mathlib.Core.Path.{_≡_, refl, sym, ap, _∙_}
+use mathlib.Core.Path.{_≡_, refl, ap, _∙_}
 use borrow.Author.Needs.{needs}
 use native.Mathlib.Omega.{arith}
 use Rattle.trial_step.proofs.seek.Statement.{statement}
@@ -28,8 +27,8 @@ turn w = w .before .before .before
 abbrev text : tie.After-width-of Inv-loop μ-loop → List ℕ
 text w = turn w .before .before .args .text .now
 
-width : (w : tie.After-width-of Inv-loop μ-loop) → w .width-of .result ≡ widthOf (scriptCommandAt (text w) (turn w .loop .at))
-width w = w .width-of .ensures ∙ ap widthOf (w .before .script-command-at .ensures)
+width : (w : tie.After-width-of Inv-loop μ-loop) → w .width-of .result ≡ actionWidth (scriptCommandAt (text w) (turn w .loop .at))
+width w = w .width-of .ensures ∙ ap actionWidth (w .before .script-command-at .ensures)
 
 within : (w : tie.After-width-of Inv-loop μ-loop) → turn w .loop .at + w .width-of .result ≤ length (text w)
 within w = inside (text w) (turn w .loop .at) (w .width-of .result) (width w) (w .before .before .loop-test .taken)
@@ -49,16 +48,10 @@ here r =
     (r .before .before .alter .last .0) (width w)
     (omega (arith, r .before .before .before .before .if1 .left))
     (r .before .before .alter .ensures ∙ ap (altered (l .loop .samples)) is)
-    (r .runs-of .ensures ∙ ap runsOf is)
+    (r .runs-of .ensures ∙ ap cyclesMade is)
 
 loop-holds : tie.Need-loop-holds Inv-loop μ-loop
 loop-holds c = (refl, refl)
-
-script-command-at-requires : tie.Need-script-command-at-requires Inv-loop μ-loop
-script-command-at-requires c κs = search needs
-
-width-of-requires : tie.Need-width-of-requires Inv-loop μ-loop
-width-of-requires c κs = search needs
 
 same-length : tie.Need-same-length Inv-loop μ-loop
 same-length c = turn (c .before) .loop .inv .1
@@ -69,17 +62,8 @@ returns c = let w = c .before in
     let none = actions-here (text w) (l .loop .at) (w .width-of .result) (width w) (c .if1 .taken) in
     l .loop .inv .0 ∙ calls-none (l .loop .samples) _ none
 
-alter-requires : tie.Need-alter-requires Inv-loop μ-loop
-alter-requires c κs = search needs
-
 add-at : tie.Need-add-at Inv-loop μ-loop
 add-at c = let w = c .before .before .before .before in omega (arith, within w)
-
-runs-of-requires : tie.Need-runs-of-requires Inv-loop μ-loop
-runs-of-requires c κs = search needs
-
-sub-t13 : tie.Need-sub-t13 Inv-loop μ-loop
-sub-t13 c = search needs
 
 same-length-2 : tie.Need-same-length-2 Inv-loop μ-loop
 same-length-2 c = c .before .before .before .alter .kept .0 ∙ turn (at-width (c .before)) .loop .inv .1
@@ -117,21 +101,6 @@ returns-3 c = let l = c .before in
 pub seek-spec : {M : Type 1} → statement M
 seek-spec =
     tie.close
-    (tie.spec
-    Inv-loop
-    μ-loop
-    loop-holds
-    script-command-at-requires
-    width-of-requires
-    same-length
-    returns
-    alter-requires
-    add-at
-    runs-of-requires
-    sub-t13
-    same-length-2
-    returns-2
-    loop-less
-    loop-again
-    same-length-3
-    returns-3)
+    (tie.spec Inv-loop μ-loop loop-holds (λ c κs. search needs) (λ c κs. search needs) same-length returns
+    (λ c κs. search needs) add-at (λ c κs. search needs) (λ c. search needs) same-length-2 returns-2 loop-less loop-again
+    same-length-3 returns-3)

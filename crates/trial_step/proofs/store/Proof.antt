@@ -1,27 +1,14 @@
 -- `trial_step::store` meets its contract. Assumes nothing.
 use Rattle.word.proofs.Locals.{kept}
 use lib.Seq.{set-out}
-use lib.ListN.{length, set}
+use lib.ListN.{set}
 use lib.IntN.{ℤ}
 use Prim.Native.Nat.{ℕ}
 use native.Mathlib.Omega.{arith}
-use mathlib.Core.Path.{_≡_, sym, ap₂, _∙_}
-use mathlib.Core.List.{List}
+use mathlib.Core.Path.{sym, ap₂}
 use borrow.Author.Needs.{needs}
 use Rattle.trial_step.proofs.store.Statement.{statement}
 use Rattle.trial_step.proofs.store.Tie as tie
-
-wide-requires : tie.Need-wide-requires
-wide-requires c κs = search needs
-
-mul-word : tie.Need-mul-word
-mul-word c = search needs
-
-slice-set-from-word : tie.Need-slice-set-from-word
-slice-set-from-word c = search needs
-
-same-length : tie.Need-same-length
-same-length c = search needs
 
 returns : tie.Need-returns
 returns c =
@@ -37,4 +24,4 @@ returns-2 c =
 
 pub store-spec : {M : Type 1} → statement M
 store-spec =
-    tie.close (tie.spec wide-requires mul-word slice-set-from-word same-length returns returns-2)
+    tie.close (tie.spec (λ c κs. search needs) (λ c. search needs) (λ c. search needs) (λ c. search needs) returns returns-2)

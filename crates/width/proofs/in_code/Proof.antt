@@ -3,14 +3,8 @@ use borrow.Author.Needs.{needs}
 use Rattle.width.proofs.in_code.Statement.{statement}
 use Rattle.width.proofs.in_code.Tie as tie
 
-code-requires : tie.Need-code-requires
-code-requires c κs = search needs
-
-reach-requires : tie.Need-reach-requires
-reach-requires c κs = search needs
-
 returns : tie.Need-returns
 returns c = cc
 
 pub in-code-spec : {M : Type 1} → statement M
-in-code-spec = tie.close (tie.spec code-requires reach-requires returns)
+in-code-spec = tie.close (tie.spec (λ c κs. search needs) (λ c κs. search needs) returns)

@@ -3,14 +3,8 @@ use borrow.Author.Needs.{needs}
 use Rattle.width.proofs.in_expression.Statement.{statement}
 use Rattle.width.proofs.in_expression.Tie as tie
 
-expression-requires : tie.Need-expression-requires
-expression-requires c κs = search needs
-
-reach-requires : tie.Need-reach-requires
-reach-requires c κs = search needs
-
 returns : tie.Need-returns
 returns c = cc
 
 pub in-expression-spec : {M : Type 1} → statement M
-in-expression-spec = tie.close (tie.spec expression-requires reach-requires returns)
+in-expression-spec = tie.close (tie.spec (λ c κs. search needs) (λ c κs. search needs) returns)

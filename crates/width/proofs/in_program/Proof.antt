@@ -3,14 +3,8 @@ use borrow.Author.Needs.{needs}
 use Rattle.width.proofs.in_program.Statement.{statement}
 use Rattle.width.proofs.in_program.Tie as tie
 
-program-requires : tie.Need-program-requires
-program-requires c κs = search needs
-
-reach-requires : tie.Need-reach-requires
-reach-requires c κs = search needs
-
 returns : tie.Need-returns
 returns c = cc
 
 pub in-program-spec : {M : Type 1} → statement M
-in-program-spec = tie.close (tie.spec program-requires reach-requires returns)
+in-program-spec = tie.close (tie.spec (λ c κs. search needs) (λ c κs. search needs) returns)

@@ -15,9 +15,6 @@ cast-nearest-2 c = wide-fits (c .fits .b)
 add-nearest : tie.Need-add-nearest
 add-nearest c = sum-fits (c .fits .a) (c .fits .b)
 
-nearest-requires : tie.Need-nearest-requires
-nearest-requires c κs = search needs
-
 returns : tie.Need-returns
 unfolding addWord
 returns c =
@@ -26,4 +23,4 @@ returns c =
     of-result _+ℤ_ a b (sum-fits a b) (c .nearest .ok) (c .nearest .ensures)
 
 pub add-spec : {M : Type 1} → statement M
-add-spec = tie.close (tie.spec cast-nearest cast-nearest-2 add-nearest nearest-requires returns)
+add-spec = tie.close (tie.spec cast-nearest cast-nearest-2 add-nearest (λ c κs. search needs) returns)

@@ -15,9 +15,6 @@ cast-nearest-2 c = wide-fits (c .fits .b)
 mul-nearest : tie.Need-mul-nearest
 mul-nearest c = product-fits (c .fits .a) (c .fits .b)
 
-nearest-requires : tie.Need-nearest-requires
-nearest-requires c κs = search needs
-
 returns : tie.Need-returns
 unfolding mulWord
 returns c =
@@ -26,4 +23,4 @@ returns c =
     of-result _*ℤ_ a b (product-fits a b) (c .nearest .ok) (c .nearest .ensures)
 
 pub mul-spec : {M : Type 1} → statement M
-mul-spec = tie.close (tie.spec cast-nearest cast-nearest-2 mul-nearest nearest-requires returns)
+mul-spec = tie.close (tie.spec cast-nearest cast-nearest-2 mul-nearest (λ c κs. search needs) returns)

@@ -15,9 +15,6 @@ cast-nearest c = wide-fits (c .fits .a)
 sub-nearest : tie.Need-sub-nearest
 sub-nearest c = minus-fits (c .fits .a)
 
-nearest-requires : tie.Need-nearest-requires
-nearest-requires c κs = search needs
-
 returns : tie.Need-returns
 unfolding negWord
 returns c =
@@ -25,4 +22,4 @@ returns c =
     kept _ (c .nearest .ok) ∙ c .nearest .ensures ∙ rw (toZ-ofZ (minus-fits a), wide-back a) (ap nearest (+ℤ-idl _))
 
 pub neg-spec : {M : Type 1} → statement M
-neg-spec = tie.close (tie.spec cast-nearest sub-nearest nearest-requires returns)
+neg-spec = tie.close (tie.spec cast-nearest sub-nearest (λ c κs. search needs) returns)

@@ -15,9 +15,6 @@ cast-nearest-2 c = wide-fits (c .fits .b)
 sub-nearest : tie.Need-sub-nearest
 sub-nearest c = difference-fits (c .fits .a) (c .fits .b)
 
-nearest-requires : tie.Need-nearest-requires
-nearest-requires c κs = search needs
-
 returns : tie.Need-returns
 unfolding subWord
 returns c =
@@ -26,4 +23,4 @@ returns c =
     of-result _-ℤ_ a b (difference-fits a b) (c .nearest .ok) (c .nearest .ensures)
 
 pub sub-spec : {M : Type 1} → statement M
-sub-spec = tie.close (tie.spec cast-nearest cast-nearest-2 sub-nearest nearest-requires returns)
+sub-spec = tie.close (tie.spec cast-nearest cast-nearest-2 sub-nearest (λ c κs. search needs) returns)

@@ -13,13 +13,10 @@ use Rattle.word.proofs.unary.Tie as tie
 only : (operator : Unary) → operator ≡ Negate
 only Negate = refl
 
-neg-requires : tie.Need-neg-requires
-neg-requires c κs = search needs
-
 returns : tie.Need-returns
 returns c =
     let s = c .before in
     rw (only (s .args .operator)) (kept _ (c .neg .ok) ∙ c .neg .ensures ∙ ap negWord (toZ-ofZ (s .fits .a)))
 
 pub unary-spec : {M : Type 1} → statement M
-unary-spec = tie.close (tie.spec neg-requires returns)
+unary-spec = tie.close (tie.spec (λ c κs. search needs) returns)

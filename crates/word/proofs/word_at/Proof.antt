@@ -5,15 +5,9 @@ use Rattle.word.proofs.Locals.{kept}
 use Rattle.word.proofs.word_at.Statement.{statement}
 use Rattle.word.proofs.word_at.Tie as tie
 
-four-at-requires : tie.Need-four-at-requires
-four-at-requires c κs = search needs
-
-from-bits-requires : tie.Need-from-bits-requires
-from-bits-requires c κs = search needs
-
 returns : tie.Need-returns
 unfolding wordAt
 returns c = kept _ (c .from-bits .ok) ∙ c .from-bits .ensures ∙ ap wordOf (c .before .four-at .ensures)
 
 pub word-at-spec : {M : Type 1} → statement M
-word-at-spec = tie.close (tie.spec four-at-requires from-bits-requires returns)
+word-at-spec = tie.close (tie.spec (λ c κs. search needs) (λ c κs. search needs) returns)

@@ -12,18 +12,6 @@ use borrow.Author.Needs.{needs}
 use Rattle.run_stack.proofs.Stack.binary.Statement.{statement}
 use Rattle.run_stack.proofs.Stack.binary.Tie as tie
 
-sub-at : tie.Need-sub-at
-sub-at c = search needs
-
-mul-first : tie.Need-mul-first
-mul-first c = search needs
-
-array-copy-out-first : tie.Need-array-copy-out-first
-array-copy-out-first c = search needs
-
-binary-requires : tie.Need-binary-requires
-binary-requires c κs = search needs
-
 returns : tie.Need-returns
 returns c =
     let a = c .before .before .before .before .before .args in
@@ -35,4 +23,4 @@ returns c =
     (rw w (view-two (binaryWord (a .operator)) (a .self .top) (a .self .below) (a .self .height) (search needs)), search needs)
 
 pub binary-spec : {M : Type 1} → statement M
-binary-spec = tie.close (tie.spec sub-at mul-first array-copy-out-first binary-requires returns)
+binary-spec = tie.close (tie.spec (λ c. search needs) (λ c. search needs) (λ c. search needs) (λ c κs. search needs) returns)

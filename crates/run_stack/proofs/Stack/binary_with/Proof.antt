@@ -10,9 +10,6 @@ use borrow.Author.Needs.{needs}
 use Rattle.run_stack.proofs.Stack.binary_with.Statement.{statement}
 use Rattle.run_stack.proofs.Stack.binary_with.Tie as tie
 
-binary-requires : tie.Need-binary-requires
-binary-requires c κs = search needs
-
 returns : tie.Need-returns
 returns c =
     let s = c .before .before .before in
@@ -23,4 +20,4 @@ returns c =
     (rw w (view-with (binaryWord (a .operator)) (a .self .top) (a .w) (a .self .below) (a .self .height) (search needs)), refl)
 
 pub binary-with-spec : {M : Type 1} → statement M
-binary-with-spec = tie.close (tie.spec binary-requires returns)
+binary-with-spec = tie.close (tie.spec (λ c κs. search needs) returns)

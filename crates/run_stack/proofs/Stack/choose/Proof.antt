@@ -12,27 +12,6 @@ use borrow.Author.Needs.{needs}
 use Rattle.run_stack.proofs.Stack.choose.Statement.{statement}
 use Rattle.run_stack.proofs.Stack.choose.Tie as tie
 
-sub-at : tie.Need-sub-at
-sub-at c = search needs
-
-mul-condition : tie.Need-mul-condition
-mul-condition c = search needs
-
-array-copy-out-condition : tie.Need-array-copy-out-condition
-array-copy-out-condition c = search needs
-
-add-then : tie.Need-add-then
-add-then c = search needs
-
-mul-then : tie.Need-mul-then
-mul-then c = search needs
-
-array-copy-out-then : tie.Need-array-copy-out-then
-array-copy-out-then c = search needs
-
-choose-requires : tie.Need-choose-requires
-choose-requires c κs = search needs
-
 returns : tie.Need-returns
 returns c =
     let c3 = c .before .before .before in
@@ -51,12 +30,5 @@ returns c =
 pub choose-spec : {M : Type 1} → statement M
 choose-spec =
     tie.close
-    (tie.spec
-    sub-at
-    mul-condition
-    array-copy-out-condition
-    add-then
-    mul-then
-    array-copy-out-then
-    choose-requires
-    returns)
+    (tie.spec (λ c. search needs) (λ c. search needs) (λ c. search needs) (λ c. search needs) (λ c. search needs)
+    (λ c. search needs) (λ c κs. search needs) returns)

@@ -11,15 +11,6 @@ use borrow.Author.Needs.{needs}
 use Rattle.run_stack.proofs.Stack.pop.Statement.{statement}
 use Rattle.run_stack.proofs.Stack.pop.Tie as tie
 
-sub-at : tie.Need-sub-at
-sub-at c = search needs
-
-mul-top : tie.Need-mul-top
-mul-top c = search needs
-
-array-copy-out-top : tie.Need-array-copy-out-top
-array-copy-out-top c = search needs
-
 returns : tie.Need-returns
 returns c =
     let a = c .before .before .before .before .args in
@@ -29,4 +20,4 @@ returns c =
     (rw (t, u) (view-pop (a .self .top) (a .self .below) (a .self .height) (search needs)), search needs)
 
 pub pop-spec : {M : Type 1} → statement M
-pop-spec = tie.close (tie.spec sub-at mul-top array-copy-out-top returns)
+pop-spec = tie.close (tie.spec (λ c. search needs) (λ c. search needs) (λ c. search needs) returns)

@@ -9,15 +9,6 @@ use borrow.Author.Needs.{needs}
 use Rattle.run_stack.proofs.Stack.push.Statement.{statement}
 use Rattle.run_stack.proofs.Stack.push.Tie as tie
 
-mul-below : tie.Need-mul-below
-mul-below c = search needs
-
-array-set-from-below : tie.Need-array-set-from-below
-array-set-from-below c = search needs
-
-add-t6 : tie.Need-add-t6
-add-t6 c = search needs
-
 returns : tie.Need-returns
 returns c =
     let a = c .before .before .args in
@@ -26,4 +17,4 @@ returns c =
     (rw (w, t) (view-push (a .self .top) (a .self .below) (a .self .height) (a .w) (search needs)), refl)
 
 pub push-spec : {M : Type 1} → statement M
-push-spec = tie.close (tie.spec mul-below array-set-from-below add-t6 returns)
+push-spec = tie.close (tie.spec (λ c. search needs) (λ c. search needs) (λ c. search needs) returns)

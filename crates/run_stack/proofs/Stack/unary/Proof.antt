@@ -9,9 +9,6 @@ use borrow.Author.Needs.{needs}
 use Rattle.run_stack.proofs.Stack.unary.Statement.{statement}
 use Rattle.run_stack.proofs.Stack.unary.Tie as tie
 
-unary-requires : tie.Need-unary-requires
-unary-requires c κs = search needs
-
 returns : tie.Need-returns
 returns c =
     let a = c .before .before .before .args in
@@ -21,4 +18,4 @@ returns c =
     (rw w (view-one (unaryWord (a .operator)) (a .self .top) (a .self .below) (a .self .height) (search needs)), refl)
 
 pub unary-spec : {M : Type 1} → statement M
-unary-spec = tie.close (tie.spec unary-requires returns)
+unary-spec = tie.close (tie.spec (λ c κs. search needs) returns)

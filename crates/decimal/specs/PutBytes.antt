@@ -6,7 +6,7 @@ use lib.ListN.{length}
 use lib.Seq.{sets}
 
 -- The bytes stand in a buffer from `at` on, up to `end`; all else is as before.
-pub record Put (old : List ℕ) (at : ℕ) (bytes new : List ℕ) (end : ℕ) : Type 0 where
+pub record PutBytes (old : List ℕ) (at : ℕ) (bytes new : List ℕ) (end : ℕ) : Type 0 where
   pub holds : new ≡ sets old at bytes
   pub ends : end ≡ at + length bytes
   pub fits : end ≤ length new

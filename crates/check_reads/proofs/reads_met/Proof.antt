@@ -1,4 +1,4 @@
--- `check_reads::judge_reads` meets its contract. Assumes nothing.
+-- `check_reads::reads_met` meets its contract. Assumes nothing.
 use Prim.Native.Nat.{ℕ, _+_, _-_, _≤_, _<_}
 use mathlib.Core.List.{List}
 use mathlib.Core.Path.{_≡_, sym, ap, subst, _∙_}
@@ -35,8 +35,8 @@ use Rattle.text_program.proofs.ByIndex.{
 use Rattle.text_program.proofs.Rising.{allPlaces, rising-program}
 use Rattle.check_reads.specs.Met.{Below}
 use Rattle.check_reads.proofs.Judging.{unmet, unmet-there, all-unmet, one-read}
-use Rattle.check_reads.proofs.judge_reads.Statement.{statement}
-use Rattle.check_reads.proofs.judge_reads.Tie as tie
+use Rattle.check_reads.proofs.reads_met.Statement.{statement}
+use Rattle.check_reads.proofs.reads_met.Tie as tie
 
 -- What holds of every pair that the text and the tables are of.
 abbrev Claim : List ℕ → List ℕ → List ℕ → List ℕ → (Program → Schedule → Type 0) → Type 0
@@ -119,9 +119,6 @@ mul-wider c = omega (arith, c .before .before .before .before .pre .0)
 element-copy-out-wider : tie.Need-element-copy-out-wider Inv-loop2 μ-loop2 Inv-loop μ-loop
 element-copy-out-wider c = omega (arith, c .before .before .before .before .pre .0)
 
-wider-requires : tie.Need-wider-requires Inv-loop2 μ-loop2 Inv-loop μ-loop
-wider-requires c κs = search needs
-
 loop2-holds : tie.Need-loop2-holds Inv-loop2 μ-loop2 Inv-loop μ-loop
 loop2-holds c =
     let c3 = c .before .before .before in
@@ -147,24 +144,15 @@ mul-wider-2 c = omega (arith, c .loop2-test .taken, c .before .before .wider .en
 shared-slice-read-wider : tie.Need-shared-slice-read-wider Inv-loop2 μ-loop2 Inv-loop μ-loop
 shared-slice-read-wider c = here (c .before)
 
-wider-requires-2 : tie.Need-wider-requires-2 Inv-loop2 μ-loop2 Inv-loop μ-loop
-wider-requires-2 c κs = search needs
-
 taken-at-requires : tie.Need-taken-at-requires Inv-loop2 μ-loop2 Inv-loop μ-loop
 taken-at-requires c κs = subst (ReadStands _) (sym (c .wider2 .ensures .0)) (stands (c .before .before))
 
-judge-read-requires : tie.Need-judge-read-requires Inv-loop2 μ-loop2 Inv-loop μ-loop
-judge-read-requires c κs =
+read-met-requires : tie.Need-read-met-requires Inv-loop2 μ-loop2 Inv-loop μ-loop
+read-met-requires c κs =
     let c5 = c .before .before .before .before .before in
     let c10 = c5 .before .before .before .before .before in
     let c12 = c10 .before .before in
     c12 .pre .0
-
-enum-told : tie.Need-enum-told Inv-loop2 μ-loop2 Inv-loop μ-loop
-enum-told c = search needs
-
-enum-told-2 : tie.Need-enum-told-2 Inv-loop2 μ-loop2 Inv-loop μ-loop
-enum-told-2 c = search needs
 
 returns : tie.Need-returns Inv-loop2 μ-loop2 Inv-loop μ-loop
 unfolding judgementOf
@@ -178,7 +166,7 @@ returns c =
     (reader c7) _ (seen (ix c7) p e (reader c7) (i c7) (lt c7) (low c7) (high c7))
     (c8 .loop2 .inv .2 p e s order r t o) (one-read (ix c7) p e s order _ _ _ r t o (below c7) (reader c7) (i c7)
     (lt c7) (low c7) (high c7) _ (Judged.Refused _) _ (c5 .wider2 .ensures .0) (c4 .taken-at .ensures)
-    (λ q. sym (c .enum-told2 .given .1) ∙ c .before .before .judge-read .ensures q))))
+    (λ q. sym (c .enum-told2 .given .1) ∙ c .before .before .read-met .ensures q))))
 
 add-i : tie.Need-add-i Inv-loop2 μ-loop2 Inv-loop μ-loop
 add-i c =
@@ -205,7 +193,7 @@ loop2-again c =
           (i c7) (lt c7) (low c7) (high c7)) (c8 .loop2 .inv .2 p e s order r t o)
           (one-read (ix c7) p e s order _ _ _ r t o (below c7) (reader c7) (i c7) (lt c7) (low c7)
           (high c7) _ Judged.Fine _ (c5 .wider2 .ensures .0) (c4 .taken-at .ensures)
-          (λ q. sym (c .enum-told .given .1) ∙ c .before .before .judge-read .ensures q))),
+          (λ q. sym (c .enum-told .given .1) ∙ c .before .before .read-met .ensures q))),
     )
 
 add-reader : tie.Need-add-reader Inv-loop2 μ-loop2 Inv-loop μ-loop
@@ -241,32 +229,9 @@ returns-2 c =
     (omega (arith, counted (c .before .before .before .before .pre .2) p e, c .before .loop .inv .0, c .loop-test .left))
     (c .before .loop .inv .2 p e s order r t o)))
 
-pub judge-reads-spec : {M : Type 1} → statement M
-judge-reads-spec =
+pub reads-met-spec : {M : Type 1} → statement M
+reads-met-spec =
     tie.close
-    (tie.spec
-    Inv-loop2
-    μ-loop2
-    Inv-loop
-    μ-loop
-    loop-holds
-    add-wider
-    mul-wider
-    element-copy-out-wider
-    wider-requires
-    loop2-holds
-    mul-wider-2
-    shared-slice-read-wider
-    wider-requires-2
-    taken-at-requires
-    judge-read-requires
-    enum-told
-    enum-told-2
-    returns
-    add-i
-    loop2-less
-    loop2-again
-    add-reader
-    loop-less
-    loop-again
-    returns-2)
+    (tie.spec Inv-loop2 μ-loop2 Inv-loop μ-loop loop-holds add-wider mul-wider element-copy-out-wider (λ c κs. search needs)
+    loop2-holds mul-wider-2 shared-slice-read-wider (λ c κs. search needs) taken-at-requires read-met-requires
+    (λ c. search needs) (λ c. search needs) returns add-i loop2-less loop2-again add-reader loop-less loop-again returns-2)

@@ -1,14 +1,11 @@
--- `check_reads::judge_read` meets its contract. Assumes nothing.
+-- `check_reads::read_met` meets its contract. Assumes nothing.
 use mathlib.Core.Path.{sym, _∙_}
 use native.Mathlib.Omega.{arith}
 use borrow.Author.Tests.{lt-ltb, le-ltb}
 use Rattle.check_reads.specs.Met.{readMet}
 use borrow.Author.Needs.{needs}
-use Rattle.check_reads.proofs.judge_read.Statement.{statement}
-use Rattle.check_reads.proofs.judge_read.Tie as tie
-
-cast-read : tie.Need-cast-read
-cast-read c = search needs
+use Rattle.check_reads.proofs.read_met.Statement.{statement}
+use Rattle.check_reads.proofs.read_met.Tie as tie
 
 returns : tie.Need-returns
 unfolding readMet
@@ -22,27 +19,6 @@ returns-2 c = λ q. let a = c .before .before .before .args in
       le-ltb (a .reader) (a .signals) (c .if2 .taken),
     )
 
-element-copy-out-before : tie.Need-element-copy-out-before
-element-copy-out-before c = search needs
-
-element-copy-out-before-2 : tie.Need-element-copy-out-before-2
-element-copy-out-before-2 c = search needs
-
-element-copy-out-before-3 : tie.Need-element-copy-out-before-3
-element-copy-out-before-3 c = search needs
-
-element-copy-out-before-4 : tie.Need-element-copy-out-before-4
-element-copy-out-before-4 c = search needs
-
-element-copy-out-before-5 : tie.Need-element-copy-out-before-5
-element-copy-out-before-5 c = search needs
-
-element-copy-out-before-6 : tie.Need-element-copy-out-before-6
-element-copy-out-before-6 c = search needs
-
-is-met-requires : tie.Need-is-met-requires
-is-met-requires c κs = search needs
-
 returns-3 : tie.Need-returns-3
 unfolding readMet
 returns-3 c = λ q.
@@ -53,9 +29,6 @@ returns-3 c = λ q.
       lt-ltb (a .reader) (a .signals) (omega (arith, e .if2 .left)),
       sym (c .before .is-met .ensures q) ∙ c .if3 .taken,
     )
-
-refuse-requires : tie.Need-refuse-requires
-refuse-requires c κs = search needs
 
 returns-4 : tie.Need-returns-4
 unfolding readMet
@@ -72,20 +45,9 @@ returns-4 c =
           c .before .if3 .left,
     ) (c .refuse .ensures)
 
-pub judge-read-spec : {M : Type 1} → statement M
-judge-read-spec =
+pub read-met-spec : {M : Type 1} → statement M
+read-met-spec =
     tie.close
-    (tie.spec
-    cast-read
-    returns
-    returns-2
-    element-copy-out-before
-    element-copy-out-before-2
-    element-copy-out-before-3
-    element-copy-out-before-4
-    element-copy-out-before-5
-    element-copy-out-before-6
-    is-met-requires
-    returns-3
-    refuse-requires
+    (tie.spec (λ c. search needs) returns returns-2 (λ c. search needs) (λ c. search needs) (λ c. search needs)
+    (λ c. search needs) (λ c. search needs) (λ c. search needs) (λ c κs. search needs) returns-3 (λ c κs. search needs)
     returns-4)
