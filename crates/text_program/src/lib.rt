@@ -92,78 +92,84 @@ fn too_deep(text: &[u8], at: usize) -> Walked
     }
 }
 
-// Reads the expression at `at`, which may nest `depth` deep. Keeps the offset of each of its reads in `reads`, from `count` on, and
-// counts the bytes of its code, from `to` on. The text goes by a reference to its slice, which no level of the recursion has to copy.
-pub fn read_expression(
+// Reads an operator that has no operands: a leaf, or what is refused. Keeps the offset of a read in the table.
+fn read_leaf(operator: Operator, size: usize, walk: Walk, reads: &mut [u16]) -> Walked
+{
+    match operator {
+        Operator::EndsEarly => refuse_walk(2, size),
+        Operator::OutOfRange => refuse_walk(5, walk.at),
+        Operator::Constant(_) => moved_on(
+            walk.at + width::in_expression(0x20),
+            walk.reads,
+            walk.code + width::in_code(0x50),
+        ),
+        Operator::Read(kind, _) => {
+            reads[walk.reads] = walk.at as u16;
+            moved_on(
+                walk.at + width::of_read(kind),
+                walk.reads + 1,
+                walk.code + width::in_code(0x51),
+            )
+        }
+        _ => refuse_walk(3, walk.at),
+    }
+}
+
+// How many operands an operator has.
+fn operands_of(operator: Operator) -> usize
+{
+    match operator {
+        Operator::Binary(_) => 2,
+        Operator::Unary(_) => 1,
+        Operator::If => 3,
+        _ => 0,
+    }
+}
+
+pub fn read_expressions(
     least: u8,
     text: &&[u8],
+    number: usize,
     at: usize,
     count: usize,
     to: usize,
     depth: usize,
     reads: &mut [u16],
 ) -> Walked
-    requires { ⌜ WalkRoom (length (now (now text))) at count to (length (now reads)) ⌝ }
-    ensures { λ r. ⌜ Walks (parseExpr least depth (now (now (text .entry))) at) (now (reads .entry)) count to (now (reads .exit)) r ⌝ }
 {
-    if depth == 0 {
-        return too_deep(*text, at);
-    }
-    let operator = text_command::operator_from(least, *text, at);
-    match operator {
-        Operator::EndsEarly => refuse_walk(2, text.len()),
-        Operator::Unknown => refuse_walk(3, at),
-        Operator::OutOfRange => refuse_walk(5, at),
-        Operator::Constant(_) => moved_on(
-            at + width::in_expression(0x20),
-            count,
-            to + width::in_code(0x50),
-        ),
-        Operator::Read(kind, _) => {
-            reads[count] = at as u16;
-            moved_on(
-                at + width::of_read(kind),
-                count + 1,
-                to + width::in_code(0x51),
+    let mut walk = Walk {
+        at: at,
+        reads: count,
+        code: to,
+    };
+    let mut left = number;
+    while 0 < left {
+        if depth == 0 {
+            return too_deep(*text, walk.at);
+        }
+        let operator = text_command::operator_from(least, *text, walk.at);
+        let operands = operands_of(operator);
+        let step = if operands == 0 {
+            read_leaf(operator, text.len(), walk, reads)
+        } else {
+            read_expressions(
+                least,
+                text,
+                operands,
+                walk.at + width::in_expression(0x30),
+                walk.reads,
+                walk.code + width::in_code(0x30),
+                depth - 1,
+                reads,
             )
-        }
-        Operator::Binary(_) => {
-            let first_at = at + width::in_expression(0x30);
-            let first = read_expression(least, text, first_at, count, to, depth - 1, reads);
-            let Walked::Next(a) = first else {
-                return first;
-            };
-            let second = read_expression(least, text, a.at, a.reads, a.code, depth - 1, reads);
-            let Walked::Next(b) = second else {
-                return second;
-            };
-            moved_on(b.at, b.reads, b.code + width::in_code(0x30))
-        }
-        Operator::Unary(_) => {
-            let operand_at = at + width::in_expression(0x38);
-            let operand = read_expression(least, text, operand_at, count, to, depth - 1, reads);
-            let Walked::Next(a) = operand else {
-                return operand;
-            };
-            moved_on(a.at, a.reads, a.code + width::in_code(0x38))
-        }
-        Operator::If => {
-            let condition_at = at + width::in_expression(0x3A);
-            let condition = read_expression(least, text, condition_at, count, to, depth - 1, reads);
-            let Walked::Next(a) = condition else {
-                return condition;
-            };
-            let first = read_expression(least, text, a.at, a.reads, a.code, depth - 1, reads);
-            let Walked::Next(b) = first else {
-                return first;
-            };
-            let second = read_expression(least, text, b.at, b.reads, b.code, depth - 1, reads);
-            let Walked::Next(d) = second else {
-                return second;
-            };
-            moved_on(d.at, d.reads, d.code + width::in_code(0x3A))
-        }
+        };
+        let Walked::Next(next) = step else {
+            return step;
+        };
+        walk = next;
+        left = left - 1;
     }
+    Walked::Next(walk)
 }
 
 // What reading the LINKs of a chain finds: how many there are and where they end, or the refusal.
@@ -315,7 +321,7 @@ fn equation_step(
     ensures { λ r. ⌜ WalksEquation (parseExpr least 16 (now (text .entry)) (at + inProgram 0x11)) entry (now (reads .entry)) count to (now (reads .exit)) r ⌝ }
 {
     let start = at + width::in_program(0x11);
-    let walked = read_expression(least, &text, start, count, to, 16, reads);
+    let walked = read_expressions(least, &text, 1, start, count, to, 16, reads);
     let Walked::Next(w) = walked else {
         return step_of_walked(walked);
     };
