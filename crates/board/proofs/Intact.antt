@@ -15,11 +15,40 @@ use Rattle.model.specs.Rules.Outcome.{accepted, refused}
 use Rattle.model.specs.declared.Fault.{Fault}
 use Rattle.image_valid.proofs.Parts.{stretch-length}
 use Rattle.board.specs.Board.{vacant, placeAt, placeWords, placeSamples, placeWith, loadedAt, resetIn, runOf, took}
-use Rattle.board.specs.Events.{Event, load, mark, turn, change, Scene, turnIn, afterEvent, Throughout, imageAt, Untouched, RunFault, outside, NotFailed, loadBy}
+use Rattle.board.specs.Events.{
+  Event,
+  load,
+  mark,
+  turn,
+  change,
+  Scene,
+  turnIn,
+  afterEvent,
+  Throughout,
+  imageAt,
+  Untouched,
+  RunFault,
+  outside,
+  NotFailed,
+  loadBy,
+}
 use Rattle.board.specs.declared.Board.{Board}
 use Rattle.board.specs.declared.Place.{Place}
 use Rattle.board.proofs.Alone.{stretchOf, Leaves, same, stepped, event-leaves, reset-in-length}
-use Rattle.board.proofs.Cases.{LoadCase, load-stays, load-does, TurnCase, turn-stays, turn-idles, turn-takes, load-case, turn-case, callAnswer, runBy, answered}
+use Rattle.board.proofs.Cases.{
+  LoadCase,
+  load-stays,
+  load-does,
+  TurnCase,
+  turn-stays,
+  turn-idles,
+  turn-takes,
+  load-case,
+  turn-case,
+  callAnswer,
+  runBy,
+  answered,
+}
 use Rattle.board.proofs.Stretch.{
   answerOf,
   leftOf,

@@ -52,7 +52,8 @@ pub record Decided (text : List ℕ) (tables : Tables) (periods phases : List �
   pub small : (i : ℕ) → i < windowBy h (periodAt periods (route .last)) →
       Small (route .hops) (route .count) (route .count * windowBy h (periodAt periods (route .last)) + i)
   pub same :
-      timelyBy (chainAt p chain .mode) (chainAt p chain .bound) (route .hops) (route .count) (rateWithin periods phases (route .last))
+      timelyBy (chainAt p chain .mode) (chainAt p chain .bound) (route .hops) (route .count)
+      (rateWithin periods phases (route .last))
       (rateWithin periods phases (route .source)) (route .count * windowBy h (periodAt periods (route .last)))
       (windowBy h (periodAt periods (route .last))) ≡
       keeps p s h (chainAt p chain)

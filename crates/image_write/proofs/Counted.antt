@@ -94,7 +94,8 @@ module _ (periods order phases : List ℕ) (n h : ℕ) where
   length-step i lt v =
       let x = getD order i 0 in
       let a = rateAt periods phases x in
-      joined-add (from i) (λ c. runEntry (due a c) x) (from (i + 1)) (λ c. parts-length (list-step periods order phases n c i lt)) h
+      joined-add (from i) (λ c. runEntry (due a c) x) (from (i + 1))
+      (λ c. parts-length (list-step periods order phases n c i lt)) h
       ∙
       ap (λ (m : ℕ). m + length (joined (table h (from (i + 1))))) (runs-counted a x v h)
 

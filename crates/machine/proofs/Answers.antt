@@ -6,7 +6,18 @@ use Prim.Native.Nat.{ℕ}
 use lib.Dec.{leb, ltb}
 use lib.IntN.{ℤ, pos}
 use lib.ListN.{length, getD}
-use Rattle.model.specs.Rules.Machine.{hyperOf, countOf, wellFormed, isPosition, resetWords, cycleWords, cycleCount, Effect, resetOf, cycleOf}
+use Rattle.model.specs.Rules.Machine.{
+  hyperOf,
+  countOf,
+  wellFormed,
+  isPosition,
+  resetWords,
+  cycleWords,
+  cycleCount,
+  Effect,
+  resetOf,
+  cycleOf,
+}
 use Rattle.model.specs.Rules.Outcome.{Outcome, accepted, refuse, _▷_, provided}
 use Rattle.model.proofs.Images.Tails.{part-is, lent-ok, bears-itself}
 use Rattle.image_valid.specs.Lends.{Lends}
@@ -19,7 +30,8 @@ abbrev pub done : ℕ → List ℤ → Effect ℕ ℤ
 done n state = record { answer = accepted n; left = state }
 
 -- what a call that was refused, or has done its job, hands back
-pub gives-refusal : {e : Effect ℕ ℤ} {number : ℕ} {state : List ℤ} {a : Outcome ℕ} → e ≡ refusal number state → a ≡ refuse number 0
+pub gives-refusal : {e : Effect ℕ ℤ} {number : ℕ} {state : List ℤ} {a : Outcome ℕ} →
+    e ≡ refusal number state → a ≡ refuse number 0
     → (a ≡ e .answer) × (state ≡ e .left)
 gives-refusal q h = (h ∙ sym (ap (λ (e : Effect ℕ ℤ). e .answer) q), sym (ap (λ (e : Effect ℕ ℤ). e .left) q))
 

@@ -9,7 +9,18 @@ use lib.IntN.{ℤ, pos}
 use lib.ListN.{length, getD, length-append, length-drop}
 use lib.Seq.{getD-set-same}
 use Rattle.model.specs.Says.Calls.{cycle, callOf}
-use Rattle.model.specs.Rules.Machine.{hyperOf, countOf, wellFormed, positionOf, nextPosition, listOf, runSignals, cycleWords, resetWords, Effect}
+use Rattle.model.specs.Rules.Machine.{
+  hyperOf,
+  countOf,
+  wellFormed,
+  positionOf,
+  nextPosition,
+  listOf,
+  runSignals,
+  cycleWords,
+  resetWords,
+  Effect,
+}
 use Rattle.model.proofs.Images.Cycles.{position-is, next-inside, run-length, cycle-length}
 use Rattle.model.proofs.Images.Stretches.{table-length}
 use Rattle.image_valid.proofs.Parts.{head, formed}

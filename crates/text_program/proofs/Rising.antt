@@ -6,7 +6,19 @@ use native.Mathlib.Omega.{arith}
 use Rattle.model.specs.Says.Feasible.{All}
 use Rattle.model.specs.Says.Grammar.{Spells, SpellsLinks, DeclaresOne, Declares}
 use Rattle.model.specs.Rules.Outcome.{accepted}
-use Rattle.model.specs.Rules.Program.{leastFactor, Expr, Signal, Link, Chain, Program, withSignal, withChain, readsOf, bodyReads, parseProgram}
+use Rattle.model.specs.Rules.Program.{
+  leastFactor,
+  Expr,
+  Signal,
+  Link,
+  Chain,
+  Program,
+  withSignal,
+  withChain,
+  readsOf,
+  bodyReads,
+  parseProgram,
+}
 use Rattle.model.specs.Rules.Search.{joinFrom}
 use Rattle.model.proofs.Texts.Legal.{links-end}
 use Rattle.model.proofs.Basics.Outcomes.{joinFrom-append}

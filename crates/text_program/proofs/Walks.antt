@@ -248,5 +248,6 @@ pub equation-walks : (o : Outcome (Parsed Expr)) {l l′ : List ℕ} {count to :
 unfolding WalksBy EquationBy
 equation-walks (accepted x) w e h =
     let a = w .by .0 in
-    record { by = (record { at = a .at; reads = a .reads; code = a .code + 2 }, h ∙ ap (equationStep e) (w .by .1), longer 2 (w .by .2)) }
+    let more : Walk = record { at = a .at; reads = a .reads; code = a .code + 2 } in
+    record { by = (more, h ∙ ap (equationStep e) (w .by .1), longer 2 (w .by .2)) }
 equation-walks (refused f) w e h = record { by = h ∙ ap (equationStep e) (w .by) }

@@ -12,7 +12,18 @@ use Rattle.model.specs.Says.Feasible.{All}
 use Rattle.model.specs.Rules.Outcome.{Outcome, accepted, refused, fault, _▷_, provided, lowest, Parsed}
 use Rattle.model.specs.Rules.Program.{Program, count, signalAt}
 use Rattle.model.specs.Rules.Reads.{rank}
-use Rattle.model.specs.Rules.Schedule.{Schedule, Put, scheduleCommandAt, isPut, putFaults, putsFaults, putPhase, scheduleOf, placed, parseSchedule}
+use Rattle.model.specs.Rules.Schedule.{
+  Schedule,
+  Put,
+  scheduleCommandAt,
+  isPut,
+  putFaults,
+  putsFaults,
+  putPhase,
+  scheduleOf,
+  placed,
+  parseSchedule,
+}
 use Rattle.model.specs.Rules.Search.{allBelow}
 use Rattle.model.specs.declared.Fault.{Fault}
 use Rattle.model.specs.declared.ScheduleCommand.{ScheduleCommand}

@@ -134,7 +134,8 @@ use Rattle.theorems.specs.Examples.{ExamplesHold}
 
 -- The definitions answer every question of the table as the paper does.
 pub examples : ExamplesHold
-unfolding _▷_ provided lowest firstFrom firstBelow allBelow tableFrom table chosen joinFrom sum bitsOf wordOf nearest addWord subWord
+unfolding _▷_ provided lowest firstFrom firstBelow allBelow tableFrom table chosen joinFrom sum bitsOf wordOf nearest addWord
+    subWord
     mulWord negWord lessWord sameWord minWord maxWord ifWord twoAt fourAt wordAt twoBytes fourBytes wordBytes declarationOf
     declarationAt plainRead sampledRead operatorOf operatorAt operatorHere node parseExpr parseLinks declare roomFor
     declarationHere parseCommands parseWith readsOf readFaults linkFaults declaredAndRated isMultiple hypercycle countReads

@@ -175,7 +175,8 @@ module _ (image text : List ℕ) (r : Prepared) (formed : wellFormed image ≡ t
   start-is : startOf image ≡ resetWords image zeros
   unfolding zeros
   start-is =
-      ap (λ (e : Effect ℕ ℤ). e .left) (reset-done (lends-itself formed) zeros formed (lt-ltb (countOf image) (length zeros) long))
+      ap (λ (e : Effect ℕ ℤ). e .left)
+      (reset-done (lends-itself formed) zeros formed (lt-ltb (countOf image) (length zeros) long))
 
   runnable : Runnable image (startOf image) noSamples
   runnable =

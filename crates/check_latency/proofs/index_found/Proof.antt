@@ -10,4 +10,5 @@ cast-result : tie.Need-cast-result
 cast-result c = omega (arith, subst ByteFound (c .before .found .given .1) (c .before .before .before .pre))
 
 pub index-found-spec : {M : Type 1} → statement M
-index-found-spec = tie.close (tie.spec (λ c. search needs) cast-result (λ c. search needs) (λ c. search needs) (λ c. search needs))
+index-found-spec = tie.close
+    (tie.spec (λ c. search needs) cast-result (λ c. search needs) (λ c. search needs) (λ c. search needs))

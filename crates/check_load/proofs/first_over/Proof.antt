@@ -14,7 +14,8 @@ use Rattle.check_load.proofs.first_over.Tie as tie
 abbrev Inv-loop : tie.InvT-loop
 Inv-loop loads limit hypercycle cycle₀ cycle =
     (hypercycle ≤ 240) ×
-    (firstBelow hypercycle (λ c. ltb limit (getD loads c 0)) ≡ firstFrom cycle (hypercycle - cycle) (λ c. ltb limit (getD loads c 0)))
+    (firstBelow hypercycle (λ c. ltb limit (getD loads c 0)) ≡
+    firstFrom cycle (hypercycle - cycle) (λ c. ltb limit (getD loads c 0)))
 
 abbrev μ-loop : tie.MeasureT-loop
 μ-loop loads limit hypercycle cycle₀ cycle = hypercycle - cycle

@@ -12,7 +12,23 @@ use Rattle.basics.specs.Judgement.{judgementOf}
 use Rattle.text_command.specs.Operator.{ReadStands}
 use Rattle.text_program.specs.Tables.{PeriodsOf, Indexed}
 use Rattle.basics.specs.declared.Judged.the-variants as Judged
-use Rattle.text_program.proofs.ByIndex.{Ahead, Before, reads-in, check-starts, check-enters, check-leaves, check-ends, check-passes, check-refuses, counted, all-seen, seen, in-table, read-stands, rises-at}
+use Rattle.text_program.proofs.ByIndex.{
+  Ahead,
+  Before,
+  reads-in,
+  check-starts,
+  check-enters,
+  check-leaves,
+  check-ends,
+  check-passes,
+  check-refuses,
+  counted,
+  all-seen,
+  seen,
+  in-table,
+  read-stands,
+  rises-at,
+}
 use Rattle.text_program.proofs.Rising.{allPlaces, rising-program}
 use Rattle.check_rates.specs.Answers.{readRates}
 use Rattle.check_rates.proofs.Judging.{readAs, read-there, all-rates, one-read}

@@ -16,7 +16,8 @@ use Rattle.decimal.proofs.put_line.Statement.{statement}
 use Rattle.decimal.proofs.put_line.Tie as tie
 
 abbrev Inv-loop : tie.InvT-loop
-Inv-loop out₀ number words at₀ i₀ out at i = PutBytes out₀ at₀ (spaced (take i words)) out at × (i ≤ length words) × (at ≤ 10 + 12 * i)
+Inv-loop out₀ number words at₀ i₀ out at i =
+    PutBytes out₀ at₀ (spaced (take i words)) out at × (i ≤ length words) × (at ≤ 10 + 12 * i)
 
 abbrev μ-loop : tie.MeasureT-loop
 μ-loop out₀ number words at₀ i₀ out at i = length words - i

@@ -15,4 +15,6 @@ returns c = record { goes = refl; ends = omega arith; holds = simp towards-suc }
 
 pub put-access-spec : {M : Type 1} → statement M
 put-access-spec =
-    tie.close (tie.spec (λ c. search needs) (λ c. search needs) slice-write-out-2 (λ c κs. search needs) (λ c. search needs) (λ c. search needs) returns)
+    tie.close
+    (tie.spec (λ c. search needs) (λ c. search needs) slice-write-out-2 (λ c κs. search needs) (λ c. search needs)
+    (λ c. search needs) returns)

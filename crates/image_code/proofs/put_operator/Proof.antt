@@ -9,4 +9,5 @@ returns : tie.Need-returns
 returns c = record { goes = refl; ends = omega arith; holds = refl }
 
 pub put-operator-spec : {M : Type 1} → statement M
-put-operator-spec = tie.close (tie.spec (λ c. search needs) (λ c κs. search needs) (λ c. search needs) (λ c. search needs) returns)
+put-operator-spec = tie.close
+    (tie.spec (λ c. search needs) (λ c κs. search needs) (λ c. search needs) (λ c. search needs) returns)

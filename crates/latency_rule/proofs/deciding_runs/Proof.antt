@@ -18,4 +18,5 @@ returns-5 c =
 
 pub deciding-runs-spec : {M : Type 1} → statement M
 deciding-runs-spec =
-    tie.close (tie.spec (λ c. search needs) (λ c. search needs) (λ c. search needs) (λ c κs. search needs) (λ c. search needs) returns-5)
+    tie.close
+    (tie.spec (λ c. search needs) (λ c. search needs) (λ c. search needs) (λ c κs. search needs) (λ c. search needs) returns-5)

@@ -8,4 +8,5 @@ slice-aggregate-tail : tie.Need-slice-aggregate-tail
 slice-aggregate-tail c = taken _ _ (search needs)
 
 pub call-tail-spec : {M : Type 1} → statement M
-call-tail-spec = tie.close (tie.spec (λ c κs. search needs) (λ c. search needs) slice-aggregate-tail (λ c κs. search needs) (λ c. search needs))
+call-tail-spec = tie.close
+    (tie.spec (λ c κs. search needs) (λ c. search needs) slice-aggregate-tail (λ c κs. search needs) (λ c. search needs))

@@ -24,4 +24,5 @@ returns-2 c =
     rw (le-leb (a .at + 5) (length s) (omega arith), c .four-at .ensures)
 
 pub cap-at-spec : {M : Type 1} → statement M
-cap-at-spec = tie.close (tie.spec (λ c. search needs) (λ c κs. search needs) returns (λ c. search needs) (λ c κs. search needs) returns-2)
+cap-at-spec = tie.close
+    (tie.spec (λ c. search needs) (λ c κs. search needs) returns (λ c. search needs) (λ c κs. search needs) returns-2)

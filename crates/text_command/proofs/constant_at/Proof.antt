@@ -25,4 +25,5 @@ returns-2 c =
     rw (le-leb (a .at + 5) (length s) (omega arith), kept _ (c .word-at .ok), c .word-at .ensures)
 
 pub constant-at-spec : {M : Type 1} → statement M
-constant-at-spec = tie.close (tie.spec (λ c. search needs) (λ c κs. search needs) returns (λ c. search needs) (λ c κs. search needs) returns-2)
+constant-at-spec = tie.close
+    (tie.spec (λ c. search needs) (λ c κs. search needs) returns (λ c. search needs) (λ c κs. search needs) returns-2)

@@ -24,4 +24,5 @@ returns-2 c =
     rw (le-leb (a .at + 2) (length s) (omega arith))
 
 pub link-at-spec : {M : Type 1} → statement M
-link-at-spec = tie.close (tie.spec (λ c. search needs) (λ c κs. search needs) returns (λ c. search needs) (λ c. search needs) returns-2)
+link-at-spec = tie.close
+    (tie.spec (λ c. search needs) (λ c κs. search needs) returns (λ c. search needs) (λ c. search needs) returns-2)

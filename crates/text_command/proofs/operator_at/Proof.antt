@@ -55,8 +55,8 @@ returns-5 c =
     let s = c .before .before .before .before .before in
     let no = c .before .before .match .rest in
     let byte = byteAt (now (s .args .text)) (s .args .at) in
-    let r = stands-binary (s .pre) (no .0 .0 .1)
-    (apart {b = byte} (c .before .if1 .came) (λ t. omega (arith, t .taken)) (λ p. omega (arith, p .1 .left))) (no .0 .1) (no .1) in
+    let read = apart {b = byte} (c .before .if1 .came) (λ t. omega (arith, t .taken)) (λ p. omega (arith, p .1 .left)) in
+    let r = stands-binary (s .pre) (no .0 .0 .1) read (no .0 .1) (no .1) in
     ap Operator.Binary (c .binary-of .ensures) ∙ sym (binary-is _ _ byte (r .0) (r .1)) ∙ here s
 
 pub operator-at-spec : {M : Type 1} → statement M

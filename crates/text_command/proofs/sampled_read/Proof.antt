@@ -79,7 +79,8 @@ returns-5 : tie.Need-returns-5
 unfolding sampledRead
 returns-5 c =
     let e = c .before .before in
-    rw (whole e, factor e, index e, bounded e (sampledAt (text e) (at e)) ∙ le-leb _ _ (c .before .if4 .left), c .index-of .ensures)
+    let above = bounded e (sampledAt (text e) (at e)) ∙ le-leb _ _ (c .before .if4 .left) in
+    rw (whole e, factor e, index e, above, c .index-of .ensures)
 
 pub sampled-read-spec : {M : Type 1} → statement M
 sampled-read-spec =

@@ -24,4 +24,5 @@ returns-2 c =
     rw (le-leb (a .at + 3) (length s) (omega arith), c .two-at .ensures)
 
 pub tag-at-spec : {M : Type 1} → statement M
-tag-at-spec = tie.close (tie.spec (λ c. search needs) (λ c κs. search needs) returns (λ c. search needs) (λ c κs. search needs) returns-2)
+tag-at-spec = tie.close
+    (tie.spec (λ c. search needs) (λ c κs. search needs) returns (λ c. search needs) (λ c κs. search needs) returns-2)

@@ -170,10 +170,10 @@ cast-reads : (t : ℕ) → lts.Need-cast-reads (known t) (given t) own.Post
 cast-reads t c = omega (arith, read-fits t (c .before .before .before) (c .before .operator .given .1) .0)
 
 mul-reads : (t : ℕ) → lts.Need-mul-reads (known t) (given t) own.Post
-mul-reads t c = omega (arith, read-fits t (c .before .before .before) (c .before .operator .given .1) .1 .1)
+mul-reads t c = omega (arith, read-fits t (c .before .before .before) (c .before .operator .given .1) .2)
 
 slice-write-reads : (t : ℕ) → lts.Need-slice-write-reads (known t) (given t) own.Post
-slice-write-reads t c = omega (arith, read-fits t (c .before .before .before) (c .before .operator .given .1) .1 .0)
+slice-write-reads t c = omega (arith, read-fits t (c .before .before .before) (c .before .operator .given .1) .1)
 
 add-moved-on-3 : (t : ℕ) → lts.Need-add-moved-on-3 (known t) (given t) own.Post
 add-moved-on-3 t c =
@@ -183,7 +183,7 @@ add-moved-on-3 t c =
 add-moved-on-4 : (t : ℕ) → lts.Need-add-moved-on-4 (known t) (given t) own.Post
 add-moved-on-4 t c =
     let f = read-fits t (c .before .before .before .before) (c .before .before .operator .given .1) in
-    omega (arith, f .1 .1)
+    omega (arith, f .2)
 
 add-moved-on-5 : (t : ℕ) → lts.Need-add-moved-on-5 (known t) (given t) own.Post
 add-moved-on-5 t c =

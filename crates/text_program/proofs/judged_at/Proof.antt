@@ -18,4 +18,5 @@ returns-3 c = rw (c .before .step2 .given .1)
 
 pub judged-at-spec : {M : Type 1} → statement M
 judged-at-spec =
-    tie.close (tie.spec (λ c. search needs) (λ c κs. search needs) (λ c. search needs) (λ c. search needs) returns returns-2 returns-3)
+    tie.close
+    (tie.spec (λ c. search needs) (λ c κs. search needs) (λ c. search needs) (λ c. search needs) returns returns-2 returns-3)

@@ -10,7 +10,23 @@ use native.Mathlib.Omega.{arith}
 use borrow.Author.Tests.{leb-true, ltb-false, le-leb, le-ltb, not-true}
 use lib.ListN.{length}
 use Rattle.model.specs.Says.Feasible.{Met, Feasible, Multiple, All}
-use Rattle.model.specs.Rules.Latency.{onward, used, back, source, latencyOf, latencyFrom, runLatency, isLate, isInTime, fromOf, windowOf, readsBack, backwards, keepsFrom, keeps}
+use Rattle.model.specs.Rules.Latency.{
+  onward,
+  used,
+  back,
+  source,
+  latencyOf,
+  latencyFrom,
+  runLatency,
+  isLate,
+  isInTime,
+  fromOf,
+  windowOf,
+  readsBack,
+  backwards,
+  keepsFrom,
+  keeps,
+}
 use Rattle.model.specs.Rules.Program.{Program, Read, count, signalAt, Chain}
 use Rattle.model.specs.Rules.Reads.{rateOf, runCycle, stored}
 use Rattle.model.specs.Rules.Schedule.{Schedule}
