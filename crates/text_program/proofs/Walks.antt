@@ -1,30 +1,16 @@
 -- Laws of reading an expression with its reads kept. Assumes nothing.
 use mathlib.Core.Path.{_≡_, refl, ap, subst, _∙_}
-use mathlib.Core.List.{List, [], _∷_, _++_, map-append}
-use Prim.Native.Nat.{ℕ, _+_, _*_, _≤_}
+use mathlib.Core.List.{List, _++_, map-append, append-nil}
+use Prim.Native.Nat.{ℕ, zero, suc, _+_, _*_, _≤_}
 use native.Mathlib.Omega.{arith}
-use lib.IntN.{ℤ}
-use lib.ListN.{length, length-append, set}
+use lib.ListN.{length, length-append}
 use lib.Seq.{sets, length-sets}
 use Rattle.model.specs.Says.Grammar.{Spells}
-use Rattle.model.specs.Rules.Image.{unaryByte, exprCode}
-use Rattle.model.specs.Rules.Outcome.{Outcome, accepted, refused, refuse, _▷_, Parsed, parsed}
-use Rattle.model.specs.Rules.Program.{
-  Read,
-  Expr,
-  constant,
-  read,
-  binary,
-  unary,
-  choose,
-  operatorHere,
-  parseExpr,
-  readsOf,
-}
+use Rattle.model.specs.Rules.Image.{exprCode}
+use Rattle.model.specs.Rules.Outcome.{Outcome, accepted, refused, _▷_, Parsed, parsed}
+use Rattle.model.specs.Rules.Program.{Expr, operatorHere, parseExpr, readsOf}
 use Rattle.model.specs.Rules.Width.{readWidth}
 use Rattle.model.specs.Rules.Word.{wordBytes, fourBytes}
-use Rattle.model.specs.declared.Binary.{Binary}
-use Rattle.model.specs.declared.Unary.{Unary}
 use Rattle.model.specs.declared.Fault.{Fault}
 use Rattle.model.specs.declared.Kind.{Kind}
 use Rattle.model.specs.declared.Kind.the-variants.{Now, Last, When, LastWhen, Current}
@@ -32,7 +18,20 @@ use Rattle.model.proofs.Texts.Commands.{operator-sound}
 use Rattle.model.proofs.Texts.Spelled.{spelled}
 use Rattle.model.proofs.Texts.Written.{operator-decoded}
 use Rattle.model.proofs.Images.Stretches.{sets-append}
-use Rattle.text_program.specs.Walks.{placesOf, WalkRoom, Moves, WalksBy, Walks, EquationBy, WalksEquation, deepOf}
+use Rattle.text_program.specs.Walks.{
+  placesOf,
+  WalkRoom,
+  Moves,
+  Outline,
+  outlineOf,
+  before,
+  outlines,
+  WalksBy,
+  Walks,
+  EquationBy,
+  WalksEquation,
+  deepOf,
+}
 use Rattle.text_program.specs.declared.Entry.{Entry}
 use Rattle.text_program.specs.declared.Step.{Step}
 use Rattle.text_program.specs.declared.Step.the-variants as Step
@@ -62,15 +61,24 @@ pub longer : {l l₁ xs : List ℕ} {n a count to : ℕ} {w : Walk} (k : ℕ) �
     Moves n xs (a + k) l count to l₁ (record { at = w .at; reads = w .reads; code = w .code + k })
 longer k p = record { goes = p .goes; counts = p .counts; codes = omega (arith, p .codes); holds = p .holds }
 
--- What is refused, and what is read.
-pub walks-refused : {l l′ : List ℕ} {count to : ℕ} {r : Walked} {f : Fault} (o : Outcome (Parsed Expr)) → o ≡ refused f →
+pub alike : {xs ys : List ℕ} {a b n : ℕ} → xs ≡ ys → a ≡ b →
+    _≡_ {A = Outline} (record { places = xs; code = a; next = n }) (record { places = ys; code = b; next = n })
+alike e f = rw (e, f) refl
+
+-- What is refused, and what is passed over.
+pub walks-refused : {l l′ : List ℕ} {count to : ℕ} {r : Walked} {f : Fault} (o : Outcome Outline) → o ≡ refused f →
     r ≡ Walked.Refused f → Walks o l count to l′ r
 unfolding WalksBy
 walks-refused o e g = record { by = rw e g }
 
--- An operand that is refused is the answer.
-pub stop : (o : Outcome (Parsed Expr)) (k : Parsed Expr → Outcome (Parsed Expr)) {l l₁ l′ l₂ : List ℕ} {c t c′ t′ : ℕ}
-    {r : Walked} {f : Fault} → Walks o l c t l₁ r → r ≡ Walked.Refused f → Walks (o ▷ k) l′ c′ t′ l₂ r
+pub walks-over : {l l′ : List ℕ} {count to : ℕ} {r : Walked} {w : Walk} (o : Outcome Outline) (x : Outline) → o ≡ accepted x →
+    r ≡ Walked.Next w → Moves (x .next) (x .places) (x .code) l count to l′ w → Walks o l count to l′ r
+unfolding WalksBy
+walks-over {w = w} o x e g m = record { by = rw e (w, g, m) }
+
+-- An expression that is refused is the answer.
+stop : (o : Outcome Outline) (k : Outline → Outcome Outline) {l l₁ l′ l₂ : List ℕ} {c t c′ t′ : ℕ} {r : Walked} {f : Fault} →
+    Walks o l c t l₁ r → r ≡ Walked.Refused f → Walks (o ▷ k) l′ c′ t′ l₂ r
 unfolding _▷_ WalksBy
 stop (accepted x) k {r = r} {f = f} w g =
     let e = w .by .1 in
@@ -78,79 +86,67 @@ stop (accepted x) k {r = r} {f = f} w g =
     absurd (omega arith)
 stop (refused q) k w g = record { by = w .by }
 
--- After an operand that is read the rest decides.
-abbrev pub Read-as : Expr → List ℕ → ℕ → ℕ → List ℕ → Walk → Type 0
-Read-as v l count to l′ w = Moves (w .at) (placesOf (readsOf v)) (length (exprCode v)) l count to l′ w
-
-pub go-on : (o : Outcome (Parsed Expr)) (k : Parsed Expr → Outcome (Parsed Expr)) {l l₁ l′ l₂ : List ℕ} {c t c′ t′ : ℕ}
-    {r₁ r : Walked} {a : Walk} → Walks o l c t l₁ r₁ → r₁ ≡ Walked.Next a →
-    ((v : Expr) → Read-as v l c t l₁ a → Walks (k (record { value = v; next = a .at })) l′ c′ t′ l₂ r) →
-    Walks (o ▷ k) l′ c′ t′ l₂ r
+-- After one that is passed over the rest decides.
+passes-on : (o p : Outcome Outline) {l l₁ l₂ : List ℕ} {c t : ℕ} {r₁ r : Walked} {a : Walk} (k : ℕ → Outcome Outline) →
+    p ≡ (o ▷ λ x. k (x .next) ▷ λ y. accepted (before x y)) → Walks o l c t l₁ r₁ → r₁ ≡ Walked.Next a →
+    Walks (k (a .at)) l₁ (a .reads) (a .code) l₂ r → Walks p l c t l₂ r
 unfolding _▷_ WalksBy
-go-on (accepted x) k {l} {l₁} {l′} {l₂} {c} {t} {c′} {t′} {r₁} {r} {a} w e h =
+passes-on (accepted x) p {l} {l₁} {l₂} {c} {t} {r₁} {r} {a} k e w g v =
     let f = w .by .1 in
     let z : w .by .0 ≡ a = cc in
-    let m : Moves (x .next) (placesOf (readsOf (x .value))) (length (exprCode (x .value))) l c t l₁ a =
-    subst (λ (y : Walk). Moves (x .next) (placesOf (readsOf (x .value))) (length (exprCode (x .value))) l c t l₁ y) z (w .by .2)
-    in
-    subst (λ (n : ℕ). Walks (k (record { value = x .value; next = n })) l′ c′ t′ l₂ r) (m .goes)
-    (h (x .value) (record { goes = refl; counts = m .counts; codes = m .codes; holds = m .holds }))
-go-on (refused f) k {r₁ = r₁} {a = a} w e h =
-    let g = w .by in
+    let m : Moves (x .next) (x .places) (x .code) l c t l₁ a =
+    subst (λ (y : Walk). Moves (x .next) (x .places) (x .code) l c t l₁ y) z (w .by .2) in
+    rw e (go (k (x .next)) m (rw (m .goes) at v))
+  where
+    go : (q : Outcome Outline) → Moves (x .next) (x .places) (x .code) l c t l₁ a → Walks q l₁ (a .reads) (a .code) l₂ r →
+        Walks (q ▷ λ y. accepted (before x y)) l c t l₂ r
+    go (accepted y) m v = record { by = (v .by .0, v .by .1, join m (v .by .2)) }
+    go (refused f) m v = record { by = v .by }
+passes-on (refused f) p {r₁ = r₁} {a = a} k e w g v =
+    let h = w .by in
     let z : _≡_ {A = ℕ} 0 1 = cc in absurd (omega arith)
 
--- What is read so is an expression.
-made : {l l′ places : List ℕ} {count to next code : ℕ} {r : Walked} {w : Walk} (v : Expr) → r ≡ Walked.Next w →
-    Moves next places code l count to l′ w → placesOf (readsOf v) ≡ places → length (exprCode v) ≡ code →
-    Walks (parsed v next) l count to l′ r
-unfolding WalksBy
-made {l} {l′} {places} {count} {to} {next} {code} {r} {w} v e m p q = record { by = (w, e, rw (p, q) m) }
+-- Expressions one after another: none, a first one that is refused, and one with others after it.
+module _ (sub : ℕ → Outcome (Parsed Expr)) where
+  pub walks-none : {l : List ℕ} {count to : ℕ} {r : Walked} (at : ℕ) →
+      r ≡ Walked.Next (record { at = at; reads = count; code = to }) → Walks (outlines sub 0 at) l count to l r
+  unfolding outlines
+  walks-none at e =
+      walks-over _ _ refl e (record { goes = refl; counts = omega arith; codes = omega arith; holds = refl })
 
-pub walks-constant : {l : List ℕ} (at : ℕ) {count to : ℕ} {r : Walked} (z : ℤ) →
-    r ≡ Walked.Next (record { at = at + 5; reads = count; code = to + 5 }) → Walks (parsed (constant z) (at + 5)) l count to l r
-unfolding readsOf exprCode wordBytes fourBytes
-walks-constant at z e =
-    made (constant z) e (record { goes = refl; counts = omega arith; codes = refl; holds = refl }) refl refl
+  pub walks-stop : (n at : ℕ) {l l₁ : List ℕ} {count to : ℕ} {r : Walked} {f : Fault} →
+      Walks (outlineOf (sub at)) l count to l₁ r → r ≡ Walked.Refused f → Walks (outlines sub (suc n) at) l count to l₁ r
+  unfolding outlines
+  walks-stop n at w e = stop _ _ w e
 
-pub walks-read : {l : List ℕ} {n count to : ℕ} {r : Walked} (ρ : Read) →
-    r ≡ Walked.Next (record { at = n; reads = count + 1; code = to + 2 }) →
-    Walks (parsed (read ρ) n) l count to (set l count (ρ .place)) r
-unfolding readsOf exprCode
-walks-read ρ e = made (read ρ) e (record { goes = refl; counts = refl; codes = refl; holds = refl }) refl refl
+  pub walks-first : (n at : ℕ) {l l₁ l₂ : List ℕ} {count to : ℕ} {r₁ r : Walked} {a : Walk} →
+      Walks (outlineOf (sub at)) l count to l₁ r₁ → r₁ ≡ Walked.Next a →
+      Walks (outlines sub n (a .at)) l₁ (a .reads) (a .code) l₂ r → Walks (outlines sub (suc n) at) l count to l₂ r
+  unfolding outlines
+  walks-first n at w e v = passes-on _ _ (outlines sub n) refl w e v
 
-module _ {l l₁ : List ℕ} {count to : ℕ} {a : Walk} (x : Expr) (m : Read-as x l count to l₁ a) where
-  pub walks-one : (o : Unary) {r : Walked} → r ≡ Walked.Next (record { at = a .at; reads = a .reads; code = a .code + 1 }) →
-      Walks (parsed (unary o x) (a .at)) l count to l₁ r
-  unfolding readsOf exprCode
-  walks-one o e = made (unary o x) e (longer 1 m) refl (length-append (exprCode x) (unaryByte o ∷ []))
-
-  module _ {l₂ : List ℕ} {b : Walk} (y : Expr) (n : Read-as y l₁ (a .reads) (a .code) l₂ b) where
-    pub walks-two : (o : Binary) {r : Walked} → r ≡ Walked.Next (record { at = b .at; reads = b .reads; code = b .code + 1 }) →
-        Walks (parsed (binary o x y) (b .at)) l count to l₂ r
-    unfolding readsOf exprCode
-    walks-two o e =
-        made (binary o x y) e (longer 1 (join m n)) (map-append (λ (ρ : Read). ρ .place) (readsOf x) (readsOf y))
-        (simp length-append (omega arith))
-
-    pub walks-three : {l₃ : List ℕ} {d : Walk} (z : Expr) → Read-as z l₂ (b .reads) (b .code) l₃ d → {r : Walked} →
-        r ≡ Walked.Next (record { at = d .at; reads = d .reads; code = d .code + 1 }) →
-        Walks (parsed (choose x y z) (d .at)) l count to l₃ r
-    unfolding readsOf exprCode
-    walks-three z k e =
-        made (choose x y z) e (longer 1 (join m (join n k)))
-        (map-append (λ (ρ : Read). ρ .place) (readsOf x) (readsOf y ++ readsOf z) ∙
-        ap (placesOf (readsOf x) ++_) (map-append (λ (ρ : Read). ρ .place) (readsOf y) (readsOf z)))
-        (simp length-append (omega arith))
+  -- One alone.
+  pub one-outline : (at : ℕ) → outlines sub 1 at ≡ outlineOf (sub at)
+  unfolding outlines _▷_
+  one-outline at = go (sub at)
+    where
+      go : (o : Outcome (Parsed Expr)) →
+          (outlineOf o ▷ λ a. outlines sub 0 (a .next) ▷ λ b. accepted (before a b)) ≡ outlineOf o
+      go (accepted x) =
+          ap {B = Outcome Outline} accepted (alike (append-nil (placesOf (readsOf (x .value)))) (omega arith))
+      go (refused f) = refl
 
 -- Where no depth is left.
-pub walks-deep : {l : List ℕ} {count to : ℕ} {r : Walked} (least : ℕ) (text : List ℕ) (at : ℕ) →
-    r ≡ deepOf at (operatorHere text at) → Walks (parseExpr least 0 text at) l count to l r
-unfolding parseExpr WalksBy deepOf _▷_
-walks-deep {l} {count} {to} {r} least text at e = go (operatorHere text at) e
+pub walks-deep : {l : List ℕ} {count to : ℕ} {r : Walked} (least d : ℕ) (text : List ℕ) (n at : ℕ) → d ≡ 0 →
+    r ≡ deepOf at (operatorHere text at) → Walks (outlines (parseExpr least d text) (suc n) at) l count to l r
+unfolding parseExpr deepOf _▷_
+walks-deep {l} {count} {to} {r} least zero text n at z e = go (operatorHere text at) refl e
   where
-    go : (o : Outcome (Unit {0})) → r ≡ deepOf at o → Walks (o ▷ λ _. refuse 4 at) l count to l r
-    go (accepted u) e = record { by = e }
-    go (refused f) e = record { by = e }
+    go : (o : Outcome (Unit {0})) → operatorHere text at ≡ o → r ≡ deepOf at o →
+        Walks (outlines (parseExpr least 0 text) (suc n) at) l count to l r
+    go (accepted u) q e = walks-stop (parseExpr least 0 text) n at (walks-refused _ (rw q refl) e) e
+    go (refused f) q e = walks-stop (parseExpr least 0 text) n at (walks-refused _ (rw q refl) e) e
+walks-deep least (suc d) text n at z e = absurd (omega arith)
 
 -- An expression has two bytes for each read, and one for each byte of its code.
 pub read-least : (kind : Kind) → 2 ≤ readWidth kind
@@ -207,12 +203,14 @@ pub record Ahead (size room : ℕ) (w : Walk) : Type 0 where
   pub inside : w .at ≤ size
 
 pub ahead : (least : ℕ) (text : List ℕ) {l l′ : List ℕ} {at count to : ℕ} {r : Walked} {a : Walk} (d : ℕ) →
-    WalkRoom (length text) at count to (length l) → Walks (parseExpr least d text at) l count to l′ r → r ≡ Walked.Next a →
+    WalkRoom (length text) at count to (length l) → Walks (outlineOf (parseExpr least d text at)) l count to l′ r →
+    r ≡ Walked.Next a →
     Ahead (length text) (length l′) a
 unfolding WalksBy
 ahead least text {l} {l′} {at} {count} {to} {r} {a} d h w e = go (parseExpr least d text at) refl w
   where
-    go : (o : Outcome (Parsed Expr)) → parseExpr least d text at ≡ o → Walks o l count to l′ r → Ahead (length text) (length l′) a
+    go : (o : Outcome (Parsed Expr)) → parseExpr least d text at ≡ o → Walks (outlineOf o) l count to l′ r →
+        Ahead (length text) (length l′) a
     go (accepted x) q w =
         let s = parsed-spans least d text at (x .value) (x .next) q in
         let f = w .by .1 in
@@ -243,7 +241,7 @@ abbrev pub equationStep : Entry → Walked → Step
 equationStep e (Walked.Next a) = Step.Adds e (record { at = a .at; reads = a .reads; code = a .code + 2 })
 equationStep e (Walked.Refused f) = Step.Refused f
 
-pub equation-walks : (o : Outcome (Parsed Expr)) {l l′ : List ℕ} {count to : ℕ} {r : Walked} → Walks o l count to l′ r →
+pub equation-walks : (o : Outcome (Parsed Expr)) {l l′ : List ℕ} {count to : ℕ} {r : Walked} → Walks (outlineOf o) l count to l′ r →
     (e : Entry) {s : Step} → s ≡ equationStep e r → WalksEquation o e l count to l′ s
 unfolding WalksBy EquationBy
 equation-walks (accepted x) w e h =

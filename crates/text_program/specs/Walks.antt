@@ -1,13 +1,18 @@
 -- What reading an expression leaves: where the text goes on, the places of its reads in a table, and the length of its code.
-use Prim.Native.Nat.{ℕ, _+_, _*_, _≤_}
-use mathlib.Core.List.{List, map}
+use Prim.Native.Nat.{ℕ, zero, suc, _+_, _*_, _≤_}
+use mathlib.Core.List.{List, [], _∷_, _++_, map}
 use mathlib.Core.Path.{_≡_}
+use lib.IntN.{ℤ}
 use lib.ListN.{length}
 use lib.Seq.{sets}
 use Rattle.model.specs.Rules.Image.{exprCode}
-use Rattle.model.specs.Rules.Outcome.{Outcome, accepted, refused, fault, Parsed}
+use Rattle.model.specs.Rules.Outcome.{Outcome, accepted, refused, refuse, fault, _▷_, Parsed}
 use Rattle.model.specs.Rules.Program.{Read, Expr, readsOf}
-use Rattle.model.specs.Rules.Width.{inCode}
+use Rattle.model.specs.Rules.Width.{inExpression, readWidth, inCode}
+use Rattle.model.specs.declared.Kind.{Kind}
+use Rattle.model.specs.declared.Operator.{Operator}
+use Rattle.model.specs.declared.Operator.the-variants as Operator
+use Rattle.model.specs.declared.Sampled.{Sampled}
 use Rattle.text_program.specs.declared.Entry.{Entry}
 use Rattle.text_program.specs.declared.Step.{Step}
 use Rattle.text_program.specs.declared.Step.the-variants as Step
@@ -34,14 +39,64 @@ pub record Moves (next : ℕ) (places : List ℕ) (code : ℕ) (l : List ℕ) (c
   pub codes : w .code ≡ to + code
   pub holds : l′ ≡ sets l count places
 
--- The answer is the definition's refusal, or goes on after the expression with its reads kept.
-unfoldable pub WalksBy : Outcome (Parsed Expr) → List ℕ → ℕ → ℕ → List ℕ → Walked → Type 0
-WalksBy (accepted x) l count to l′ r =
-    (w : Walk) × (r ≡ Walked.Next w) ×
-    Moves (x .next) (placesOf (readsOf (x .value))) (length (exprCode (x .value))) l count to l′ w
+-- What reading expressions passes over: where their reads stand, the length of their code, and where they end.
+pub record Outline : Type 0 where
+  pub places : List ℕ
+  pub code : ℕ
+  pub next : ℕ
+
+abbrev pub outline : Parsed Expr → Outline
+outline x = record { places = placesOf (readsOf (x .value)); code = length (exprCode (x .value)); next = x .next }
+
+abbrev pub outlineOf : Outcome (Parsed Expr) → Outcome Outline
+outlineOf (accepted x) = accepted (outline x)
+outlineOf (refused f) = refused f
+
+-- One after the other.
+abbrev pub before : Outline → Outline → Outline
+before a b = record { places = a .places ++ b .places; code = a .code + b .code; next = b .next }
+
+-- So many expressions from `at` on, one after another, where `sub` reads one.
+unfoldable pub outlines : (ℕ → Outcome (Parsed Expr)) → ℕ → ℕ → Outcome Outline
+outlines sub zero at = accepted (record { places = []; code = 0; next = at })
+outlines sub (suc n) at = outlineOf (sub at) ▷ λ a. outlines sub n (a .next) ▷ λ b. accepted (before a b)
+
+-- An operator with no operands; one that has some does not come here.
+unfoldable pub leafOf : ℕ → ℕ → Operator → Outcome Outline
+leafOf size at Operator.EndsEarly = refuse 2 size
+leafOf size at Operator.Unknown = refuse 3 at
+leafOf size at Operator.OutOfRange = refuse 5 at
+leafOf size at (Operator.Constant w) =
+    accepted (record { places = []; code = inCode 0x50; next = at + inExpression 0x20 })
+leafOf size at (Operator.Read kind x) =
+    accepted (record { places = at ∷ []; code = inCode 0x51; next = at + readWidth kind })
+leafOf size at (Operator.Binary operator) = refuse 3 at
+leafOf size at (Operator.Unary operator) = refuse 3 at
+leafOf size at Operator.If = refuse 3 at
+
+-- How many operands an operator has.
+unfoldable pub operandsOf : Operator → ℕ
+operandsOf Operator.EndsEarly = 0
+operandsOf Operator.Unknown = 0
+operandsOf Operator.OutOfRange = 0
+operandsOf (Operator.Constant w) = 0
+operandsOf (Operator.Read kind x) = 0
+operandsOf (Operator.Binary operator) = 2
+operandsOf (Operator.Unary operator) = 1
+operandsOf Operator.If = 3
+
+-- There is room for a leaf, which stands in the text.
+pub record LeafRoom (o : Operator) (size at count to room : ℕ) : Type 0 where
+  pub left : WalkRoom size at count to room
+  pub constant-inside : (z : ℤ) → o ≡ Operator.Constant z → at + inExpression 0x20 ≤ size
+  pub read-inside : (kind : Kind) (x : Sampled) → o ≡ Operator.Read kind x → at + readWidth kind ≤ size
+
+-- The answer is the refusal, or goes on after what is passed over with its reads kept.
+unfoldable pub WalksBy : Outcome Outline → List ℕ → ℕ → ℕ → List ℕ → Walked → Type 0
+WalksBy (accepted x) l count to l′ r = (w : Walk) × (r ≡ Walked.Next w) × Moves (x .next) (x .places) (x .code) l count to l′ w
 WalksBy (refused f) l count to l′ r = r ≡ Walked.Refused f
 
-pub record Walks (o : Outcome (Parsed Expr)) (l : List ℕ) (count to : ℕ) (l′ : List ℕ) (r : Walked) : Type 0 where
+pub record Walks (o : Outcome Outline) (l : List ℕ) (count to : ℕ) (l′ : List ℕ) (r : Walked) : Type 0 where
   pub by : WalksBy o l count to l′ r
 
 -- The same of an EQ, which has a STORE after it.

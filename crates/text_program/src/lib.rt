@@ -17,7 +17,7 @@ ghost use Rattle.model.specs.declared.Fault.{Fault};
 ghost use Rattle.text_program.specs.Results.{hereOf, linksOf, chainOf, tagOf, endOf};
 ghost use Rattle.text_program.specs.Steps.{Counts, Stepped};
 ghost use Rattle.text_program.specs.Tables.{judgedOf, ProgramReads};
-ghost use Rattle.text_program.specs.Walks.{deepOf, WalkRoom, Walks, WalksEquation};
+ghost use Rattle.text_program.specs.Walks.{deepOf, outlines, leafOf, operandsOf, WalkRoom, LeafRoom, Walks, WalksEquation};
 
 // The offset at which reading goes on, or the refusal.
 pub enum Reached {
@@ -93,30 +93,40 @@ fn too_deep(text: &[u8], at: usize) -> Walked
 }
 
 // Reads an operator that has no operands: a leaf, or what is refused. Keeps the offset of a read in the table.
-fn read_leaf(operator: Operator, size: usize, walk: Walk, reads: &mut [u16]) -> Walked
+fn read_leaf(
+    operator: Operator,
+    size: usize,
+    at: usize,
+    count: usize,
+    to: usize,
+    reads: &mut [u16],
+) -> Walked
+    requires { ⌜ LeafRoom operator size at count to (length (now reads)) ⌝ }
+    ensures { λ r. ⌜ Walks (leafOf size at operator) (now (reads .entry)) count to (now (reads .exit)) r ⌝ }
 {
     match operator {
         Operator::EndsEarly => refuse_walk(2, size),
-        Operator::OutOfRange => refuse_walk(5, walk.at),
+        Operator::OutOfRange => refuse_walk(5, at),
         Operator::Constant(_) => moved_on(
-            walk.at + width::in_expression(0x20),
-            walk.reads,
-            walk.code + width::in_code(0x50),
+            at + width::in_expression(0x20),
+            count,
+            to + width::in_code(0x50),
         ),
         Operator::Read(kind, _) => {
-            reads[walk.reads] = walk.at as u16;
+            reads[count] = at as u16;
             moved_on(
-                walk.at + width::of_read(kind),
-                walk.reads + 1,
-                walk.code + width::in_code(0x51),
+                at + width::of_read(kind),
+                count + 1,
+                to + width::in_code(0x51),
             )
         }
-        _ => refuse_walk(3, walk.at),
+        _ => refuse_walk(3, at),
     }
 }
 
 // How many operands an operator has.
 fn operands_of(operator: Operator) -> usize
+    ensures { λ r. ⌜ r ≡ operandsOf operator ⌝ }
 {
     match operator {
         Operator::Binary(_) => 2,
@@ -126,6 +136,9 @@ fn operands_of(operator: Operator) -> usize
     }
 }
 
+// Reads so many expressions from `at` on, one after another, each of which may nest `depth` deep: an operator is followed by its
+// operands. Keeps the offset of each of their reads in `reads`, from `count` on, and counts the bytes of their code, from `to` on. The
+// text goes by a reference to its slice, which no level of the recursion has to copy.
 pub fn read_expressions(
     least: u8,
     text: &&[u8],
@@ -136,6 +149,8 @@ pub fn read_expressions(
     depth: usize,
     reads: &mut [u16],
 ) -> Walked
+    requires { ⌜ WalkRoom (length (now (now text))) at count to (length (now reads)) ⌝ }
+    ensures { λ r. ⌜ Walks (outlines (parseExpr least depth (now (now (text .entry)))) number at) (now (reads .entry)) count to (now (reads .exit)) r ⌝ }
 {
     let mut walk = Walk {
         at: at,
@@ -150,7 +165,7 @@ pub fn read_expressions(
         let operator = text_command::operator_from(least, *text, walk.at);
         let operands = operands_of(operator);
         let step = if operands == 0 {
-            read_leaf(operator, text.len(), walk, reads)
+            read_leaf(operator, text.len(), walk.at, walk.reads, walk.code, reads)
         } else {
             read_expressions(
                 least,

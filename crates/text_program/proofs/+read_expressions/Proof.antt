@@ -1,0 +1,269 @@
+-- `text_program::read_expressions` meets its contract: the measure is the depth that is still allowed. Assumes nothing.
+use Prim.Native.Nat.{ℕ, suc, _+_, _-_, _≤_, _<_}
+use mathlib.Core.Bool.{true}
+use mathlib.Core.List.{List}
+use mathlib.Core.Logic.{inl, inr}
+use mathlib.Core.Path.{_≡_, refl, sym, ap, subst, _∙_}
+use native.Mathlib.Omega.{arith}
+use borrow.Author.Needs.{needs}
+use borrow.Fn.Kinds.{In}
+use borrow.Fn.PlainCycle.{Measures, is, falls, and}
+use denote.Ref.{now}
+use lib.IntN.{ℤ}
+use lib.ListN.{length}
+use Rattle.model.specs.Rules.Outcome.{Outcome, _▷_, provided, Parsed}
+use Rattle.model.specs.Rules.Program.{Expr, constant, read, isAllowed, node, parseExpr}
+use Rattle.model.specs.Rules.Width.{readWidth}
+use Rattle.model.specs.declared.Kind.{Kind}
+use Rattle.model.specs.declared.Operator.{Operator}
+use Rattle.model.specs.declared.Operator.the-variants as Operator
+use Rattle.model.specs.declared.Sampled.{Sampled}
+use Rattle.text_program.specs.Walks.{outlineOf, outlines, operandsOf, WalkRoom, Walks}
+use Rattle.text_program.specs.declared.Walk.{Walk}
+use Rattle.text_program.specs.declared.Walked.{Walked}
+use Rattle.text_program.proofs.Operators.{parse-node, operator-inside, read-allowed}
+use Rattle.text_program.proofs.Outlines.{leaf-outline, operator-outline, walks-operated}
+use Rattle.text_program.proofs.Walks.{walks-none, walks-stop, walks-first, walks-deep, parsed-spans, ahead}
+use Rattle.text_program.proofs.read_expressions.Reads as own
+use Rattle.text_program.proofs.read_expressions.Kinds as kinds
+use Rattle.text_program.proofs.+read_expressions.Lts-read_expressions as lts
+use Rattle.text_command.proofs.operator_from.Reads as operator-from-reads
+use Rattle.text_program.proofs.operands_of.Reads as operands-of-reads
+use Rattle.text_program.proofs.read_leaf.Reads as read-leaf-reads
+use Rattle.text_program.proofs.too_deep.Reads as too-deep-reads
+use Rattle.width.proofs.in_code.Reads as in-code-reads
+use Rattle.width.proofs.in_expression.Reads as in-expression-reads
+use Rattle.text_program.proofs.+read_expressions.{statement}
+use Rattle.text_program.proofs.+read_expressions.Tie.{close}
+
+abbrev μ : Measures 3 kinds.ps ℕ
+μ κs a = a .1 .1 .1 .1 .1 .1 .0
+
+abbrev given : ℕ → In 3 kinds.ps
+given t = and 3 kinds.ps (is 3 kinds.ps μ t) own.Pre
+
+abbrev below : ℕ → In 3 kinds.ps
+below t = and 3 kinds.ps (falls 3 kinds.ps _<_ μ t) own.Pre
+
+abbrev known : ℕ → lts.Claims
+known t = (
+  too-deep-reads.Asked,
+  too-deep-reads.Learnt,
+  operator-from-reads.Asked,
+  operator-from-reads.Learnt,
+  operands-of-reads.Asked,
+  operands-of-reads.Learnt,
+  read-leaf-reads.Asked,
+  read-leaf-reads.Learnt,
+  in-expression-reads.Asked,
+  in-expression-reads.Learnt,
+  in-code-reads.Asked,
+  in-code-reads.Learnt,
+  below t,
+  own.Post,
+)
+
+-- What is left to read decides the answer.
+abbrev Inv-loop : lts.InvT-loop
+Inv-loop least text number at count to depth reads₀ walk₀ left₀ reads walk left =
+    WalkRoom (length (now text)) (walk .at) (walk .reads) (walk .code) (length reads) × (length reads ≡ length reads₀) ×
+    ((l′ : List ℕ) (r : Walked) →
+    Walks (outlines (parseExpr least depth (now text)) left (walk .at)) reads (walk .reads) (walk .code) l′ r →
+    Walks (outlines (parseExpr least depth (now text)) number at) reads₀ count to l′ r)
+
+abbrev μ-loop : lts.MeasureT-loop
+μ-loop least text number at count to depth reads₀ walk₀ left₀ reads walk left = left
+
+-- in a turn
+module _ (t : ℕ) (b : lts.In-loop (known t) (given t) own.Post Inv-loop μ-loop) where
+  abbrev start : lts.Start (known t) (given t) own.Post Inv-loop μ-loop
+  start = b .before .before .before
+
+  abbrev text : List ℕ
+  text = now (now (start .args .text))
+
+  abbrev least : ℕ
+  least = start .args .least
+
+  abbrev depth : ℕ
+  depth = start .args .depth
+
+  abbrev walk : Walk
+  walk = b .before .loop .walk
+
+  abbrev left : ℕ
+  left = b .before .loop .left
+
+  abbrev table : List ℕ
+  table = b .before .loop .reads
+
+  room : WalkRoom (length text) (walk .at) (walk .reads) (walk .code) (length table)
+  room = b .before .loop .inv .0
+
+  answers : (l′ : List ℕ) (r : Walked) →
+      Walks (outlines (parseExpr least depth text) (suc (left - 1)) (walk .at)) table (walk .reads) (walk .code) l′ r →
+      Walks (outlines (parseExpr least depth text) (start .args .number) (start .args .at)) (now (start .args .reads))
+      (start .args .count) (start .args .to) l′ r
+  answers l′ r w =
+      let z : suc (left - 1) ≡ left = omega (arith, b .loop-test .taken) in
+      b .before .loop .inv .2 l′ r
+      (subst (λ n. Walks (outlines (parseExpr least depth text) n (walk .at)) table (walk .reads) (walk .code) l′ r) z w)
+
+-- where the operator is known, and the depth is not 0
+module _ (t : ℕ) (o : lts.After-operands-of (known t) (given t) own.Post Inv-loop μ-loop) where
+  abbrev turn : lts.In-loop (known t) (given t) own.Post Inv-loop μ-loop
+  turn = o .before .before .before .before
+
+  abbrev at : ℕ
+  at = walk t turn .at
+
+  abbrev operator : Operator
+  operator = o .before .operator-from .result
+
+  abbrev sub : ℕ → Outcome (Parsed Expr)
+  sub n = parseExpr (least t turn) (depth t turn - 1) (text t turn) n
+
+  step : parseExpr (least t turn) (depth t turn) (text t turn) at ≡ node (least t turn) sub (text t turn) at operator
+  step =
+      parse-node (least t turn) (depth t turn) (text t turn) at (o .before .before .before .if1 .left) ∙
+      ap (node (least t turn) sub (text t turn) at) (sym (o .before .operator-from .ensures))
+
+  constant-inside : (z : ℤ) → operator ≡ Operator.Constant z → at + 5 ≤ length (text t turn)
+  unfolding node
+  constant-inside z e =
+      parsed-spans (least t turn) (depth t turn) (text t turn) at (constant z) (at + 5)
+      (step ∙ ap (node (least t turn) sub (text t turn) at) e) .inside
+
+  allowed : (kind : Kind) (x : Sampled) → operator ≡ Operator.Read kind x → isAllowed (least t turn) kind x ≡ true
+  allowed kind x e = read-allowed (least t turn) (text t turn) at (sym (o .before .operator-from .ensures) ∙ e)
+
+  read-inside : (kind : Kind) (x : Sampled) → operator ≡ Operator.Read kind x → at + readWidth kind ≤ length (text t turn)
+  unfolding node _▷_ provided
+  read-inside kind x e =
+      parsed-spans (least t turn) (depth t turn) (text t turn) at (read (record { place = at; kind = kind; operands = x }))
+      (at + readWidth kind) (step ∙ ap (node (least t turn) sub (text t turn) at) e ∙ rw (allowed kind x e) refl) .inside
+
+  -- An operator with operands stands in the text.
+  inside : (o .operands-of .result ≡ 0 → ⊥) → at < length (text t turn)
+  unfolding operandsOf
+  inside h =
+      operator-inside (least t turn) (text t turn) at (sym (o .before .operator-from .ensures))
+      (λ e. h (o .operands-of .ensures ∙ ap operandsOf (sym e)))
+
+-- one expression is read, by either branch
+abbrev Joined : ℕ → Type 0
+Joined t = lts.Joined2 (known t) (given t) own.Post Inv-loop μ-loop
+
+one : (t : ℕ) (j : Joined t) →
+    let b = turn t (j .before) in
+    Walks (outlineOf (parseExpr (least t b) (depth t b) (text t b) (walk t b .at))) (table t b) (walk t b .reads) (walk t b .code)
+    (j .if2 .reads) (j .if2 .step)
+one t j =
+    let o = j .before in
+    let b = turn t o in
+    elim (j .if2 .came) [
+      | inl x ↦
+          let e = ap outlineOf (step t o) ∙ leaf-outline (sub t o) (least t b) (text t b) (at t o) (operator t o)
+          (sym (o .operands-of .ensures) ∙ x .0 .taken) (allowed t o) in
+          rw (x .5, x .6, e) (x .2 .ensures)
+      | inr y ↦
+          let e = ap outlineOf (step t o) ∙ operator-outline (sub t o) (least t b) (text t b) (at t o) (operator t o)
+          (λ z. y .0 .left (o .operands-of .ensures ∙ z)) in
+          rw (y .9, y .10, e)
+          (walks-operated _ (rw (o .operands-of .ensures, y .1 .ensures, y .3 .ensures) at (y .6 .ensures)))
+    ]
+
+-- the table keeps its length
+same : (t : ℕ) (j : Joined t) → length (j .if2 .reads) ≡ length (now (start t (turn t (j .before)) .args .reads))
+same t j =
+    let l = turn t (j .before) .before .loop in
+    elim (j .if2 .came) [
+      | inl x ↦ rw (x .5) (x .3 .given ∙ l .inv .1)
+      | inr y ↦ rw (y .9) (y .7 .given ∙ l .inv .1)
+    ]
+
+loop-holds : (t : ℕ) → lts.Need-loop-holds (known t) (given t) own.Post Inv-loop μ-loop
+loop-holds t c = (c .before .pre .1, refl, λ l′ r w. w)
+
+same-length : (t : ℕ) → lts.Need-same-length (known t) (given t) own.Post Inv-loop μ-loop
+same-length t c = c .before .before .before .before .loop .inv .1
+
+returns : (t : ℕ) → lts.Need-returns (known t) (given t) own.Post Inv-loop μ-loop
+returns t c =
+    let b = c .before .before .before in
+    answers t b _ _ (walks-deep _ _ _ _ _ (c .before .before .if1 .taken) (c .too-deep .ensures))
+
+read-leaf-requires : (t : ℕ) → lts.Need-read-leaf-requires (known t) (given t) own.Post Inv-loop μ-loop
+read-leaf-requires t c κs =
+    let o = c .before .before in
+    record { left = room t (turn t o); constant-inside = constant-inside t o; read-inside = read-inside t o }
+
+add-read-expressions : (t : ℕ) → lts.Need-add-read-expressions (known t) (given t) own.Post Inv-loop μ-loop
+add-read-expressions t c =
+    let o = c .before .before .before in
+    omega (arith, inside t o (c .before .before .if2 .left), room t (turn t o) .short, c .before .in-expression .ensures)
+
+add-read-expressions-2 : (t : ℕ) → lts.Need-add-read-expressions-2 (known t) (given t) own.Post Inv-loop μ-loop
+add-read-expressions-2 t c =
+    let e = c .before .before .before .before in
+    let h = room t (turn t (e .before)) in
+    omega (arith, inside t (e .before) (e .if2 .left), h .short, h .small, c .before .in-code .ensures)
+
+sub-read-expressions : (t : ℕ) → lts.Need-sub-read-expressions (known t) (given t) own.Post Inv-loop μ-loop
+sub-read-expressions t c =
+    let o = c .before .before .before .before .before in
+    omega (arith, o .before .before .before .if1 .left)
+
+read-expressions-requires : (t : ℕ) → lts.Need-read-expressions-requires (known t) (given t) own.Post Inv-loop μ-loop
+read-expressions-requires t c κs =
+    let o = c .before .before .before .before .before .before in
+    let h = room t (turn t o) in (
+      omega (arith, o .before .before .before .if1 .left, start t (turn t o) .pre .0),
+      record {
+        short = h .short;
+        table = h .table;
+        few = omega (arith, h .few);
+        small = omega (arith, h .small, c .before .before .before .before .in-expression .ensures, c .before .before .in-code .ensures);
+      },
+    )
+
+same-length-2 : (t : ℕ) → lts.Need-same-length-2 (known t) (given t) own.Post Inv-loop μ-loop
+same-length-2 t c = same t (c .before .before)
+
+returns-2 : (t : ℕ) → lts.Need-returns-2 (known t) (given t) own.Post Inv-loop μ-loop
+returns-2 t c =
+    let j = c .before .before in
+    answers t (turn t (j .before)) _ _ (walks-stop _ _ _ (one t j) (c .enum-told .given .1))
+
+sub-left : (t : ℕ) → lts.Need-sub-left (known t) (given t) own.Post Inv-loop μ-loop
+sub-left t c = omega (arith, turn t (c .before .before .before .before) .loop-test .taken)
+
+loop-less : (t : ℕ) → lts.Need-loop-less (known t) (given t) own.Post Inv-loop μ-loop
+loop-less t c = omega (arith, turn t (c .before .before .before .before) .loop-test .taken)
+
+loop-again : (t : ℕ) → lts.Need-loop-again (known t) (given t) own.Post Inv-loop μ-loop
+loop-again t c =
+    let j = c .before .before .before in
+    let b = turn t (j .before) in
+    let next = c .before .step .given .1 in (
+      ahead (least t b) (text t b) (depth t b) (room t b) (one t j) next .left,
+      same t j,
+      λ l′ r w. answers t b l′ r (walks-first _ _ _ (one t j) next w),
+    )
+
+same-length-3 : (t : ℕ) → lts.Need-same-length-3 (known t) (given t) own.Post Inv-loop μ-loop
+same-length-3 t c = c .before .loop .inv .1
+
+returns-3 : (t : ℕ) → lts.Need-returns-3 (known t) (given t) own.Post Inv-loop μ-loop
+returns-3 t c =
+    let l = c .before .loop in
+    let z : l .left ≡ 0 = omega (arith, c .loop-test .left) in
+    l .inv .2 _ _ (rw z (walks-none _ _ refl))
+
+pub +read-expressions-spec : {M : Type 1} → statement M
++read-expressions-spec =
+    close μ (λ t. lts.spec (known t) (given t) own.Post Inv-loop μ-loop
+    (loop-holds t) (λ c κs. search needs) (same-length t) (returns t) (λ c κs. search needs) (λ c κs. search needs)
+    (read-leaf-requires t) (λ c κs. search needs) (add-read-expressions t) (λ c κs. search needs) (add-read-expressions-2 t)
+    (sub-read-expressions t) (read-expressions-requires t) (λ c. search needs) (λ c. search needs) (same-length-2 t) (returns-2 t)
+    (sub-left t) (loop-less t) (loop-again t) (same-length-3 t) (returns-3 t))
