@@ -1,6 +1,6 @@
 -- Tables that are a program's stay so when both get one entry more, and what the program reader answers. Assumes nothing.
 use mathlib.Core.Path.{_≡_, refl, sym, ap, subst, _∙_}
-use mathlib.Core.Bool.{true, false}
+use mathlib.Core.Bool.{true}
 use mathlib.Core.List.{List, [], _∷_, _++_}
 use types.Run.{OneOf, miss}
 use Prim.Native.Nat.{ℕ, zero, suc, _+_, _-_, _*_, _≤_, _<_}
@@ -30,7 +30,7 @@ use Rattle.model.specs.Rules.Program.{
   parseWith,
 }
 use Rattle.text_program.specs.Steps.{AddsSignal, Adds, labelAfter, Added, Stepped}
-use Rattle.text_program.specs.Tables.{noChain, Sums, readsIn, codeIn, ReadsOf, TablesOf, judgedOf, ProgramReads}
+use Rattle.text_program.specs.Tables.{noChain, Sums, readsIn, codeIn, ReadsOf, TablesOf, Space, Unread, judgedOf, ProgramReads}
 use Rattle.text_program.specs.Walks.{placesOf, WalkRoom, Moves}
 use Rattle.text_program.specs.declared.Entry.{Entry}
 use Rattle.text_program.specs.declared.Entry.the-variants as Entry
@@ -55,17 +55,6 @@ one-more f d xs x table n k e lt v h y ly =
 
 snoc-length : {A : Type 0} (xs : List A) (x : A) (n : ℕ) → length xs ≡ n → length (xs ++ (x ∷ [])) ≡ n + 1
 snoc-length xs x n e = length-append xs (x ∷ []) ∙ ap (_+ 1) e
-
--- How many entries the tables have space for.
-pub record Space (t : Tables) : Type 0 where
-  pub places : length (t .places) ≡ 64
-  pub periods : length (t .periods) ≡ 64
-  pub weights : length (t .weights) ≡ 64
-  pub labels : length (t .labels) ≡ 64
-  pub firsts : length (t .firsts) ≡ 65
-  pub codes : length (t .codes) ≡ 65
-  pub starts : length (t .starts) ≡ 16
-  pub lengths : length (t .lengths) ≡ 16
 
 -- The tables with one entry more.
 abbrev pub signalAdded : Tables → ℕ → ℕ → ℕ → ℕ → ℕ → ℕ → Tables
@@ -500,35 +489,33 @@ program-ends {least} {text} {at = at} {label = label} r h reads′ t′ j q =
 
 -- Nothing is read at first.
 pub starts-empty : (least : ℕ) (text reads : List ℕ) (t : Tables) → length text ≤ 8192 → length text ≤ 2 * length reads →
-    Space t →
-    t .signals ≡ 0 → t .chains ≡ 0 → t .capped ≡ false → getD (t .firsts) 0 0 ≡ 0 → getD (t .codes) 0 0 ≡ 0 →
-    Reading least text reads t 0 0 0 0
+    Unread t → Reading least text reads t 0 0 0 0
 unfolding parseWith
-starts-empty least text reads t short table s no-signals no-chains no-cap first code =
+starts-empty least text reads t short table u =
     record {
       program = empty;
       tables =
           record {
-            counts = record { signals-are = sym no-signals; chains-are = sym no-chains; cap-is = rw no-cap };
+            counts = record { signals-are = sym (u .no-signals); chains-are = sym (u .no-chains); cap-is = rw (u .no-cap) };
             places = λ x lt. absurd (omega arith);
             periods = λ x lt. absurd (omega arith);
             weights = λ x lt. absurd (omega arith);
             labels = λ x lt. absurd (omega arith);
-            codes = record { from-zero = code; rises = λ x lt. absurd (omega arith) };
+            codes = record { from-zero = u .code; rises = λ x lt. absurd (omega arith) };
             starts = λ x lt. absurd (omega arith);
             lengths = λ x lt. absurd (omega arith);
-            cap = rw no-cap;
-            space = (s .places, s .starts, s .lengths);
+            cap = rw (u .no-cap);
+            space = (u .space .places, u .space .starts, u .space .lengths);
           };
       reads-are =
           record {
-            sums = record { from-zero = first; rises = λ x lt. absurd (omega arith) };
+            sums = record { from-zero = u .first; rises = λ x lt. absurd (omega arith) };
             stand = λ x j lx lj. absurd (omega arith);
-            fits = omega (arith, first);
+            fits = omega (arith, u .first);
           };
-      count-is = rw no-signals first;
-      code-is = rw no-signals code;
-      space = s;
+      count-is = rw (u .no-signals) (u .first);
+      code-is = rw (u .no-signals) (u .code);
+      space = u .space;
       room = record { short = short; table = table; few = omega arith; small = omega arith };
       left = length text;
       bytes = omega arith;

@@ -1,6 +1,6 @@
 -- What the tables of a program text say.
 use Prim.Native.Nat.{ℕ, suc, _+_, _≤_, _<_}
-use mathlib.Core.Bool.{Bool, cond}
+use mathlib.Core.Bool.{Bool, false, cond}
 use mathlib.Core.List.{List, []}
 use mathlib.Core.Path.{_≡_}
 use lib.ListN.{length, getD}
@@ -87,6 +87,26 @@ pub record TablesOf (p : Program) (t : Tables) : Type 0 where
   pub cap : p .cap ≡ capOf (t .capped) (t .limit)
   -- how many entries they have space for
   pub space : (length (t .places) ≡ 64) × (length (t .starts) ≡ 16) × (length (t .lengths) ≡ 16)
+
+-- How many entries the tables have space for.
+pub record Space (t : Tables) : Type 0 where
+  pub places : length (t .places) ≡ 64
+  pub periods : length (t .periods) ≡ 64
+  pub weights : length (t .weights) ≡ 64
+  pub labels : length (t .labels) ≡ 64
+  pub firsts : length (t .firsts) ≡ 65
+  pub codes : length (t .codes) ≡ 65
+  pub starts : length (t .starts) ≡ 16
+  pub lengths : length (t .lengths) ≡ 16
+
+-- Nothing is read yet.
+pub record Unread (t : Tables) : Type 0 where
+  pub space : Space t
+  pub no-signals : t .signals ≡ 0
+  pub no-chains : t .chains ≡ 0
+  pub no-cap : t .capped ≡ false
+  pub first : getD (t .firsts) 0 0 ≡ 0
+  pub code : getD (t .codes) 0 0 ≡ 0
 
 -- The tables, without and with that of the reads, are those of the program that the text is.
 abbrev pub ReadAs : List ℕ → Tables → Type 0

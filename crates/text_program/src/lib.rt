@@ -16,7 +16,7 @@ ghost use Rattle.model.specs.Rules.Width.{inProgram};
 ghost use Rattle.model.specs.declared.Fault.{Fault};
 ghost use Rattle.text_program.specs.Results.{hereOf, linksOf, chainOf, tagOf, endOf};
 ghost use Rattle.text_program.specs.Steps.{Counts, Stepped};
-ghost use Rattle.text_program.specs.Tables.{judgedOf, ProgramReads};
+ghost use Rattle.text_program.specs.Tables.{judgedOf, Unread, ProgramReads};
 ghost use Rattle.text_program.specs.Walks.{deepOf, outlines, leafOf, operandsOf, WalkRoom, LeafRoom, Walks, WalksEquation};
 
 // The offset at which reading goes on, or the refusal.
@@ -454,7 +454,9 @@ pub struct Tables {
 }
 
 impl Tables {
-    pub fn new() -> Self {
+    pub fn new() -> Self
+        ensures { λ r. ⌜ Unread r ⌝ }
+    {
         Self {
             signals: 0,
             places: [0; 64],
@@ -495,41 +497,29 @@ pub fn read_program(least: u8, text: &[u8], reads: &mut [u16]) -> ProgramRead
     requires { ⌜ (length (now text) ≤ 8192) × (length (now text) ≤ 2 * length (now reads)) ⌝ }
     ensures { λ r. ⌜ ProgramReads (parseWith least (now (text .entry))) (now (reads .exit)) r ⌝ }
 {
-    let mut places: [u16; 64] = [0; 64];
-    let mut periods: [u8; 64] = [0; 64];
-    let mut weights: [u16; 64] = [0; 64];
-    let mut labels: [u16; 64] = [0; 64];
-    let mut firsts: [u16; 65] = [0; 65];
-    let mut codes: [u16; 65] = [0; 65];
-    let mut starts: [usize; 16] = [0; 16];
-    let mut lengths: [usize; 16] = [0; 16];
-    let mut signals: usize = 0;
-    let mut chains: usize = 0;
-    let mut capped = false;
-    let mut limit: u32 = 0;
+    let mut tables = Tables::new();
     let mut at: usize = 0;
     let mut label: u16 = 0;
     let mut count: usize = 0;
     let mut to: usize = 0;
     while at < text.len() {
-        let step = read_command(least, text, at, signals, chains, capped, count, to, reads);
+        let signals = tables.signals;
+        let chains = tables.chains;
+        let step = read_command(
+            least,
+            text,
+            at,
+            signals,
+            chains,
+            tables.capped,
+            count,
+            to,
+            reads,
+        );
         let Step::Adds(entry, walk) = step else {
             return ProgramRead {
                 judged: judged_at(step),
-                tables: Tables {
-                    signals: signals,
-                    places: places,
-                    periods: periods,
-                    weights: weights,
-                    labels: labels,
-                    firsts: firsts,
-                    codes: codes,
-                    chains: chains,
-                    starts: starts,
-                    lengths: lengths,
-                    capped: capped,
-                    limit: limit,
-                },
+                tables: tables,
             };
         };
         let place = at;
@@ -538,24 +528,24 @@ pub fn read_program(least: u8, text: &[u8], reads: &mut [u16]) -> ProgramRead
         to = walk.code;
         match entry {
             Entry::Signal(period, weight) => {
-                places[signals] = place as u16;
-                periods[signals] = period;
-                weights[signals] = weight;
-                labels[signals] = label;
-                signals = signals + 1;
-                firsts[signals] = count as u16;
-                codes[signals] = to as u16;
+                tables.places[signals] = place as u16;
+                tables.periods[signals] = period;
+                tables.weights[signals] = weight;
+                tables.labels[signals] = label;
+                tables.firsts[signals + 1] = count as u16;
+                tables.codes[signals + 1] = to as u16;
+                tables.signals = signals + 1;
                 label = 0;
             }
             Entry::Chain(links) => {
-                starts[chains] = place;
-                lengths[chains] = links;
-                chains = chains + 1;
+                tables.starts[chains] = place;
+                tables.lengths[chains] = links;
+                tables.chains = chains + 1;
                 label = 0;
             }
             Entry::Cap(most) => {
-                capped = true;
-                limit = most;
+                tables.capped = true;
+                tables.limit = most;
                 label = 0;
             }
             Entry::Label(given) => {
