@@ -12,13 +12,10 @@ use types.Run.{OneOf, miss}
 use Rattle.model.specs.Rules.Command.{isSignal, declarationOf, declarationAt}
 use Rattle.model.specs.Rules.Outcome.{Outcome, accepted, refused, fault, refuse, _▷_, provided, Parsed, parsed}
 use Rattle.model.specs.Rules.Program.{Link, parseLinks}
-use Rattle.model.specs.Rules.Width.{readWidth}
 use Rattle.model.specs.Rules.Word.{byteAt}
 use Rattle.model.specs.declared.Declaration.{Declaration}
 use Rattle.model.specs.declared.Declaration.the-variants as Declaration
 use Rattle.model.specs.declared.Fault.{Fault}
-use Rattle.model.specs.declared.Kind.{Kind}
-use Rattle.model.specs.declared.Kind.the-variants.{Now, Last, When, LastWhen, Current}
 use Rattle.model.proofs.Declaration.{enum}
 use Rattle.text_program.specs.Results.{hereOf, linksOf, chainOf}
 use Rattle.text_program.specs.Results as Results
@@ -40,13 +37,6 @@ pub here-refused : (at : ℕ) (o : Outcome (Unit {0})) {f : Fault} → Reached.R
 unfolding hereOf
 here-refused at (accepted a) e = let z : _≡_ {A = ℕ} 0 1 = cc in absurd (omega arith)
 here-refused at (refused f) e = cc
-
-pub width-most : (kind : Kind) → readWidth kind ≤ 4
-width-most Now = omega arith
-width-most Last = omega arith
-width-most When = omega arith
-width-most LastWhen = omega arith
-width-most Current = omega arith
 
 -- The LINKs of a chain end, are too many, are cut, or go on.
 abbrev pub linkAt : List ℕ → ℕ → Link

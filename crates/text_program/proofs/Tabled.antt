@@ -209,11 +209,6 @@ module _ {least : ℕ} {text reads : List ℕ} {t : Tables} {at label n to : ℕ
                   (h .counts .chains-are)
                   (omega (arith, s .lengths, c .room, h .counts .chains-are)) (c .links-are) (h .lengths);
               cap = h .cap;
-              space = (
-                h .space .0,
-                length-set (t .starts) (t .chains) at ∙ h .space .1,
-                length-set (t .lengths) (t .chains) k ∙ h .space .2,
-              );
             };
         reads-are = chain-reads (c .chain) (c .is) (b .1);
         count-is = r .count-is ∙ sym (count-same (b .1) (b .2));
@@ -263,7 +258,6 @@ module _ {least : ℕ} {text reads : List ℕ} {t : Tables} {at label n to : ℕ
               starts = h .starts;
               lengths = h .lengths;
               cap = refl;
-              space = h .space;
             };
         reads-are =
             record {
@@ -399,7 +393,6 @@ module _ {least : ℕ} {text reads : List ℕ} {t : Tables} {at label n to : ℕ
                 starts = h .starts;
                 lengths = h .lengths;
                 cap = h .cap;
-                space = (length-set (t .places) (t .signals) at ∙ h .space .0, h .space .1, h .space .2);
               };
           reads-are =
               record {
@@ -505,7 +498,6 @@ starts-empty least text reads t short table u =
             starts = λ x lt. absurd (omega arith);
             lengths = λ x lt. absurd (omega arith);
             cap = rw (u .no-cap);
-            space = (u .space .places, u .space .starts, u .space .lengths);
           };
       reads-are =
           record {

@@ -85,8 +85,6 @@ pub record TablesOf (p : Program) (t : Tables) : Type 0 where
   pub starts : (j : ℕ) → j < length (p .chains) → getD (t .starts) j 0 ≡ chainAt p j .place
   pub lengths : (j : ℕ) → j < length (p .chains) → getD (t .lengths) j 0 ≡ length (chainAt p j .links)
   pub cap : p .cap ≡ capOf (t .capped) (t .limit)
-  -- how many entries they have space for
-  pub space : (length (t .places) ≡ 64) × (length (t .starts) ≡ 16) × (length (t .lengths) ≡ 16)
 
 -- How many entries the tables have space for.
 pub record Space (t : Tables) : Type 0 where
