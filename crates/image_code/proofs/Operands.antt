@@ -28,19 +28,21 @@ use Rattle.model.proofs.Images.Bounds.{height-some}
 use Rattle.model.proofs.Images.Stretches.{sets-append}
 use Rattle.model.proofs.Texts.Written.{operator-decoded}
 use Rattle.model.specs.Says.Grammar.{Spells}
-use Rattle.text_command.specs.Operator.{OperatorStands}
-use Rattle.image_code.specs.Code.{Puts, Room, Emits}
+use Rattle.text_command.specs.Operator.{operandsOf, OperatorStands}
+use Rattle.image_code.specs.Code.{Puts, SpellsAll, none, more, codeOfAll, NestsIn, Rooms, EmitsAll}
 use Rattle.image_code.specs.Shape.{Lead, noLead, leadOf}
 
--- Expressions that stand one after another, and their code.
-pub data SpellsAll (text : List ℕ) : ℕ → List Expr → ℕ → Type 0 where
-  none : {at : ℕ} → SpellsAll text at [] at
-  more : {at m n : ℕ} {x : Expr} {xs : List Expr} → Spells leastFactor text at x m → SpellsAll text m xs n →
-      SpellsAll text at (x ∷ xs) n
+-- An expression stands at `at` that nests at most d deep, and n bytes have space for its code from `to` on.
+pub record Room (d : ℕ) (text : List ℕ) (at n to : ℕ) : Type 0 where
+  pub expr : Expr
+  pub next : ℕ
+  pub spelled : Spells leastFactor text at expr next
+  pub deep : depth expr ≤ d
+  pub fits : to + length (exprCode expr) ≤ n
 
-unfoldable pub codeOfAll : List Expr → List ℕ
-codeOfAll [] = []
-codeOfAll (x ∷ xs) = exprCode x ++ codeOfAll xs
+-- l′ is l with the code of the expression that stands at `at`.
+pub record Emits (text : List ℕ) (at : ℕ) (l : List ℕ) (to : ℕ) (l′ : List ℕ) (next end : ℕ) : Type 0 where
+  pub puts : (e : Expr) (n : ℕ) → Spells leastFactor text at e n → Puts l to (exprCode e) n l′ next end
 
 -- Their commands, and the most words that they have on the stack one after another, each above the values of those before it.
 unfoldable pub commandsOfAll : List Expr → ℕ
@@ -51,9 +53,6 @@ unfoldable pub heightOfAll : List Expr → ℕ
 heightOfAll [] = 0
 heightOfAll (x ∷ xs) = max (exprHeight x) (heightOfAll xs + 1)
 
-abbrev pub Below : ℕ → Expr → Type 0
-Below d x = depth x ≤ d
-
 -- An expression, taken apart.
 pub record Opened (text : List ℕ) (at : ℕ) (e : Expr) (n : ℕ) (c : Operator) : Type 0 where
   pub operator : leadOf c .operator ≡ true
@@ -63,7 +62,7 @@ pub record Opened (text : List ℕ) (at : ℕ) (e : Expr) (n : ℕ) (c : Operato
   pub code : exprCode e ≡ codeOfAll operands ++ leadOf c .last
   pub commands : exprCommands e ≡ commandsOfAll operands + 1
   pub height : exprHeight e ≡ max 1 (heightOfAll operands)
-  pub deep : (d : ℕ) → depth e ≤ suc d → All (Below d) operands
+  pub deep : (d : ℕ) → depth e ≤ suc d → All (NestsIn d) operands
 
 module _ {text : List ℕ} where
   opens : {at n : ℕ} {e : Expr} → Spells leastFactor text at e n → (c : Operator) × (operatorAt text at ≡ c) ×
@@ -167,15 +166,6 @@ module _ {l l₁ l₂ xs ys : List ℕ} {to m n₁ e₁ k n₂ e₂ : ℕ} (p : 
             ap (λ (j : ℕ). sets (sets l to xs) j ys) (p .ends));
       }
 
--- k expressions stand at `at`, each nests at most d deep, and n bytes have space for their code and t bytes after it.
-pub record Rooms (d : ℕ) (text : List ℕ) (at n to k t : ℕ) : Type 0 where
-  pub exprs : List Expr
-  pub next : ℕ
-  pub spelled : SpellsAll text at exprs next
-  pub deep : All (Below d) exprs
-  pub count : length exprs ≡ k
-  pub fits : to + (length (codeOfAll exprs) + t) ≤ n
-
 module _ {d : ℕ} {text : List ℕ} {at n to : ℕ} (c : Operator) (q : operatorAt text at ≡ c) (r : Room d text at n to) where
   pub positive : 0 < d
   positive = omega (arith, depth-some (r .expr), r .deep)
@@ -209,7 +199,7 @@ module _ {d : ℕ} {text : List ℕ} {at n to k t : ℕ} where
   split : Rooms d text at n to (suc k) t → Split d text at n to k t
   split r = go (r .exprs) (r .spelled) (r .deep) (r .count) (r .fits)
     where
-      go : (es : List Expr) → SpellsAll text at es (r .next) → All (Below d) es → length es ≡ suc k →
+      go : (es : List Expr) → SpellsAll text at es (r .next) → All (NestsIn d) es → length es ≡ suc k →
           to + (length (codeOfAll es) + t) ≤ n → Split d text at n to k t
       go [] s h e f = absurd (omega arith)
       go (x ∷ xs) (more u v) h e f =
@@ -244,13 +234,6 @@ rest-rooms {d = d} {text = text} {k = k} {t = t} {n₁ = n₁} {e₁ = e₁} {l�
       fits = omega (arith, p .ends, puts-length p, q .fits);
     }
 
-pub no-rooms : {d : ℕ} {text : List ℕ} {at n to t : ℕ} → Rooms d text at n to 0 t → to + t ≤ n
-no-rooms r = omega (arith, r .fits)
-
--- l′ is l with the code of the k expressions that stand at `at`.
-pub record EmitsAll (text : List ℕ) (at k : ℕ) (l : List ℕ) (to : ℕ) (l′ : List ℕ) (next end : ℕ) : Type 0 where
-  pub puts : (es : List Expr) (n : ℕ) → SpellsAll text at es n → length es ≡ k → Puts l to (codeOfAll es) n l′ next end
-
 module _ {text : List ℕ} {at to : ℕ} {l : List ℕ} where
   pub emits-none : EmitsAll text at 0 l to l at to
   unfolding codeOfAll
@@ -283,6 +266,64 @@ module _ {text : List ℕ} {at to : ℕ} {l : List ℕ} where
             let g = join f p in
             record { goes = g .goes ∙ f .goes; ends = rw (o .code) (g .ends); holds = rw (o .code) (g .holds) };
       }
+
+-- What is left after the code of them.
+pub after-rooms : {d : ℕ} {text : List ℕ} {at to k t n₁ e₁ : ℕ} {l l₁ : List ℕ} → Rooms d text at (length l) to k t →
+    EmitsAll text at k l to l₁ n₁ e₁ → e₁ + t ≤ length l₁
+after-rooms r w =
+    let p = w .puts (r .exprs) (r .next) (r .spelled) (r .count) in
+    omega (arith, p .ends, puts-length p, r .fits)
+
+pub without : {d : ℕ} {text : List ℕ} {at n to k t : ℕ} → Rooms d text at n to k t → Rooms d text at n to k 0
+without r =
+    record {
+      exprs = r .exprs;
+      next = r .next;
+      spelled = r .spelled;
+      deep = r .deep;
+      count = r .count;
+      fits = omega (arith, r .fits);
+    }
+
+-- One alone.
+pub alone : {d : ℕ} {text : List ℕ} {at n to : ℕ} → Room d text at n to → Rooms d text at n to 1 0
+unfolding codeOfAll
+alone r =
+    record {
+      exprs = r .expr ∷ [];
+      next = r .next;
+      spelled = more (r .spelled) none;
+      deep = (r .deep, tt);
+      count = refl;
+      fits = omega (arith, r .fits, all-length (r .expr) []);
+    }
+
+pub emits-alone : {text : List ℕ} {at to n e : ℕ} {l l′ : List ℕ} → EmitsAll text at 1 l to l′ n e → Emits text at l to l′ n e
+unfolding codeOfAll
+emits-alone w = record { puts = λ x n u. rw (append-nil (exprCode x)) at (w .puts (x ∷ []) n (more u none) refl) }
+
+-- How many operands, and how wide what has some is.
+pub arity-is : (c : Operator) → leadOf c .arity ≡ operandsOf c
+unfolding operandsOf
+arity-is Operator.EndsEarly = refl
+arity-is Operator.Unknown = refl
+arity-is Operator.OutOfRange = refl
+arity-is (Operator.Constant w) = refl
+arity-is (Operator.Read kind x) = refl
+arity-is (Operator.Binary operator) = refl
+arity-is (Operator.Unary operator) = refl
+arity-is Operator.If = refl
+
+pub one-wide : (c : Operator) → (operandsOf c ≡ 0 → ⊥) → leadOf c .width ≡ 1
+unfolding operandsOf
+one-wide Operator.EndsEarly h = refl
+one-wide Operator.Unknown h = refl
+one-wide Operator.OutOfRange h = refl
+one-wide (Operator.Constant w) h = absurd (h refl)
+one-wide (Operator.Read kind x) h = absurd (h refl)
+one-wide (Operator.Binary operator) h = refl
+one-wide (Operator.Unary operator) h = refl
+one-wide Operator.If h = refl
 
 -- What is no operator.
 abbrev pub others : List ℕ

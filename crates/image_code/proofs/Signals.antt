@@ -15,8 +15,8 @@ use Rattle.model.proofs.Texts.Commands.{byteOf, declaration-sound, written-byte
 use Rattle.model.proofs.Texts.Written.{as-written}
 use Rattle.model.proofs.Texts.Legal.{SpellsBody, SpellsSignal}
 use Rattle.model.specs.Says.Grammar.{Spells}
-use Rattle.image_code.specs.Code.{Puts, Room, Emits, SignalRoom, EmitsSignal}
-use Rattle.image_code.proofs.Operands.{puts-length, join}
+use Rattle.image_code.specs.Code.{Puts, SignalRoom, EmitsSignal}
+use Rattle.image_code.proofs.Operands.{Room, Emits, puts-length, join}
 
 -- A signal whose byte is that of EQ has an equation.
 pub record Equated (text : List ℕ) (place : ℕ) (σ : Signal) : Type 0 where

@@ -9,7 +9,9 @@ ghost use lib.ListN.{length};
 ghost use Rattle.model.specs.Rules.Image.{binaryByte, unaryByte};
 ghost use Rattle.model.specs.Rules.Width.{inCode};
 ghost use Rattle.model.specs.Rules.Word.{byteAt, wordBytes};
-ghost use Rattle.image_code.specs.Code.{Puts, Room, Emits, SignalRoom, EmitsSignal};
+ghost use Rattle.text_command.specs.Operator.{operandsOf};
+ghost use Rattle.image_code.specs.Shape.{leadOf};
+ghost use Rattle.image_code.specs.Code.{Puts, SignalRoom, EmitsSignal, Rooms, EmitsAll, LeafSpace};
 
 // Where the text goes on, and where the code ends.
 pub struct Emitted {
@@ -81,51 +83,69 @@ fn put_operator(out: &mut [u8], operands: Emitted, code: u8) -> Emitted
     }
 }
 
-// Writes the code of the expression at `at`, which nests at most `depth` deep, from `to` on. The slices go by references to them,
-// which no level of the recursion has to copy. `counted` is what the type of a slice says and that of a reference to one does not;
-// `same`: the slice is not exchanged for another.
-pub fn emit_expression(
-    text: &&[u8],
-    at: usize,
-    depth: usize,
-    out: &mut &mut [u8],
-    to: usize,
-) -> Emitted
-    requires { ⌜ Room depth (now (now text)) at (length (now (now out))) to ⌝ }
-    requires counted { ⌜ length (now (now text)) < 2 ^ 64 ⌝ }
-    ensures same { λ _. ⌜ now (out .exit) .name ≡ now (out .entry) .name ⌝ }
-    ensures { λ r. ⌜ Emits (now (now (text .entry))) at (now (now (out .entry))) to (now (now (out .exit))) (r .next) (r .end) ⌝ }
+// Writes the code of an operator that has no operands.
+fn put_leaf(out: &mut [u8], operator: Operator, at: usize, to: usize) -> Emitted
+    requires { ⌜ LeafSpace operator at (length (now out)) to ⌝ }
+    ensures { λ r. ⌜ Puts (now (out .entry)) to (leadOf operator .last) (at + leadOf operator .width) (now (out .exit)) (r .next) (r .end) ⌝ }
 {
-    let decoded = text_command::operator_at(*text, at);
-    match decoded {
-        Operator::Constant(w) => put_push(*out, to, w, at + width::in_expression(0x20)),
+    match operator {
+        Operator::Constant(w) => put_push(out, to, w, at + width::in_expression(0x20)),
         Operator::Read(kind, operands) => put_access(
-            *out,
+            out,
             to,
             0x51,
             operands.signal,
             at + width::of_read(kind),
         ),
-        Operator::Binary(operator) => {
-            let first_at = at + width::in_expression(0x30);
-            let first = emit_expression(text, first_at, depth - 1, out, to);
-            let second = emit_expression(text, first.next, depth - 1, out, first.end);
-            put_operator(*out, second, binary_byte(operator))
-        }
-        Operator::Unary(operator) => {
-            let operand_at = at + width::in_expression(0x38);
-            let operand = emit_expression(text, operand_at, depth - 1, out, to);
-            put_operator(*out, operand, unary_byte(operator))
-        }
-        Operator::If => {
-            let condition_at = at + width::in_expression(0x3A);
-            let condition = emit_expression(text, condition_at, depth - 1, out, to);
-            let first = emit_expression(text, condition.next, depth - 1, out, condition.end);
-            let second = emit_expression(text, first.next, depth - 1, out, first.end);
-            put_operator(*out, second, 0x3A)
-        }
         _ => Emitted { next: at, end: to },
     }
+}
+
+// The code of an operator that has operands.
+fn operator_byte(operator: Operator) -> u8
+    ensures { λ r. ⌜ ((operandsOf operator ≡ 0 → ⊥) → leadOf operator .last ≡ r ∷ []) ⌝ }
+{
+    match operator {
+        Operator::Binary(o) => binary_byte(o),
+        Operator::Unary(o) => unary_byte(o),
+        _ => 0x3A,
+    }
+}
+
+// Writes the code of so many expressions from `at` on, one after another, each of which nests at most `depth` deep, from `to` on: an
+// operator comes after its operands. The slices go by references to them,
+// which no level of the recursion has to copy. `counted` is what the type of a slice says and that of a reference to one does not;
+// `same`: the slice is not exchanged for another.
+pub fn emit_expressions(
+    text: &&[u8],
+    number: usize,
+    at: usize,
+    depth: usize,
+    out: &mut &mut [u8],
+    to: usize,
+) -> Emitted
+    requires { ⌜ Rooms depth (now (now text)) at (length (now (now out))) to number 0 ⌝ }
+    requires counted { ⌜ length (now (now text)) < 2 ^ 64 ⌝ }
+    ensures same { λ _. ⌜ now (out .exit) .name ≡ now (out .entry) .name ⌝ }
+    ensures { λ r. ⌜ EmitsAll (now (now (text .entry))) at number (now (now (out .entry))) to (now (now (out .exit))) (r .next) (r .end) ⌝ }
+{
+    let mut done = Emitted { next: at, end: to };
+    let mut left = number;
+    while 0 < left {
+        let here = done.next;
+        let from = done.end;
+        let operator = text_command::operator_at(*text, here);
+        let operands = text_command::operands_of(operator);
+        done = if operands == 0 {
+            put_leaf(*out, operator, here, from)
+        } else {
+            let first = here + width::in_expression(0x30);
+            let before = emit_expressions(text, operands, first, depth - 1, out, from);
+            put_operator(*out, before, operator_byte(operator))
+        };
+        left = left - 1;
+    }
+    done
 }
 
 // Writes the code of the signal x, an equation declared at `place`, from `to` on. Says in `end` where it ends. It takes the slice and
@@ -144,7 +164,7 @@ fn emit_equation<'a>(
     ensures { λ r. ⌜ EmitsSignal (now (text .entry)) place x (now (out .entry)) to (now r) (now (end .exit)) ⌝ }
 {
     let mut all = out;
-    let value = emit_expression(&text, place + width::in_program(0x11), 16, &mut all, to);
+    let value = emit_expressions(&text, 1, place + width::in_program(0x11), 16, &mut all, to);
     let back = all;
     let code = put_access(back, value.end, 0x5F, x, place);
     *end = code.end;

@@ -14,7 +14,8 @@ use Rattle.model.proofs.Images.Bounds.{depth-some}
 use Rattle.model.proofs.Images.Bounds.{height-some}
 use Rattle.model.proofs.Images.Runs.{commands-most}
 use Rattle.image_code.specs.Shape.{leadOf}
-use Rattle.image_code.proofs.Operands.{SpellsAll, Below, commandsOfAll, heightOfAll, opened}
+use Rattle.image_code.specs.Code.{SpellsAll, NestsIn}
+use Rattle.image_code.proofs.Operands.{commandsOfAll, heightOfAll, opened}
 use Rattle.model.proofs.Texts.Legal.{expr-code}
 use Rattle.image_code.proofs.Spans.{inside}
 use Rattle.image_measure.specs.Measure.{Nests, MeasureIs, Measures, Joined, Operated}
@@ -25,7 +26,7 @@ pub record NestsAll (d : ℕ) (text : List ℕ) (at k : ℕ) : Type 0 where
   pub exprs : List Expr
   pub next : ℕ
   pub spelled : SpellsAll text at exprs next
-  pub deep : All (Below d) exprs
+  pub deep : All (NestsIn d) exprs
   pub count : length exprs ≡ k
 
 module _ {d : ℕ} {text : List ℕ} {at : ℕ} (c : Operator) (q : operatorAt text at ≡ c) (r : Nests d text at) where
@@ -56,7 +57,7 @@ module _ {d : ℕ} {text : List ℕ} {at k : ℕ} (r : NestsAll d text at (suc k
   split : Split d text at k
   split = go (r .exprs) (r .spelled) (r .deep) (r .count)
     where
-      go : (es : List Expr) → SpellsAll text at es (r .next) → All (Below d) es → length es ≡ suc k → Split d text at k
+      go : (es : List Expr) → SpellsAll text at es (r .next) → All (NestsIn d) es → length es ≡ suc k → Split d text at k
       go [] s h e = absurd (omega arith)
       go (x ∷ xs) (SpellsAll.more u v) h e =
           record {

@@ -48,6 +48,17 @@ operatorFrom least text at = restricted least (operatorAt text at)
 abbrev pub HasFactor : ℕ → Kind → Type 0
 HasFactor least kind = (x : Sampled) → isAllowed least kind x ≡ leb least (x .factor)
 
+-- How many operands an operator has.
+unfoldable pub operandsOf : Operator → ℕ
+operandsOf Operator.EndsEarly = 0
+operandsOf Operator.Unknown = 0
+operandsOf Operator.OutOfRange = 0
+operandsOf (Operator.Constant w) = 0
+operandsOf (Operator.Read kind x) = 0
+operandsOf (Operator.Binary operator) = 2
+operandsOf (Operator.Unary operator) = 1
+operandsOf Operator.If = 3
+
 -- An operator stands at `at`, and this is it.
 pub record OperatorStands (text : List ℕ) (at : ℕ) : Type 0 where
   pub operator : Operator

@@ -15,7 +15,7 @@ ghost use lib.ListN.{length};
 ghost use Rattle.model.specs.Rules.Command.{isPeriod, isIndex, indexOf, modeOf, declarationOf, declarationAt};
 ghost use Rattle.model.specs.Rules.Command.{plainRead, sampledRead, operatorOf, operatorAt};
 ghost use Rattle.model.specs.Rules.Schedule.{scheduleCommandAt};
-ghost use Rattle.text_command.specs.Operator.{kindOf, binaryOf, HasFactor, restricted, operatorFrom, OperatorStands, ReadStands, ReadTaken};
+ghost use Rattle.text_command.specs.Operator.{kindOf, binaryOf, HasFactor, restricted, operatorFrom, OperatorStands, ReadStands, ReadTaken, operandsOf};
 
 fn is_period(n: u8) -> bool
     ensures { λ r. ⌜ r ≡ isPeriod n ⌝ }
@@ -361,5 +361,17 @@ pub fn operator_at(text: &[u8], at: usize) -> Operator
         0x38 => Operator::Unary(Unary::Negate),
         0x3A => Operator::If,
         _ => Operator::Binary(binary_of(byte)),
+    }
+}
+
+// How many operands an operator has.
+pub fn operands_of(operator: Operator) -> usize
+    ensures { λ r. ⌜ r ≡ operandsOf operator ⌝ }
+{
+    match operator {
+        Operator::Binary(_) => 2,
+        Operator::Unary(_) => 1,
+        Operator::If => 3,
+        _ => 0,
     }
 }

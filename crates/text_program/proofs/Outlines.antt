@@ -13,15 +13,15 @@ use Rattle.model.specs.declared.Kind.{Kind}
 use Rattle.model.specs.declared.Operator.{Operator}
 use Rattle.model.specs.declared.Operator.the-variants as Operator
 use Rattle.model.specs.declared.Sampled.{Sampled}
+use Rattle.text_command.specs.Operator.{operandsOf}
 use Rattle.text_program.specs.Walks.{
   placesOf,
   Outline,
   outline,
   outlineOf,
-  before,
+  followed,
   outlines,
   leafOf,
-  operandsOf,
   WalksBy,
   Walks,
 }
@@ -39,18 +39,18 @@ operated x = record { places = x .places; code = x .code + 1; next = x .next }
 module _ (sub : ℕ → Outcome (Parsed Expr)) where
   -- An operand, and what comes of it and of those after it.
   operand : (n at : ℕ) (k : Parsed Expr → Outcome (Parsed Expr)) (f : Outline → Outline) →
-      ((x : Parsed Expr) → outlineOf (k x) ≡ mapped (λ y. f (before (outline x) y)) (outlines sub n (x .next))) →
+      ((x : Parsed Expr) → outlineOf (k x) ≡ mapped (λ y. f (followed (outline x) y)) (outlines sub n (x .next))) →
       outlineOf (sub at ▷ k) ≡ mapped f (outlines sub (suc n) at)
   unfolding outlines _▷_
   operand n at k f h = go (sub at)
     where
       after : (x : Outline) (q : Outcome Outline) →
-          mapped (λ y. f (before x y)) q ≡ mapped f (q ▷ λ y. accepted (before x y))
+          mapped (λ y. f (followed x y)) q ≡ mapped f (q ▷ λ y. accepted (followed x y))
       after x (accepted y) = refl
       after x (refused g) = refl
 
       go : (o : Outcome (Parsed Expr)) →
-          outlineOf (o ▷ k) ≡ mapped f (outlineOf o ▷ λ x. outlines sub n (x .next) ▷ λ y. accepted (before x y))
+          outlineOf (o ▷ k) ≡ mapped f (outlineOf o ▷ λ x. outlines sub n (x .next) ▷ λ y. accepted (followed x y))
       go (accepted x) = h x ∙ after (outline x) (outlines sub n (x .next))
       go (refused g) = refl
 

@@ -30,7 +30,18 @@ use Rattle.model.specs.Rules.Program.{
   parseWith,
 }
 use Rattle.text_program.specs.Steps.{AddsSignal, Adds, labelAfter, Added, Stepped}
-use Rattle.text_program.specs.Tables.{noChain, Sums, readsIn, codeIn, ReadsOf, TablesOf, Space, Unread, judgedOf, ProgramReads}
+use Rattle.text_program.specs.Tables.{
+  noChain,
+  Sums,
+  readsIn,
+  codeIn,
+  ReadsOf,
+  TablesOf,
+  Space,
+  Unread,
+  judgedOf,
+  ProgramReads,
+}
 use Rattle.text_program.specs.Walks.{placesOf, WalkRoom, Moves}
 use Rattle.text_program.specs.declared.Entry.{Entry}
 use Rattle.text_program.specs.declared.Entry.the-variants as Entry

@@ -24,7 +24,7 @@ use Rattle.text_program.specs.Walks.{
   Moves,
   Outline,
   outlineOf,
-  before,
+  followed,
   outlines,
   WalksBy,
   Walks,
@@ -88,7 +88,7 @@ stop (refused q) k w g = record { by = w .by }
 
 -- After one that is passed over the rest decides.
 passes-on : (o p : Outcome Outline) {l l₁ l₂ : List ℕ} {c t : ℕ} {r₁ r : Walked} {a : Walk} (k : ℕ → Outcome Outline) →
-    p ≡ (o ▷ λ x. k (x .next) ▷ λ y. accepted (before x y)) → Walks o l c t l₁ r₁ → r₁ ≡ Walked.Next a →
+    p ≡ (o ▷ λ x. k (x .next) ▷ λ y. accepted (followed x y)) → Walks o l c t l₁ r₁ → r₁ ≡ Walked.Next a →
     Walks (k (a .at)) l₁ (a .reads) (a .code) l₂ r → Walks p l c t l₂ r
 unfolding _▷_ WalksBy
 passes-on (accepted x) p {l} {l₁} {l₂} {c} {t} {r₁} {r} {a} k e w g v =
@@ -99,7 +99,7 @@ passes-on (accepted x) p {l} {l₁} {l₂} {c} {t} {r₁} {r} {a} k e w g v =
     rw e (go (k (x .next)) m (rw (m .goes) at v))
   where
     go : (q : Outcome Outline) → Moves (x .next) (x .places) (x .code) l c t l₁ a → Walks q l₁ (a .reads) (a .code) l₂ r →
-        Walks (q ▷ λ y. accepted (before x y)) l c t l₂ r
+        Walks (q ▷ λ y. accepted (followed x y)) l c t l₂ r
     go (accepted y) m v = record { by = (v .by .0, v .by .1, join m (v .by .2)) }
     go (refused f) m v = record { by = v .by }
 passes-on (refused f) p {r₁ = r₁} {a = a} k e w g v =
@@ -131,7 +131,7 @@ module _ (sub : ℕ → Outcome (Parsed Expr)) where
   one-outline at = go (sub at)
     where
       go : (o : Outcome (Parsed Expr)) →
-          (outlineOf o ▷ λ a. outlines sub 0 (a .next) ▷ λ b. accepted (before a b)) ≡ outlineOf o
+          (outlineOf o ▷ λ a. outlines sub 0 (a .next) ▷ λ b. accepted (followed a b)) ≡ outlineOf o
       go (accepted x) =
           ap {B = Outcome Outline} accepted (alike (append-nil (placesOf (readsOf (x .value)))) (omega arith))
       go (refused f) = refl
@@ -241,8 +241,8 @@ abbrev pub equationStep : Entry → Walked → Step
 equationStep e (Walked.Next a) = Step.Adds e (record { at = a .at; reads = a .reads; code = a .code + 2 })
 equationStep e (Walked.Refused f) = Step.Refused f
 
-pub equation-walks : (o : Outcome (Parsed Expr)) {l l′ : List ℕ} {count to : ℕ} {r : Walked} → Walks (outlineOf o) l count to l′ r →
-    (e : Entry) {s : Step} → s ≡ equationStep e r → WalksEquation o e l count to l′ s
+pub equation-walks : (o : Outcome (Parsed Expr)) {l l′ : List ℕ} {count to : ℕ} {r : Walked} →
+    Walks (outlineOf o) l count to l′ r → (e : Entry) {s : Step} → s ≡ equationStep e r → WalksEquation o e l count to l′ s
 unfolding WalksBy EquationBy
 equation-walks (accepted x) w e h =
     let a = w .by .0 in

@@ -53,13 +53,13 @@ outlineOf (accepted x) = accepted (outline x)
 outlineOf (refused f) = refused f
 
 -- One after the other.
-abbrev pub before : Outline → Outline → Outline
-before a b = record { places = a .places ++ b .places; code = a .code + b .code; next = b .next }
+abbrev pub followed : Outline → Outline → Outline
+followed a b = record { places = a .places ++ b .places; code = a .code + b .code; next = b .next }
 
 -- So many expressions from `at` on, one after another, where `sub` reads one.
 unfoldable pub outlines : (ℕ → Outcome (Parsed Expr)) → ℕ → ℕ → Outcome Outline
 outlines sub zero at = accepted (record { places = []; code = 0; next = at })
-outlines sub (suc n) at = outlineOf (sub at) ▷ λ a. outlines sub n (a .next) ▷ λ b. accepted (before a b)
+outlines sub (suc n) at = outlineOf (sub at) ▷ λ a. outlines sub n (a .next) ▷ λ b. accepted (followed a b)
 
 -- An operator with no operands; one that has some does not come here.
 unfoldable pub leafOf : ℕ → ℕ → Operator → Outcome Outline
@@ -73,17 +73,6 @@ leafOf size at (Operator.Read kind x) =
 leafOf size at (Operator.Binary operator) = refuse 3 at
 leafOf size at (Operator.Unary operator) = refuse 3 at
 leafOf size at Operator.If = refuse 3 at
-
--- How many operands an operator has.
-unfoldable pub operandsOf : Operator → ℕ
-operandsOf Operator.EndsEarly = 0
-operandsOf Operator.Unknown = 0
-operandsOf Operator.OutOfRange = 0
-operandsOf (Operator.Constant w) = 0
-operandsOf (Operator.Read kind x) = 0
-operandsOf (Operator.Binary operator) = 2
-operandsOf (Operator.Unary operator) = 1
-operandsOf Operator.If = 3
 
 -- There is room for a leaf, which stands in the text.
 pub record LeafRoom (o : Operator) (size at count to room : ℕ) : Type 0 where

@@ -17,7 +17,7 @@ ghost use Rattle.model.specs.declared.Fault.{Fault};
 ghost use Rattle.text_program.specs.Results.{hereOf, linksOf, chainOf, tagOf, endOf};
 ghost use Rattle.text_program.specs.Steps.{Counts, Stepped};
 ghost use Rattle.text_program.specs.Tables.{judgedOf, Unread, ProgramReads};
-ghost use Rattle.text_program.specs.Walks.{deepOf, outlines, leafOf, operandsOf, WalkRoom, LeafRoom, Walks, WalksEquation};
+ghost use Rattle.text_program.specs.Walks.{deepOf, outlines, leafOf, WalkRoom, LeafRoom, Walks, WalksEquation};
 
 // The offset at which reading goes on, or the refusal.
 pub enum Reached {
@@ -124,18 +124,6 @@ fn read_leaf(
     }
 }
 
-// How many operands an operator has.
-fn operands_of(operator: Operator) -> usize
-    ensures { λ r. ⌜ r ≡ operandsOf operator ⌝ }
-{
-    match operator {
-        Operator::Binary(_) => 2,
-        Operator::Unary(_) => 1,
-        Operator::If => 3,
-        _ => 0,
-    }
-}
-
 // Reads so many expressions from `at` on, one after another, each of which may nest `depth` deep: an operator is followed by its
 // operands. Keeps the offset of each of their reads in `reads`, from `count` on, and counts the bytes of their code, from `to` on. The
 // text goes by a reference to its slice, which no level of the recursion has to copy.
@@ -163,7 +151,7 @@ pub fn read_expressions(
             return too_deep(*text, walk.at);
         }
         let operator = text_command::operator_from(least, *text, walk.at);
-        let operands = operands_of(operator);
+        let operands = text_command::operands_of(operator);
         let step = if operands == 0 {
             read_leaf(operator, text.len(), walk.at, walk.reads, walk.code, reads)
         } else {

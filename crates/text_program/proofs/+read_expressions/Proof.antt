@@ -18,7 +18,8 @@ use Rattle.model.specs.declared.Kind.{Kind}
 use Rattle.model.specs.declared.Operator.{Operator}
 use Rattle.model.specs.declared.Operator.the-variants as Operator
 use Rattle.model.specs.declared.Sampled.{Sampled}
-use Rattle.text_program.specs.Walks.{outlineOf, outlines, operandsOf, WalkRoom, Walks}
+use Rattle.text_command.specs.Operator.{operandsOf}
+use Rattle.text_program.specs.Walks.{outlineOf, outlines, WalkRoom, Walks}
 use Rattle.text_program.specs.declared.Walk.{Walk}
 use Rattle.text_program.specs.declared.Walked.{Walked}
 use Rattle.text_program.proofs.Operators.{parse-node, operator-inside, read-allowed}
@@ -28,7 +29,7 @@ use Rattle.text_program.proofs.read_expressions.Reads as own
 use Rattle.text_program.proofs.read_expressions.Kinds as kinds
 use Rattle.text_program.proofs.+read_expressions.Lts-read_expressions as lts
 use Rattle.text_command.proofs.operator_from.Reads as operator-from-reads
-use Rattle.text_program.proofs.operands_of.Reads as operands-of-reads
+use Rattle.text_command.proofs.operands_of.Reads as operands-of-reads
 use Rattle.text_program.proofs.read_leaf.Reads as read-leaf-reads
 use Rattle.text_program.proofs.too_deep.Reads as too-deep-reads
 use Rattle.width.proofs.in_code.Reads as in-code-reads
@@ -216,6 +217,8 @@ sub-read-expressions t c =
 
 read-expressions-requires : (t : ℕ) → lts.Need-read-expressions-requires (known t) (given t) own.Post Inv-loop μ-loop
 read-expressions-requires t c κs =
+    let code = c .before .before .in-code in
+    let wide = c .before .before .before .before .in-expression in
     let o = c .before .before .before .before .before .before in
     let h = room t (turn t o) in (
       omega (arith, o .before .before .before .if1 .left, start t (turn t o) .pre .0),
@@ -223,7 +226,7 @@ read-expressions-requires t c κs =
         short = h .short;
         table = h .table;
         few = omega (arith, h .few);
-        small = omega (arith, h .small, c .before .before .before .before .in-expression .ensures, c .before .before .in-code .ensures);
+        small = omega (arith, h .small, wide .ensures, code .ensures);
       },
     )
 

@@ -52,7 +52,8 @@ module _ (c : tie.After-known-told Inv-loop μ-loop) where
   abbrev text : List ℕ
   text = now (start .args .text)
 
-  reading : Reading least text (top .loop .reads) (top .loop .tables) (top .loop .at) (top .loop .label) (top .loop .count) (top .loop .to)
+  reading :
+      let l = top .loop in Reading least text (l .reads) (l .tables) (l .at) (l .label) (l .count) (l .to)
   reading = top .loop .inv .1
 
   inside : top .loop .at < length text

@@ -1,4 +1,4 @@
--- `text_program::operands_of` meets its contract. Assumes nothing.
+-- `text_command::operands_of` meets its contract. Assumes nothing.
 use Prim.Native.Nat.{ℕ}
 use mathlib.Core.List.{List, [], _∷_}
 use mathlib.Core.Path.{_≡_, refl}
@@ -7,10 +7,10 @@ use denote.Enum.Declared.{tagOf, declared}
 use Rattle.model.specs.declared.Operator.{Operator}
 use Rattle.model.proofs.Operator.{enum}
 use Rattle.model.specs.declared.Operator.the-variants as Operator
-use Rattle.text_program.specs.Walks.{operandsOf}
+use Rattle.text_command.specs.Operator.{operandsOf}
 use borrow.Author.Needs.{needs}
-use Rattle.text_program.proofs.operands_of.Statement.{statement}
-use Rattle.text_program.proofs.operands_of.Tie as tie
+use Rattle.text_command.proofs.operands_of.Statement.{statement}
+use Rattle.text_command.proofs.operands_of.Tie as tie
 
 -- those with no operands
 abbrev leaves : List ℕ
