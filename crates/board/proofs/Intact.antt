@@ -3,12 +3,11 @@ use Prim.Native.Nat.{ℕ, _+_, _-_, _≤_, _<_}
 use mathlib.Core.Bool.{Bool, true, false}
 use mathlib.Core.List.{List, [], _∷_}
 use mathlib.Core.Path.{_≡_, refl, sym, ap, subst, _∙_}
-use native.Mathlib.Nat.{min-le-right}
 use native.Mathlib.Omega.{arith}
 use borrow.Author.Tests.{leb-true, le-leb}
 use lib.Dec.{leb}
 use lib.IntN.{ℤ}
-use lib.ListN.{length, take, drop, length-take, length-drop}
+use lib.ListN.{length, drop, length-drop}
 use lib.Seq.{getD-set-same}
 use Rattle.model.specs.Rules.Machine.{Effect, stretch, resetOf, cycleOf}
 use Rattle.model.specs.Rules.Outcome.{accepted, refused}
@@ -63,6 +62,7 @@ use Rattle.board.proofs.Stretch.{
   inside-runs,
   accepted-inside,
   accepted-runs,
+  take-short,
 }
 use Rattle.board.proofs.Words.{words-length, words-own, samples-length}
 
@@ -114,9 +114,6 @@ module _ (b : Board) (images : List ℕ) (state samples : List ℤ) (k : ℕ) (l
 pub record Intact (k : ℕ) (s : Scene) : Type 0 where
   pub whole : length (imageAt (s .board) (s .images) k) ≡ placeAt (s .board) k .size
   pub runs : CanRun (imageAt (s .board) (s .images) k) (placeWords k (s .state))
-
-take-short : (n : ℕ) (l : List ℕ) → length (take n l) ≤ length l
-take-short n l = rw length-take (min-le-right n (length l))
 
 -- A stretch inside the images has its length.
 inside-length : (images : List ℕ) (start size : ℕ) → leb (start + size) (length images) ≡ true →

@@ -29,7 +29,7 @@ use Rattle.model.specs.Rules.Machine.{
 use Rattle.model.specs.Rules.Outcome.{Outcome, accepted, refused, fault}
 use Rattle.model.specs.declared.Fault.{Fault}
 use Rattle.model.proofs.Images.Cycles.{cycle-length}
-use Rattle.model.proofs.Images.Stretches.{table-length}
+use Rattle.model.proofs.Basics.Outcomes.{table-length}
 use Rattle.model.proofs.Images.Tails.{lent-formed}
 use Rattle.image_valid.proofs.Parts.{head, formed}
 use Rattle.image_valid.specs.Lends.{Lends}
@@ -195,7 +195,7 @@ runnable-can : (image : List ℕ) (words : List ℤ) → lentOk image ≡ true �
 runnable-can image words w r samples many =
     (cycleCount (imagePart image) words, ap answerOf (cycle-runs image words samples w (r samples many)))
 
-take-short : (n : ℕ) (l : List ℕ) → length (take n l) ≤ length l
+pub take-short : (n : ℕ) (l : List ℕ) → length (take n l) ≤ length l
 take-short n l = rw length-take (min-le-right n (length l))
 
 part-short : (image : List ℕ) → length (imagePart image) ≤ length image

@@ -14,13 +14,11 @@ use Rattle.model.specs.Rules.Command.{operatorAt}
 use Rattle.model.specs.Rules.Image.{exprCode}
 use Rattle.model.specs.Rules.Program.{leastFactor, Expr}
 use Rattle.model.specs.Rules.Report.{exprCommands, exprHeight}
-use Rattle.model.specs.Rules.Width.{readWidth}
 use Rattle.model.specs.Rules.Word.{wordBytes, fourBytes}
 use Rattle.model.specs.declared.Operator.{Operator}
 use Rattle.model.specs.declared.Operator.the-variants as Operator
-use Rattle.model.specs.declared.Kind.{Kind}
-use Rattle.model.specs.declared.Kind.the-variants.{Now, Last, When, LastWhen, Current}
 use Rattle.model.specs.Says.Grammar.{depth}
+use Rattle.model.proofs.Texts.Legal.{read-width}
 use Rattle.model.proofs.Images.Bounds.{depth-some}
 use Rattle.model.proofs.Operator.{enum}
 use Rattle.model.proofs.Texts.Commands.{operator-sound}
@@ -342,13 +340,6 @@ no-lead Operator.If h = absurd (miss others 7 tt h)
 pub no-operator : (c : Operator) → OneOf others (tagOf (declared enum) c) → leadOf c .operator ≡ true → ⊥
 no-operator c h e = false≢true (sym (ap (λ (x : Lead). x .operator) (no-lead c h)) ∙ e)
 
-pub read-some : (kind : Kind) → 2 ≤ readWidth kind
-read-some Now = omega arith
-read-some Last = omega arith
-read-some When = omega arith
-read-some LastWhen = omega arith
-read-some Current = omega arith
-
 -- What a command of an expression spans is some bytes of the text.
 pub spans : (text : List ℕ) (at : ℕ) (c : Operator) → operatorAt text at ≡ c → leadOf c .operator ≡ true →
     (1 ≤ leadOf c .width) × (at + leadOf c .width ≤ length text)
@@ -356,7 +347,7 @@ spans text at Operator.EndsEarly q e = absurd (false≢true e)
 spans text at Operator.Unknown q e = absurd (false≢true e)
 spans text at Operator.OutOfRange q e = absurd (false≢true e)
 spans text at (Operator.Constant w) q e = (omega arith, operator-sound text at _ q .1)
-spans text at (Operator.Read kind x) q e = (omega (arith, read-some kind), operator-sound text at _ q .1)
+spans text at (Operator.Read kind x) q e = (omega (arith, read-width kind), operator-sound text at _ q .1)
 spans text at (Operator.Binary operator) q e = (omega arith, operator-sound text at _ q)
 spans text at (Operator.Unary operator) q e = (omega arith, operator-sound text at _ q)
 spans text at Operator.If q e = (omega arith, operator-sound text at _ q)

@@ -14,7 +14,8 @@ use Rattle.model.specs.Rules.Schedule.{Schedule}
 use Rattle.model.specs.Rules.Search.{table, chosen}
 use Rattle.model.specs.Rules.Word.{twoBytes}
 use Rattle.model.proofs.Texts.Legal.{legal, signal-spelled, signal-period}
-use Rattle.model.proofs.Images.Stretches.{table-length, table-at, image-length}
+use Rattle.model.proofs.Images.Stretches.{image-length}
+use Rattle.model.proofs.Basics.Outcomes.{table-length, table-at}
 use Rattle.text_program.specs.declared.Tables.{Tables}
 use Rattle.image_write.specs.Codes.{signalsIn, declaredBy, codesFrom, Declared, CodesAt}
 use Rattle.image_write.specs.Lists.{isDue, listBy, listsBy, pairs, HasPeriods, Phased}

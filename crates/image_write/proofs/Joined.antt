@@ -8,7 +8,8 @@ use Rattle.model.specs.Rules.Image.{joined, offsets}
 use Rattle.model.specs.Rules.Search.{table, tableFrom, joinFrom}
 use Rattle.model.specs.Rules.Word.{twoBytes}
 use Rattle.image_write.specs.Lists.{isDue, listBy, listsBy, pairs}
-use Rattle.model.proofs.Images.Stretches.{table-length, joined-cons}
+use Rattle.model.proofs.Images.Stretches.{joined-cons}
+use Rattle.model.proofs.Basics.Outcomes.{table-length}
 use Rattle.model.proofs.Basics.Left.{Parts}
 use Rattle.model.proofs.Basics.All.{chosen-length}
 use Rattle.image_write.proofs.Listed.{table-starts, table-step, table-ends}

@@ -14,6 +14,7 @@ use lib.Seq.{drop-cons, set-at, append-snoc}
 use lib.Signed.{mag, ltZ}
 use mir.Syntax.{w32}
 use mir.Val.{toZ, ofZ}
+use Rattle.model.proofs.Basics.Outcomes.{table-length}
 use Rattle.model.specs.Rules.Machine.{
   countOf,
   codeOf,
@@ -65,15 +66,6 @@ module _ {A : Type 0} (f : ℕ → A) where
   table-more n = ap (λ (k : ℕ). tableFrom 0 k f) (add-one n) ∙ from-more 0 n ∙
       ap (λ (k : ℕ). tableFrom 0 n f ++ (f k ∷ [])) (zero-add n)
 
-  from-length : (i n : ℕ) → length (tableFrom i n f) ≡ n
-  unfolding tableFrom
-  from-length i zero = refl
-  from-length i (suc n) = ap suc (from-length (suc i) n)
-
-  pub table-length : (n : ℕ) → length (table n f) ≡ n
-  unfolding table
-  table-length n = from-length 0 n
-
 -- the state once x signals have their initial words
 unfoldable pub begun : List ℕ → ℕ → List ℤ → List ℤ
 begun image x state = pos 0 ∷ (table x (λ y. wordAt image (4 + 6 * y)) ++ drop (x + 1) state)
@@ -93,7 +85,7 @@ begun-more image x state h =
     ap (λ (k : ℕ). set (begun image x state) k (f x)) (add-one x)
     ∙ ap (λ (r : List ℤ). pos 0 ∷ set (table x f ++ r) x (f x)) next
     ∙ ap (λ (r : List ℤ). pos 0 ∷ r)
-    (set-at (table x f) (getD state (x + 1) (pos 0)) (drop (x + 1 + 1) state) (f x) x (table-length f x)
+    (set-at (table x f) (getD state (x + 1) (pos 0)) (drop (x + 1 + 1) state) (f x) x (table-length x f)
     ∙ sym (ap (λ (t : List ℤ). t ++ drop (x + 1 + 1) state) (table-more f x) ∙
     append-snoc (table x f) (f x) (drop (x + 1 + 1) state)))
 

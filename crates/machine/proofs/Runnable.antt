@@ -22,7 +22,7 @@ use Rattle.model.specs.Rules.Machine.{
   Effect,
 }
 use Rattle.model.proofs.Images.Cycles.{position-is, next-inside, run-length, cycle-length}
-use Rattle.model.proofs.Images.Stretches.{table-length}
+use Rattle.model.proofs.Basics.Outcomes.{table-length}
 use Rattle.image_valid.proofs.Parts.{head, formed}
 use Rattle.machine.specs.Runnable.{Runnable}
 use Rattle.machine.proofs.Answers.{cycle-done, lends-itself}

@@ -35,10 +35,9 @@ use Rattle.model.specs.Says.Written.{readByte}
 use Rattle.model.specs.declared.Declaration.{Declaration}
 use Rattle.model.specs.declared.Declaration.the-variants as Declaration
 use Rattle.model.specs.declared.Fault.{Fault}
-use Rattle.model.specs.declared.Kind.{Kind}
-use Rattle.model.specs.declared.Kind.the-variants.{Now, Last, When, LastWhen, Current}
 use Rattle.model.specs.declared.Operator.{Operator}
 use Rattle.model.specs.declared.Operator.the-variants as Operator
+use Rattle.model.proofs.Texts.Legal.{read-width}
 use Rattle.model.proofs.Texts.Commands.{DeclarationSound, declaration-sound, OperatorSound, operator-sound}
 use Rattle.model.proofs.Texts.Picks.{chosen-all}
 use Rattle.model.specs.Rules.Writing.{Wrote}
@@ -96,13 +95,6 @@ operator-bytes (Operator.Binary operator) l = refl
 operator-bytes (Operator.Unary operator) l = refl
 operator-bytes Operator.If l = refl
 
-width-two : (kind : Kind) → 2 ≤ readWidth kind
-width-two Now = omega arith
-width-two Last = omega arith
-width-two When = omega arith
-width-two LastWhen = omega arith
-width-two Current = omega arith
-
 -- No piece is longer than what it stands for.
 operator-short : (o : Operator) → newLength (operatorPiece o) ≤ widthIn (operatorPiece o)
 operator-short Operator.EndsEarly = omega arith
@@ -113,7 +105,7 @@ operator-short (Operator.Read kind x) = go (eqb (x .factor) 1) (readByte (single
   where
     go : (b : Bool) (a s : ℕ) → newLength (cond b (Piece.Short (readWidth kind) a s) (Piece.Keep (readWidth kind))) ≤
         widthIn (cond b (Piece.Short (readWidth kind) a s) (Piece.Keep (readWidth kind)))
-    go true a s = width-two kind
+    go true a s = read-width kind
     go false a s = omega arith
 operator-short (Operator.Binary operator) = omega arith
 operator-short (Operator.Unary operator) = omega arith

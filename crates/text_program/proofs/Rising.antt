@@ -20,11 +20,11 @@ use Rattle.model.specs.Rules.Program.{
   parseProgram,
 }
 use Rattle.model.specs.Rules.Search.{joinFrom}
-use Rattle.model.proofs.Texts.Legal.{links-end}
+use Rattle.model.proofs.Texts.Legal.{links-end, read-width}
 use Rattle.model.proofs.Basics.Outcomes.{joinFrom-append}
 use Rattle.model.proofs.Texts.Spelled.{declared}
 use Rattle.text_program.specs.Walks.{placesOf}
-use Rattle.text_program.proofs.Walks.{read-least, spans}
+use Rattle.text_program.proofs.Walks.{spans}
 
 -- Numbers that rise from a on, below b.
 abbrev pub Rising : ℕ → List ℕ → ℕ → Type 0
@@ -51,7 +51,7 @@ module _ {text : List ℕ} where
   rising-expr : {at n : ℕ} {e : Expr} → Spells leastFactor text at e n → Rising at (placesOf (readsOf e)) n
   unfolding readsOf
   rising-expr (Spells.constants e) = omega arith
-  rising-expr (Spells.reads {kind = kind} e a) = (omega arith, omega (arith, read-least kind))
+  rising-expr (Spells.reads {kind = kind} e a) = (omega arith, omega (arith, read-width kind))
   rising-expr (Spells.two {at = at} {m = m} {n = n} {x = x} {y = y} e u v) =
       rw map-append
       (rising-less (at + 1) at (placesOf (readsOf x) ++ placesOf (readsOf y)) n (omega arith)

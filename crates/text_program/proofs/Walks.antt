@@ -9,11 +9,9 @@ use Rattle.model.specs.Says.Grammar.{Spells}
 use Rattle.model.specs.Rules.Image.{exprCode}
 use Rattle.model.specs.Rules.Outcome.{Outcome, accepted, refused, _▷_, Parsed, parsed}
 use Rattle.model.specs.Rules.Program.{Expr, operatorHere, parseExpr, readsOf}
-use Rattle.model.specs.Rules.Width.{readWidth}
 use Rattle.model.specs.Rules.Word.{wordBytes, fourBytes}
 use Rattle.model.specs.declared.Fault.{Fault}
-use Rattle.model.specs.declared.Kind.{Kind}
-use Rattle.model.specs.declared.Kind.the-variants.{Now, Last, When, LastWhen, Current}
+use Rattle.model.proofs.Texts.Legal.{read-width}
 use Rattle.model.proofs.Texts.Commands.{operator-sound}
 use Rattle.model.proofs.Texts.Spelled.{spelled}
 use Rattle.model.proofs.Texts.Written.{operator-decoded}
@@ -149,13 +147,6 @@ walks-deep {l} {count} {to} {r} least zero text n at z e = go (operatorHere text
 walks-deep least (suc d) text n at z e = absurd (omega arith)
 
 -- An expression has two bytes for each read, and one for each byte of its code.
-pub read-least : (kind : Kind) → 2 ≤ readWidth kind
-read-least Now = omega arith
-read-least Last = omega arith
-read-least When = omega arith
-read-least LastWhen = omega arith
-read-least Current = omega arith
-
 pub record Spans (size at : ℕ) (e : Expr) (n : ℕ) : Type 0 where
   pub few : at + 2 * length (placesOf (readsOf e)) ≤ n
   pub small : at + length (exprCode e) ≤ n
@@ -168,8 +159,8 @@ module _ {text : List ℕ} where
       record { few = omega arith; small = omega arith; inside = operator-sound text at _ (operator-decoded e) .1 }
   spans (Spells.reads {at = at} {kind = kind} e a) =
       record {
-        few = omega (arith, read-least kind);
-        small = omega (arith, read-least kind);
+        few = omega (arith, read-width kind);
+        small = omega (arith, read-width kind);
         inside = operator-sound text at _ (operator-decoded e) .1;
       }
   spans (Spells.two e u v) =

@@ -30,7 +30,7 @@ use Rattle.model.specs.declared.ScheduleCommand.{ScheduleCommand}
 use Rattle.model.specs.declared.ScheduleCommand.the-variants as ScheduleCommand
 use Rattle.model.proofs.Basics.All.{all-at, all-append}
 use Rattle.model.proofs.Pairs.Decide.{all-true}
-use Rattle.model.proofs.Basics.Outcomes.{lowest-sorted, getD-table}
+use Rattle.model.proofs.Basics.Outcomes.{lowest-sorted, table-at}
 use Rattle.model.specs.Says.Grammar.{SpellsPuts}
 use Rattle.model.proofs.Texts.Puts.{puts-end, puts-spelled, placed-ordered}
 use Rattle.model.proofs.Texts.Written.{put-decoded}
@@ -372,7 +372,7 @@ module _ (text : List ℕ) (p : Program) (o : Parsed (List Put)) (at : ℕ) (t :
           order-is = λ j lt. g .after .order-is j (omega arith) ∙ ap (λ qs. getD (signalsPut qs) j 0) (sym all-done);
           phases-are = λ x lt.
               g .after .phases-are x (omega arith) (put x lt) ∙ ap (λ qs. putPhase qs x) (sym all-done) ∙
-              sym (getD-table (putPhase (o .value)) (count p) x 0 lt);
+              sym (table-at (count p) (putPhase (o .value)) x 0 lt);
           ranks-are = λ x lt.
               g .after .ranks-are x (omega arith) (put x lt) ∙ ap (λ qs. rank (signalsPut qs) x) (sym all-done);
           all-put = order-length (s .order) (count p) (ok .put) (ok .once) (ok .only);

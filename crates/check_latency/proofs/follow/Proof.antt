@@ -39,9 +39,8 @@ few c =
 
 -- and so do the two at hand
 next : (c : tie.In-loop Inv-loop μ-loop) →
-    (c .before .loop .at + 4 ≤ length
-    (now (c .before .before .before .before .before .before .before .before .before .args .text))) ×
-    (c .before .loop .count < 15)
+    let c5 = c .before .before .before .before .before in
+    (c .before .loop .at + 4 ≤ length (now (c5 .before .before .before .before .args .text))) × (c .before .loop .count < 15)
 next c =
     let c5 = c .before .before .before .before .before in
     let c9 = c5 .before .before .before .before in

@@ -32,7 +32,8 @@ abbrev μ-loop : tie.MeasureT-loop
 
 -- the two links at hand lie within the text
 inside : (c : tie.In-loop Inv-loop μ-loop) →
-    c .before .loop .at + 4 ≤ length (now (c .before .before .before .before .before .before .before .before .args .text))
+    let c4 = c .before .before .before .before in
+    c .before .loop .at + 4 ≤ length (now (c4 .before .before .before .before .args .text))
 inside c =
     let r = c .before .before .before .before .before .before .before .before .pre .0 in
     link-inside _ _ _ _ _ (c .before .loop .inv (r .0) (r .1) (r .2)) (c .loop-test .taken)

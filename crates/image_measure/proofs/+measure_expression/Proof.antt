@@ -148,10 +148,9 @@ measure-expression-requires-2 t c κs =
 
 -- the operands of an operator with two
 two : (t : ℕ) (c : lts.After-measure-expression2 (known t) (given t) own.Post) →
-    Small (text t (c .before .before .before .before .before)) (at t (c .before .before .before .before .before) + 1)
-    (c .before .measure-expression .result) ×
-    Small (text t (c .before .before .before .before .before)) (c .before .measure-expression .result .next)
-    (c .measure-expression2 .result)
+    let c5 = c .before .before .before .before .before in
+    Small (text t c5) (at t c5 + 1) (c .before .measure-expression .result) ×
+    Small (text t c5) (c .before .measure-expression .result .next) (c .measure-expression2 .result)
 two t c =
     let a = all t (c .before .before .before .before .before) _ (c .before .before .before .enum-told2 .given .1) in (
       small (first-nests a) (rw (c .before .before .in-expression2 .ensures) at (c .before .measure-expression .ensures)),

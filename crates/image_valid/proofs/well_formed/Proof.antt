@@ -12,8 +12,9 @@ use Rattle.image_valid.proofs.well_formed.Tie as tie
 good : (e : tie.Else1) → headOk (e .before .before .before .args .image .now) ≡ true
 good e = sym (e .before .head-ok .ensures) ∙ not-false _ (e .if1 .left)
 
-listed : (e : tie.Else2) → listsOk (e .before .before .before .before .before .before .before .before .before .args .image .now) ≡
-    true
+listed : (e : tie.Else2) →
+    let e5 = e .before .before .before .before .before in
+    listsOk (e5 .before .before .before .before .args .image .now) ≡ true
 listed e = sym (e .before .lists-ok .ensures) ∙ not-false _ (e .if2 .left)
 
 returns : tie.Need-returns

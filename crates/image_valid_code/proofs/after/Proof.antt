@@ -17,12 +17,14 @@ mul-if2 c = let a = c .before .before .before .args in
     omega (arith, mul-le-mul-left (a .shape / 8) (le-of-lt (c .wide2 .ensures .1)), c .before .before .before .pre .1)
 
 -- the test on a signal's number, of the bytes themselves
-over : (w : tie.After-wide2) → w .before .wide .result ≤ w .before .before .before .args .shape / 8 * w .wide2 .result
-    → w .before .before .before .args .n ≤ w .before .before .before .args .shape / 8 * w .before .before .before .args .x
+over : (w : tie.After-wide2) →
+    let a = w .before .before .before .args in
+    w .before .wide .result ≤ a .shape / 8 * w .wide2 .result → a .n ≤ a .shape / 8 * a .x
 over w h = rw (w .before .wide .ensures .0, w .wide2 .ensures .0) at h
 
-under : (w : tie.After-wide2) → w .before .before .before .args .shape / 8 * w .wide2 .result < w .before .wide .result
-    → w .before .before .before .args .shape / 8 * w .before .before .before .args .x < w .before .before .before .args .n
+under : (w : tie.After-wide2) →
+    let a = w .before .before .before .args in
+    a .shape / 8 * w .wide2 .result < w .before .wide .result → a .shape / 8 * a .x < a .n
 under w h = rw (w .before .wide .ensures .0, w .wide2 .ensures .0) at h
 
 returns-2 : tie.Need-returns-2

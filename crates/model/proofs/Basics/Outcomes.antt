@@ -3,7 +3,7 @@ use Prim.Native.Nat.{ℕ, zero, suc, _+_, _≤_, _<_}
 use mathlib.Core.Bool.{Bool, true, false, cond, false≢true}
 use mathlib.Core.List.{List, [], _∷_, _++_, append-assoc}
 use mathlib.Core.Path.{_≡_, refl, sym, ap, _∙_}
-use native.Mathlib.Nat.{add-zero, add-suc, suc-add, zero-add}
+use native.Mathlib.Nat.{add-zero, add-suc, suc-add}
 use native.Mathlib.Omega.{arith}
 use borrow.Author.Tests.{ltb-true, ltb-false, le-ltb}
 use lib.Dec.{ltb}
@@ -220,23 +220,22 @@ module _ {A B : Type 0} (f : ℕ → A → List B) where
       ap (f i x ++_) (joinFrom-append (suc i) xs ys) ∙
       rw (append-assoc, add-suc, suc-add)
 
--- Tables.
-module _ {A : Type 0} (f : ℕ → A) where
-  length-tableFrom : (i n : ℕ) → length (tableFrom i n f) ≡ n
-  unfolding tableFrom
-  length-tableFrom i zero = refl
-  length-tableFrom i (suc n) = ap suc (length-tableFrom (suc i) n)
+-- A table holds the values of its function.
+tableFrom-length : {A : Type 0} (i n : ℕ) (f : ℕ → A) → length (tableFrom i n f) ≡ n
+unfolding tableFrom
+tableFrom-length i zero f = refl
+tableFrom-length i (suc n) f = ap suc (tableFrom-length (suc i) n f)
 
-  getD-tableFrom : (i n j : ℕ) (d : A) → j < n → getD (tableFrom i n f) j d ≡ f (i + j)
-  unfolding tableFrom
-  getD-tableFrom i zero j d lt = absurd (omega arith)
-  getD-tableFrom i (suc n) zero d lt = rw add-zero
-  getD-tableFrom i (suc n) (suc j) d lt = rw (getD-tableFrom (suc i) n j d (omega arith), suc-add, add-suc)
+tableFrom-at : {A : Type 0} (i n : ℕ) (f : ℕ → A) (c : ℕ) (d : A) → c < n → getD (tableFrom i n f) c d ≡ f (i + c)
+unfolding tableFrom
+tableFrom-at i zero f c d h = absurd (omega arith)
+tableFrom-at i (suc n) f zero d h = ap f (omega arith)
+tableFrom-at i (suc n) f (suc c) d h = tableFrom-at (suc i) n f c d (omega arith) ∙ ap f (omega arith)
 
-  pub length-table : (n : ℕ) → length (table n f) ≡ n
-  unfolding table
-  length-table n = length-tableFrom 0 n
+pub table-length : {A : Type 0} (n : ℕ) (f : ℕ → A) → length (table n f) ≡ n
+unfolding table
+table-length n f = tableFrom-length 0 n f
 
-  pub getD-table : (n i : ℕ) (d : A) → i < n → getD (table n f) i d ≡ f i
-  unfolding table
-  getD-table n i d lt = getD-tableFrom 0 n i d lt ∙ ap f (zero-add i)
+pub table-at : {A : Type 0} (n : ℕ) (f : ℕ → A) (c : ℕ) (d : A) → c < n → getD (table n f) c d ≡ f c
+unfolding table
+table-at n f c d h = tableFrom-at 0 n f c d h ∙ ap f (omega arith)

@@ -26,7 +26,7 @@ use Rattle.model.specs.Rules.Word.{twoAt, AreBytes}
 use Rattle.model.specs.declared.Code.{Code}
 use Rattle.model.specs.declared.Code.the-variants as Code
 use Rattle.model.proofs.Images.Tails.{headed}
-use Rattle.model.proofs.Images.Stretches.{table-length, table-at}
+use Rattle.model.proofs.Basics.Outcomes.{table-length, table-at}
 
 -- No code runs more commands than it has bytes.
 command-most : (next : ℕ → ℕ) (left at : ℕ) (c : Code) → ((a : ℕ) → next a ≤ left) → countCommand next at c ≤ suc left

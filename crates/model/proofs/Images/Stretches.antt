@@ -31,8 +31,9 @@ use Rattle.model.specs.Rules.Image.{
 use Rattle.model.specs.Rules.Machine.{stretch, hyperOf, countOf, listOffset, codeOffset, listOf, codeOf}
 use Rattle.model.specs.Rules.Program.{Program, Signal, count, signalAt, noSignal}
 use Rattle.model.specs.Rules.Schedule.{Schedule}
-use Rattle.model.specs.Rules.Search.{tableFrom, table, joinFrom}
+use Rattle.model.specs.Rules.Search.{joinFrom}
 use Rattle.model.specs.Rules.Word.{bitsOf, wordOf, byteAt, twoAt, fourAt, wordAt, twoBytes, fourBytes, wordBytes}
+use Rattle.model.proofs.Basics.Outcomes.{table-length, table-at}
 use Rattle.model.proofs.Images.Bounds.{Bounded}
 
 -- A part stands in a list at a place.
@@ -126,26 +127,6 @@ word-bits (negsuc n) f = ap (toZ w32) (less n (f .sfits)) ∙ toZ-neg w32 n (f .
 pub word-at : {s : List ℕ} {at : ℕ} (w : ℤ) → SFits w32 w → Stands s at (wordBytes w) → wordAt s at ≡ w
 unfolding wordAt wordBytes
 word-at w f h = ap wordOf (four-at (bitsOf w) (bits-below w) h) ∙ word-bits w f
-
--- A table holds the values of its function.
-tableFrom-length : {A : Type 0} (i n : ℕ) (f : ℕ → A) → length (tableFrom i n f) ≡ n
-unfolding tableFrom
-tableFrom-length i zero f = refl
-tableFrom-length i (suc n) f = ap suc (tableFrom-length (suc i) n f)
-
-tableFrom-at : {A : Type 0} (i n : ℕ) (f : ℕ → A) (c : ℕ) (d : A) → c < n → getD (tableFrom i n f) c d ≡ f (i + c)
-unfolding tableFrom
-tableFrom-at i zero f c d h = absurd (omega arith)
-tableFrom-at i (suc n) f zero d h = ap f (omega arith)
-tableFrom-at i (suc n) f (suc c) d h = tableFrom-at (suc i) n f c d (omega arith) ∙ ap f (omega arith)
-
-pub table-length : {A : Type 0} (n : ℕ) (f : ℕ → A) → length (table n f) ≡ n
-unfolding table
-table-length n f = tableFrom-length 0 n f
-
-pub table-at : {A : Type 0} (n : ℕ) (f : ℕ → A) (c : ℕ) (d : A) → c < n → getD (table n f) c d ≡ f c
-unfolding table
-table-at n f c d h = tableFrom-at 0 n f c d h ∙ ap f (omega arith)
 
 -- Bytes put one stretch after the other.
 pub sets-append : (l : List ℕ) (i : ℕ) (xs ys : List ℕ) → sets l i (xs ++ ys) ≡ sets (sets l i xs) (i + length xs) ys

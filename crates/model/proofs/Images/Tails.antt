@@ -27,25 +27,9 @@ use Rattle.model.specs.Rules.Schedule.{Schedule, phaseOf}
 use Rattle.model.specs.Rules.Search.{table, joinFrom}
 use Rattle.model.specs.Rules.Tail.{Bears, Tells}
 use Rattle.model.specs.Rules.Word.{byteAt, twoAt, twoBytes}
-use Rattle.model.proofs.Images.Stretches.{
-  Stands,
-  front,
-  byte-from,
-  two-at,
-  table-length,
-  table-at,
-  part-at,
-  parts-next,
-  image-length,
-  image-count,
-}
-
-never : {X : Type 0} → false ≡ true → X
-never e = let z : _≡_ {A = ℕ} 0 1 = cc in absurd (omega arith)
-
-both : (a b : Bool) → (a && b) ≡ true → (a ≡ true) × (b ≡ true)
-both true b h = (refl, h)
-both false b h = never h
+use Rattle.model.proofs.Images.Stretches.{Stands, front, byte-from, two-at, part-at, parts-next, image-length, image-count}
+use Rattle.model.proofs.Basics.Tests.{never, both}
+use Rattle.model.proofs.Basics.Outcomes.{table-length, table-at}
 
 -- The head of a well-formed image: four bytes at least, and L is its length.
 pub record Headed (image : List ℕ) : Type 0 where

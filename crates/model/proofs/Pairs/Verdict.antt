@@ -44,8 +44,8 @@ use Rattle.model.proofs.Basics.Outcomes.{
   append-none,
   cond-none,
   joinFrom-none,
-  length-table,
-  getD-table,
+  table-length,
+  table-at,
 }
 use Rattle.model.proofs.Texts.Puts.{puts-spelled, puts-end, placed-ordered}
 
@@ -164,12 +164,12 @@ module _ (p : Program) where
 lists-length : (p : Program) (s : Schedule) (h : ℕ) → length (joined (runLists p s h)) ≤ h * length (s .order)
 unfolding runLists runList
 lists-length p s h =
-    let n = length-table (runList p s) h in
+    let n = table-length h (runList p s) in
     rw n at
     (joined-length (length (s .order)) 0 (table h (runList p s))
     (at-all (λ x. length x ≤ length (s .order)) (table h (runList p s)) [] (λ i lt.
     let l : i < h = omega arith in
-    rw (getD-table (runList p s) h i [] l) (chosen-length _ (s .order)))))
+    rw (table-at h (runList p s) i [] l) (chosen-length _ (s .order)))))
 
 -- A program and its schedule that have passed 1 to 14.
 pub steps-accepted : (text : List ℕ) (p : Program) (s : Schedule) → parseProgram text ≡ accepted p →

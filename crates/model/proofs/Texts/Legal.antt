@@ -77,7 +77,7 @@ pub record Legal (text : List ℕ) (at : ℕ) (p : Program) : Type 0 where
   pub code : length (joined (codes p)) ≤ at
 
 -- Code is no longer than what spells it.
-read-width : (kind : Kind) → 2 ≤ readWidth kind
+pub read-width : (kind : Kind) → 2 ≤ readWidth kind
 read-width Now = omega arith
 read-width Last = omega arith
 read-width When = omega arith

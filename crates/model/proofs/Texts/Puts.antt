@@ -40,7 +40,7 @@ use Rattle.model.proofs.Basics.Outcomes.{
   holds-provided,
   lowest-none,
   append-none,
-  getD-table,
+  table-at,
 }
 use Rattle.model.proofs.Texts.Written.{put-decoded, put-as-written}
 
@@ -218,7 +218,7 @@ placed-ordered p puts s e =
     let h = puts-placed p [] qs (lowest-none (putsFaults p [] qs) f) in
     let all = all-true (count p) (isPut qs) t in (
       record {
-        phases = λ x l. rw (getD-table (putPhase qs) (count p) x 0 l) (placed-phase p [] qs h x (all x l));
+        phases = λ x l. rw (table-at (count p) (putPhase qs) x 0 l) (placed-phase p [] qs h x (all x l));
         put = λ x l. placed-put qs x (all x l);
         once = placed-once p [] qs h;
         only = placed-only p [] qs h;

@@ -11,11 +11,12 @@ use Rattle.model.specs.Rules.Outcome.{refuse}
 use Rattle.model.specs.Rules.Width.{readWidth}
 use Rattle.model.specs.declared.Kind.{Kind}
 use Rattle.model.specs.declared.Operator.{Operator}
+use Rattle.model.proofs.Texts.Legal.{read-width}
 use Rattle.model.proofs.Operator.{enum}
 use Rattle.model.specs.declared.Operator.the-variants as Operator
 use Rattle.model.specs.declared.Sampled.{Sampled}
 use Rattle.text_program.specs.Walks.{Outline, leafOf}
-use Rattle.text_program.proofs.Walks.{walks-refused, walks-over, read-least}
+use Rattle.text_program.proofs.Walks.{walks-refused, walks-over}
 use borrow.Author.Needs.{needs}
 use Rattle.text_program.proofs.read_leaf.Statement.{statement}
 use Rattle.text_program.proofs.read_leaf.Tie as tie
@@ -41,7 +42,7 @@ read-fits : (s : tie.Start) (kind : Kind) (x : Sampled) → s .args .operator �
 read-fits s kind x e =
     let h = s .pre .read-inside kind x e in
     let room = s .pre .left in
-    (omega (arith, h, room .short), omega (arith, h, read-least kind, room .table, room .few))
+    (omega (arith, h, room .short), omega (arith, h, read-width kind, room .table, room .few))
 
 add-moved-on : tie.Need-add-moved-on
 add-moved-on c =

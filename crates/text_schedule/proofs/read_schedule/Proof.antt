@@ -25,7 +25,7 @@ one-less n h = omega arith
 
 -- a PUT lies within the text
 inside : (c : tie.After-enum-told Inv-loop μ-loop) →
-    c .before .before .before .before .loop .at + 3 ≤ length (now (c .before .before .before .before .before .before .args .text))
+    let c4 = c .before .before .before .before in c4 .loop .at + 3 ≤ length (now (c4 .before .before .args .text))
 inside c = put-sound _ _ _ (sym (c .before .before .schedule-command-at .ensures) ∙ c .enum-told .given .1) .2
 
 loop-holds : tie.Need-loop-holds Inv-loop μ-loop

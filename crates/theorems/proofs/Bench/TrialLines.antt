@@ -26,7 +26,8 @@ use Rattle.theorems.specs.Streams.{Satisfies}
 use Rattle.theorems.specs.Trials.{heldAt, wordsAfter, samplesAt, inputsOf}
 use Rattle.model.proofs.Images.Bounds.{Bounded}
 use Rattle.model.proofs.Bench.Scripts.{calls-count, lines-count}
-use Rattle.model.proofs.Images.Stretches.{image-count, table-length, table-at}
+use Rattle.model.proofs.Images.Stretches.{image-count}
+use Rattle.model.proofs.Basics.Outcomes.{table-length, table-at}
 use Rattle.model.proofs.Pairs.Verdict.{pair-accepted, pair-multiple, pair-bounded}
 use Rattle.theorems.proofs.Streams.OnBytes.{list-shown, calls-hold}
 use Rattle.theorems.proofs.Pairs.Exact.{accepted-exactly}

@@ -111,7 +111,7 @@ use Rattle.model.specs.declared.Kind.the-variants.{Now, Last, When, LastWhen, C
 use Rattle.model.specs.declared.Mode.{Mode}
 use Rattle.model.specs.declared.Mode.the-variants.{Exists, Backward}
 use Rattle.model.proofs.Pairs.Decide.{line-settled, settled-line}
-use Rattle.model.proofs.Basics.Outcomes.{getD-table}
+use Rattle.model.proofs.Basics.Outcomes.{table-at}
 use Rattle.model.proofs.Pairs.Lines.{once, single-uses, single-rule, single-line, single-first}
 
 -- One read.
@@ -448,7 +448,7 @@ placed-phase : (p : Program) (puts : List Put) (s : Schedule) → Placed p puts 
     phaseOf s x < signalAt p x .period
 unfolding scheduleOf
 placed-phase p puts s c x lt =
-    rw (c .schedule, getD-table (putPhase puts) (count p) x 0 lt)
+    rw (c .schedule, table-at (count p) (putPhase puts) x 0 lt)
     (put-phase (λ x. signalAt p x .period) puts x (c .legal .phases) (c .all x lt))
 
 module _ (p : Program) (s : Schedule) where

@@ -69,6 +69,7 @@ use Rattle.model.specs.declared.Operator.{Operator}
 use Rattle.model.specs.declared.Operator.the-variants as Operator
 use Rattle.model.specs.declared.Sampled.{Sampled}
 use Rattle.model.specs.declared.Unary.{Unary}
+use Rattle.model.proofs.Texts.Legal.{read-width}
 use Rattle.model.proofs.Basics.All.{all-append}
 use Rattle.model.proofs.Texts.Commands.{ReadSound, link-decoded, operator-of, operator-sound}
 use Rattle.theorems.proofs.Conversion.Converted.{single-twice, count-bare}
@@ -96,14 +97,6 @@ command-decoded text at (ofDeclaration d) w = rw (no-operator w) (ap ofDeclarati
 command-decoded text at (ofOperator o) w =
     rw (operator-byte (byteAt text at) .1 (operator-of text at w)) (ap ofOperator (operator-decoded w))
 
--- It lies within the text, and takes a byte at least.
-width-some : (kind : Kind) → 2 ≤ readWidth kind
-width-some Now = omega arith
-width-some Last = omega arith
-width-some When = omega arith
-width-some LastWhen = omega arith
-width-some Current = omega arith
-
 declaration-inside : {text : List ℕ} {at : ℕ} {d : Declaration} → DeclarationWritten text at d →
     (at + declarationWidth d ≤ length text) × (1 ≤ declarationWidth d)
 declaration-inside (DeclarationWritten.end h b) = (h, omega arith)
@@ -114,11 +107,12 @@ declaration-inside (DeclarationWritten.link h b) = (h, omega arith)
 declaration-inside (DeclarationWritten.cap h b) = (h, omega arith)
 declaration-inside (DeclarationWritten.tag h b) = (h, omega arith)
 
+-- It lies within the text, and takes a byte at least.
 operator-inside : {text : List ℕ} {at : ℕ} {o : Operator} → OperatorWritten text at o →
     (at + operatorWidth o ≤ length text) × (1 ≤ operatorWidth o)
 operator-inside (OperatorWritten.constant h b) = (h, omega arith)
-operator-inside (OperatorWritten.plain kind e h b) = (omega arith, omega (arith, width-some kind))
-operator-inside (OperatorWritten.sampled kind e h b r i) = (omega arith, omega (arith, width-some kind))
+operator-inside (OperatorWritten.plain kind e h b) = (omega arith, omega (arith, read-width kind))
+operator-inside (OperatorWritten.sampled kind e h b r i) = (omega arith, omega (arith, read-width kind))
 operator-inside (OperatorWritten.binary operator h b) = (h, omega arith)
 operator-inside (OperatorWritten.unary operator h b) = (h, omega arith)
 operator-inside (OperatorWritten.choose h b) = (h, omega arith)
@@ -138,7 +132,7 @@ operator-shorter (Operator.Constant w) bytes h = h
 operator-shorter (Operator.Read kind x) bytes h = go (eqb (x .factor) 1)
   where
     go : (b : Bool) → length (cond b (readByte (singleKind kind) ∷ x .signal ∷ []) bytes) ≤ readWidth kind
-    go true = omega (arith, width-some kind)
+    go true = omega (arith, read-width kind)
     go false = h
 operator-shorter (Operator.Binary operator) bytes h = h
 operator-shorter (Operator.Unary operator) bytes h = h

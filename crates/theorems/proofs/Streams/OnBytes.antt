@@ -41,15 +41,8 @@ use Rattle.theorems.specs.Streams.{next, Satisfies}
 use Rattle.model.proofs.Images.Bounds.{Bounded}
 use Rattle.model.proofs.Images.Counts.{counts-at}
 use Rattle.model.proofs.Images.Formed.{image-well-formed}
-use Rattle.model.proofs.Images.Stretches.{
-  table-length,
-  table-at,
-  image-hyper,
-  image-count,
-  image-initial,
-  list-stretch,
-  code-stretch,
-}
+use Rattle.model.proofs.Images.Stretches.{image-hyper, image-count, image-initial, list-stretch, code-stretch}
+use Rattle.model.proofs.Basics.Outcomes.{table-length, table-at}
 use Rattle.model.proofs.Images.Tails.{part-is, lent-ok, bears-itself}
 use Rattle.model.proofs.Images.Cycles.{position-is, next-inside, run-length, cycle-length}
 use Rattle.theorems.proofs.Images.Counted.{cycle-count}
