@@ -113,9 +113,8 @@ fn operator_byte(operator: Operator) -> u8
 }
 
 // Writes the code of so many expressions from `at` on, one after another, each of which nests at most `depth` deep, from `to` on: an
-// operator comes after its operands. The slices go by references to them,
-// which no level of the recursion has to copy. `counted` is what the type of a slice says and that of a reference to one does not;
-// `same`: the slice is not exchanged for another.
+// operator comes after its operands. The slices go by references to them, which no level of the recursion has to copy. `counted` is
+// what the type of a slice says and that of a reference to one does not; `same`: the slice is not exchanged for another.
 pub fn emit_expressions(
     text: &&[u8],
     number: usize,

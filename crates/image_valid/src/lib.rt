@@ -94,7 +94,7 @@ fn lists_ok(image: &[u8], n: usize, h: usize) -> bool
 }
 
 // The greatest byte, 0 where there is none.
-fn greatest(list: &[u8]) -> u8
+fn greatest_byte(list: &[u8]) -> u8
     ensures { λ r. ⌜ ((n : ℕ) → 0 < n → allBelow (length (now (list .entry))) (λ i. ltb (byteAt (now (list .entry)) i) n) ≡ ltb r n) ⌝ }
 {
     let mut most: u8 = 0;
@@ -120,7 +120,7 @@ fn entries_ok(image: &[u8], n: u8, h: usize) -> bool
     if n == 0 {
         return start == end;
     }
-    greatest(&image[start..end]) < n
+    greatest_byte(&image[start..end]) < n
 }
 
 // Every code starts where the one before ended, the last ending at L, and is well formed.

@@ -33,7 +33,7 @@ fn shape(table: &[u8; 256], byte: u8) -> usize
 }
 
 // The bytes of a command that is not STORE. The operators are as wide as ADD.
-fn length_of(byte: u8) -> usize
+fn command_bytes(byte: u8) -> usize
     ensures { λ r. ⌜ r ≡ commandBytes byte ⌝ }
 {
     if byte == 0x50 {
@@ -100,7 +100,7 @@ pub fn code_ok(code: &[u8], n: u8, own: u8, table: &[u8; 256]) -> bool
         if 32 < h {
             return false;
         }
-        at = at + length_of(byte);
+        at = at + command_bytes(byte);
     }
     false
 }

@@ -95,7 +95,7 @@ fn command_piece(text: &[u8], at: usize) -> Piece
 }
 
 // The bytes of the text that a piece stands for, and its own.
-fn width_of(piece: Piece) -> usize
+fn width_in(piece: Piece) -> usize
     ensures { λ r. ⌜ r ≡ widthIn piece ⌝ }
 {
     match piece {
@@ -104,7 +104,7 @@ fn width_of(piece: Piece) -> usize
     }
 }
 
-fn length_of(piece: Piece) -> usize
+fn new_length(piece: Piece) -> usize
     ensures { λ r. ⌜ r ≡ newLength piece ⌝ }
 {
     match piece {
@@ -154,9 +154,9 @@ fn rewritten_length(text: &[u8]) -> usize
     let mut left = text.len();
     while 0 < left {
         let piece = command_piece(text, at);
-        let length = length_of(piece);
+        let length = new_length(piece);
         total = total + length;
-        let width = width_of(piece);
+        let width = width_in(piece);
         at = at + width;
         left = left - 1;
     }
@@ -174,7 +174,7 @@ fn write(text: &[u8], out: &mut [u8]) -> usize
     while 0 < left {
         let piece = command_piece(text, at);
         to = put(text, at, piece, out, to);
-        let width = width_of(piece);
+        let width = width_in(piece);
         at = at + width;
         left = left - 1;
     }

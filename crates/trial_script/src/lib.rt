@@ -1,25 +1,14 @@
 // A bench trial's script: its commands, and its check as a whole.
 use basics::Judged;
-use model::Fault;
 use model::ScriptCommand;
 ghost use mathlib.Core.Path.{_≡_};
 ghost use mathlib.Core.Bool.{true};
 ghost use Prim.Native.Nat.{ℕ, _*_, _≤_, _<_};
 ghost use lib.ListN.{length};
 ghost use Rattle.model.specs.Rules.Machine.{wellFormed};
-ghost use Rattle.model.specs.Rules.Outcome.{refuse};
 ghost use Rattle.model.specs.Rules.Script.{scriptCommandAt, scriptOf, inputsOnly, checkOf, cyclesOf};
 ghost use Rattle.trial_script.specs.Inputs.{fetches, markOf, marked};
 ghost use Rattle.trial_script.specs.Steps.{ruledOf, actionWidth, cyclesMade, endingAt, mayStand};
-
-fn refused(number: u8, place: usize) -> Judged
-    ensures { λ r. ⌜ ruledOf r ≡ refuse number place ⌝ }
-{
-    Judged::Refused(Fault {
-        number: number,
-        place: place,
-    })
-}
 
 // The command at an offset.
 pub fn script_command_at(text: &[u8], at: usize) -> ScriptCommand
@@ -49,7 +38,7 @@ pub fn script_command_at(text: &[u8], at: usize) -> ScriptCommand
 }
 
 // The bytes of a SET or RUN; 0 where the script goes no further.
-pub fn width_of(command: ScriptCommand) -> usize
+pub fn action_width(command: ScriptCommand) -> usize
     ensures { λ r. ⌜ r ≡ actionWidth command ⌝ }
 {
     match command {
@@ -62,7 +51,7 @@ pub fn width_of(command: ScriptCommand) -> usize
 }
 
 // The cycles that a command makes.
-pub fn runs_of(command: ScriptCommand) -> u8
+pub fn cycles_made(command: ScriptCommand) -> u8
     ensures { λ r. ⌜ r ≡ cyclesMade command ⌝ }
 {
     match command {
@@ -75,17 +64,17 @@ pub fn runs_of(command: ScriptCommand) -> u8
 }
 
 // The answer at a command that ends the script (24).
-fn end_at(text: &[u8], at: usize, command: ScriptCommand) -> Judged
+fn ending_at(text: &[u8], at: usize, command: ScriptCommand) -> Judged
     requires { ⌜ at < length (now text) ⌝ }
     ensures { λ r. ⌜ ruledOf r ≡ endingAt (now (text .entry)) at command ⌝ }
 {
     match command {
-        ScriptCommand::EndsEarly => refused(24, text.len()),
-        ScriptCommand::Unknown => refused(24, at),
+        ScriptCommand::EndsEarly => basics::refuse(24, text.len()),
+        ScriptCommand::Unknown => basics::refuse(24, at),
         ScriptCommand::End => {
             let next = at + width::in_script(0x00);
             if next < text.len() {
-                return refused(24, next);
+                return basics::refuse(24, next);
             }
             Judged::Fine
         }
@@ -101,13 +90,13 @@ fn read_script(text: &[u8]) -> Judged
     let mut at: usize = 0;
     while at < text.len() {
         let command = script_command_at(text, at);
-        let width = width_of(command);
+        let width = action_width(command);
         if width == 0 {
-            return end_at(text, at, command);
+            return ending_at(text, at, command);
         }
         at = at + width;
     }
-    refused(24, text.len())
+    basics::refuse(24, text.len())
 }
 
 // Whether a signal is an input: its code starts with FETCH.
@@ -173,12 +162,12 @@ fn check_sets(text: &[u8], inputs: &[u8; 256]) -> Judged
     let mut at: usize = 0;
     while at < text.len() {
         let command = script_command_at(text, at);
-        let width = width_of(command);
+        let width = action_width(command);
         if width == 0 {
             return Judged::Fine;
         }
         if !may_stand(inputs, command) {
-            return refused(25, at);
+            return basics::refuse(25, at);
         }
         at = at + width;
     }
@@ -190,7 +179,7 @@ pub fn check_script(text: &[u8], inputs: &[u8; 256]) -> Judged
     ensures { λ r. ⌜ ruledOf r ≡ checkOf (marked (now (inputs .entry))) (now (text .entry)) ⌝ }
 {
     if 2048 < text.len() {
-        return refused(24, 0);
+        return basics::refuse(24, 0);
     }
     let read = read_script(text);
     let Judged::Fine = read else {
@@ -208,11 +197,11 @@ pub fn count_cycles(text: &[u8]) -> usize
     let mut total: usize = 0;
     while at < text.len() {
         let command = script_command_at(text, at);
-        let width = width_of(command);
+        let width = action_width(command);
         if width == 0 {
             return total;
         }
-        total = total + basics::wide(runs_of(command));
+        total = total + basics::wide(cycles_made(command));
         at = at + width;
     }
     total

@@ -78,13 +78,13 @@ fn seek(text: &[u8], from: usize, samples: &mut [i32]) -> Sought
     let mut at = from;
     while at < text.len() {
         let command = trial_script::script_command_at(text, at);
-        let width = trial_script::width_of(command);
+        let width = trial_script::action_width(command);
         if width == 0 {
             return Sought::Nothing;
         }
         alter(&mut samples[..], command);
         at = at + width;
-        let runs = trial_script::runs_of(command);
+        let runs = trial_script::cycles_made(command);
         if 0 < runs {
             return Sought::Cycle(at, runs - 1);
         }

@@ -39,25 +39,25 @@ returns c =
     let none : countOf (s .args .image .now) ≡ 0 = sym (s .pre .2) ∙ c .if1 .taken in
     rw (begins (o .before), o .code-offset .ensures) (entries-none _ (listed s) none)
 
-sub-greatest : tie.Need-sub-greatest
-sub-greatest c = holds (c .before)
+sub-greatest-byte : tie.Need-sub-greatest-byte
+sub-greatest-byte c = holds (c .before)
 
-part-greatest-start : tie.Need-part-greatest-start
-part-greatest-start c = holds (c .before)
+part-greatest-byte-start : tie.Need-part-greatest-byte-start
+part-greatest-byte-start c = holds (c .before)
 
-part-greatest-end : tie.Need-part-greatest-end
-part-greatest-end c = let o = c .before in rw (o .code-offset .ensures) (listed (start o) .end)
+part-greatest-byte-end : tie.Need-part-greatest-byte-end
+part-greatest-byte-end c = let o = c .before in rw (o .code-offset .ensures) (listed (start o) .end)
 
 returns-2 : tie.Need-returns-2
 returns-2 c =
     let e = c .before .before in
     let o = e .before in
     let s = start o in
-    sym (c .greatest .ensures (s .args .n) (omega (arith, e .if1 .left)))
+    sym (c .greatest-byte .ensures (s .args .n) (omega (arith, e .if1 .left)))
     ∙ entries-by _ (listed s) _ _ _ (s .pre .2) (begins (o .before)) (o .code-offset .ensures)
 
 pub entries-ok-spec : {M : Type 1} → statement M
 entries-ok-spec =
     tie.close
-    (tie.spec (λ c κs. search needs) lists-at-requires (λ c κs. search needs) returns sub-greatest part-greatest-start
-    part-greatest-end (λ c κs. search needs) returns-2)
+    (tie.spec (λ c κs. search needs) lists-at-requires (λ c κs. search needs) returns sub-greatest-byte part-greatest-byte-start
+    part-greatest-byte-end (λ c κs. search needs) returns-2)

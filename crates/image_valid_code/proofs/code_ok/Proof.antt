@@ -93,7 +93,7 @@ add-at c =
     let c8 = c7 .before in
     let c10 = c8 .before .before in
     let z = length-some (getD (c10 .args .code .now) (c8 .loop .at) 0) in
-    omega (arith, z .1, c .length-of .ensures, c7 .loop-test .taken)
+    omega (arith, z .1, c .command-bytes .ensures, c7 .loop-test .taken)
 
 loop-less : tie.Need-loop-less Inv-loop μ-loop
 loop-less c =
@@ -102,7 +102,7 @@ loop-less c =
     let c8 = c7 .before in
     let c10 = c8 .before .before in
     let z = length-some (getD (c10 .args .code .now) (c8 .loop .at) 0) in
-    omega (arith, z .0, z .1, c .length-of .ensures, c7 .loop-test .taken)
+    omega (arith, z .0, z .1, c .command-bytes .ensures, c7 .loop-test .taken)
 
 loop-again : tie.Need-loop-again Inv-loop μ-loop
 loop-again c =
@@ -113,10 +113,10 @@ loop-again c =
     let z = length-some (getD (s .args .code .now) (l .loop .at) 0) in (
       (
         l .loop .inv .0 .0 - 1,
-        omega (arith, z .0, c .length-of .ensures, i .loop-test .taken, l .loop .inv .0 .1),
-        rw (c .length-of .ensures) (sym (going a ∙ rw (le-ltb _ _ (c .before .if3 .left)) refl)),
+        omega (arith, z .0, c .command-bytes .ensures, i .loop-test .taken, l .loop .inv .0 .1),
+        rw (c .command-bytes .ensures) (sym (going a ∙ rw (le-ltb _ _ (c .before .if3 .left)) refl)),
       ),
-      omega (arith, z .1, c .length-of .ensures, i .loop-test .taken),
+      omega (arith, z .1, c .command-bytes .ensures, i .loop-test .taken),
       c .before .if3 .left,
     )
 

@@ -28,16 +28,16 @@ loop-holds c = (omega arith, omega arith, omega (arith, ap length (rewrite-start
 
 add-total : tie.Need-add-total Inv-loop μ-loop
 add-total c =
-    let t = now-turn (c .before) in omega (arith, t .inside, t .short, c .length-of .ensures)
+    let t = now-turn (c .before) in omega (arith, t .inside, t .short, c .new-length .ensures)
 
 add-at : tie.Need-add-at Inv-loop μ-loop
-add-at c = let t = now-turn (c .before .before) in omega (arith, t .inside, c .width-of .ensures)
+add-at c = let t = now-turn (c .before .before) in omega (arith, t .inside, c .width-in .ensures)
 
 loop-again : tie.Need-loop-again Inv-loop μ-loop
 loop-again c =
     let t = now-turn (c .before .before) in
-    let e = c .width-of .ensures in
-    let f = c .before .length-of .ensures in
+    let e = c .width-in .ensures in
+    let f = c .before .new-length .ensures in
     rw (e, f) (
       t .inside,
       omega (arith, t .short),

@@ -34,7 +34,7 @@ put-requires c κs =
 
 add-at : tie.Need-add-at Inv-loop μ-loop
 add-at c =
-    let t = now-turn (c .before .before .before .before .before) in omega (arith, t .inside, c .width-of .ensures)
+    let t = now-turn (c .before .before .before .before .before) in omega (arith, t .inside, c .width-in .ensures)
 
 loop-again : tie.Need-loop-again Inv-loop μ-loop
 loop-again c =
@@ -42,7 +42,7 @@ loop-again c =
     let c5 = c3 .before .before in
     let c7 = c5 .before .before in
     let t = now-turn c5 in
-    rw (c .width-of .ensures) (t .inside, turn (t .parts) (c7 .loop .inv .1) (c3 .put .ensures))
+    rw (c .width-in .ensures) (t .inside, turn (t .parts) (c7 .loop .inv .1) (c3 .put .ensures))
 
 same-length : tie.Need-same-length Inv-loop μ-loop
 same-length c = c .before .loop .inv .1 .size

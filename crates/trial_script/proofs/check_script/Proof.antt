@@ -7,7 +7,7 @@ use Rattle.trial_script.proofs.check_script.Statement.{statement}
 use Rattle.trial_script.proofs.check_script.Tie as tie
 
 returns : tie.Need-returns
-returns c = c .refused .ensures ∙ sym (check-long _ _ (c .before .if1 .taken))
+returns c = ap ruledOf (c .refuse .ensures) ∙ sym (check-long _ _ (c .before .if1 .taken))
 
 returns-2 : tie.Need-returns-2
 returns-2 c = let r = c .before .before in

@@ -1,6 +1,6 @@
 -- `trial_script::check_sets` meets its contract. Assumes nothing.
 use Rattle.trial_script.proofs.Walk.{inside, actions-past, actions-here, sets-none, sets-bad, sets-more}
-use Rattle.trial_script.specs.Steps.{actionWidth, mayStand}
+use Rattle.trial_script.specs.Steps.{ruledOf, actionWidth, mayStand}
 use Rattle.model.specs.Rules.Script.{scriptCommandAt, scriptAt, inputsOnly}
 use Rattle.trial_script.specs.Inputs.{marked}
 use lib.ListN.{length}
@@ -22,19 +22,19 @@ Inv-loop text inputs at₀ at =
 abbrev μ-loop : tie.MeasureT-loop
 μ-loop text inputs at₀ at = length text - at
 
-abbrev turn : tie.After-width-of Inv-loop μ-loop → tie.At-loop Inv-loop μ-loop
+abbrev turn : tie.After-action-width Inv-loop μ-loop → tie.At-loop Inv-loop μ-loop
 turn w = w .before .before .before
 
-abbrev text : tie.After-width-of Inv-loop μ-loop → List ℕ
+abbrev text : tie.After-action-width Inv-loop μ-loop → List ℕ
 text w = turn w .before .before .args .text .now
 
-width : (w : tie.After-width-of Inv-loop μ-loop) → w .width-of .result ≡ actionWidth (scriptCommandAt (text w) (turn w .loop .at))
-width w = w .width-of .ensures ∙ ap actionWidth (w .before .script-command-at .ensures)
+width : (w : tie.After-action-width Inv-loop μ-loop) → w .action-width .result ≡ actionWidth (scriptCommandAt (text w) (turn w .loop .at))
+width w = w .action-width .ensures ∙ ap actionWidth (w .before .script-command-at .ensures)
 
-within : (w : tie.After-width-of Inv-loop μ-loop) → turn w .loop .at + w .width-of .result ≤ length (text w)
-within w = inside (text w) (turn w .loop .at) (w .width-of .result) (width w) (w .before .before .loop-test .taken)
+within : (w : tie.After-action-width Inv-loop μ-loop) → turn w .loop .at + w .action-width .result ≤ length (text w)
+within w = inside (text w) (turn w .loop .at) (w .action-width .result) (width w) (w .before .before .loop-test .taken)
 
-abbrev isInput : tie.After-width-of Inv-loop μ-loop → ℕ → Bool
+abbrev isInput : tie.After-action-width Inv-loop μ-loop → ℕ → Bool
 isInput w = marked (turn w .before .before .args .inputs .now)
 
 stands : (m : tie.After-may-stand Inv-loop μ-loop) →
@@ -48,13 +48,13 @@ returns : tie.Need-returns Inv-loop μ-loop
 returns c = let w = c .before in
     let l = turn w in
     sym (l .loop .inv .0 ∙ sets-none (isInput w) _
-    (actions-here (text w) (l .loop .at) (w .width-of .result) (width w) (c .if1 .taken)))
+    (actions-here (text w) (l .loop .at) (w .action-width .result) (width w) (c .if1 .taken)))
 
 returns-2 : tie.Need-returns-2 Inv-loop μ-loop
 returns-2 c = let t = c .before in
     let w = t .before .before .before in
     let l = turn w in
-    c .refused .ensures ∙
+    ap ruledOf (c .refuse .ensures) ∙
     sym (l .loop .inv .0 ∙ sets-bad (text w) (l .loop .at) (isInput w)
     (sym (stands (t .before)) ∙ not-true _ (t .if2 .taken)))
 
@@ -67,7 +67,7 @@ loop-less c = let w = c .before .before .before in omega (arith, within w)
 loop-again : tie.Need-loop-again Inv-loop μ-loop
 loop-again c = let w = c .before .before .before in
     let l = turn w in (
-      l .loop .inv .0 ∙ sets-more (text w) (l .loop .at) (w .width-of .result) (width w) (omega arith) (isInput w)
+      l .loop .inv .0 ∙ sets-more (text w) (l .loop .at) (w .action-width .result) (width w) (omega arith) (isInput w)
           (sym (stands (c .before)) ∙ not-false _ (c .if2 .left)),
       within w,
     )

@@ -18,17 +18,17 @@ Inv-loop text at₀ total₀ at total =
 abbrev μ-loop : tie.MeasureT-loop
 μ-loop text at₀ total₀ at total = length text - at
 
-abbrev turn : tie.After-width-of Inv-loop μ-loop → tie.At-loop Inv-loop μ-loop
+abbrev turn : tie.After-action-width Inv-loop μ-loop → tie.At-loop Inv-loop μ-loop
 turn w = w .before .before .before
 
-abbrev text : tie.After-width-of Inv-loop μ-loop → List ℕ
+abbrev text : tie.After-action-width Inv-loop μ-loop → List ℕ
 text w = turn w .before .before .args .text .now
 
-width : (w : tie.After-width-of Inv-loop μ-loop) → w .width-of .result ≡ actionWidth (scriptCommandAt (text w) (turn w .loop .at))
-width w = w .width-of .ensures ∙ ap actionWidth (w .before .script-command-at .ensures)
+width : (w : tie.After-action-width Inv-loop μ-loop) → w .action-width .result ≡ actionWidth (scriptCommandAt (text w) (turn w .loop .at))
+width w = w .action-width .ensures ∙ ap actionWidth (w .before .script-command-at .ensures)
 
-within : (w : tie.After-width-of Inv-loop μ-loop) → turn w .loop .at + w .width-of .result ≤ length (text w)
-within w = inside (text w) (turn w .loop .at) (w .width-of .result) (width w) (w .before .before .loop-test .taken)
+within : (w : tie.After-action-width Inv-loop μ-loop) → turn w .loop .at + w .action-width .result ≤ length (text w)
+within w = inside (text w) (turn w .loop .at) (w .action-width .result) (width w) (w .before .before .loop-test .taken)
 
 loop-holds : tie.Need-loop-holds Inv-loop μ-loop
 loop-holds c = (omega arith, omega arith, omega arith)
@@ -36,7 +36,7 @@ loop-holds c = (omega arith, omega arith, omega arith)
 returns : tie.Need-returns Inv-loop μ-loop
 returns c = let w = c .before in
     let l = turn w in
-    let none = cycles-none _ (actions-here (text w) (l .loop .at) (w .width-of .result) (width w) (c .if1 .taken)) in
+    let none = cycles-none _ (actions-here (text w) (l .loop .at) (w .action-width .result) (width w) (c .if1 .taken)) in
     (omega (arith, none, l .loop .inv .0), omega (arith, l .loop .inv .1, l .before .before .pre))
 
 add-total : tie.Need-add-total Inv-loop μ-loop
@@ -54,8 +54,8 @@ loop-again : tie.Need-loop-again Inv-loop μ-loop
 loop-again c = let w = c .before .before .before in
     let l = turn w in
     let runs : c .wide .result ≡ cyclesMade (scriptCommandAt (text w) (l .loop .at)) =
-    c .wide .ensures .0 ∙ c .before .runs-of .ensures ∙ ap cyclesMade (w .before .script-command-at .ensures) in
-    let more = cycles-more (text w) (l .loop .at) (w .width-of .result) (width w) (omega arith) in
+    c .wide .ensures .0 ∙ c .before .cycles-made .ensures ∙ ap cyclesMade (w .before .script-command-at .ensures) in
+    let more = cycles-more (text w) (l .loop .at) (w .action-width .result) (width w) (omega arith) in
     (omega (arith, runs, more, l .loop .inv .0), omega (arith, c .wide .ensures .1, l .loop .inv .1), within w)
 
 returns-2 : tie.Need-returns-2 Inv-loop μ-loop

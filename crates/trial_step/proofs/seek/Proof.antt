@@ -21,34 +21,34 @@ Inv-loop text from samples₀ at₀ samples at =
 abbrev μ-loop : tie.MeasureT-loop
 μ-loop text from samples₀ at₀ samples at = length text - at
 
-abbrev turn : tie.After-width-of Inv-loop μ-loop → tie.At-loop Inv-loop μ-loop
+abbrev turn : tie.After-action-width Inv-loop μ-loop → tie.At-loop Inv-loop μ-loop
 turn w = w .before .before .before
 
-abbrev text : tie.After-width-of Inv-loop μ-loop → List ℕ
+abbrev text : tie.After-action-width Inv-loop μ-loop → List ℕ
 text w = turn w .before .before .args .text .now
 
-width : (w : tie.After-width-of Inv-loop μ-loop) → w .width-of .result ≡ actionWidth (scriptCommandAt (text w) (turn w .loop .at))
-width w = w .width-of .ensures ∙ ap actionWidth (w .before .script-command-at .ensures)
+width : (w : tie.After-action-width Inv-loop μ-loop) → w .action-width .result ≡ actionWidth (scriptCommandAt (text w) (turn w .loop .at))
+width w = w .action-width .ensures ∙ ap actionWidth (w .before .script-command-at .ensures)
 
-within : (w : tie.After-width-of Inv-loop μ-loop) → turn w .loop .at + w .width-of .result ≤ length (text w)
-within w = inside (text w) (turn w .loop .at) (w .width-of .result) (width w) (w .before .before .loop-test .taken)
+within : (w : tie.After-action-width Inv-loop μ-loop) → turn w .loop .at + w .action-width .result ≤ length (text w)
+within w = inside (text w) (turn w .loop .at) (w .action-width .result) (width w) (w .before .before .loop-test .taken)
 
-abbrev at-width : tie.After-runs-of Inv-loop μ-loop → tie.After-width-of Inv-loop μ-loop
+abbrev at-width : tie.After-cycles-made Inv-loop μ-loop → tie.After-action-width Inv-loop μ-loop
 at-width r = r .before .before .before .before .before
 
 -- the command of this turn
-here : (r : tie.After-runs-of Inv-loop μ-loop) → let w = at-width r in let l = turn w in
+here : (r : tie.After-cycles-made Inv-loop μ-loop) → let w = at-width r in let l = turn w in
     callsFrom (l .loop .samples) (scriptAt (text w) (l .loop .at) .actions) ≡
-    callsLeft (text w) (l .loop .at + w .width-of .result) (r .runs-of .result) (r .before .before .alter .last .0)
+    callsLeft (text w) (l .loop .at + w .action-width .result) (r .cycles-made .result) (r .before .before .alter .last .0)
 here r =
     let w = at-width r in
     let l = turn w in
     let is = w .before .script-command-at .ensures in
-    seek-step (text w) (l .loop .at) (w .width-of .result) (r .runs-of .result) (l .loop .samples)
+    seek-step (text w) (l .loop .at) (w .action-width .result) (r .cycles-made .result) (l .loop .samples)
     (r .before .before .alter .last .0) (width w)
     (omega (arith, r .before .before .before .before .if1 .left))
     (r .before .before .alter .ensures ∙ ap (altered (l .loop .samples)) is)
-    (r .runs-of .ensures ∙ ap cyclesMade is)
+    (r .cycles-made .ensures ∙ ap cyclesMade is)
 
 loop-holds : tie.Need-loop-holds Inv-loop μ-loop
 loop-holds c = (refl, refl)
@@ -59,7 +59,7 @@ same-length c = turn (c .before) .loop .inv .1
 returns : tie.Need-returns Inv-loop μ-loop
 returns c = let w = c .before in
     let l = turn w in
-    let none = actions-here (text w) (l .loop .at) (w .width-of .result) (width w) (c .if1 .taken) in
+    let none = actions-here (text w) (l .loop .at) (w .action-width .result) (width w) (c .if1 .taken) in
     l .loop .inv .0 ∙ calls-none (l .loop .samples) _ none
 
 add-at : tie.Need-add-at Inv-loop μ-loop
@@ -73,7 +73,7 @@ returns-2 c = let r = c .before in
     let w = at-width r in
     let l = turn w in
     l .loop .inv .0 ∙ here r ∙
-    left-some (text w) (l .loop .at + w .width-of .result) (r .before .before .alter .last .0) (r .runs-of .result)
+    left-some (text w) (l .loop .at + w .action-width .result) (r .before .before .alter .last .0) (r .cycles-made .result)
     (c .if2 .taken)
 
 loop-less : tie.Need-loop-less Inv-loop μ-loop
@@ -83,10 +83,10 @@ loop-again : tie.Need-loop-again Inv-loop μ-loop
 loop-again c = let r = c .before in
     let w = at-width r in
     let l = turn w in
-    let none : r .runs-of .result ≡ 0 = omega (arith, c .if2 .left) in (
+    let none : r .cycles-made .result ≡ 0 = omega (arith, c .if2 .left) in (
       l .loop .inv .0 ∙ here r ∙
-          ap (λ (n : ℕ). callsLeft (text w) (l .loop .at + w .width-of .result) n (r .before .before .alter .last .0)) none ∙
-          left-none (text w) (l .loop .at + w .width-of .result) (r .before .before .alter .last .0),
+          ap (λ (n : ℕ). callsLeft (text w) (l .loop .at + w .action-width .result) n (r .before .before .alter .last .0)) none ∙
+          left-none (text w) (l .loop .at + w .action-width .result) (r .before .before .alter .last .0),
       r .before .before .alter .kept .0 ∙ l .loop .inv .1,
     )
 

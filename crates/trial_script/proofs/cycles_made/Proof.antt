@@ -1,8 +1,8 @@
--- `trial_script::runs_of` meets its contract. Assumes nothing.
+-- `trial_script::cycles_made` meets its contract. Assumes nothing.
 use Rattle.trial_script.specs.Steps.{cyclesMade}
 use borrow.Author.Needs.{needs}
-use Rattle.trial_script.proofs.runs_of.Statement.{statement}
-use Rattle.trial_script.proofs.runs_of.Tie as tie
+use Rattle.trial_script.proofs.cycles_made.Statement.{statement}
+use Rattle.trial_script.proofs.cycles_made.Tie as tie
 
 returns : tie.Need-returns
 unfolding cyclesMade
@@ -24,8 +24,8 @@ returns-5 : tie.Need-returns-5
 unfolding cyclesMade
 returns-5 c = rw (c .before .command .given .1)
 
-pub runs-of-spec : {M : Type 1} → statement M
-runs-of-spec =
+pub cycles-made-spec : {M : Type 1} → statement M
+cycles-made-spec =
     tie.close
     (tie.spec (λ c. search needs) (λ c. search needs) (λ c. search needs) (λ c. search needs) (λ c. search needs) returns
     returns-2 returns-3 returns-4 returns-5)

@@ -1,4 +1,4 @@
--- `image_valid::greatest` meets its contract. Assumes nothing.
+-- `image_valid::greatest_byte` meets its contract. Assumes nothing.
 use mathlib.Core.Path.{_≡_, sym, ap, _∙_}
 use mathlib.Core.Logic.{⊎-elim}
 use mathlib.Core.Bool.{_&&_}
@@ -10,8 +10,8 @@ use lib.ListN.{length}
 use Rattle.model.specs.Rules.Search.{allBelow}
 use Rattle.model.specs.Rules.Word.{byteAt}
 use Rattle.image_valid.proofs.All.{all-none, all-one, below-greater, below-least}
-use Rattle.image_valid.proofs.greatest.Statement.{statement}
-use Rattle.image_valid.proofs.greatest.Tie as tie
+use Rattle.image_valid.proofs.greatest_byte.Statement.{statement}
+use Rattle.image_valid.proofs.greatest_byte.Tie as tie
 
 abbrev Inv-loop : tie.InvT-loop
 Inv-loop list most₀ i₀ most i = ((n : ℕ) → 0 < n → allBelow i (λ k. ltb (byteAt list k) n) ≡ ltb most n) × (i ≤ length list)
@@ -44,7 +44,7 @@ returns c = λ n h.
     let e : l .loop .i ≡ length (l .before .args .list .now) = omega arith in
     ap (λ (k : ℕ). allBelow k (λ j. ltb (byteAt (l .before .args .list .now) j) n)) (sym e) ∙ l .loop .inv .0 n h
 
-pub greatest-spec : {M : Type 1} → statement M
-greatest-spec =
+pub greatest-byte-spec : {M : Type 1} → statement M
+greatest-byte-spec =
     tie.close
     (tie.spec Inv-loop μ-loop loop-holds (λ c. omega arith) (λ c. omega arith) (λ c. omega arith) loop-again returns)

@@ -1,8 +1,8 @@
--- `trial_script::width_of` meets its contract. Assumes nothing.
+-- `trial_script::action_width` meets its contract. Assumes nothing.
 use Rattle.trial_script.specs.Steps.{actionWidth}
 use borrow.Author.Needs.{needs}
-use Rattle.trial_script.proofs.width_of.Statement.{statement}
-use Rattle.trial_script.proofs.width_of.Tie as tie
+use Rattle.trial_script.proofs.action_width.Statement.{statement}
+use Rattle.trial_script.proofs.action_width.Tie as tie
 
 returns : tie.Need-returns
 unfolding actionWidth
@@ -24,8 +24,8 @@ returns-5 : tie.Need-returns-5
 unfolding actionWidth
 returns-5 c = rw (c .before .enum-told5 .given .1) (c .in-script2 .ensures)
 
-pub width-of-spec : {M : Type 1} → statement M
-width-of-spec =
+pub action-width-spec : {M : Type 1} → statement M
+action-width-spec =
     tie.close
     (tie.spec (λ c. search needs) (λ c. search needs) (λ c. search needs) (λ c. search needs) (λ c κs. search needs)
     (λ c. search needs) (λ c κs. search needs) returns returns-2 returns-3 returns-4 returns-5)
