@@ -12,7 +12,7 @@ ghost use lib.ListN.{length};
 ghost use Rattle.model.specs.Rules.Command.{isSignal};
 ghost use Rattle.model.specs.Rules.Outcome.{provided};
 ghost use Rattle.model.specs.Rules.Program.{Program, operatorHere, parseExpr, parseLinks, declarationHere, parseWith};
-ghost use Rattle.model.specs.Rules.Width.{inProgram, inExpression, inCode};
+ghost use Rattle.model.specs.Rules.Width.{inProgram};
 ghost use Rattle.model.specs.declared.Fault.{Fault};
 ghost use Rattle.text_program.specs.Results.{hereOf, linksOf, chainOf, tagOf, endOf};
 ghost use Rattle.text_program.specs.Steps.{Counts, Stepped};
@@ -124,33 +124,27 @@ fn read_leaf(
     }
 }
 
-// Where the operands of an operator start.
-fn behind(walk: Walk) -> Walk
-    requires { ⌜ (walk .at < 8192) × (walk .code < 8192) ⌝ }
-    ensures { λ r. ⌜ r ≡ record { at = walk .at + inExpression 0x30; reads = walk .reads; code = walk .code + inCode 0x30 } ⌝ }
-{
-    Walk {
-        at: walk.at + width::in_expression(0x30),
-        reads: walk.reads,
-        code: walk.code + width::in_code(0x30),
-    }
-}
-
-// Reads so many expressions from `start` on, one after another, each of which may nest `depth` deep: an operator is followed by its
-// operands. Keeps the offset of each of their reads in `reads` and counts the bytes of their code. The text goes by a reference to its
-// slice, which no level of the recursion has to copy.
+// Reads so many expressions from `at` on, one after another, each of which may nest `depth` deep: an operator is followed by its
+// operands. Keeps the offset of each of their reads in `reads`, from `count` on, and counts the bytes of their code, from `to` on. The
+// text goes by a reference to its slice, which no level of the recursion has to copy.
 pub fn read_expressions(
     least: u8,
     text: &&[u8],
     number: usize,
-    start: Walk,
+    at: usize,
+    count: usize,
+    to: usize,
     depth: usize,
     reads: &mut [u16],
 ) -> Walked
-    requires { ⌜ WalkRoom (length (now (now text))) (start .at) (start .reads) (start .code) (length (now reads)) ⌝ }
-    ensures { λ r. ⌜ Walks (outlines (parseExpr least depth (now (now (text .entry)))) number (start .at)) (now (reads .entry)) (start .reads) (start .code) (now (reads .exit)) r ⌝ }
+    requires { ⌜ WalkRoom (length (now (now text))) at count to (length (now reads)) ⌝ }
+    ensures { λ r. ⌜ Walks (outlines (parseExpr least depth (now (now (text .entry)))) number at) (now (reads .entry)) count to (now (reads .exit)) r ⌝ }
 {
-    let mut walk = start;
+    let mut walk = Walk {
+        at: at,
+        reads: count,
+        code: to,
+    };
     let mut left = number;
     while 0 < left {
         if depth == 0 {
@@ -161,7 +155,16 @@ pub fn read_expressions(
         let step = if operands == 0 {
             read_leaf(operator, text.len(), walk.at, walk.reads, walk.code, reads)
         } else {
-            read_expressions(least, text, operands, behind(walk), depth - 1, reads)
+            read_expressions(
+                least,
+                text,
+                operands,
+                walk.at + width::in_expression(0x30),
+                walk.reads,
+                walk.code + width::in_code(0x30),
+                depth - 1,
+                reads,
+            )
         };
         let Walked::Next(next) = step else {
             return step;
@@ -320,12 +323,8 @@ fn equation_step(
     requires { ⌜ (at < length (now text)) × WalkRoom (length (now text)) at count to (length (now reads)) ⌝ }
     ensures { λ r. ⌜ WalksEquation (parseExpr least 16 (now (text .entry)) (at + inProgram 0x11)) entry (now (reads .entry)) count to (now (reads .exit)) r ⌝ }
 {
-    let start = Walk {
-        at: at + width::in_program(0x11),
-        reads: count,
-        code: to,
-    };
-    let walked = read_expressions(least, &text, 1, start, 16, reads);
+    let start = at + width::in_program(0x11);
+    let walked = read_expressions(least, &text, 1, start, count, to, 16, reads);
     let Walked::Next(w) = walked else {
         return step_of_walked(walked);
     };

@@ -30,14 +30,15 @@ use Rattle.text_program.proofs.read_expressions.Kinds as kinds
 use Rattle.text_program.proofs.+read_expressions.Lts-read_expressions as lts
 use Rattle.text_command.proofs.operator_from.Reads as operator-from-reads
 use Rattle.text_command.proofs.operands_of.Reads as operands-of-reads
-use Rattle.text_program.proofs.behind.Reads as behind-reads
 use Rattle.text_program.proofs.read_leaf.Reads as read-leaf-reads
 use Rattle.text_program.proofs.too_deep.Reads as too-deep-reads
+use Rattle.width.proofs.in_code.Reads as in-code-reads
+use Rattle.width.proofs.in_expression.Reads as in-expression-reads
 use Rattle.text_program.proofs.+read_expressions.{statement}
 use Rattle.text_program.proofs.+read_expressions.Tie.{close}
 
 abbrev μ : Measures 3 kinds.ps ℕ
-μ κs a = a .1 .1 .1 .1 .0
+μ κs a = a .1 .1 .1 .1 .1 .1 .0
 
 abbrev given : ℕ → In 3 kinds.ps
 given t = and 3 kinds.ps (is 3 kinds.ps μ t) own.Pre
@@ -55,22 +56,24 @@ known t = (
   operands-of-reads.Learnt,
   read-leaf-reads.Asked,
   read-leaf-reads.Learnt,
-  behind-reads.Asked,
-  behind-reads.Learnt,
+  in-expression-reads.Asked,
+  in-expression-reads.Learnt,
+  in-code-reads.Asked,
+  in-code-reads.Learnt,
   below t,
   own.Post,
 )
 
 -- What is left to read decides the answer.
 abbrev Inv-loop : lts.InvT-loop
-Inv-loop least text number depth reads₀ walk₀ left₀ reads walk left =
+Inv-loop least text number at count to depth reads₀ walk₀ left₀ reads walk left =
     WalkRoom (length (now text)) (walk .at) (walk .reads) (walk .code) (length reads) × (length reads ≡ length reads₀) ×
     ((l′ : List ℕ) (r : Walked) →
     Walks (outlines (parseExpr least depth (now text)) left (walk .at)) reads (walk .reads) (walk .code) l′ r →
-    Walks (outlines (parseExpr least depth (now text)) number (walk₀ .at)) reads₀ (walk₀ .reads) (walk₀ .code) l′ r)
+    Walks (outlines (parseExpr least depth (now text)) number at) reads₀ count to l′ r)
 
 abbrev μ-loop : lts.MeasureT-loop
-μ-loop least text number depth reads₀ walk₀ left₀ reads walk left = left
+μ-loop least text number at count to depth reads₀ walk₀ left₀ reads walk left = left
 
 -- in a turn
 module _ (t : ℕ) (b : lts.In-loop (known t) (given t) own.Post Inv-loop μ-loop) where
@@ -100,8 +103,8 @@ module _ (t : ℕ) (b : lts.In-loop (known t) (given t) own.Post Inv-loop μ-loo
 
   answers : (l′ : List ℕ) (r : Walked) →
       Walks (outlines (parseExpr least depth text) (suc (left - 1)) (walk .at)) table (walk .reads) (walk .code) l′ r →
-      Walks (outlines (parseExpr least depth text) (start .args .number) (start .args .start .at)) (now (start .args .reads))
-      (start .args .start .reads) (start .args .start .code) l′ r
+      Walks (outlines (parseExpr least depth text) (start .args .number) (start .args .at)) (now (start .args .reads))
+      (start .args .count) (start .args .to) l′ r
   answers l′ r w =
       let z : suc (left - 1) ≡ left = omega (arith, b .loop-test .taken) in
       b .before .loop .inv .2 l′ r
@@ -167,7 +170,8 @@ one t j =
       | inr y ↦
           let e = ap outlineOf (step t o) ∙ operator-outline (sub t o) (least t b) (text t b) (at t o) (operator t o)
           (λ z. y .0 .left (o .operands-of .ensures ∙ z)) in
-          rw (y .6, y .7, e) (walks-operated _ (rw (o .operands-of .ensures, y .1 .ensures) at (y .3 .ensures)))
+          rw (y .9, y .10, e)
+          (walks-operated _ (rw (o .operands-of .ensures, y .1 .ensures, y .3 .ensures) at (y .6 .ensures)))
     ]
 
 -- the table keeps its length
@@ -176,7 +180,7 @@ same t j =
     let l = turn t (j .before) .before .loop in
     elim (j .if2 .came) [
       | inl x ↦ rw (x .5) (x .3 .given ∙ l .inv .1)
-      | inr y ↦ rw (y .6) (y .4 .given ∙ l .inv .1)
+      | inr y ↦ rw (y .9) (y .7 .given ∙ l .inv .1)
     ]
 
 loop-holds : (t : ℕ) → lts.Need-loop-holds (known t) (given t) own.Post Inv-loop μ-loop
@@ -195,22 +199,35 @@ read-leaf-requires t c κs =
     let o = c .before .before in
     record { left = room t (turn t o); constant-inside = constant-inside t o; read-inside = read-inside t o }
 
-behind-requires : (t : ℕ) → lts.Need-behind-requires (known t) (given t) own.Post Inv-loop μ-loop
-behind-requires t c κs =
-    let h = room t (turn t (c .before)) in
-    let i = inside t (c .before) (c .if2 .left) in
-    (omega (arith, i, h .short), omega (arith, i, h .short, h .small))
+add-read-expressions : (t : ℕ) → lts.Need-add-read-expressions (known t) (given t) own.Post Inv-loop μ-loop
+add-read-expressions t c =
+    let o = c .before .before .before in
+    omega (arith, inside t o (c .before .before .if2 .left), room t (turn t o) .short, c .before .in-expression .ensures)
+
+add-read-expressions-2 : (t : ℕ) → lts.Need-add-read-expressions-2 (known t) (given t) own.Post Inv-loop μ-loop
+add-read-expressions-2 t c =
+    let e = c .before .before .before .before in
+    let h = room t (turn t (e .before)) in
+    omega (arith, inside t (e .before) (e .if2 .left), h .short, h .small, c .before .in-code .ensures)
 
 sub-read-expressions : (t : ℕ) → lts.Need-sub-read-expressions (known t) (given t) own.Post Inv-loop μ-loop
-sub-read-expressions t c = omega (arith, c .before .before .before .before .before .if1 .left)
+sub-read-expressions t c =
+    let o = c .before .before .before .before .before in
+    omega (arith, o .before .before .before .if1 .left)
 
 read-expressions-requires : (t : ℕ) → lts.Need-read-expressions-requires (known t) (given t) own.Post Inv-loop μ-loop
 read-expressions-requires t c κs =
-    let o = c .before .before .before in
+    let code = c .before .before .in-code in
+    let wide = c .before .before .before .before .in-expression in
+    let o = c .before .before .before .before .before .before in
     let h = room t (turn t o) in (
       omega (arith, o .before .before .before .if1 .left, start t (turn t o) .pre .0),
-      rw (c .before .behind .ensures)
-          (record { short = h .short; table = h .table; few = omega (arith, h .few); small = omega (arith, h .small) }),
+      record {
+        short = h .short;
+        table = h .table;
+        few = omega (arith, h .few);
+        small = omega (arith, h .small, wide .ensures, code .ensures);
+      },
     )
 
 same-length-2 : (t : ℕ) → lts.Need-same-length-2 (known t) (given t) own.Post Inv-loop μ-loop
@@ -250,6 +267,6 @@ pub +read-expressions-spec : {M : Type 1} → statement M
 +read-expressions-spec =
     close μ (λ t. lts.spec (known t) (given t) own.Post Inv-loop μ-loop
     (loop-holds t) (λ c κs. search needs) (same-length t) (returns t) (λ c κs. search needs) (λ c κs. search needs)
-    (read-leaf-requires t) (behind-requires t) (sub-read-expressions t) (read-expressions-requires t) (λ c. search needs)
-    (λ c. search needs) (same-length-2 t) (returns-2 t) (sub-left t) (loop-less t) (loop-again t) (same-length-3 t)
-    (returns-3 t))
+    (read-leaf-requires t) (λ c κs. search needs) (add-read-expressions t) (λ c κs. search needs) (add-read-expressions-2 t)
+    (sub-read-expressions t) (read-expressions-requires t) (λ c. search needs) (λ c. search needs) (same-length-2 t) (returns-2 t)
+    (sub-left t) (loop-less t) (loop-again t) (same-length-3 t) (returns-3 t))

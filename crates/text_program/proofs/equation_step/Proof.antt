@@ -29,8 +29,8 @@ returns c =
     equation-walks _ (one-walk _ _ _ _ (c5 .before .before .before .in-program .ensures) (c5 .read-expressions .ensures)) _
     (c .step-of-walked .ensures _ (told .1) ∙ ap (equationStep _) (sym (told .1)))
 
-add-adds-2 : tie.Need-add-adds-2
-add-adds-2 c =
+add-adds : tie.Need-add-adds
+add-adds c =
     let c3 = c .before .before .before in
     let c7 = c3 .before .before .before .before in
     let c10 = c7 .before .before .before in
@@ -49,5 +49,5 @@ pub equation-step-spec : {M : Type 1} → statement M
 equation-step-spec =
     tie.close
     (tie.spec (λ c κs. search needs) (λ c. search needs) read-expressions-requires (λ c. search needs) (λ c. search needs)
-    (λ c κs. search needs) (λ c. search needs) returns (λ c κs. search needs) add-adds-2 (λ c κs. search needs)
+    (λ c κs. search needs) (λ c. search needs) returns (λ c κs. search needs) add-adds (λ c κs. search needs)
     (λ c. search needs) returns-2)
