@@ -91,13 +91,6 @@ unfolding Answers judgementOf
 answers-judgement (accepted tt) j h = h .0
 answers-judgement (refused f) j h = h
 
-pub judgement-fine : (o : Outcome (Unit {0})) (j : Judged) → j ≡ judgementOf o → j ≡ Judged.Fine → o ≡ accepted tt
-judgement-fine o j h e = answers-fine (λ _. Unit {0}) o j (judgement-answers _ o j h (λ _. tt)) e .1
-
-pub judgement-refused : (o : Outcome (Unit {0})) (j : Judged) (f : Fault) → j ≡ judgementOf o → j ≡ Judged.Refused f →
-    o ≡ refused f
-judgement-refused o j f h e = answers-refused (λ _. Unit {0}) o j f (judgement-answers _ o j h (λ _. tt)) e
-
 pub cycles-least : (o : Outcome ℕ) (c : Cycles) (h : ℕ) → c ≡ cyclesAnswer o → c ≡ Cycles.Least h → o ≡ accepted h
 unfolding cyclesAnswer
 cycles-least (accepted n) c h e t = let same : n ≡ h = cc in ap accepted same

@@ -1,19 +1,17 @@
 -- One read and one LINK by the tables, as the definition judges them, and the lower of two faults. Assumes nothing.
 use Prim.Native.Nat.{ℕ, zero, suc, _+_, _*_, _-_, _≤_, _<_}
 use mathlib.Core.Bool.{Bool, true, false, cond}
-use mathlib.Core.List.{List, [], _∷_, _++_}
+use mathlib.Core.List.{List, [], _∷_}
 use mathlib.Core.Path.{_≡_, refl, sym, ap, subst, _∙_}
-use native.Mathlib.Nat.{zero-add}
 use native.Mathlib.Omega.{arith}
 use lib.Dec.{ltb}
 use lib.ListN.{length, getD}
-use borrow.Author.Tests.{lt-ltb, le-ltb, ltb-true, ltb-false}
+use borrow.Author.Tests.{lt-ltb, ltb-true}
 use Rattle.model.specs.Says.Feasible.{All}
-use Rattle.model.specs.Rules.Outcome.{Outcome, accepted, refused, fault, lower, lowest}
-use Rattle.model.specs.Rules.Program.{Program, Read, Link, Signal, noSignal, count, signalAt, bodyReads, parseProgram}
+use Rattle.model.specs.Rules.Outcome.{Outcome, accepted, refused, fault, lowest}
+use Rattle.model.specs.Rules.Program.{Program, Read, Link, Signal, count, signalAt, bodyReads, parseProgram}
 use Rattle.model.specs.Rules.Rates.{periodRule, readFaults, linkFaults, declaredAndRated}
 use Rattle.model.specs.Says.Grammar.{SpellsLinks}
-use Rattle.model.specs.Rules.Search.{joinFrom}
 use Rattle.model.specs.Rules.Word.{byteAt}
 use Rattle.model.specs.declared.Fault.{Fault}
 use Rattle.model.proofs.Basics.All.{all-at}
@@ -25,47 +23,57 @@ use Rattle.basics.specs.Judgement.{judgementOf}
 use Rattle.text_program.specs.Tables.{noChain, chainAt, TablesOf, PeriodsOf, ReadAs, TabledAs, Indexed}
 use Rattle.text_program.specs.declared.Tables.{Tables}
 use Rattle.basics.specs.declared.Judged.{Judged}
-use Rattle.basics.specs.declared.Judged.the-variants as Judged
-use Rattle.text_program.proofs.ByIndex.{noLink, readAt, AtItem, reads-in, links-in, faultsOf, counted, place-is, taken-is}
-use Rattle.check_rates.specs.Answers.{rateJudged, periodAt, readJudged, readRates, linkRates, lowerOf}
-use Rattle.check_rates.proofs.Joined.{join-same}
+use Rattle.text_program.proofs.ByIndex.{noLink, readAt, counted, place-is, taken-is}
+use Rattle.text_program.proofs.InTurn.{AtPlaces, within-more, single-at, singles-within, orLower, lowest-append}
+use Rattle.text_program.proofs.Rising.{signalPlaces, chainPlaces}
+use Rattle.check_rates.specs.Answers.{
+  rateJudged,
+  periodAt,
+  readJudged,
+  signalRates,
+  readRates,
+  chainRates,
+  linkRates,
+  lowerOf,
+}
 
 module _ (p : Program) where
-  abbrev pub readAs : ℕ → Read → List Fault
-  readAs r ρ = readFaults p (signalAt p r) ρ
-
-  abbrev pub linkAs : ℕ → Link → List Fault
-  linkAs r l = linkFaults p l
-
   either-there : (n : ℕ) (b c : Bool) → All (λ (f : Fault). f .place ≡ n) (cond b (cond c [] (fault 8 n ∷ [])) (fault 7 n ∷ []))
   either-there n true true = tt
   either-there n true false = (refl, tt)
   either-there n false c = (refl, tt)
 
-  pub read-there : AtItem (reads-in p) readAs
+  read-there : (x : Signal) (ρ : Read) → All (λ (f : Fault). f .place ≡ ρ .place) (readFaults p x ρ)
   unfolding readFaults
-  read-there r ρ =
+  read-there x ρ =
       either-there (ρ .place) (ltb (ρ .operands .signal) (count p))
-      (periodRule (ρ .kind) (signalAt p (ρ .operands .signal) .period) (signalAt p r .period) (ρ .operands .factor))
+      (periodRule (ρ .kind) (signalAt p (ρ .operands .signal) .period) (x .period) (ρ .operands .factor))
 
-  pub link-there : AtItem (links-in p) linkAs
+  link-there : (l : Link) → All (λ (f : Fault). f .place ≡ l .place) (linkFaults p l)
   unfolding linkFaults
-  link-there r l = either-there (l .place) (ltb (l .signal) (count p)) true
+  link-there l = either-there (l .place) (ltb (l .signal) (count p)) true
 
-  pub all-rates : lowest (readRates p) ≡ lowest
-      (joinFrom 0 (λ r σ. joinFrom 0 (λ i ρ. readAs r ρ) (bodyReads (σ .body))) (p .signals))
-  all-rates =
-      let f : ℕ → Signal → List Fault = λ s x. joinFrom 0 (λ i ρ. readFaults p x ρ) (bodyReads (x .body)) in
-      let g : ℕ → Signal → List Fault = λ s x. joinFrom 0 (λ i ρ. readFaults p (signalAt p s) ρ) (bodyReads (x .body)) in
-      ap lowest (join-same f g noSignal 0 (p .signals) (λ j l.
-      ap (λ n. joinFrom 0 (λ i ρ. readFaults p (signalAt p n) ρ) (bodyReads (signalAt p j .body))) (sym (zero-add j))))
+  -- The faults of a read, of a signal's reads, of a LINK and of a chain's stand at their places.
+  pub read-at : (x : Signal) → AtPlaces (λ (ρ : Read). ρ .place ∷ []) (λ i ρ. readFaults p x ρ)
+  read-at x = single-at (λ ρ. ρ .place) (λ ρ. readFaults p x ρ) (read-there x)
+
+  pub signal-at : AtPlaces signalPlaces (λ s x. signalRates p x)
+  signal-at s x a b r = singles-within (λ ρ. ρ .place) (λ ρ. readFaults p x ρ) (read-there x) (bodyReads (x .body)) a b r
+
+  pub link-at-place : AtPlaces (λ (l : Link). l .place ∷ []) (λ i l. linkFaults p l)
+  link-at-place = single-at (λ l. l .place) (λ l. linkFaults p l) link-there
+
+  pub chain-at : AtPlaces chainPlaces (λ j c. chainRates p c)
+  chain-at j c a b r =
+      within-more (suc (c .place)) b a b (chainRates p c) (omega (arith, r .0)) (omega arith)
+      (singles-within (λ l. l .place) (λ l. linkFaults p l) link-there (c .links) (suc (c .place)) b (r .1))
 
   -- A LINK.
-  pub judged-link : (l : Link) → linkFaults p l ≡ faultsOf (rateJudged (ltb (l .signal) (count p)) true (l .place))
-  unfolding linkFaults rateJudged
+  judged-link : (l : Link) → rateJudged (ltb (l .signal) (count p)) true (l .place) ≡ judgementOf (lowest (linkFaults p l))
+  unfolding linkFaults rateJudged lowest judgementOf
   judged-link l = go (ltb (l .signal) (count p))
     where
-      go : (b : Bool) → cond b [] (fault 7 (l .place) ∷ []) ≡ faultsOf (rateJudged b true (l .place))
+      go : (b : Bool) → rateJudged b true (l .place) ≡ judgementOf (lowest (cond b [] (fault 7 (l .place) ∷ [])))
       go true = refl
       go false = refl
 
@@ -76,27 +84,24 @@ module _ (p : Program) where
     period-is x lt = rw (lt-ltb x 64 (omega arith)) (sym (table x lt))
 
     judged-rate : (x : ℕ) (ρ : Read) → x < count p →
-        readAs x ρ ≡ faultsOf (readJudged (count p) periods (ρ .place) x (ρ .kind) (ρ .operands))
-    unfolding readFaults readJudged rateJudged
+        readJudged (count p) periods (ρ .place) x (ρ .kind) (ρ .operands) ≡ judgementOf (lowest (readFaults p (signalAt p x) ρ))
+    unfolding readFaults readJudged rateJudged lowest judgementOf
     judged-rate x ρ lt = go (ltb (ρ .operands .signal) (count p)) refl
       where
-        kept : Bool → Bool → Type 0
-        kept b c = cond b (cond c [] (fault 8 (ρ .place) ∷ [])) (fault 7 (ρ .place) ∷ []) ≡ faultsOf (rateJudged b c (ρ .place))
-
-        by : (b c : Bool) → kept b c
+        by : (b c : Bool) → rateJudged b c (ρ .place) ≡
+            judgementOf (lowest (cond b (cond c [] (fault 8 (ρ .place) ∷ [])) (fault 7 (ρ .place) ∷ [])))
         by true true = refl
         by true false = refl
         by false c = refl
 
         go : (b : Bool) → ltb (ρ .operands .signal) (count p) ≡ b →
-            cond b
+            rateJudged b
+            (periodRule (ρ .kind) (periodAt periods (ρ .operands .signal)) (periodAt periods x) (ρ .operands .factor)) (ρ .place) ≡
+            judgementOf (lowest (cond b
             (cond (periodRule (ρ .kind) (signalAt p (ρ .operands .signal) .period) (signalAt p x .period) (ρ .operands .factor))
             []
             (fault 8 (ρ .place) ∷ []))
-            (fault 7 (ρ .place) ∷ []) ≡
-            faultsOf
-            (rateJudged b
-            (periodRule (ρ .kind) (periodAt periods (ρ .operands .signal)) (periodAt periods x) (ρ .operands .factor)) (ρ .place))
+            (fault 7 (ρ .place) ∷ [])))
         go true e =
             let lw : ρ .operands .signal < count p = ltb-true (ρ .operands .signal) (count p) e in
             rw (period-is (ρ .operands .signal) lw, period-is x lt)
@@ -112,45 +117,16 @@ module _ {text reads firsts : List ℕ} {n : ℕ} (ix : Indexed text reads first
   ρ = readAt p x (i - getD firsts x 0)
 
   pub one-read : (r : Taken) (j : Judged) (at : ℕ) → at ≡ getD reads i 0 → ReadTaken text at r →
-      j ≡ readJudged n periods at x (r .kind) (r .operands) → readAs p x ρ ≡ faultsOf j
+      j ≡ readJudged n periods at x (r .kind) (r .operands) → j ≡ judgementOf (lowest (readFaults p (signalAt p x) ρ))
   one-read r j at z h q =
       let t = taken-is ix p e x i lt low high r (subst (λ (k : ℕ). ReadTaken text k r) z h) in
       let c = counted ix p e in
-      judged-rate p periods (omega (arith, c)) table x ρ (omega (arith, c)) ∙
-      ap faultsOf (sym (q ∙ ap (λ (y : Taken). readJudged n periods at x (y .kind) (y .operands)) t ∙
+      q ∙ ap (λ (y : Taken). readJudged n periods at x (y .kind) (y .operands)) t ∙
       ap (λ (k : ℕ). readJudged n periods k x (ρ .kind) (ρ .operands)) (z ∙ place-is ix p e x i lt low high) ∙
-      ap (λ (k : ℕ). readJudged k periods (ρ .place) x (ρ .kind) (ρ .operands)) (sym c)))
+      ap (λ (k : ℕ). readJudged k periods (ρ .place) x (ρ .kind) (ρ .operands)) (sym c) ∙
+      judged-rate p periods (omega (arith, c)) table x ρ (omega (arith, c))
 
--- The lower of two faults.
-least : Fault → Fault → Fault
-least f g = cond (ltb (g .place) (f .place)) g f
-
-abbrev orLower : Outcome (Unit {0}) → Outcome (Unit {0}) → Outcome (Unit {0})
-orLower (accepted a) o = o
-orLower (refused f) o = lower f o
-
-lower-again : (f g h : Fault) (a b c : Bool) → ltb (h .place) (g .place) ≡ a → ltb (g .place) (f .place) ≡ b →
-    ltb (h .place) (f .place) ≡ c →
-    cond (ltb (cond a h g .place) (f .place)) (cond a h g) f ≡ cond (ltb (h .place) (cond b g f .place)) h (cond b g f)
-lower-again f g h true true c p q r =
-    let k : h .place < f .place = omega (arith, ltb-true (h .place) (g .place) p, ltb-true (g .place) (f .place) q) in
-    rw (lt-ltb (h .place) (f .place) k, p)
-lower-again f g h true false c p q r = refl
-lower-again f g h false true c p q r = rw (q, p)
-lower-again f g h false false c p q r =
-    let k : f .place ≤ h .place = omega (arith, ltb-false (h .place) (g .place) p, ltb-false (g .place) (f .place) q) in
-    rw (q, le-ltb (h .place) (f .place) k)
-
-lowest-append : (xs ys : List Fault) → lowest (xs ++ ys) ≡ orLower (lowest xs) (lowest ys)
-unfolding lowest
-lowest-append [] ys = refl
-lowest-append (f ∷ xs) ys = ap (lower f) (lowest-append xs ys) ∙ go (lowest xs) (lowest ys)
-  where
-    go : (o q : Outcome (Unit {0})) → lower f (orLower o q) ≡ orLower (lower f o) q
-    go (accepted a) q = refl
-    go (refused g) (accepted b) = refl
-    go (refused g) (refused h) = ap refused (lower-again f g h _ _ _ refl refl refl)
-
+-- The lower of two judgements.
 pub both-rates : (p : Program) →
     lowerOf (judgementOf (lowest (readRates p))) (judgementOf (lowest (linkRates p))) ≡ judgementOf (declaredAndRated p)
 unfolding declaredAndRated judgementOf lowerOf
@@ -202,16 +178,17 @@ module _ (text : List ℕ) (t : Tables) (h : ReadAs text t) (p : Program) (e : p
       link-inside = omega (arith, start-is, link-at (chain-stands .links) i link-seen .2)
 
       pub one-link : (at signal : ℕ) (j : Judged) → at ≡ getD (t .starts) x 0 + 4 + 2 * i → signal ≡ getD text (at + 1) 0 →
-          j ≡ rateJudged (ltb signal (t .signals)) true at → linkFaults p l ≡ faultsOf j
+          j ≡ rateJudged (ltb signal (t .signals)) true at → j ≡ judgementOf (lowest (linkFaults p l))
       one-link at signal j z w q =
           let g = link-at (chain-stands .links) i link-seen in
           let a : l .place ≡ at = omega (arith, g .0, start-is) in
           let b : l .signal ≡ signal =
           g .1 ∙ ap (λ (k : ℕ). getD text (k + 1) 0) (sym (g .0) ∙ a) ∙ sym w in
-          judged-link p l ∙
-          ap faultsOf (ap (λ (k : ℕ). rateJudged (ltb (l .signal) (count p)) true k) a ∙
+          q ∙
+          sym (ap (λ (k : ℕ). rateJudged (ltb (l .signal) (count p)) true k) a ∙
           ap (λ (k : ℕ). rateJudged (ltb k (count p)) true at) b ∙
-          ap (λ (k : ℕ). rateJudged (ltb signal k) true at) (tables .counts .signals-are) ∙ sym q)
+          ap (λ (k : ℕ). rateJudged (ltb signal k) true at) (tables .counts .signals-are)) ∙
+          judged-link p l
 
 pub periods-of : (text reads : List ℕ) (t : Tables) → TabledAs text reads t → (p : Program) → parseProgram text ≡ accepted p →
     PeriodsOf p (t .periods)

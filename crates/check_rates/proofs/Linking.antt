@@ -1,21 +1,26 @@
 -- The links of a chain (10), link after link. Assumes nothing.
 use Prim.Native.Nat.{ℕ, suc, _+_, _-_, _≤_, _<_}
-use mathlib.Core.Bool.{Bool, true, false, _&&_}
-use mathlib.Core.List.{List, [], _∷_}
+use mathlib.Core.Bool.{Bool, true, false, cond, _&&_}
+use mathlib.Core.List.{List, [], _∷_, map}
 use mathlib.Core.Path.{_≡_, refl, ap, _∙_}
 use native.Mathlib.Omega.{arith}
 use lib.Dec.{eqb}
 use lib.ListN.{length, getD}
-use Rattle.model.specs.Rules.Outcome.{accepted}
-use Rattle.model.specs.Rules.Program.{Link, Program, signalAt, parseProgram, bodyReads}
+use Rattle.model.specs.Rules.Outcome.{accepted, fault, lowest}
+use Rattle.model.specs.Rules.Program.{Link, Chain, Program, signalAt, parseProgram, bodyReads}
 use Rattle.model.specs.Rules.Rates.{countReads, isLinked}
 use Rattle.model.specs.Rules.Word.{byteAt}
+use Rattle.model.specs.declared.Fault.{Fault}
 use Rattle.model.proofs.Basics.All.{all-at}
 use Rattle.model.proofs.Texts.Commands.{declaration-sound}
 use Rattle.model.proofs.Texts.Legal.{legal, SpellsChain}
 use Rattle.model.specs.Says.Grammar.{SpellsLinks}
+use Rattle.basics.specs.Judgement.{judgementOf}
+use Rattle.basics.specs.declared.Judged.the-variants as Judged
 use Rattle.text_program.specs.Tables.{noChain, chainAt, TablesOf, ReadAs}
 use Rattle.text_program.specs.declared.Tables.{Tables}
+use Rattle.text_program.proofs.InTurn.{Within, AtPlaces}
+use Rattle.text_program.proofs.Rising.{chainPlaces, rising-le}
 
 -- The LINKs from `at` on, of whose chain so much is judged.
 pub record LinksLeft (text : List ℕ) (p : Program) (whole : List Link) (at left : ℕ) : Type 0 where
@@ -107,3 +112,18 @@ module _ (text : List ℕ) (tables : Tables) (chain : ℕ) (lt : chain < tables 
   chain-inside (p, q, t) =
       let l : chain < length (p .chains) = omega (arith, t .counts .chains-are) in
       omega (arith, t .starts chain l, chain-start text p q chain l .0)
+
+-- The fault of a LAT that fails a test stands at its place.
+pub lat-at : (number : ℕ) (test : Chain → Bool) → AtPlaces chainPlaces (λ j c. cond (test c) [] (fault number (c .place) ∷ []))
+lat-at number test j c a b r = go (test c)
+  where
+    go : (t : Bool) → Within a (cond t [] (fault number (c .place) ∷ [])) b
+    go true = tt
+    go false = ((omega (arith, r .0), omega (arith, rising-le (suc (c .place)) (map (λ (l : Link). l .place) (c .links)) b (r .1))), tt)
+
+-- Its judgement goes by the test.
+pub lat-judged : (f : Fault) (t b : Bool) → t ≡ b → cond b Judged.Fine (Judged.Refused f) ≡ judgementOf
+    (lowest (cond t [] (f ∷ [])))
+unfolding judgementOf lowest
+lat-judged f true b e = rw (← e)
+lat-judged f false b e = rw (← e)

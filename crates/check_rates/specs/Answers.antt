@@ -6,7 +6,7 @@ use lib.Dec.{ltb, eqb}
 use lib.ListN.{getD}
 use Rattle.model.specs.Rules.Outcome.{Outcome, accepted, refused, fault}
 use Rattle.model.specs.Rules.Latency.{readAmong}
-use Rattle.model.specs.Rules.Program.{Program, Read, bodyReads}
+use Rattle.model.specs.Rules.Program.{Program, Signal, Chain, Read, bodyReads}
 use Rattle.model.specs.Rules.Rates.{periodRule, readFaults, linkFaults, countReads}
 use Rattle.model.specs.Rules.Search.{joinFrom}
 use Rattle.model.specs.declared.Fault.{Fault}
@@ -49,12 +49,19 @@ readJudged count periods at reader kind x =
     rateJudged (ltb (x .signal) count)
     (periodRule kind (periodAt periods (x .signal)) (periodAt periods reader) (x .factor)) at
 
--- The faults of the reads, and of the LINKs.
+-- The faults of the reads of a signal, and of all of them.
+abbrev pub signalRates : Program → Signal → List Fault
+signalRates p x = joinFrom 0 (λ i ρ. readFaults p x ρ) (bodyReads (x .body))
+
 abbrev pub readRates : Program → List Fault
-readRates p = joinFrom 0 (λ s x. joinFrom 0 (λ i ρ. readFaults p x ρ) (bodyReads (x .body))) (p .signals)
+readRates p = joinFrom 0 (λ s x. signalRates p x) (p .signals)
+
+-- The faults of the LINKs of a chain, and of all of them.
+abbrev pub chainRates : Program → Chain → List Fault
+chainRates p c = joinFrom 0 (λ i l. linkFaults p l) (c .links)
 
 abbrev pub linkRates : Program → List Fault
-linkRates p = joinFrom 0 (λ j c. joinFrom 0 (λ i l. linkFaults p l) (c .links)) (p .chains)
+linkRates p = joinFrom 0 (λ j c. chainRates p c) (p .chains)
 
 -- The one of two refusals that has the lower place.
 unfoldable pub lowerOf : Judged → Judged → Judged

@@ -13,7 +13,7 @@ ghost use Rattle.model.specs.Rules.Outcome.{accepted, lowest};
 ghost use Rattle.model.specs.Rules.Program.{Program, signalAt, parseProgram, bodyReads};
 ghost use Rattle.model.specs.Rules.Rates.{periodRule, declaredAndRated, isMultiple, hypercycle, isLinked, linked};
 ghost use Rattle.text_program.specs.Tables.{TablesOf, PeriodsOf, ReadAs, TabledAs, Indexed, chainAt};
-ghost use Rattle.check_rates.specs.Answers.{cyclesAnswer, periodAt, factorOf, rateJudged, readJudged, readRates, linkRates, lowerOf, oneRead};
+ghost use Rattle.check_rates.specs.Answers.{cyclesAnswer, periodAt, factorOf, rateJudged, readJudged, signalRates, readRates, chainRates, linkRates, lowerOf, oneRead};
 ghost use Rattle.basics.specs.Judgement.{judgementOf};
 
 // The period of a signal by the table; 0 past its end.
@@ -78,7 +78,36 @@ fn judge_read(
     judge_rate(signal < count, kept, at)
 }
 
-// The first read of an undeclared signal (7) or with a broken period rule (8), over the reads by their index in the table.
+// The first read of a signal's equation that is of an undeclared signal (7) or breaks its period rule (8). Reads go by their index in
+// the table.
+fn judge_signal(
+    text: &[u8],
+    reads: &[u16],
+    firsts: &[u16; 65],
+    count: usize,
+    periods: &[u8; 64],
+    reader: usize,
+) -> Judged
+    requires { ⌜ (reader < count) × (count ≤ 64) × Indexed (now text) (now reads) (now firsts) count ⌝ }
+    ensures { λ r. ⌜ ((p : Program) → parseProgram (now (text .entry)) ≡ accepted p → PeriodsOf p (now (periods .entry)) → r ≡ judgementOf (lowest (signalRates p (signalAt p reader)))) ⌝ }
+{
+    let mut i = basics::wider(firsts[reader]);
+    let end = basics::wider(firsts[reader + 1]);
+    while i < end {
+        let at = basics::wider(reads[i]);
+        let taken = text_command::taken_at(text, at);
+        let kind = taken.kind;
+        let operands = taken.operands;
+        let judged = judge_read(count, periods, at, reader, kind, operands);
+        let Judged::Fine = judged else {
+            return judged;
+        };
+        i = i + 1;
+    }
+    Judged::Fine
+}
+
+// The same of all signals.
 fn judge_reads(
     text: &[u8],
     reads: &[u16],
@@ -90,48 +119,49 @@ fn judge_reads(
     ensures { λ r. ⌜ ((p : Program) → parseProgram (now (text .entry)) ≡ accepted p → PeriodsOf p (now (periods .entry)) → r ≡ judgementOf (lowest (readRates p))) ⌝ }
 {
     let mut reader: usize = 0;
-    let mut i: usize = 0;
     while reader < count {
-        let end = basics::wider(firsts[reader + 1]);
-        while i < end {
-            let at = basics::wider(reads[i]);
-            let taken = text_command::taken_at(text, at);
-            let kind = taken.kind;
-            let operands = taken.operands;
-            let judged = judge_read(count, periods, at, reader, kind, operands);
-            let Judged::Fine = judged else {
-                return judged;
-            };
-            i = i + 1;
-        }
+        let judged = judge_signal(text, reads, firsts, count, periods, reader);
+        let Judged::Fine = judged else {
+            return judged;
+        };
         reader = reader + 1;
     }
     Judged::Fine
 }
 
-// The first LINK of an undeclared signal (7).
+// The first LINK of a chain that is of an undeclared signal (7).
+fn judge_chain(text: &[u8], tables: Tables, chain: usize) -> Judged
+    requires { ⌜ ReadAs (now text) tables × (chain < tables .chains) ⌝ }
+    ensures { λ r. ⌜ ((p : Program) → parseProgram (now (text .entry)) ≡ accepted p → r ≡ judgementOf (lowest (chainRates p (chainAt p chain)))) ⌝ }
+{
+    let starts = tables.starts;
+    let lengths = tables.lengths;
+    let first = starts[chain] + width::in_program(0x12);
+    let links = lengths[chain];
+    let mut i: usize = 0;
+    while i < links {
+        let at = first + width::in_program(0x13) * i;
+        let signal = basics::wide(text[at + 1]);
+        let judged = judge_rate(signal < tables.signals, true, at);
+        let Judged::Fine = judged else {
+            return judged;
+        };
+        i = i + 1;
+    }
+    Judged::Fine
+}
+
+// The same of all chains.
 fn judge_links(text: &[u8], tables: Tables) -> Judged
     requires { ⌜ ReadAs (now text) tables ⌝ }
     ensures { λ r. ⌜ ((p : Program) → parseProgram (now (text .entry)) ≡ accepted p → r ≡ judgementOf (lowest (linkRates p))) ⌝ }
 {
-    let count = tables.signals;
-    let chains = tables.chains;
-    let starts = tables.starts;
-    let lengths = tables.lengths;
     let mut chain: usize = 0;
-    while chain < chains {
-        let first = starts[chain] + width::in_program(0x12);
-        let links = lengths[chain];
-        let mut i: usize = 0;
-        while i < links {
-            let at = first + width::in_program(0x13) * i;
-            let signal = basics::wide(text[at + 1]);
-            let judged = judge_rate(signal < count, true, at);
-            let Judged::Fine = judged else {
-                return judged;
-            };
-            i = i + 1;
-        }
+    while chain < tables.chains {
+        let judged = judge_chain(text, tables, chain);
+        let Judged::Fine = judged else {
+            return judged;
+        };
         chain = chain + 1;
     }
     Judged::Fine

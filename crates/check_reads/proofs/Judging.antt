@@ -10,7 +10,7 @@ use Rattle.model.specs.Says.Feasible.{All}
 use Rattle.model.specs.Rules.Outcome.{accepted, fault, lowest}
 use Rattle.model.specs.Rules.Program.{Program, Read, count, signalAt, bodyReads, parseProgram}
 use Rattle.model.specs.Rules.Rates.{declaredAndRated}
-use Rattle.model.specs.Rules.Reads.{rateOf, isMet, met}
+use Rattle.model.specs.Rules.Reads.{rateOf, isMet}
 use Rattle.model.specs.Rules.Schedule.{Schedule}
 use Rattle.model.specs.Rules.Search.{joinFrom}
 use Rattle.model.specs.declared.Fault.{Fault}
@@ -22,24 +22,31 @@ use Rattle.text_command.specs.declared.Taken.{Taken}
 use Rattle.text_program.specs.Tables.{PeriodsOf, SlotsOf, Indexed, rateAt}
 use Rattle.basics.specs.declared.Judged.{Judged}
 use Rattle.basics.specs.declared.Judged.the-variants as Judged
-use Rattle.text_program.proofs.ByIndex.{noRead, readAt, faultsOf, counted, seen, place-is, taken-is}
+use Rattle.basics.specs.Judgement.{judgementOf}
+use Rattle.text_program.proofs.ByIndex.{noRead, readAt, counted, seen, place-is, taken-is}
+use Rattle.text_program.proofs.InTurn.{AtPlaces, single-at, singles-within}
+use Rattle.text_program.proofs.Rising.{signalPlaces}
 use Rattle.read_rule.specs.Reads.{metBy}
 use Rattle.check_reads.specs.Met.{Below, PacedAt, isMetAt, readMet}
 
 module _ (p : Program) (s : Schedule) where
-  abbrev pub unmet : ℕ → Read → List Fault
-  unmet r ρ = cond (isMet p s r ρ) [] (fault 14 (ρ .place) ∷ [])
+  -- The fault of a read in the equation of r, if it has one.
+  abbrev pub readFault : ℕ → Read → List Fault
+  readFault r ρ = cond (isMet p s r ρ) [] (fault 14 (ρ .place) ∷ [])
 
-  pub unmet-there : (r : ℕ) (ρ : Read) → All (λ f. f .place ≡ ρ .place) (unmet r ρ)
-  unmet-there r ρ = go (isMet p s r ρ)
+  fault-there : (r : ℕ) (ρ : Read) → All (λ f. f .place ≡ ρ .place) (readFault r ρ)
+  fault-there r ρ = go (isMet p s r ρ)
     where
       go : (b : Bool) → All (λ (f : Fault). f .place ≡ ρ .place) (cond b [] (fault 14 (ρ .place) ∷ []))
       go true = tt
       go false = (refl, tt)
 
-  pub all-unmet : met p s ≡ lowest (joinFrom 0 (λ r σ. joinFrom 0 (λ i ρ. unmet r ρ) (bodyReads (σ .body))) (p .signals))
-  unfolding met
-  all-unmet = refl
+  -- The faults of a read and of a signal's reads stand at their places.
+  pub read-at : (r : ℕ) → AtPlaces (λ (ρ : Read). ρ .place ∷ []) (λ i ρ. readFault r ρ)
+  read-at r = single-at (λ ρ. ρ .place) (readFault r) (fault-there r)
+
+  pub signal-at : AtPlaces signalPlaces (λ r x. joinFrom 0 (λ i ρ. readFault r ρ) (bodyReads (x .body)))
+  signal-at r x a b h = singles-within (λ ρ. ρ .place) (readFault r) (fault-there r) (bodyReads (x .body)) a b h
 
   module _ (order periods phases ranks : List ℕ) (table : PeriodsOf p periods) (slots : SlotsOf p s order phases ranks) where
     rate-is : (x : ℕ) → x < count p → rateAt periods phases x ≡ rateOf p s x
@@ -53,13 +60,13 @@ module _ (p : Program) (s : Schedule) where
         rw (rate-is (ρ .operands .signal) lw, rate-is r lr, slots .ranks-are (ρ .operands .signal) lw, slots .ranks-are r lr)
 
     pub judged-met : (r : ℕ) (ρ : Read) → r < count p → ρ .operands .signal < count p →
-        unmet r ρ ≡ faultsOf (readMet periods phases ranks (count p) (ρ .place) r (ρ .kind) (ρ .operands))
-    unfolding readMet
+        readMet periods phases ranks (count p) (ρ .place) r (ρ .kind) (ρ .operands) ≡ judgementOf (lowest (readFault r ρ))
+    unfolding readMet lowest judgementOf
     judged-met r ρ lr lw =
         rw (lt-ltb (ρ .operands .signal) (count p) lw, lt-ltb r (count p) lr, ← (met-is r ρ lr lw)) (go (isMet p s r ρ))
       where
-        go : (b : Bool) → cond b [] (fault 14 (ρ .place) ∷ []) ≡ faultsOf
-            (cond b Judged.Fine (Judged.Refused (fault 14 (ρ .place))))
+        go : (b : Bool) → cond b Judged.Fine (Judged.Refused (fault 14 (ρ .place))) ≡
+            judgementOf (lowest (cond b [] (fault 14 (ρ .place) ∷ [])))
         go true = refl
         go false = refl
 
@@ -98,11 +105,11 @@ module _ {text reads firsts : List ℕ} {n : ℕ} (ix : Indexed text reads first
 
   pub one-read : (r : Taken) (j : Judged) (at : ℕ) → at ≡ getD reads i 0 → ReadTaken text at r →
       (PacedAt periods phases x (r .kind) (r .operands) → j ≡ readMet periods phases ranks n at x (r .kind) (r .operands)) →
-      unmet p s x ρ ≡ faultsOf j
+      j ≡ judgementOf (lowest (readFault p s x ρ))
   one-read r j at z h q =
       let t = taken-is ix p e x i lt low high r (subst (λ (k : ℕ). ReadTaken text k r) z h) in
-      judged-met p s order periods phases ranks table slots x ρ reader-count declared ∙
-      ap faultsOf (sym (q (subst (λ (y : Taken). PacedAt periods phases x (y .kind) (y .operands)) (sym t) paced) ∙
+      q (subst (λ (y : Taken). PacedAt periods phases x (y .kind) (y .operands)) (sym t) paced) ∙
       ap (λ (y : Taken). readMet periods phases ranks n at x (y .kind) (y .operands)) t ∙
       ap (λ (k : ℕ). readMet periods phases ranks n k x (ρ .kind) (ρ .operands)) (z ∙ place-is ix p e x i lt low high) ∙
-      ap (λ (k : ℕ). readMet periods phases ranks k (ρ .place) x (ρ .kind) (ρ .operands)) (sym (counted ix p e))))
+      ap (λ (k : ℕ). readMet periods phases ranks k (ρ .place) x (ρ .kind) (ρ .operands)) (sym (counted ix p e)) ∙
+      judged-met p s order periods phases ranks table slots x ρ reader-count declared

@@ -1,15 +1,17 @@
 -- The judgement of a read by the tables of periods, phases and ranks.
 use Prim.Native.Nat.{ℕ, _<_}
 use mathlib.Core.Bool.{Bool, cond}
-use mathlib.Core.List.{List}
+use mathlib.Core.List.{List, [], _∷_}
 use mathlib.Core.Path.{_≡_}
 use lib.Dec.{ltb}
 use lib.ListN.{getD}
-use Rattle.model.specs.Rules.Outcome.{accepted, fault}
-use Rattle.model.specs.Rules.Program.{Program}
+use Rattle.model.specs.Rules.Outcome.{Outcome, accepted, fault}
+use Rattle.model.specs.Rules.Program.{Program, signalAt, bodyReads}
 use Rattle.model.specs.Rules.Rates.{declaredAndRated}
-use Rattle.model.specs.Rules.Reads.{met}
+use Rattle.model.specs.Rules.Reads.{isMet}
 use Rattle.model.specs.Rules.Schedule.{Schedule}
+use Rattle.model.specs.Rules.Search.{joinFrom}
+use Rattle.model.specs.declared.Fault.{Fault}
 use Rattle.model.specs.declared.Kind.{Kind}
 use Rattle.model.specs.declared.Sampled.{Sampled}
 use Rattle.basics.specs.Judgement.{judgementOf}
@@ -43,8 +45,12 @@ readMet periods phases ranks n at r kind x =
     (cond (ltb r n) (cond (isMetAt periods phases ranks r kind x) Judged.Fine (Judged.Refused (fault 14 at))) Judged.Fine)
     Judged.Fine
 
+-- The faults of the reads of signal r that are not met.
+abbrev pub unmet : Program → Schedule → ℕ → List Fault
+unmet p s r = joinFrom 0 (λ i ρ. cond (isMet p s r ρ) [] (fault 14 (ρ .place) ∷ [])) (bodyReads (signalAt p r .body))
+
 -- The answer is the definition's, for any schedule whose tables these are.
-abbrev pub ReadsMet : Program → List ℕ → List ℕ → List ℕ → Judged → Type 0
-ReadsMet p periods phases ranks r =
+abbrev pub MetAs : Program → List ℕ → List ℕ → List ℕ → (Schedule → Outcome (Unit {0})) → Judged → Type 0
+MetAs p periods phases ranks verdict r =
     (s : Schedule) (order : List ℕ) → declaredAndRated p ≡ accepted tt → PeriodsOf p periods → SlotsOf p s order phases ranks →
-    r ≡ judgementOf (met p s)
+    r ≡ judgementOf (verdict s)

@@ -6,14 +6,14 @@ use read_rule::Timing;
 use text_schedule::PairTables;
 ghost use mathlib.Core.Path.{_≡_};
 ghost use Prim.Native.Nat.{_≤_, _<_};
-ghost use Rattle.model.specs.Rules.Outcome.{accepted};
+ghost use Rattle.model.specs.Rules.Outcome.{accepted, lowest};
 ghost use Rattle.model.specs.Rules.Program.{Program, parseProgram};
 ghost use Rattle.model.specs.Rules.Reads.{met};
 ghost use Rattle.model.specs.Rules.Schedule.{Schedule};
 ghost use Rattle.basics.specs.Judgement.{judgementOf};
 ghost use Rattle.text_program.specs.Tables.{Indexed, TabledAs};
 ghost use Rattle.text_schedule.specs.Arranged.{Arranged, Arrangement};
-ghost use Rattle.check_reads.specs.Met.{Below, PacedAt, readMet, ReadsMet};
+ghost use Rattle.check_reads.specs.Met.{Below, PacedAt, readMet, unmet, MetAs};
 
 // One read in the equation of `reader`.
 fn read_met(
@@ -51,7 +51,37 @@ fn read_met(
     basics::refuse(14, at)
 }
 
-// 14 at the lowest read offset: over the reads of each signal by their index in the table.
+// 14 at the lowest offset of a signal's reads, which go by their index in the table.
+fn signal_met(
+    text: &[u8],
+    reads: &[u16],
+    firsts: &[u16; 65],
+    signals: usize,
+    periods: &[u8; 64],
+    phases: &[u8; 64],
+    ranks: &[u8; 64],
+    reader: usize,
+) -> Judged
+    requires { ⌜ (reader < signals) × (signals ≤ 64) × Below (now periods) (now phases) signals × Indexed (now text) (now reads) (now firsts) signals ⌝ }
+    ensures { λ r. ⌜ ((p : Program) → parseProgram (now (text .entry)) ≡ accepted p → MetAs p (now (periods .entry)) (now (phases .entry)) (now (ranks .entry)) (λ s. lowest (unmet p s reader)) r) ⌝ }
+{
+    let mut i = basics::wider(firsts[reader]);
+    let end = basics::wider(firsts[reader + 1]);
+    while i < end {
+        let at = basics::wider(reads[i]);
+        let taken = text_command::taken_at(text, at);
+        let kind = taken.kind;
+        let operands = taken.operands;
+        let judged = read_met(signals, periods, phases, ranks, at, reader, kind, operands);
+        let Judged::Fine = judged else {
+            return judged;
+        };
+        i = i + 1;
+    }
+    Judged::Fine
+}
+
+// 14 at the lowest read offset.
 fn reads_met(
     text: &[u8],
     reads: &[u16],
@@ -62,23 +92,14 @@ fn reads_met(
     ranks: &[u8; 64],
 ) -> Judged
     requires { ⌜ (signals ≤ 64) × Below (now periods) (now phases) signals × Indexed (now text) (now reads) (now firsts) signals ⌝ }
-    ensures { λ r. ⌜ ((p : Program) → parseProgram (now (text .entry)) ≡ accepted p → ReadsMet p (now (periods .entry)) (now (phases .entry)) (now (ranks .entry)) r) ⌝ }
+    ensures { λ r. ⌜ ((p : Program) → parseProgram (now (text .entry)) ≡ accepted p → MetAs p (now (periods .entry)) (now (phases .entry)) (now (ranks .entry)) (λ s. met p s) r) ⌝ }
 {
     let mut reader: usize = 0;
-    let mut i: usize = 0;
     while reader < signals {
-        let end = basics::wider(firsts[reader + 1]);
-        while i < end {
-            let at = basics::wider(reads[i]);
-            let taken = text_command::taken_at(text, at);
-            let kind = taken.kind;
-            let operands = taken.operands;
-            let judged = read_met(signals, periods, phases, ranks, at, reader, kind, operands);
-            let Judged::Fine = judged else {
-                return judged;
-            };
-            i = i + 1;
-        }
+        let judged = signal_met(text, reads, firsts, signals, periods, phases, ranks, reader);
+        let Judged::Fine = judged else {
+            return judged;
+        };
         reader = reader + 1;
     }
     Judged::Fine

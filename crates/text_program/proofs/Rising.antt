@@ -1,9 +1,9 @@
--- The reads of an accepted text stand at rising offsets. Assumes nothing.
-use Prim.Native.Nat.{ℕ, suc, _+_, _≤_}
-use mathlib.Core.List.{List, [], _∷_, _++_, map, map-append, append-nil}
-use mathlib.Core.Path.{_≡_, _∙_}
+-- The reads and the LINKs of an accepted text stand at rising offsets. Assumes nothing.
+use Prim.Native.Nat.{ℕ, zero, suc, _+_, _≤_, _<_}
+use mathlib.Core.List.{List, [], _∷_, _++_, map, map-append}
+use mathlib.Core.Path.{_≡_}
 use native.Mathlib.Omega.{arith}
-use Rattle.model.specs.Says.Feasible.{All}
+use lib.ListN.{length, getD}
 use Rattle.model.specs.Says.Grammar.{Spells, SpellsLinks, DeclaresOne, Declares}
 use Rattle.model.specs.Rules.Outcome.{accepted}
 use Rattle.model.specs.Rules.Program.{
@@ -13,15 +13,11 @@ use Rattle.model.specs.Rules.Program.{
   Link,
   Chain,
   Program,
-  withSignal,
-  withChain,
   readsOf,
   bodyReads,
   parseProgram,
 }
-use Rattle.model.specs.Rules.Search.{joinFrom}
 use Rattle.model.proofs.Texts.Legal.{links-end, read-width}
-use Rattle.model.proofs.Basics.Outcomes.{joinFrom-append}
 use Rattle.model.proofs.Texts.Spelled.{declared}
 use Rattle.text_program.specs.Walks.{placesOf}
 use Rattle.text_program.proofs.Walks.{spans}
@@ -43,9 +39,27 @@ rising-append : (a : ℕ) (xs : List ℕ) (b : ℕ) (ys : List ℕ) (c : ℕ) �
 rising-append a [] b ys c h g = rising-less b a ys c h g
 rising-append a (x ∷ xs) b ys c h g = (h .0, rising-append (suc x) xs b ys c (h .1) g)
 
-pub rising-all : (a : ℕ) (xs : List ℕ) (b : ℕ) → Rising a xs b → All (λ x. a ≤ x) xs
-rising-all a [] b r = tt
-rising-all a (x ∷ xs) b r = (r .0, rising-all a xs b (rising-less (suc x) a xs b (omega (arith, r .0)) (r .1)))
+pub rising-le : (a : ℕ) (xs : List ℕ) (b : ℕ) → Rising a xs b → a ≤ b
+rising-le a [] b r = r
+rising-le a (x ∷ xs) b r = omega (arith, r .0, rising-le (suc x) xs b (r .1))
+
+-- The places of elements rise, element after element, from a on, below b.
+module _ {A : Type 0} (places : A → List ℕ) where
+  abbrev pub InTurn : ℕ → List A → ℕ → Type 0
+  InTurn a [] b = a ≤ b
+  InTurn a (x ∷ xs) b = (m : ℕ) × Rising a (places x) m × InTurn m xs b
+
+  pub turn-le : (a : ℕ) (xs : List A) (b : ℕ) → InTurn a xs b → a ≤ b
+  turn-le a [] b h = h
+  turn-le a (x ∷ xs) b h = omega (arith, rising-le a (places x) (h .0) (h .1), turn-le (h .0) xs b (h .2))
+
+  turn-more : (a : ℕ) (xs : List A) (b c : ℕ) → b ≤ c → InTurn a xs b → InTurn a xs c
+  turn-more a [] b c le h = omega arith
+  turn-more a (x ∷ xs) b c le h = (h .0, h .1, turn-more (h .0) xs b c le (h .2))
+
+  turn-snoc : (a : ℕ) (xs : List A) (b : ℕ) (x : A) (c : ℕ) → InTurn a xs b → Rising b (places x) c → InTurn a (xs ++ (x ∷ [])) c
+  turn-snoc a [] b x c h r = (c, rising-less b a (places x) c h r, omega arith)
+  turn-snoc a (y ∷ ys) b x c h r = (h .0, h .1, turn-snoc (h .0) ys b x c (h .2) r)
 
 module _ {text : List ℕ} where
   rising-expr : {at n : ℕ} {e : Expr} → Spells leastFactor text at e n → Rising at (placesOf (readsOf e)) n
@@ -64,27 +78,32 @@ module _ {text : List ℕ} where
       (rising-append (at + 1) (placesOf (readsOf x)) m (placesOf (readsOf y) ++ placesOf (readsOf z)) o (rising-expr u)
       (rising-append m (placesOf (readsOf y)) n (placesOf (readsOf z)) o (rising-expr v) (rising-expr w))))
 
--- The places of all reads, signal by signal, and of all LINKs, chain by chain.
-unfoldable pub allPlaces : Program → List ℕ
-allPlaces p = joinFrom 0 (λ r x. placesOf (bodyReads (x .body))) (p .signals)
+module _ {A : Type 0} (places : A → List ℕ) where
+  pub turn-at : (a : ℕ) (xs : List A) (b j : ℕ) (d : A) → j < length xs → InTurn places a xs b →
+      (m n : ℕ) × Rising m (places (getD xs j d)) n
+  turn-at a [] b j d lt h = absurd (omega arith)
+  turn-at a (x ∷ xs) b zero d lt h = (a, h .0, h .1)
+  turn-at a (x ∷ xs) b (suc j) d lt h = turn-at (h .0) xs b j d (omega arith) (h .2)
 
-unfoldable pub linkPlaces : Program → List ℕ
-linkPlaces p = joinFrom 0 (λ r c. map (λ (l : Link). l .place) (c .links)) (p .chains)
+-- The places of the reads of a signal, and of a LAT and its LINKs.
+abbrev pub signalPlaces : Signal → List ℕ
+signalPlaces x = placesOf (bodyReads (x .body))
 
-places-more : (p : Program) (x : Signal) → allPlaces (withSignal p x) ≡ allPlaces p ++ placesOf (bodyReads (x .body))
-unfolding allPlaces joinFrom
-places-more p x =
-    joinFrom-append (λ r y. placesOf (bodyReads (y .body))) 0 (p .signals) (x ∷ []) ∙ rw append-nil
-
-links-more : (p : Program) (c : Chain) → linkPlaces (withChain p c) ≡ linkPlaces p ++ map (λ (l : Link). l .place) (c .links)
-unfolding linkPlaces joinFrom
-links-more p c =
-    joinFrom-append (λ r y. map (λ (l : Link). l .place) (y .links)) 0 (p .chains) (c ∷ []) ∙ rw append-nil
+abbrev pub chainPlaces : Chain → List ℕ
+chainPlaces c = c .place ∷ map (λ (l : Link). l .place) (c .links)
 
 -- Both rise up to `at`.
 pub record Rises (p : Program) (at : ℕ) : Type 0 where
-  pub reads : Rising 0 (allPlaces p) at
-  pub links : Rising 0 (linkPlaces p) at
+  pub signals : InTurn signalPlaces 0 (p .signals) at
+  pub chains : InTurn chainPlaces 0 (p .chains) at
+
+-- Where nothing more stands up to `next`.
+rises-more : (p : Program) (at next : ℕ) → at ≤ next → Rises p at → Rises p next
+rises-more p at next le h =
+    record {
+      signals = turn-more signalPlaces 0 (p .signals) at next le (h .signals);
+      chains = turn-more chainPlaces 0 (p .chains) at next le (h .chains);
+    }
 
 module _ {text : List ℕ} where
   rising-links : {at n : ℕ} {ls : List Link} → SpellsLinks text at ls n → Rising at (map (λ (l : Link). l .place) ls) n
@@ -94,44 +113,36 @@ module _ {text : List ℕ} where
 
   rising-one : {at label next given : ℕ} {p q : Program} → DeclaresOne leastFactor text at label p next given q → Rises p at →
       Rises q next
-  unfolding allPlaces linkPlaces
   rising-one (DeclaresOne.inputs {at = at} {p = p} room e) h =
+      let m = rises-more p at (at + 6) (omega arith) h in
       record {
-        reads = rw (places-more p _) (rising-append 0 (allPlaces p) at [] (at + 6) (h .reads) (omega arith));
-        links = rising-more 0 (linkPlaces p) at (at + 6) (omega arith) (h .links);
+        signals = turn-snoc signalPlaces 0 (p .signals) at _ (at + 6) (h .signals) (omega arith);
+        chains = m .chains;
       }
   rising-one (DeclaresOne.equations {at = at} {next = next} {e = x} {p = p} room e u d) h =
+      let m = rises-more p at next (omega (arith, spans u .small)) h in
       record {
-        reads =
-            rw (places-more p _)
-            (rising-append 0 (allPlaces p) at (placesOf (readsOf x)) next (h .reads)
-            (rising-less (at + 8) at (placesOf (readsOf x)) next (omega arith) (rising-expr u)));
-        links = rising-more 0 (linkPlaces p) at next (omega (arith, spans u .small)) (h .links);
+        signals =
+            turn-snoc signalPlaces 0 (p .signals) at _ next (h .signals)
+            (rising-less (at + 8) at (placesOf (readsOf x)) next (omega arith) (rising-expr u));
+        chains = m .chains;
       }
   rising-one (DeclaresOne.chains {at = at} {next = next} {ls = ls} {p = p} room e u several few) h =
+      let m = rises-more p at next (omega (arith, links-end u)) h in
       record {
-        reads = rising-more 0 (allPlaces p) at next (omega (arith, links-end u)) (h .reads);
-        links =
-            rw (links-more p _)
-            (rising-append 0 (linkPlaces p) at (map (λ (l : Link). l .place) ls) next (h .links)
-            (rising-less (at + 4) at (map (λ (l : Link). l .place) ls) next (omega arith) (rising-links u)));
+        signals = m .signals;
+        chains =
+            turn-snoc chainPlaces 0 (p .chains) at _ next (h .chains)
+            (omega arith, rising-less (at + 4) (suc at) (map (λ (l : Link). l .place) ls) next (omega arith) (rising-links u));
       }
   rising-one (DeclaresOne.caps {at = at} {p = p} room e) h =
-      record {
-        reads = rising-more 0 (allPlaces p) at (at + 5) (omega arith) (h .reads);
-        links = rising-more 0 (linkPlaces p) at (at + 5) (omega arith) (h .links);
-      }
-  rising-one (DeclaresOne.tags {at = at} {p = p} e more s) h =
-      record {
-        reads = rising-more 0 (allPlaces p) at (at + 3) (omega arith) (h .reads);
-        links = rising-more 0 (linkPlaces p) at (at + 3) (omega arith) (h .links);
-      }
+      let m = rises-more p at (at + 5) (omega arith) h in record { signals = m .signals; chains = m .chains }
+  rising-one (DeclaresOne.tags {at = at} {p = p} e more s) h = rises-more p at (at + 3) (omega arith) h
 
   rising-declares : {at label end : ℕ} {p q : Program} → Declares leastFactor text at label p end q → Rises p at → Rises q end
   rising-declares (Declares.ends e le) h = h
   rising-declares (Declares.onward d r) h = rising-declares r (rising-one d h)
 
 pub rising-program : (text : List ℕ) (p : Program) → parseProgram text ≡ accepted p → (end : ℕ) × Rises p end
-unfolding allPlaces linkPlaces joinFrom
 rising-program text p e =
-    let d = declared leastFactor text p e in (d .0, rising-declares (d .1) (record { reads = omega arith; links = omega arith }))
+    let d = declared leastFactor text p e in (d .0, rising-declares (d .1) (record { signals = omega arith; chains = omega arith }))

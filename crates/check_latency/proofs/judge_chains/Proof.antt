@@ -1,27 +1,36 @@
 -- `check_latency::judge_chains` meets its contract. Assumes nothing.
-use Prim.Native.Nat.{ℕ, _-_, _≤_, _<_}
-use mathlib.Core.Path.{_≡_, sym, ap, _∙_}
+use Prim.Native.Nat.{ℕ, _-_, _<_}
+use mathlib.Core.Bool.{cond}
+use mathlib.Core.List.{List, [], _∷_}
+use mathlib.Core.Path.{refl, sym, ap, subst, _∙_}
 use native.Mathlib.Omega.{arith}
 use lib.ListN.{length}
 use borrow.Author.Tests.{not-true, not-false}
 use Rattle.model.specs.Rules.Latency.{keeps, timely}
-use Rattle.model.specs.Rules.Outcome.{Outcome, fault}
-use Rattle.model.specs.Rules.Program.{Program}
+use Rattle.model.specs.Rules.Outcome.{fault}
+use Rattle.model.specs.Rules.Program.{Program, Chain}
 use Rattle.model.specs.Rules.Schedule.{Schedule}
-use Rattle.check_rates.proofs.Chains.{restFrom, rest-start, rest-later, rest-over, rest-broken}
-use Rattle.check_rates.proofs.Linking.{few-chains}
-use Rattle.basics.specs.Judgement.{judgementOf}
+use Rattle.model.specs.declared.Fault.{Fault}
+use Rattle.text_program.specs.Tables.{noChain, chainAt}
+use Rattle.text_program.proofs.InTurn.{Left, check-starts, check-passes, check-refuses, check-ends}
+use Rattle.text_program.proofs.Rising.{chainPlaces, rising-program}
+use Rattle.check_rates.proofs.Linking.{few-chains, lat-at, lat-judged}
 use Rattle.basics.specs.declared.Judged.the-variants as Judged
 use Rattle.check_latency.specs.Timely.{Timed}
 use Rattle.check_latency.proofs.judge_chains.Statement.{statement}
 use Rattle.check_latency.proofs.judge_chains.Tie as tie
 
-abbrev rest : Program → Schedule → ℕ → ℕ → Outcome (Unit {0})
-rest p s h j = restFrom p 16 (keeps p s h) j
+-- The fault of a chain, if it has one.
+abbrev untimely : Program → Schedule → ℕ → ℕ → Chain → List Fault
+untimely p s h j c = cond (keeps p s h c) [] (fault 16 (c .place) ∷ [])
+
+-- What is left of the chains from x on.
+abbrev Rest : Program → Schedule → ℕ → ℕ → Type 0
+Rest p s h x = Left chainPlaces (untimely p s h) (timely p s h) (p .chains) x
 
 abbrev Inv-loop : tie.InvT-loop
 Inv-loop text reads tables periods phases h starts chain₀ chain =
-    (p : Program) (s : Schedule) → Timed text tables periods phases h p s → timely p s h ≡ rest p s h chain
+    (p : Program) (s : Schedule) → Timed text tables periods phases h p s → Rest p s h chain
 
 abbrev μ-loop : tie.MeasureT-loop
 μ-loop text reads tables periods phases h starts chain₀ chain = tables .chains - chain
@@ -33,7 +42,8 @@ few c =
 
 loop-holds : tie.Need-loop-holds Inv-loop μ-loop
 unfolding timely
-loop-holds c = λ p s t. rest-start p 16 (keeps p s _)
+loop-holds c =
+    λ p s t. let h = rising-program _ p (t .joined .known .parsed) in check-starts _ _ _ _ 0 (h .0) (h .1 .chains) refl
 
 keeps-time-requires : tie.Need-keeps-time-requires Inv-loop μ-loop
 keeps-time-requires c κs =
@@ -47,17 +57,17 @@ array-read-t14 : tie.Need-array-read-t14 Inv-loop μ-loop
 array-read-t14 c = few (c .before .before)
 
 returns : tie.Need-returns Inv-loop μ-loop
-unfolding judgementOf
 returns c =
     let b = c .before .before in
     let l = b .before .before .loop in
     λ p s t.
     let k = t .joined .known in
     let lt : l .chain < length (p .chains) = omega (arith, b .if1 .taken, k .tables-are .counts .chains-are) in
-    ap (λ n. Judged.Refused (fault 16 n)) (k .tables-are .starts (l .chain) lt) ∙
-    sym (ap judgementOf (l .inv p s t ∙
-    rest-broken p 16 (keeps p s _) _ (k .parsed) (l .chain) lt
-    (sym (c .before .keeps-time .ensures p s t) ∙ not-true (c .before .keeps-time .result) (c .if2 .taken))))
+    let r = ap (λ n. Judged.Refused (fault 16 n)) (k .tables-are .starts (l .chain) lt) in
+    check-refuses _ _ _ _ (l .chain) noChain lt (l .inv p s t) _
+    (r ∙ lat-judged (fault 16 (chainAt p (l .chain) .place)) _ _
+    (sym (c .before .keeps-time .ensures p s t) ∙ not-true (c .before .keeps-time .result) (c .if2 .taken)))
+    (lat-at 16 (keeps p s _)) _ r
 
 add-chain : tie.Need-add-chain Inv-loop μ-loop
 add-chain c = omega (arith, few (c .before .before))
@@ -71,16 +81,16 @@ loop-again c =
     let l = b .before .before .loop in
     λ p s t.
     let lt : l .chain < length (p .chains) = omega (arith, b .if1 .taken, t .joined .known .tables-are .counts .chains-are) in
-    l .inv p s t ∙ rest-later p 16 (keeps p s _) (l .chain) lt
-    (sym (c .before .keeps-time .ensures p s t) ∙ not-false (c .before .keeps-time .result) (c .if2 .left))
+    subst (Rest p s _) (omega arith)
+    (check-passes _ _ _ _ (l .chain) noChain lt (l .inv p s t) Judged.Fine
+    (lat-judged (fault 16 (chainAt p (l .chain) .place)) _ _
+    (sym (c .before .keeps-time .ensures p s t) ∙ not-false (c .before .keeps-time .result) (c .if2 .left))) refl)
 
 returns-2 : tie.Need-returns-2 Inv-loop μ-loop
-unfolding judgementOf
 returns-2 c =
     let l = c .before .before .loop in
     λ p s t.
-    let le : length (p .chains) ≤ l .chain = omega (arith, c .if1 .left, t .joined .known .tables-are .counts .chains-are) in
-    sym (ap judgementOf (l .inv p s t ∙ rest-over p 16 (keeps p s _) (l .chain) le))
+    check-ends _ _ _ _ (l .chain) (omega (arith, c .if1 .left, t .joined .known .tables-are .counts .chains-are)) (l .inv p s t)
 
 pub judge-chains-spec : {M : Type 1} → statement M
 judge-chains-spec =

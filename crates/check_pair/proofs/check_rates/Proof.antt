@@ -3,13 +3,12 @@ use mathlib.Core.Path.{refl, _∙_}
 use borrow.Author.Needs.{needs}
 use Rattle.text_program.proofs.ByIndex.{few-signals}
 use Rattle.check_pair.specs.Steps.{ratesOf}
+use Rattle.basics.proofs.Judgements.{judgement-fine, judgement-refused}
 use Rattle.check_pair.proofs.Verdicts.{
   answers-then,
   answers-stop,
   answers-last,
   judgement-answers,
-  judgement-fine,
-  judgement-refused,
   cycles-least,
   cycles-refused,
 }

@@ -8,14 +8,8 @@ use Rattle.model.specs.Rules.Reads.{met}
 use Rattle.model.specs.Rules.Schedule.{Schedule}
 use Rattle.text_schedule.specs.Arranged.{Arranged}
 use Rattle.check_pair.specs.Steps.{runsOf}
-use Rattle.check_pair.proofs.Verdicts.{
-  answers-then,
-  answers-stop,
-  answers-judgement,
-  judgement-answers,
-  judgement-fine,
-  judgement-refused,
-}
+use Rattle.basics.proofs.Judgements.{judgement-fine, judgement-refused}
+use Rattle.check_pair.proofs.Verdicts.{answers-then, answers-stop, answers-judgement, judgement-answers}
 use Rattle.check_pair.proofs.check_runs.Statement.{statement}
 use Rattle.check_pair.proofs.check_runs.Tie as tie
 

@@ -14,6 +14,7 @@ use Rattle.text_schedule.proofs.Arranged.{short-hypercycle, ordered}
 use Rattle.text_program.proofs.ByIndex.{few-signals}
 use Rattle.check_pair.specs.Answers.{RatedAs}
 use Rattle.check_pair.specs.Steps.{ratesOf, scheduleFor, stepsOf}
+use Rattle.basics.proofs.Judgements.{judgement-fine, judgement-refused}
 use Rattle.check_pair.proofs.Verdicts.{
   answers-fine,
   answers-refused,
@@ -21,8 +22,6 @@ use Rattle.check_pair.proofs.Verdicts.{
   answers-stop,
   answers-last,
   judgement-answers,
-  judgement-fine,
-  judgement-refused,
   program-answers,
   program-read,
   schedule-answers,

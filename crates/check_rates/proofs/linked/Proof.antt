@@ -1,31 +1,35 @@
 -- `check_rates::linked` meets its contract. Assumes nothing.
-use Prim.Native.Nat.{ℕ, _-_, _≤_, _<_}
-use mathlib.Core.Bool.{Bool}
-use mathlib.Core.Path.{_≡_, sym, ap, _∙_}
+use Prim.Native.Nat.{ℕ, _-_, _<_}
+use mathlib.Core.Bool.{cond}
+use mathlib.Core.List.{List, [], _∷_}
+use mathlib.Core.Path.{_≡_, refl, sym, ap, subst, _∙_}
 use native.Mathlib.Omega.{arith}
 use lib.ListN.{length}
 use borrow.Author.Needs.{needs}
 use borrow.Author.Tests.{not-true, not-false}
-use Rattle.model.specs.Rules.Outcome.{Outcome, accepted, fault}
+use Rattle.model.specs.Rules.Outcome.{accepted, fault}
 use Rattle.model.specs.Rules.Program.{Program, Chain, parseProgram}
 use Rattle.model.specs.Rules.Rates.{isLinked, linked}
-use Rattle.text_program.specs.Tables.{TablesOf}
+use Rattle.model.specs.declared.Fault.{Fault}
+use Rattle.text_program.specs.Tables.{noChain, chainAt, TablesOf}
+use Rattle.text_program.proofs.InTurn.{Left, check-starts, check-passes, check-refuses, check-ends}
+use Rattle.text_program.proofs.Rising.{chainPlaces, rising-program}
 use Rattle.basics.specs.declared.Judged.the-variants as Judged
-use Rattle.basics.specs.Judgement.{judgementOf}
-use Rattle.check_rates.proofs.Chains.{restFrom, rest-start, rest-later, rest-over, rest-broken}
-use Rattle.check_rates.proofs.Linking.{few-chains}
+use Rattle.check_rates.proofs.Linking.{few-chains, lat-at, lat-judged}
 use Rattle.check_rates.proofs.linked.Statement.{statement}
 use Rattle.check_rates.proofs.linked.Tie as tie
 
-abbrev linkedIn : Program → Chain → Bool
-linkedIn p c = isLinked p (c .links)
+-- The fault of a chain, if it has one.
+abbrev unlinked : Program → ℕ → Chain → List Fault
+unlinked p j c = cond (isLinked p (c .links)) [] (fault 10 (c .place) ∷ [])
 
-abbrev rest : Program → ℕ → Outcome (Unit {0})
-rest p j = restFrom p 10 (linkedIn p) j
+-- What is left of the chains from x on.
+abbrev Rest : Program → ℕ → Type 0
+Rest p x = Left chainPlaces (unlinked p) (linked p) (p .chains) x
 
 abbrev Inv-loop : tie.InvT-loop
 Inv-loop text reads tables starts chain₀ chain =
-    (p : Program) → parseProgram text ≡ accepted p → TablesOf p tables → linked p ≡ rest p chain
+    (p : Program) → parseProgram text ≡ accepted p → TablesOf p tables → Rest p chain
 
 abbrev μ-loop : tie.MeasureT-loop
 μ-loop text reads tables starts chain₀ chain = tables .chains - chain
@@ -37,7 +41,7 @@ few c =
 
 loop-holds : tie.Need-loop-holds Inv-loop μ-loop
 unfolding linked
-loop-holds c = λ p q t. rest-start p 10 (linkedIn p)
+loop-holds c = λ p q t. let h = rising-program _ p q in check-starts _ _ _ _ 0 (h .0) (h .1 .chains) refl
 
 is-linked-requires : tie.Need-is-linked-requires Inv-loop μ-loop
 is-linked-requires c κs = (c .before .before .before .before .before .before .pre, c .if1 .taken)
@@ -49,16 +53,16 @@ array-read-refuse : tie.Need-array-read-refuse Inv-loop μ-loop
 array-read-refuse c = few c
 
 returns : tie.Need-returns Inv-loop μ-loop
-unfolding judgementOf
 returns c =
     let b = c .before .before in
     let l = b .before .before .before .loop in
     λ p q t.
     let lt : l .chain < length (p .chains) = omega (arith, b .before .if1 .taken, t .counts .chains-are) in
-    c .refuse .ensures ∙ ap (λ n. Judged.Refused (fault 10 n)) (t .starts (l .chain) lt) ∙
-    sym (ap judgementOf (l .inv p q t ∙
-    rest-broken p 10 (linkedIn p) _ q (l .chain) lt
-    (sym (b .is-linked .ensures p q t) ∙ not-true (b .is-linked .result) (c .before .if2 .taken))))
+    let r = c .refuse .ensures ∙ ap (λ n. Judged.Refused (fault 10 n)) (t .starts (l .chain) lt) in
+    check-refuses _ _ _ _ (l .chain) noChain lt (l .inv p q t) _
+    (r ∙ lat-judged (fault 10 (chainAt p (l .chain) .place)) _ _
+    (sym (b .is-linked .ensures p q t) ∙ not-true (b .is-linked .result) (c .before .if2 .taken)))
+    (lat-at 10 (λ k. isLinked p (k .links))) _ r
 
 add-chain : tie.Need-add-chain Inv-loop μ-loop
 add-chain c = let s = c .before .before .before .before .before .before .before .before .pre in
@@ -73,16 +77,15 @@ loop-again c =
     let l = b .before .before .before .loop in
     λ p q t.
     let lt : l .chain < length (p .chains) = omega (arith, b .before .if1 .taken, t .counts .chains-are) in
-    l .inv p q t ∙ rest-later p 10 (linkedIn p) (l .chain) lt
-    (sym (b .is-linked .ensures p q t) ∙ not-false (b .is-linked .result) (c .if2 .left))
+    subst (Rest p) (omega arith)
+    (check-passes _ _ _ _ (l .chain) noChain lt (l .inv p q t) Judged.Fine
+    (lat-judged (fault 10 (chainAt p (l .chain) .place)) _ _
+    (sym (b .is-linked .ensures p q t) ∙ not-false (b .is-linked .result) (c .if2 .left))) refl)
 
 returns-2 : tie.Need-returns-2 Inv-loop μ-loop
-unfolding judgementOf
 returns-2 c =
     let l = c .before .before .loop in
-    λ p q t.
-    let le : length (p .chains) ≤ l .chain = omega (arith, c .if1 .left, t .counts .chains-are) in
-    sym (ap judgementOf (l .inv p q t ∙ rest-over p 10 (linkedIn p) (l .chain) le))
+    λ p q t. check-ends _ _ _ _ (l .chain) (omega (arith, c .if1 .left, t .counts .chains-are)) (l .inv p q t)
 
 pub linked-spec : {M : Type 1} → statement M
 linked-spec =

@@ -1,0 +1,2 @@
+-- Laws that the proofs of several crates cite.
+pub mod Judgements

@@ -1,0 +1,155 @@
+-- `check_rates::judge_chain` meets its contract. Assumes nothing.
+use Prim.Native.Nat.{ℕ, _+_, _*_, _-_, _≤_, _<_}
+use mathlib.Core.List.{[], _∷_}
+use mathlib.Core.Path.{_≡_, refl, ap, subst}
+use native.Mathlib.Omega.{arith}
+use denote.Ref.{now}
+use lib.ListN.{length, getD}
+use borrow.Author.Needs.{needs}
+use Rattle.model.specs.Rules.Outcome.{accepted, lowest}
+use Rattle.model.specs.Rules.Program.{Program, Link, parseProgram}
+use Rattle.model.specs.Rules.Rates.{linkFaults}
+use Rattle.text_program.specs.Tables.{chainAt, ReadAs}
+use Rattle.text_program.specs.declared.Tables.{Tables}
+use Rattle.text_program.proofs.ByIndex.{noLink}
+use Rattle.text_program.proofs.InTurn.{Left, check-starts, check-passes, check-refuses, check-ends, links-in-turn}
+use Rattle.check_rates.specs.Answers.{chainRates}
+use Rattle.check_rates.proofs.Judging.{link-at-place, chains-are, length-is, link-seen, link-inside, one-link}
+use Rattle.check_rates.proofs.Linking.{few-chains, chain-inside}
+use Rattle.check_rates.proofs.judge_chain.Statement.{statement}
+use Rattle.check_rates.proofs.judge_chain.Tie as tie
+
+-- What is left of the LINKs of chain x from LINK j on.
+abbrev Rest : Program → ℕ → ℕ → Type 0
+Rest p x j =
+    Left (λ (l : Link). l .place ∷ []) (λ i l. linkFaults p l) (lowest (chainRates p (chainAt p x))) (chainAt p x .links) j
+
+abbrev Inv-loop : tie.InvT-loop
+Inv-loop text tables chain first links i₀ i =
+    (i ≤ links) × ((p : Program) → parseProgram text ≡ accepted p → Rest p chain i)
+
+abbrev μ-loop : tie.MeasureT-loop
+μ-loop text tables chain first links i₀ i = links - i
+
+module _ (a : tie.Start Inv-loop μ-loop) where
+  abbrev t : Tables
+  t = a .args .tables
+
+  abbrev x : ℕ
+  x = a .args .chain
+
+  abbrev read : ReadAs (now (a .args .text)) t
+  read = a .pre .0
+
+  below : x < 16
+  below = omega (arith, a .pre .1, few-chains _ t read)
+
+  inside : getD (t .starts) x 0 + 4 ≤ length (now (a .args .text))
+  inside = chain-inside _ t x (a .pre .1) read
+
+-- where a LINK stands
+module _ (c : tie.After-in-program2 Inv-loop μ-loop) where
+  abbrev start : tie.Start Inv-loop μ-loop
+  start = c .before .before .before .before .before .before .before
+
+  abbrev i : ℕ
+  i = c .before .before .loop .i
+
+  abbrev place : ℕ
+  place = getD (t start .starts) (x start) 0 + 4 + 2 * i
+
+  -- after the LINKs before it
+  passed : c .in-program2 .result * i ≡ 2 * i
+  passed = ap (λ (k : ℕ). k * i) (c .in-program2 .ensures)
+
+  stands : getD (t start .starts) (x start) 0 + c .before .before .before .in-program .result + c .in-program2 .result * i ≡ place
+  stands = omega (arith, passed, c .before .before .before .in-program .ensures)
+
+  -- in the text
+  ends : (place + 2 ≤ length (now (start .args .text))) × (length (now (start .args .text)) ≤ 18446744073709551615)
+  ends = (
+    link-inside _ (t start) (read start) (read start .0) (read start .1) (x start) (start .pre .1) i (c .before .loop-test .taken),
+    omega (arith, start .good .0 .1),
+  )
+
+mul-first : tie.Need-mul-first Inv-loop μ-loop
+mul-first c = omega (arith, below (c .before .before .before))
+
+array-read-first : tie.Need-array-read-first Inv-loop μ-loop
+array-read-first c = below (c .before .before .before)
+
+add-first : tie.Need-add-first Inv-loop μ-loop
+add-first c =
+    let a = c .before .before .before .before in omega (arith, inside a, c .in-program .ensures, a .good .0 .1)
+
+mul-links : tie.Need-mul-links Inv-loop μ-loop
+mul-links c = omega (arith, below (c .before .before .before .before))
+
+array-read-links : tie.Need-array-read-links Inv-loop μ-loop
+array-read-links c = below (c .before .before .before .before)
+
+loop-holds : tie.Need-loop-holds Inv-loop μ-loop
+loop-holds c =
+    let a = c .before .before .before .before in (
+      omega arith,
+      λ p e.
+          let r = links-in-turn _ p e (x a) (omega (arith, a .pre .1, chains-are _ (t a) (read a) p e)) in
+          check-starts _ _ _ _ (r .0) (r .1) (r .2) refl,
+    )
+
+mul-at : tie.Need-mul-at Inv-loop μ-loop
+mul-at c = omega (arith, passed c, ends c)
+
+add-at : tie.Need-add-at Inv-loop μ-loop
+add-at c = omega (arith, passed c, stands c, ends c)
+
+add-wide : tie.Need-add-wide Inv-loop μ-loop
+add-wide c = omega (arith, passed c, stands c, ends c)
+
+shared-slice-read-wide : tie.Need-shared-slice-read-wide Inv-loop μ-loop
+shared-slice-read-wide c = omega (arith, stands (c .before), ends (c .before))
+
+returns : tie.Need-returns Inv-loop μ-loop
+returns c =
+    let j = c .before .before in
+    let s = j .before .before .before .before in
+    let a = start s in
+    let lt = s .before .loop-test .taken in
+    λ p e.
+    check-refuses _ _ _ _ (i s) noLink (link-seen _ (t a) (read a) p e (x a) (a .pre .1) (i s) lt) (s .before .before .loop .inv .1 p e)
+    _ (one-link _ (t a) (read a) p e (x a) (a .pre .1) (i s) lt _ _ _ (stands s) (j .before .before .wide .ensures .0)
+    (j .judge-rate .ensures)) (link-at-place p) _ (c .enum-told2 .given .1)
+
+add-i : tie.Need-add-i Inv-loop μ-loop
+add-i c = let s = c .before .before .before .before .before .before in omega (arith, ends s)
+
+loop-less : tie.Need-loop-less Inv-loop μ-loop
+loop-less c = omega (arith, c .before .before .before .before .before .before .before .loop-test .taken)
+
+loop-again : tie.Need-loop-again Inv-loop μ-loop
+loop-again c =
+    let j = c .before .before in
+    let s = j .before .before .before .before in
+    let a = start s in
+    let lt = s .before .loop-test .taken in (
+      omega (arith, lt),
+      λ p e.
+          subst (Rest p (x a)) (omega arith)
+          (check-passes _ _ _ _ (i s) noLink (link-seen _ (t a) (read a) p e (x a) (a .pre .1) (i s) lt)
+          (s .before .before .loop .inv .1 p e) _ (one-link _ (t a) (read a) p e (x a) (a .pre .1) (i s) lt _ _ _ (stands s)
+          (j .before .before .wide .ensures .0) (j .judge-rate .ensures)) (c .enum-told .given .1)),
+    )
+
+returns-2 : tie.Need-returns-2 Inv-loop μ-loop
+returns-2 c =
+    let l = c .before .loop in
+    let a = c .before .before .before .before .before .before in
+    λ p e.
+    check-ends _ _ _ _ (l .i) (omega (arith, length-is _ (t a) (read a) p e (x a) (a .pre .1), c .loop-test .left)) (l .inv .1 p e)
+
+pub judge-chain-spec : {M : Type 1} → statement M
+judge-chain-spec =
+    tie.close
+    (tie.spec Inv-loop μ-loop mul-first array-read-first (λ c κs. search needs) add-first mul-links array-read-links loop-holds
+    (λ c κs. search needs) mul-at add-at add-wide shared-slice-read-wide (λ c κs. search needs) (λ c κs. search needs)
+    (λ c. search needs) (λ c. search needs) returns add-i loop-less loop-again returns-2)
