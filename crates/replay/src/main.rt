@@ -4,7 +4,7 @@ use basics::Judged;
 use libc::STDIN_FILENO;
 use libc::STDOUT_FILENO;
 use model::Width;
-ghost use Prim.Native.Nat.{_*_, _≤_};
+ghost use Prim.Native.Nat.{_≤_};
 ghost use lib.ListN.{length};
 ghost use Rattle.io.specs.Counts.{Counts};
 ghost use Rattle.trial_step.specs.Steps.{atStart, Underway};
@@ -38,28 +38,20 @@ fn number(n: usize) -> usize
     word::four_at(&bytes, 0) as usize
 }
 
-// Takes n words from bytes.
-fn take_words(bytes: &[u8], n: usize, words: &mut [i32])
-    requires { ⌜ (n * 4 ≤ length (now bytes)) × (n ≤ length (now words)) ⌝ }
-{
-    let mut i: usize = 0;
-    while i < n {
-        words[i] = word::word_at(bytes, i * 4);
-        i = i + 1;
-    }
-}
-
 // Reads a count and as many words to the start of the space, and yields the count, too large where they are not there.
 fn fill_words(words: &mut [i32]) -> usize {
-    let mut bytes = [0u8; 1600];
     let n = number(2);
-    let size = n * 4;
-    let got = fill(&mut bytes, size);
-    if words.len() < n || got < size {
+    if words.len() < n {
         return 4294967296;
     }
-    take_words(&bytes, n, &mut words[..]);
-    n
+    let mut last: usize = 0;
+    let mut i: usize = 0;
+    while i < n {
+        last = number(4);
+        words[i] = word::from_bits((last % 4294967296) as u32);
+        i = i + 1;
+    }
+    if last == 4294967296 { last } else { n }
 }
 
 // One step of the hash FNV-1a.
@@ -136,8 +128,8 @@ fn print_code(code: u64, hash: u32) {
 
 // 03: a reset.
 fn call_reset(image: &[u8], state: &mut [i32]) -> bool {
-    let code = larderlate::larderlate_reset(image, &mut state[..]);
-    print_code(code, hash_words(&state[..]));
+    let code = larderlate::larderlate_reset(image, state);
+    print_code(code, hash_words(state));
     true
 }
 
@@ -148,14 +140,21 @@ fn call_cycle(image: &[u8], state: &mut [i32]) -> bool {
     if 400 < n {
         return false;
     }
-    let code = larderlate::larderlate_cycle(image, &mut state[..], &samples[..n]);
-    print_code(code, hash_words(&state[..]));
+    let code = larderlate::larderlate_cycle(image, state, &samples[..n]);
+    print_code(code, hash_words(state));
     true
 }
 
+// A buffer of such bytes.
+fn buffer_of(byte: u8) -> [u8; 26000]
+    ensures { λ r. ⌜ 26000 ≤ length r ⌝ }
+{
+    [byte; 26000]
+}
+
 fn compile(program: &[u8], schedule: &[u8], buffer: &mut [u8]) {
-    let code = larderlate::larderlate_compile(program, schedule, &mut buffer[..]);
-    print_code(code, hash_bytes(&buffer[..]));
+    let code = larderlate::larderlate_compile(program, schedule, buffer);
+    print_code(code, hash_bytes(buffer));
 }
 
 // 05: a compile.
@@ -166,12 +165,12 @@ fn call_compile() -> bool {
     let schedule_size = number(2);
     let b = number(4);
     let byte = number(1);
-    let mut buffer = [(byte % 256) as u8; 26000];
     let p = fill(&mut program, program_size);
     let s = fill(&mut schedule, schedule_size);
     if 26000 < b || 255 < byte || p < program_size || s < schedule_size {
         return false;
     }
+    let mut buffer = buffer_of((byte % 256) as u8);
     compile(&program[..p], &schedule[..s], &mut buffer[..b]);
     true
 }
@@ -261,14 +260,7 @@ fn hash_lines(image: &[u8], text: &[u8], samples: &mut [i32], state: &mut [i32])
     let mut ended = false;
     let mut hash: u32 = 2166136261;
     while !ended {
-        let filled = trial_step::next_block(
-            image,
-            text,
-            progress,
-            &mut samples[..],
-            &mut state[..],
-            &mut block,
-        );
+        let filled = trial_step::next_block(image, text, progress, samples, state, &mut block);
         let size = filled.size;
         hash = hash_more(hash, &block[..size]);
         progress = filled.progress;
@@ -324,8 +316,8 @@ fn call_tail(image: &[u8]) -> bool {
 }
 
 fn convert(program: &[u8], buffer: &mut [u8]) {
-    let code = larderlate::larderlate_convert(program, &mut buffer[..]);
-    print_code(code, hash_bytes(&buffer[..]));
+    let code = larderlate::larderlate_convert(program, buffer);
+    print_code(code, hash_bytes(buffer));
 }
 
 // 0A: a conversion.
@@ -334,11 +326,11 @@ fn call_convert() -> bool {
     let size = number(2);
     let b = number(4);
     let byte = number(1);
-    let mut buffer = [(byte % 256) as u8; 26000];
     let p = fill(&mut program, size);
     if 26000 < b || 255 < byte || p < size {
         return false;
     }
+    let mut buffer = buffer_of((byte % 256) as u8);
     convert(&program[..p], &mut buffer[..b]);
     true
 }
@@ -406,8 +398,8 @@ fn call_load(image: &[u8], state: &mut [i32], record: &mut [usize; 17]) -> bool 
     if 4294967295 < size {
         return false;
     }
-    let code = larderlate::larderlate_board_load(record, image, &mut state[..], place, start, size);
-    print_board(code, [0, 0, 0], *record, &state[..]);
+    let code = larderlate::larderlate_board_load(record, image, state, place, start, size);
+    print_board(code, [0, 0, 0], *record, state);
     true
 }
 
@@ -430,14 +422,8 @@ fn call_turn(image: &[u8], state: &mut [i32], record: &mut [usize; 17]) -> bool 
     if 400 < n {
         return false;
     }
-    let code = larderlate::larderlate_board_turn(
-        record,
-        image,
-        &mut state[..],
-        &samples[..n],
-        &mut outcome,
-    );
-    print_board(code, outcome, *record, &state[..]);
+    let code = larderlate::larderlate_board_turn(record, image, state, &samples[..n], &mut outcome);
+    print_board(code, outcome, *record, state);
     true
 }
 
@@ -481,8 +467,8 @@ fn put_record(record: &mut [usize; 17]) -> bool {
 // A call on just what is lent; false where the stream ends.
 fn call(kind: usize, image: &[u8], state: &mut [i32], record: &mut [usize; 17]) -> bool {
     match kind {
-        3 => call_reset(image, &mut state[..]),
-        4 => call_cycle(image, &mut state[..]),
+        3 => call_reset(image, state),
+        4 => call_cycle(image, state),
         5 => call_compile(),
         6 => call_report(),
         7 => call_widths(),
@@ -490,9 +476,9 @@ fn call(kind: usize, image: &[u8], state: &mut [i32], record: &mut [usize; 17]) 
         9 => call_tail(image),
         10 => call_convert(),
         11 => call_board(state, record),
-        12 => call_load(image, &mut state[..], record),
+        12 => call_load(image, state, record),
         13 => call_mark(state, record),
-        14 => call_turn(image, &mut state[..], record),
+        14 => call_turn(image, state, record),
         17 => put_record(record),
         _ => false,
     }
@@ -513,13 +499,13 @@ fn lend_image(words: usize, image: &mut [u8]) -> Lent {
     Lent {
         image: n,
         state: words,
-        goes_on: fill(&mut image[..], n) == n,
+        goes_on: fill(image, n) == n,
     }
 }
 
 // 02: the state.
 fn lend_state(bytes: usize, state: &mut [i32]) -> Lent {
-    let n = fill_words(&mut state[..]);
+    let n = fill_words(state);
     Lent {
         image: bytes,
         state: n,
@@ -536,8 +522,8 @@ fn step(lent: Lent, image: &mut [u8], state: &mut [i32], record: &mut [usize; 17
     }
     let kind = number(1);
     match kind {
-        1 => lend_image(words, &mut image[..]),
-        2 => lend_state(bytes, &mut state[..]),
+        1 => lend_image(words, image),
+        2 => lend_state(bytes, state),
         _ => Lent {
             image: bytes,
             state: words,
@@ -557,7 +543,7 @@ fn run(image: &mut [u8], state: &mut [i32]) {
     larderlate::larderlate_board_new(&mut record);
     let mut turns: u64 = 1000000000;
     while 0 < turns && lent.goes_on {
-        lent = step(lent, &mut image[..], &mut state[..], &mut record);
+        lent = step(lent, image, state, &mut record);
         turns = turns - 1;
     }
 }
