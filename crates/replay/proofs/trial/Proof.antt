@@ -2,8 +2,8 @@
 use native.Mathlib.Omega.{arith}
 use borrow.Author.Needs.{needs}
 use lib.ListN.{length-take}
-use Rattle.trial_prepare.specs.Prepares.{Started}
 use Rattle.trial_prepare.proofs.Begins.{is-started}
+use Rattle.trial_prepare.specs.Prepares.{Started}
 use Rattle.replay.proofs.trial.Statement.{statement}
 use Rattle.replay.proofs.trial.Tie as tie
 
@@ -25,6 +25,6 @@ hash-lines-requires c κs = started (c .before .before .before .before .before .
 pub trial-spec : {M : Type 1} → statement M
 trial-spec =
     tie.close
-    (tie.spec (λ c κs. search needs) (λ c. search needs) (λ c κs. search needs) (λ c κs. search needs) (λ c. search needs)
-    (λ c. search needs) array-share-prefix-image slice-aggregate-hash-lines (λ c. search needs) (λ c. search needs)
-    hash-lines-requires (λ c κs. search needs) (λ c. search needs))
+    (tie.spec (λ c κs. search needs) (λ c. search needs) (λ c. search needs) (λ c κs. search needs) (λ c κs. search needs)
+    (λ c. search needs) (λ c. search needs) array-share-prefix-image slice-aggregate-hash-lines (λ c. search needs)
+    (λ c. search needs) hash-lines-requires (λ c κs. search needs) (λ c. search needs))
