@@ -31,9 +31,6 @@ add-end c =
     let a = c .before .before .before .args in
     omega (arith, leb-true (a .start + a .size) (length (now (a .images))) (inside c))
 
-part-lent-end : tie.Need-part-lent-end
-part-lent-end c = leb-true _ _ (inside c)
-
 returns-2 : tie.Need-returns-2
 returns-2 c =
     let w = c .before .before in
@@ -83,9 +80,6 @@ returns-3 c =
     let g = gives-refusal (cycle-position (e .before .before .image-in .ensures) _ _ (well e) room none) (c .stopped3 .ensures) in
     gives-effect (inside-runs _ _ _ _ _ (inside (there e))) (g .0) (g .1)
 
-run-cycle-requires : tie.Need-run-cycle-requires
-run-cycle-requires c κs = runnable (c .before)
-
 returns-4 : tie.Need-returns-4
 returns-4 c =
     let r = c .before in
@@ -99,5 +93,6 @@ pub cycle-place-spec : {M : Type 1} → statement M
 cycle-place-spec =
     tie.close
     (tie.spec (λ c κs. search needs) (λ c κs. search needs) returns add-end (λ c. search needs) (λ c. search needs)
-    part-lent-end (λ c κs. search needs) (λ c κs. search needs) (λ c κs. search needs) returns-2 is-positioned-requires
-    (λ c κs. search needs) (λ c. search needs) returns-3 run-cycle-requires (λ c. search needs) returns-4)
+    (λ c. leb-true _ _ (inside c)) (λ c κs. search needs) (λ c κs. search needs) (λ c κs. search needs) returns-2
+    is-positioned-requires (λ c κs. search needs) (λ c. search needs) returns-3 (λ c κs. runnable (c .before))
+    (λ c. search needs) returns-4)

@@ -26,9 +26,6 @@ add-end c =
     let a = c .before .before .before .args in
     omega (arith, leb-true (a .start + a .size) (length (now (a .images))) (inside c))
 
-part-reset-end : tie.Need-part-reset-end
-part-reset-end c = leb-true _ _ (inside c)
-
 returns-2 : tie.Need-returns-2
 returns-2 c =
     let e = c .before .before .before .before in
@@ -38,4 +35,4 @@ pub reset-place-spec : {M : Type 1} → statement M
 reset-place-spec =
     tie.close
     (tie.spec (λ c κs. search needs) (λ c κs. search needs) returns add-end (λ c. search needs) (λ c. search needs)
-    part-reset-end (λ c κs. search needs) (λ c. search needs) returns-2)
+    (λ c. leb-true _ _ (inside c)) (λ c κs. search needs) (λ c. search needs) returns-2)

@@ -31,9 +31,6 @@ one-more b from i h e m low high = split (decLt m i)
     split (yes g) = h m low g
     split (no g) = let q : m ≡ i = omega arith in rw q (e (omega arith))
 
-loop-holds : tie.Need-loop-holds Inv-loop μ-loop
-loop-holds c = λ m low high. absurd (omega arith)
-
 returns : tie.Need-returns Inv-loop μ-loop
 returns c =
     let c3 = c .before .before .before in
@@ -67,5 +64,5 @@ returns-2 c =
 pub first-due-spec : {M : Type 1} → statement M
 first-due-spec =
     tie.close
-    (tie.spec Inv-loop μ-loop loop-holds (λ c. omega arith) (λ c. omega arith) (λ c. omega arith) (λ c κs. search needs) returns
-    (λ c. omega arith) (λ c. omega arith) loop-again returns-2)
+    (tie.spec Inv-loop μ-loop (λ c. λ m low high. absurd (omega arith)) (λ c. omega arith) (λ c. omega arith) (λ c. omega arith)
+    (λ c κs. search needs) returns (λ c. omega arith) (λ c. omega arith) loop-again returns-2)

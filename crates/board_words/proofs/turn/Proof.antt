@@ -60,33 +60,6 @@ returns-3 c =
     (turn-done _ _ _ _ (le-leb _ _ (e .before .if1 .left)) (le-leb _ _ (e .if2 .left)) Nowhere
     (sym (n .next-due .ensures) ∙ c .enum-told .given .1)) refl refl refl
 
-mul-at : tie.Need-mul-at
-mul-at c = omega (arith, below (c .before))
-
-mul-loaded : tie.Need-mul-loaded
-mul-loaded c = omega (arith, below (c .before))
-
-element-copy-out-loaded : tie.Need-element-copy-out-loaded
-element-copy-out-loaded c = omega (arith, below (c .before))
-
-add-start : tie.Need-add-start
-add-start c = omega (arith, below (c .before .before))
-
-mul-start : tie.Need-mul-start
-mul-start c = omega (arith, below (c .before .before))
-
-element-copy-out-start : tie.Need-element-copy-out-start
-element-copy-out-start c = omega (arith, below (c .before .before))
-
-add-size : tie.Need-add-size
-add-size c = omega (arith, below (c .before .before .before))
-
-mul-size : tie.Need-mul-size
-mul-size c = omega (arith, below (c .before .before .before))
-
-element-copy-out-size : tie.Need-element-copy-out-size
-element-copy-out-size c = omega (arith, below (c .before .before .before))
-
 add-counted : tie.Need-add-counted
 add-counted c = omega (arith, below (c .before .before .before .before))
 
@@ -95,21 +68,6 @@ mul-counted c = omega (arith, below (c .before .before .before .before))
 
 element-copy-out-counted : tie.Need-element-copy-out-counted
 element-copy-out-counted c = omega (arith, below (c .before .before .before .before))
-
-mul-words : tie.Need-mul-words
-mul-words c = omega (arith, below (taken c))
-
-element-write-words : tie.Need-element-write-words
-element-write-words c = omega (arith, below (taken c))
-
-add-words : tie.Need-add-words
-add-words c = omega (arith, below (taken c))
-
-mul-words-2 : tie.Need-mul-words-2
-mul-words-2 c = omega (arith, below (taken c))
-
-element-write-words-2 : tie.Need-element-write-words-2
-element-write-words-2 c = omega (arith, below (taken c))
 
 run-place-requires : tie.Need-run-place-requires
 run-place-requires c κs = (below (taken (c .before)), omega arith, omega arith)
@@ -139,7 +97,11 @@ pub turn-spec : {M : Type 1} → statement M
 turn-spec =
     tie.close
     (tie.spec (λ c κs. search needs) returns (λ c κs. search needs) returns-2 (λ c κs. search needs) (λ c. search needs)
-    (λ c. search needs) returns-3 mul-at mul-loaded element-copy-out-loaded add-start mul-start element-copy-out-start add-size
-    mul-size element-copy-out-size add-counted mul-counted element-copy-out-counted (λ c κs. search needs) mul-words
-    element-write-words add-words mul-words-2 element-write-words-2 (λ c. search needs) run-place-requires cast-taken
-    (λ c. search needs) returns-4)
+    (λ c. search needs) returns-3 (λ c. omega (arith, below (c .before))) (λ c. omega (arith, below (c .before)))
+    (λ c. omega (arith, below (c .before))) (λ c. omega (arith, below (c .before .before)))
+    (λ c. omega (arith, below (c .before .before))) (λ c. omega (arith, below (c .before .before)))
+    (λ c. omega (arith, below (c .before .before .before))) (λ c. omega (arith, below (c .before .before .before)))
+    (λ c. omega (arith, below (c .before .before .before))) add-counted mul-counted element-copy-out-counted
+    (λ c κs. search needs) (λ c. omega (arith, below (taken c))) (λ c. omega (arith, below (taken c)))
+    (λ c. omega (arith, below (taken c))) (λ c. omega (arith, below (taken c))) (λ c. omega (arith, below (taken c)))
+    (λ c. search needs) run-place-requires cast-taken (λ c. search needs) returns-4)

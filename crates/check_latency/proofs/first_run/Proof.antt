@@ -8,8 +8,6 @@ use Rattle.check_latency.proofs.first_run.Tie as tie
 mul-result : tie.Need-mul-result
 mul-result c = omega (arith, c .pre .1, mul-le-mul (c .pre .0) (c .pre .1))
 
-returns : tie.Need-returns
-returns c = (refl, mul-le-mul (c .pre .0) (c .pre .1))
-
 pub first-run-spec : {M : Type 1} → statement M
-first-run-spec = tie.close (tie.spec mul-result returns)
+first-run-spec = tie.close
+    (tie.spec mul-result (λ c. (refl, mul-le-mul (c .pre .0) (c .pre .1))))

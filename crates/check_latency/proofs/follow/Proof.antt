@@ -49,24 +49,6 @@ next c =
     (c .loop-test .taken) in
     (n .inside, n .room)
 
-mul-at : tie.Need-mul-at Inv-loop μ-loop
-mul-at c = omega (arith, few c)
-
-array-read-at : tie.Need-array-read-at Inv-loop μ-loop
-array-read-at c = few c
-
-add-at : tie.Need-add-at Inv-loop μ-loop
-add-at c = omega (arith, begins (c .before) .inside)
-
-mul-left : tie.Need-mul-left Inv-loop μ-loop
-mul-left c = omega (arith, few (c .before))
-
-array-read-left : tie.Need-array-read-left Inv-loop μ-loop
-array-read-left c = few (c .before)
-
-add-source : tie.Need-add-source Inv-loop μ-loop
-add-source c = omega (arith, begins (c .before) .inside)
-
 shared-slice-read-source : tie.Need-shared-slice-read-source Inv-loop μ-loop
 shared-slice-read-source c = omega (arith, begins (c .before .before) .inside)
 
@@ -75,20 +57,8 @@ loop-holds c =
     let s = c .before .before .before .before .before .before .before in
     λ p s₀ j. rw (c .before .before .in-program .ensures) (begun _ _ _ _ p s₀ _ j (s .pre .1) .start _ refl)
 
-add-second : tie.Need-add-second Inv-loop μ-loop
-add-second c = omega (arith, next (c .before) .0)
-
-add-signal : tie.Need-add-signal Inv-loop μ-loop
-add-signal c = omega (arith, next (c .before) .0)
-
-shared-slice-read-signal : tie.Need-shared-slice-read-signal Inv-loop μ-loop
-shared-slice-read-signal c = omega (arith, next (c .before .before) .0)
-
 mul-hops : tie.Need-mul-hops Inv-loop μ-loop
 mul-hops c = omega (arith, next (c .before .before .before) .1)
-
-array-set-from-hops : tie.Need-array-set-from-hops Inv-loop μ-loop
-array-set-from-hops c = next (c .before .before .before) .1
 
 add-count : tie.Need-add-count Inv-loop μ-loop
 add-count c = omega (arith, next (c .before .before .before) .1)
@@ -113,7 +83,9 @@ returns c = λ p s j. route-of _ _ _ _ _ _ _ _ _ _ (c .before .loop .inv p s j) 
 pub follow-spec : {M : Type 1} → statement M
 follow-spec =
     tie.close
-    (tie.spec Inv-loop μ-loop mul-at array-read-at (λ c κs. search needs) add-at mul-left array-read-left add-source
-    shared-slice-read-source (λ c κs. search needs) loop-holds (λ c κs. search needs) add-second add-signal
-    shared-slice-read-signal (λ c κs. search needs) mul-hops array-set-from-hops add-count sub-left loop-less loop-again
-    returns)
+    (tie.spec Inv-loop μ-loop (λ c. omega (arith, few c)) few (λ c κs. search needs)
+    (λ c. omega (arith, begins (c .before) .inside)) (λ c. omega (arith, few (c .before))) (λ c. few (c .before))
+    (λ c. omega (arith, begins (c .before) .inside)) shared-slice-read-source (λ c κs. search needs) loop-holds
+    (λ c κs. search needs) (λ c. omega (arith, next (c .before) .0)) (λ c. omega (arith, next (c .before) .0))
+    (λ c. omega (arith, next (c .before .before) .0)) (λ c κs. search needs) mul-hops (λ c. next (c .before .before .before) .1)
+    add-count sub-left loop-less loop-again returns)

@@ -50,12 +50,6 @@ keeps-time-requires c κs =
     let a = c .before .before .before .before .before .before in
     (a .pre .0, c .if1 .taken, a .pre .1)
 
-mul-t11 : tie.Need-mul-t11 Inv-loop μ-loop
-mul-t11 c = omega (arith, few (c .before .before))
-
-array-read-t14 : tie.Need-array-read-t14 Inv-loop μ-loop
-array-read-t14 c = few (c .before .before)
-
 returns : tie.Need-returns Inv-loop μ-loop
 returns c =
     let b = c .before .before in
@@ -68,12 +62,6 @@ returns c =
     (r ∙ lat-judged (fault 16 (chainAt p (l .chain) .place)) _ _
     (sym (c .before .keeps-time .ensures p s t) ∙ not-true (c .before .keeps-time .result) (c .if2 .taken)))
     (lat-at 16 (keeps p s _)) _ r
-
-add-chain : tie.Need-add-chain Inv-loop μ-loop
-add-chain c = omega (arith, few (c .before .before))
-
-loop-less : tie.Need-loop-less Inv-loop μ-loop
-loop-less c = omega (arith, c .before .before .if1 .taken)
 
 loop-again : tie.Need-loop-again Inv-loop μ-loop
 loop-again c =
@@ -95,5 +83,6 @@ returns-2 c =
 pub judge-chains-spec : {M : Type 1} → statement M
 judge-chains-spec =
     tie.close
-    (tie.spec Inv-loop μ-loop loop-holds keeps-time-requires mul-t11 array-read-t14 returns add-chain loop-less loop-again
-    returns-2)
+    (tie.spec Inv-loop μ-loop loop-holds keeps-time-requires (λ c. omega (arith, few (c .before .before)))
+    (λ c. few (c .before .before)) returns (λ c. omega (arith, few (c .before .before)))
+    (λ c. omega (arith, c .before .before .if1 .taken)) loop-again returns-2)

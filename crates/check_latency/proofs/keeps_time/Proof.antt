@@ -22,12 +22,6 @@ few c =
     let k = a .pre .0 .2 .joined .known in
     omega (arith, a .pre .1, few-chains _ _ (_, k .parsed, k .tables-are))
 
-mul-declaration-at : tie.Need-mul-declaration-at
-mul-declaration-at c = omega (arith, few c)
-
-array-read-declaration-at : tie.Need-array-read-declaration-at
-array-read-declaration-at c = few c
-
 returns : tie.Need-returns
 returns c =
     let b = c .before .before .before .before .before in
@@ -101,6 +95,6 @@ returns-2 c =
 pub keeps-time-spec : {M : Type 1} → statement M
 keeps-time-spec =
     tie.close
-    (tie.spec mul-declaration-at array-read-declaration-at (λ c κs. search needs) (λ c. search needs) returns
-    (λ c κs. search needs) (λ c. search needs) (λ c κs. search needs) (λ c. search needs) (λ c κs. search needs)
-    window-of-requires first-run-requires (λ c. search needs) is-timely-requires returns-2)
+    (tie.spec (λ c. omega (arith, few c)) few (λ c κs. search needs) (λ c. search needs) returns (λ c κs. search needs)
+    (λ c. search needs) (λ c κs. search needs) (λ c. search needs) (λ c κs. search needs) window-of-requires first-run-requires
+    (λ c. search needs) is-timely-requires returns-2)

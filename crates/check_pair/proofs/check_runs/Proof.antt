@@ -21,18 +21,12 @@ reads-met : (e : tie.After-enum-told) (p : Program) (s : Schedule) →
     Arranged (now (start e .args .text)) (start e .args .pair) p s → met p s ≡ accepted tt
 reads-met e p s g = judgement-fine _ _ (e .before .before .check-reads .ensures p s g) (e .enum-told .given .1)
 
-check-reads-requires : tie.Need-check-reads-requires
-check-reads-requires c κs = c .before .before .pre
-
 returns : tie.Need-returns
 unfolding runsOf
 returns c p s g =
     let told = c .enum-told2 .given .1 in
     answers-judgement _ _
     (answers-stop _ _ _ _ _ (judgement-refused _ _ _ (c .before .before .check-reads .ensures p s g) told) told)
-
-check-load-requires : tie.Need-check-load-requires
-check-load-requires c κs = (_, start c .pre .0)
 
 returns-2 : tie.Need-returns-2
 unfolding runsOf
@@ -62,5 +56,5 @@ returns-3 c p s g =
 pub check-runs-spec : {M : Type 1} → statement M
 check-runs-spec =
     tie.close
-    (tie.spec check-reads-requires (λ c. search needs) (λ c. search needs) returns check-load-requires (λ c. search needs)
-    (λ c. search needs) returns-2 check-latency-requires returns-3)
+    (tie.spec (λ c κs. c .before .before .pre) (λ c. search needs) (λ c. search needs) returns (λ c κs. (_, start c .pre .0))
+    (λ c. search needs) (λ c. search needs) returns-2 check-latency-requires returns-3)

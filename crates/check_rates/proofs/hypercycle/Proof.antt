@@ -20,9 +20,6 @@ Inv-loop count periods h₀ h =
 abbrev μ-loop : tie.MeasureT-loop
 μ-loop count periods h₀ h = 240 - h
 
-loop-holds : tie.Need-loop-holds Inv-loop μ-loop
-loop-holds c = (omega arith, λ p n t. cycle-start p)
-
 returns : tie.Need-returns Inv-loop μ-loop
 unfolding cyclesAnswer
 returns c =
@@ -50,5 +47,5 @@ returns-2 c =
 pub hypercycle-spec : {M : Type 1} → statement M
 hypercycle-spec =
     tie.close
-    (tie.spec Inv-loop μ-loop loop-holds (λ c. omega arith) (λ c κs. search needs) returns (λ c. omega arith) loop-again
-    returns-2)
+    (tie.spec Inv-loop μ-loop (λ c. (omega arith, λ p n t. cycle-start p)) (λ c. omega arith) (λ c κs. search needs) returns
+    (λ c. omega arith) loop-again returns-2)

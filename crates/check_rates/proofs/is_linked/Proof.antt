@@ -44,40 +44,16 @@ few c =
     let r = s .pre .0 in
     omega (arith, s .pre .1, few-chains _ _ (r .0, r .1, r .2))
 
-mul-at : tie.Need-mul-at Inv-loop μ-loop
-mul-at c = omega (arith, few c)
-
-array-read-at : tie.Need-array-read-at Inv-loop μ-loop
-array-read-at c = few c
-
 add-at : tie.Need-add-at Inv-loop μ-loop
 add-at c =
     let s = c .before .before .before .before .before .before in
     let r = s .pre .0 in
     omega (arith, chain-inside _ _ _ (s .pre .1) (r .0, r .1, r .2))
 
-mul-left : tie.Need-mul-left Inv-loop μ-loop
-mul-left c = omega (arith, few (c .before))
-
-array-read-left : tie.Need-array-read-left Inv-loop μ-loop
-array-read-left c = few (c .before)
-
 loop-holds : tie.Need-loop-holds Inv-loop μ-loop
 loop-holds c =
     let s = c .before .before .before .before .before .before in
     λ p q t. rw (c .in-program .ensures) (chain-begins _ _ _ (s .pre .1) p q t)
-
-add-second : tie.Need-add-second Inv-loop μ-loop
-add-second c = omega (arith, inside (c .before))
-
-add-before : tie.Need-add-before Inv-loop μ-loop
-add-before c = omega (arith, inside (c .before))
-
-shared-slice-read-before : tie.Need-shared-slice-read-before Inv-loop μ-loop
-shared-slice-read-before c = omega (arith, inside (c .before .before))
-
-add-signal : tie.Need-add-signal Inv-loop μ-loop
-add-signal c = omega (arith, inside (c .before .before))
 
 shared-slice-read-signal : tie.Need-shared-slice-read-signal Inv-loop μ-loop
 shared-slice-read-signal c = omega (arith, inside (c .before .before .before))
@@ -124,6 +100,8 @@ returns-2 c = λ p q t. sym (link-over _ _ _ _ _ (c .before .loop .inv p q t) (o
 pub is-linked-spec : {M : Type 1} → statement M
 is-linked-spec =
     tie.close
-    (tie.spec Inv-loop μ-loop mul-at array-read-at (λ c κs. search needs) add-at mul-left array-read-left loop-holds
-    (λ c κs. search needs) add-second add-before shared-slice-read-before add-signal shared-slice-read-signal one-read-requires
-    (λ c. search needs) (λ c. search needs) returns sub-left loop-less loop-again returns-2)
+    (tie.spec Inv-loop μ-loop (λ c. omega (arith, few c)) few (λ c κs. search needs) add-at (λ c. omega (arith, few (c .before)))
+    (λ c. few (c .before)) loop-holds (λ c κs. search needs) (λ c. omega (arith, inside (c .before)))
+    (λ c. omega (arith, inside (c .before))) (λ c. omega (arith, inside (c .before .before)))
+    (λ c. omega (arith, inside (c .before .before))) shared-slice-read-signal one-read-requires (λ c. search needs)
+    (λ c. search needs) returns sub-left loop-less loop-again returns-2)

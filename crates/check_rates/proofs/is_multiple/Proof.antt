@@ -41,9 +41,6 @@ here c p n t =
     l .inv .1 p n t ∙ multiple-here (p .signals) (l .s) _ lt ∙
     ap (λ b. b && isMultiple (drop (l .s + 1) (p .signals)) (c4 .args .h)) (sym same)
 
-loop-holds : tie.Need-loop-holds Inv-loop μ-loop
-loop-holds c = (omega arith, λ p n t. refl)
-
 returns : tie.Need-returns Inv-loop μ-loop
 returns c = λ p n t. sym (here (c .before) p n t ∙ rw (not-true (c .before .divides .result) (c .if1 .taken)))
 
@@ -57,5 +54,5 @@ returns-2 c = λ p n t. sym (c .before .loop .inv .1 p n t ∙
 pub is-multiple-spec : {M : Type 1} → statement M
 is-multiple-spec =
     tie.close
-    (tie.spec Inv-loop μ-loop loop-holds (λ c. omega arith) (λ c κs. search needs) returns (λ c. omega arith) (λ c. omega arith)
-    loop-again returns-2)
+    (tie.spec Inv-loop μ-loop (λ c. (omega arith, λ p n t. refl)) (λ c. omega arith) (λ c κs. search needs) returns
+    (λ c. omega arith) (λ c. omega arith) loop-again returns-2)

@@ -72,21 +72,12 @@ module _ (c : tie.After-in-program2 Inv-loop μ-loop) where
     omega (arith, start .good .0 .1),
   )
 
-mul-first : tie.Need-mul-first Inv-loop μ-loop
-mul-first c = omega (arith, below (c .before .before .before))
-
-array-read-first : tie.Need-array-read-first Inv-loop μ-loop
-array-read-first c = below (c .before .before .before)
-
 add-first : tie.Need-add-first Inv-loop μ-loop
 add-first c =
     let a = c .before .before .before .before in omega (arith, inside a, c .in-program .ensures, a .good .0 .1)
 
 mul-links : tie.Need-mul-links Inv-loop μ-loop
 mul-links c = omega (arith, below (c .before .before .before .before))
-
-array-read-links : tie.Need-array-read-links Inv-loop μ-loop
-array-read-links c = below (c .before .before .before .before)
 
 loop-holds : tie.Need-loop-holds Inv-loop μ-loop
 loop-holds c =
@@ -96,15 +87,6 @@ loop-holds c =
           let r = links-in-turn _ p e (x a) (omega (arith, a .pre .1, chains-are _ (t a) (read a) p e)) in
           check-starts _ _ _ _ (r .0) (r .1) (r .2) refl,
     )
-
-mul-at : tie.Need-mul-at Inv-loop μ-loop
-mul-at c = omega (arith, passed c, ends c)
-
-add-at : tie.Need-add-at Inv-loop μ-loop
-add-at c = omega (arith, passed c, stands c, ends c)
-
-add-wide : tie.Need-add-wide Inv-loop μ-loop
-add-wide c = omega (arith, passed c, stands c, ends c)
 
 shared-slice-read-wide : tie.Need-shared-slice-read-wide Inv-loop μ-loop
 shared-slice-read-wide c = omega (arith, stands (c .before), ends (c .before))
@@ -150,6 +132,8 @@ returns-2 c =
 pub judge-chain-spec : {M : Type 1} → statement M
 judge-chain-spec =
     tie.close
-    (tie.spec Inv-loop μ-loop mul-first array-read-first (λ c κs. search needs) add-first mul-links array-read-links loop-holds
-    (λ c κs. search needs) mul-at add-at add-wide shared-slice-read-wide (λ c κs. search needs) (λ c κs. search needs)
+    (tie.spec Inv-loop μ-loop (λ c. omega (arith, below (c .before .before .before))) (λ c. below (c .before .before .before))
+    (λ c κs. search needs) add-first mul-links (λ c. below (c .before .before .before .before)) loop-holds (λ c κs. search needs)
+    (λ c. omega (arith, passed c, ends c)) (λ c. omega (arith, passed c, stands c, ends c))
+    (λ c. omega (arith, passed c, stands c, ends c)) shared-slice-read-wide (λ c κs. search needs) (λ c κs. search needs)
     (λ c. search needs) (λ c. search needs) returns add-i loop-less loop-again returns-2)

@@ -46,12 +46,6 @@ loop-holds c = λ p q t. let h = rising-program _ p q in check-starts _ _ _ _ 0 
 is-linked-requires : tie.Need-is-linked-requires Inv-loop μ-loop
 is-linked-requires c κs = (c .before .before .before .before .before .before .pre, c .if1 .taken)
 
-mul-refuse : tie.Need-mul-refuse Inv-loop μ-loop
-mul-refuse c = omega (arith, few c)
-
-array-read-refuse : tie.Need-array-read-refuse Inv-loop μ-loop
-array-read-refuse c = few c
-
 returns : tie.Need-returns Inv-loop μ-loop
 returns c =
     let b = c .before .before in
@@ -67,9 +61,6 @@ returns c =
 add-chain : tie.Need-add-chain Inv-loop μ-loop
 add-chain c = let s = c .before .before .before .before .before .before .before .before .pre in
     omega (arith, c .before .before .if1 .taken, few-chains _ _ (s .0, s .1, s .2))
-
-loop-less : tie.Need-loop-less Inv-loop μ-loop
-loop-less c = omega (arith, c .before .before .if1 .taken)
 
 loop-again : tie.Need-loop-again Inv-loop μ-loop
 loop-again c =
@@ -90,5 +81,5 @@ returns-2 c =
 pub linked-spec : {M : Type 1} → statement M
 linked-spec =
     tie.close
-    (tie.spec Inv-loop μ-loop loop-holds is-linked-requires mul-refuse array-read-refuse (λ c κs. search needs) returns
-    add-chain loop-less loop-again returns-2)
+    (tie.spec Inv-loop μ-loop loop-holds is-linked-requires (λ c. omega (arith, few c)) few (λ c κs. search needs) returns
+    add-chain (λ c. omega (arith, c .before .before .if1 .taken)) loop-again returns-2)

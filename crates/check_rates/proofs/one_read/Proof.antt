@@ -125,21 +125,6 @@ returns c =
     let v = c .before .wide .ensures .0 in
     λ p e. none-far p _ _ (omega (arith, counted (s .pre .1) p e, v, c .if1 .taken))
 
-mul-wider : tie.Need-mul-wider Inv-loop μ-loop
-mul-wider c = omega (arith, below c)
-
-element-copy-out-wider : tie.Need-element-copy-out-wider Inv-loop μ-loop
-element-copy-out-wider c = omega (arith, below c)
-
-add-wider : tie.Need-add-wider Inv-loop μ-loop
-add-wider c = omega (arith, below (c .before .before))
-
-mul-wider-2 : tie.Need-mul-wider-2 Inv-loop μ-loop
-mul-wider-2 c = omega (arith, below (c .before .before))
-
-element-copy-out-wider-2 : tie.Need-element-copy-out-wider-2 Inv-loop μ-loop
-element-copy-out-wider-2 c = omega (arith, below (c .before .before))
-
 loop-holds : tie.Need-loop-holds Inv-loop μ-loop
 loop-holds c =
     let a = c .before .before .before .before in
@@ -152,9 +137,6 @@ loop-holds c =
 
 mul-wider-3 : tie.Need-mul-wider-3 Inv-loop μ-loop
 mul-wider-3 c = omega (arith, c .loop-test .taken, c .before .before .wider2 .ensures .1)
-
-shared-slice-read-wider : tie.Need-shared-slice-read-wider Inv-loop μ-loop
-shared-slice-read-wider c = here (c .before)
 
 add-if2 : tie.Need-add-if2 Inv-loop μ-loop
 add-if2 c = omega (arith, stands-inside (stands (c .before .before)), c .wider3 .ensures)
@@ -169,9 +151,6 @@ add-many c =
 
 add-i : tie.Need-add-i Inv-loop μ-loop
 add-i c = omega (arith, b c .loop-test .taken, b c .before .before .wider2 .ensures .1)
-
-loop-less : tie.Need-loop-less Inv-loop μ-loop
-loop-less c = omega (arith, b c .loop-test .taken)
 
 loop-again : tie.Need-loop-again Inv-loop μ-loop
 loop-again c =
@@ -200,6 +179,8 @@ returns-3 c =
 pub one-read-spec : {M : Type 1} → statement M
 one-read-spec =
     tie.close
-    (tie.spec Inv-loop μ-loop (λ c κs. search needs) returns mul-wider element-copy-out-wider (λ c κs. search needs) add-wider
-    mul-wider-2 element-copy-out-wider-2 (λ c κs. search needs) loop-holds mul-wider-3 shared-slice-read-wider
-    (λ c κs. search needs) add-if2 shared-slice-read-if2 add-many add-i loop-less loop-again returns-2 returns-3)
+    (tie.spec Inv-loop μ-loop (λ c κs. search needs) returns (λ c. omega (arith, below c)) (λ c. omega (arith, below c))
+    (λ c κs. search needs) (λ c. omega (arith, below (c .before .before))) (λ c. omega (arith, below (c .before .before)))
+    (λ c. omega (arith, below (c .before .before))) (λ c κs. search needs) loop-holds mul-wider-3 (λ c. here (c .before))
+    (λ c κs. search needs) add-if2 shared-slice-read-if2 add-many add-i (λ c. omega (arith, b c .loop-test .taken)) loop-again
+    returns-2 returns-3)

@@ -7,14 +7,11 @@ use borrow.Author.Needs.{needs}
 use Rattle.image_code.proofs.put_access.Statement.{statement}
 use Rattle.image_code.proofs.put_access.Tie as tie
 
-slice-write-out-2 : tie.Need-slice-write-out-2
-slice-write-out-2 c = simp length-set (omega arith)
-
 returns : tie.Need-returns
 returns c = record { goes = refl; ends = omega arith; holds = simp towards-suc }
 
 pub put-access-spec : {M : Type 1} → statement M
 put-access-spec =
     tie.close
-    (tie.spec (λ c. search needs) (λ c. search needs) slice-write-out-2 (λ c κs. search needs) (λ c. search needs)
-    (λ c. search needs) returns)
+    (tie.spec (λ c. search needs) (λ c. search needs) (λ c. simp length-set (omega arith)) (λ c κs. search needs)
+    (λ c. search needs) (λ c. search needs) returns)

@@ -13,9 +13,6 @@ use borrow.Author.Needs.{needs}
 use Rattle.image_code.proofs.put_push.Statement.{statement}
 use Rattle.image_code.proofs.put_push.Tie as tie
 
-put-word-requires : tie.Need-put-word-requires
-put-word-requires c κs = simp length-set (omega arith)
-
 same-length : tie.Need-same-length
 same-length c = ap length (c .before .before .before .put-word .ensures) ∙ simp (length-sets, length-set)
 
@@ -35,5 +32,6 @@ returns c =
 
 pub put-push-spec : {M : Type 1} → statement M
 put-push-spec =
-    tie.close (tie.spec (λ c. search needs) (λ c. search needs) put-word-requires (λ c κs. search needs) (λ c. search needs)
-    same-length returns)
+    tie.close
+    (tie.spec (λ c. search needs) (λ c. search needs) (λ c κs. simp length-set (omega arith)) (λ c κs. search needs)
+    (λ c. search needs) same-length returns)

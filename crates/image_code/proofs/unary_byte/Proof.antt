@@ -10,8 +10,6 @@ use Rattle.image_code.proofs.unary_byte.Tie as tie
 only : (operator : Unary) → 0x38 ≡ unaryByte operator
 only Negate = refl
 
-returns : tie.Need-returns
-returns c = only (c .args .operator)
-
 pub unary-byte-spec : {M : Type 1} → statement M
-unary-byte-spec = tie.close (tie.spec returns)
+unary-byte-spec = tie.close
+    (tie.spec (λ c. only (c .args .operator)))

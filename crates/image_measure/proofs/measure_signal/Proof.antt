@@ -54,9 +54,6 @@ module _ (m : tie.After-measure-expression) where
       let s = small (nests there) told in
       omega (arith, s .fits, s .within, start there .pre .1)
 
-shared-slice-read-if1 : tie.Need-shared-slice-read-if1
-shared-slice-read-if1 c = inside (c .before .before) .0
-
 add-measure-expression : tie.Need-add-measure-expression
 add-measure-expression c =
     let s = start (c .before .before) in
@@ -64,12 +61,6 @@ add-measure-expression c =
 
 measure-expression-requires : tie.Need-measure-expression-requires
 measure-expression-requires c κs = rw (c .in-program .ensures) (nests (c .before .before), start (c .before .before) .pre .1)
-
-add-total : tie.Need-add-total
-add-total c = omega (arith, few (c .before))
-
-cast-commands : tie.Need-cast-commands
-cast-commands c = omega (arith, few (c .before))
 
 returns : tie.Need-returns
 returns c =
@@ -93,5 +84,5 @@ returns-2 c =
 pub measure-signal-spec : {M : Type 1} → statement M
 measure-signal-spec =
     tie.close
-    (tie.spec shared-slice-read-if1 (λ c κs. search needs) add-measure-expression measure-expression-requires add-total
-    cast-commands returns returns-2)
+    (tie.spec (λ c. inside (c .before .before) .0) (λ c κs. search needs) add-measure-expression measure-expression-requires
+    (λ c. omega (arith, few (c .before))) (λ c. omega (arith, few (c .before))) returns returns-2)

@@ -19,12 +19,6 @@ within c =
     let h = head _ (c .before .before .before .pre .0) in
     (omega (arith, h .signals, h .fixed, c .record-at .ensures), omega (arith, h .signals, c .record-at .ensures))
 
-add-offset-at : tie.Need-add-offset-at
-add-offset-at c = omega (arith, within c .1)
-
-offset-at-requires : tie.Need-offset-at-requires
-offset-at-requires c κs = within c .0
-
 returns : tie.Need-returns
 unfolding codeOffset
 returns c =
@@ -39,4 +33,5 @@ returns-2 c = rw (le-ltb _ _ (rw (c .before .before .pre .1) at (c .if1 .left)))
 
 pub code-offset-spec : {M : Type 1} → statement M
 code-offset-spec =
-    tie.close (tie.spec record-at-requires add-offset-at offset-at-requires returns returns-2)
+    tie.close
+    (tie.spec record-at-requires (λ c. omega (arith, within c .1)) (λ c κs. within c .0) returns returns-2)

@@ -59,9 +59,6 @@ code-offset-requires c κs = let s = c .before .before .before in (s .pre .0, c 
 loop-holds : tie.Need-loop-holds Inv-loop μ-loop
 loop-holds c = (all-none _, omega arith, c .code-offset .ensures)
 
-add-code-offset : tie.Need-add-code-offset Inv-loop μ-loop
-add-code-offset c = omega (arith, c .wide2 .ensures .1)
-
 code-offset-requires-2 : tie.Need-code-offset-requires-2 Inv-loop μ-loop
 code-offset-requires-2 c κs = let l = c .before .before in
     (start l .pre .0, l .before .before .wide .ensures .0 ∙ start l .pre .1)
@@ -77,12 +74,6 @@ unfolding codesOk
 returns-2 c =
     let o = c .before .before in
     fails o (rw (← (turn o .loop .inv .2), ← (ends o), le-leb _ _ (c .before .if1 .left), lt-leb _ _ (c .if2 .taken)))
-
-part-code-ok-start : tie.Need-part-code-ok-start Inv-loop μ-loop
-part-code-ok-start c = c .before .if1 .left
-
-part-code-ok-end : tie.Need-part-code-ok-end Inv-loop μ-loop
-part-code-ok-end c = c .if2 .left
 
 code-ok-requires : tie.Need-code-ok-requires Inv-loop μ-loop
 code-ok-requires c κs =
@@ -127,5 +118,6 @@ pub codes-ok-spec : {M : Type 1} → statement M
 codes-ok-spec =
     tie.close
     (tie.spec Inv-loop μ-loop (λ c κs. search needs) (λ c κs. search needs) code-offset-requires loop-holds
-    (λ c κs. search needs) add-code-offset code-offset-requires-2 returns returns-2 part-code-ok-start part-code-ok-end
-    code-ok-requires returns-3 (λ c. omega arith) (λ c. omega arith) loop-again returns-4)
+    (λ c κs. search needs) (λ c. omega (arith, c .wide2 .ensures .1)) code-offset-requires-2 returns returns-2
+    (λ c. c .before .if1 .left) (λ c. c .if2 .left) code-ok-requires returns-3 (λ c. omega arith) (λ c. omega arith) loop-again
+    returns-4)

@@ -39,12 +39,6 @@ returns c =
     let none : countOf (s .args .image .now) ≡ 0 = sym (s .pre .2) ∙ c .if1 .taken in
     rw (begins (o .before), o .code-offset .ensures) (entries-none _ (listed s) none)
 
-sub-greatest-byte : tie.Need-sub-greatest-byte
-sub-greatest-byte c = holds (c .before)
-
-part-greatest-byte-start : tie.Need-part-greatest-byte-start
-part-greatest-byte-start c = holds (c .before)
-
 part-greatest-byte-end : tie.Need-part-greatest-byte-end
 part-greatest-byte-end c = let o = c .before in rw (o .code-offset .ensures) (listed (start o) .end)
 
@@ -59,5 +53,5 @@ returns-2 c =
 pub entries-ok-spec : {M : Type 1} → statement M
 entries-ok-spec =
     tie.close
-    (tie.spec (λ c κs. search needs) lists-at-requires (λ c κs. search needs) returns sub-greatest-byte part-greatest-byte-start
-    part-greatest-byte-end (λ c κs. search needs) returns-2)
+    (tie.spec (λ c κs. search needs) lists-at-requires (λ c κs. search needs) returns (λ c. holds (c .before))
+    (λ c. holds (c .before)) part-greatest-byte-end (λ c κs. search needs) returns-2)

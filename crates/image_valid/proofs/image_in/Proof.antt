@@ -8,8 +8,6 @@ use Rattle.image_valid.proofs.image_in.Tie as tie
 slice-aggregate-result : tie.Need-slice-aggregate-result
 slice-aggregate-result c = simp length-take (omega (arith, c .before .image-length .ensures .0))
 
-returns : tie.Need-returns
-returns c = c .before .image-length .ensures .1
-
 pub image-in-spec : {M : Type 1} → statement M
-image-in-spec = tie.close (tie.spec (λ c κs. search needs) slice-aggregate-result returns)
+image-in-spec = tie.close
+    (tie.spec (λ c κs. search needs) slice-aggregate-result (λ c. c .before .image-length .ensures .1))

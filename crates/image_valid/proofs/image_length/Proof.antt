@@ -11,9 +11,6 @@ use Rattle.image_valid.proofs.image_length.Tie as tie
 abbrev lent : tie.After-wide → List ℕ
 lent w = w .before .before .before .before .before .args .lent .now
 
-returns : tie.Need-returns
-returns c = (omega arith, lends-short _ (c .if1 .taken))
-
 returns-2 : tie.Need-returns-2
 returns-2 c =
     let w = c .before in
@@ -43,5 +40,5 @@ returns-4 c =
 pub image-length-spec : {M : Type 1} → statement M
 image-length-spec =
     tie.close
-    (tie.spec returns (λ c κs. search needs) (λ c. search needs) (λ c κs. search needs) returns-2 (λ c. search needs) add-if3
-    returns-3 returns-4)
+    (tie.spec (λ c. (omega arith, lends-short _ (c .if1 .taken))) (λ c κs. search needs) (λ c. search needs)
+    (λ c κs. search needs) returns-2 (λ c. search needs) add-if3 returns-3 returns-4)

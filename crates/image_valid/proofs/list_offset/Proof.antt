@@ -24,15 +24,6 @@ within c =
       omega (arith, h .signals, c .record-at .ensures),
     )
 
-mul-offset-at : tie.Need-mul-offset-at
-mul-offset-at c = omega (arith, within c .1)
-
-add-offset-at : tie.Need-add-offset-at
-add-offset-at c = omega (arith, within c .1, within c .2)
-
-offset-at-requires : tie.Need-offset-at-requires
-offset-at-requires c κs = within c .0
-
 returns : tie.Need-returns
 unfolding listOffset
 returns c =
@@ -42,4 +33,6 @@ returns c =
 
 pub list-offset-spec : {M : Type 1} → statement M
 list-offset-spec =
-    tie.close (tie.spec record-at-requires mul-offset-at add-offset-at offset-at-requires returns)
+    tie.close
+    (tie.spec record-at-requires (λ c. omega (arith, within c .1)) (λ c. omega (arith, within c .1, within c .2))
+    (λ c κs. within c .0) returns)

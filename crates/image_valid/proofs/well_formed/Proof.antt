@@ -20,9 +20,6 @@ listed e = sym (e .before .lists-ok .ensures) ∙ not-false _ (e .if2 .left)
 returns : tie.Need-returns
 returns c = sym (without-head _ (sym (c .before .head-ok .ensures) ∙ not-true _ (c .if1 .taken)))
 
-shared-slice-read-wide : tie.Need-shared-slice-read-wide
-shared-slice-read-wide c = omega (arith, head _ (good (c .before)) .four)
-
 shared-slice-read-n : tie.Need-shared-slice-read-n
 shared-slice-read-n c = omega (arith, head _ (good (c .before .before .before)) .four)
 
@@ -60,5 +57,6 @@ returns-4 c =
 pub well-formed-spec : {M : Type 1} → statement M
 well-formed-spec =
     tie.close
-    (tie.spec (λ c κs. search needs) returns shared-slice-read-wide (λ c κs. search needs) shared-slice-read-n
-    (λ c κs. search needs) lists-ok-requires returns-2 entries-ok-requires returns-3 codes-ok-requires returns-4)
+    (tie.spec (λ c κs. search needs) returns (λ c. omega (arith, head _ (good (c .before)) .four)) (λ c κs. search needs)
+    shared-slice-read-n (λ c κs. search needs) lists-ok-requires returns-2 entries-ok-requires returns-3 codes-ok-requires
+    returns-4)

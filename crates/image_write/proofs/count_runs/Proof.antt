@@ -37,9 +37,6 @@ loop-holds c =
       )),
     )
 
-element-copy-out-wide : tie.Need-element-copy-out-wide Inv-loop μ-loop
-element-copy-out-wide c = omega (arith, c .before .before .pre .0 .few)
-
 -- the signal of the turn
 small : (w : tie.After-wide Inv-loop μ-loop) → w .wide .result < 64
 small w =
@@ -49,12 +46,6 @@ small w =
       w .before .before .before .before .pre .0 .below (w .before .before .before .loop .i)
           (w .before .before .loop-test .taken),
     )
-
-element-copy-out-add-runs : tie.Need-element-copy-out-add-runs Inv-loop μ-loop
-element-copy-out-add-runs c = omega (arith, small (c .before))
-
-element-copy-out-add-runs-2 : tie.Need-element-copy-out-add-runs-2 Inv-loop μ-loop
-element-copy-out-add-runs-2 c = omega (arith, small (c .before .before))
 
 add-runs-requires : tie.Need-add-runs-requires Inv-loop μ-loop
 add-runs-requires c κs =
@@ -114,5 +105,6 @@ returns c =
 pub count-runs-spec : {M : Type 1} → statement M
 count-runs-spec =
     tie.close
-    (tie.spec Inv-loop μ-loop loop-holds element-copy-out-wide (λ c κs. search needs) element-copy-out-add-runs
-    element-copy-out-add-runs-2 add-runs-requires add-i loop-less loop-again returns)
+    (tie.spec Inv-loop μ-loop loop-holds (λ c. omega (arith, c .before .before .pre .0 .few)) (λ c κs. search needs)
+    (λ c. omega (arith, small (c .before))) (λ c. omega (arith, small (c .before .before))) add-runs-requires add-i loop-less
+    loop-again returns)

@@ -80,9 +80,6 @@ loop-again c =
       turn (codes-next (g w) (x w) (within w)) (named w .before .before .loop .inv .1) (record { holds = p .0; ends = p .1 }),
     )
 
-same-length : tie.Need-same-length Inv-loop μ-loop
-same-length c = c .before .loop .inv .1 .size
-
 returns : tie.Need-returns Inv-loop μ-loop
 returns c =
     let b = c .before .before .before .before in
@@ -93,4 +90,4 @@ pub emit-codes-spec : {M : Type 1} → statement M
 emit-codes-spec =
     tie.close
     (tie.spec Inv-loop μ-loop loop-holds narrow-requires mul-wider element-copy-out-wider (λ c κs. search needs)
-    emit-signal-requires add-x loop-less loop-again same-length returns)
+    emit-signal-requires add-x loop-less loop-again (λ c. c .before .loop .inv .1 .size) returns)

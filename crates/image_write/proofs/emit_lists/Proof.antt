@@ -77,12 +77,6 @@ loop-holds c =
 element-copy-out-x : tie.Need-element-copy-out-x Inv-loop μ-loop
 element-copy-out-x c = omega (arith, c .before .before .before .pre .0 .0 .few)
 
-element-copy-out-emit-runs : tie.Need-element-copy-out-emit-runs Inv-loop μ-loop
-element-copy-out-emit-runs c = below (c .before)
-
-element-copy-out-emit-runs-2 : tie.Need-element-copy-out-emit-runs-2 Inv-loop μ-loop
-element-copy-out-emit-runs-2 c = below (c .before .before)
-
 emit-runs-requires : tie.Need-emit-runs-requires Inv-loop μ-loop
 emit-runs-requires c κs =
     let w = c .before .before .before .before in
@@ -131,9 +125,6 @@ add-result c =
     let l = c .before .before .before .loop in
     omega (arith, c .wider .ensures .0, l .inv .2 .last, l .inv .2 .fits)
 
-same-length : tie.Need-same-length Inv-loop μ-loop
-same-length c = c .before .before .before .loop .inv .2 .size
-
 returns : tie.Need-returns Inv-loop μ-loop
 returns c =
     let l = c .before .before .before .loop in
@@ -149,6 +140,6 @@ returns c =
 pub emit-lists-spec : {M : Type 1} → statement M
 emit-lists-spec =
     tie.close
-    (tie.spec Inv-loop μ-loop loop-holds element-copy-out-x (λ c κs. search needs) element-copy-out-emit-runs
-    element-copy-out-emit-runs-2 emit-runs-requires add-i loop-less loop-again mul-wider element-copy-out-wider
-    (λ c κs. search needs) add-result same-length returns)
+    (tie.spec Inv-loop μ-loop loop-holds element-copy-out-x (λ c κs. search needs) (λ c. below (c .before))
+    (λ c. below (c .before .before)) emit-runs-requires add-i loop-less loop-again mul-wider element-copy-out-wider
+    (λ c κs. search needs) add-result (λ c. c .before .before .before .loop .inv .2 .size) returns)

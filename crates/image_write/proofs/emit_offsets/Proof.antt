@@ -83,9 +83,6 @@ module _ (w : tie.After-widest Inv-loop μ-loop) where
   further : at .loop .before + w .widest .result + length (joinedFrom (f s) (h s) (at .loop .c + 1)) ≡ total s
   further = omega (arith, at .loop .inv .2, parts-length (joined-step (f s) (h s) (at .loop .c) lt), runs-are)
 
-count-runs-requires : tie.Need-count-runs-requires Inv-loop μ-loop
-count-runs-requires c κs = c .before .pre .1
-
 loop-holds : tie.Need-loop-holds Inv-loop μ-loop
 unfolding listsBy
 loop-holds c =
@@ -98,15 +95,6 @@ loop-holds c =
       prefix-start (f b) (h b),
       λ d lt. absurd (omega arith),
     )
-
-cast-starts : tie.Need-cast-starts Inv-loop μ-loop
-cast-starts c = omega (arith, small (c .before))
-
-mul-starts : tie.Need-mul-starts Inv-loop μ-loop
-mul-starts c = omega (arith, start-of (c .before) .pre .1 .2)
-
-element-write-starts : tie.Need-element-write-starts Inv-loop μ-loop
-element-write-starts c = omega (arith, start-of (c .before) .pre .1 .2)
 
 add-put-offset : tie.Need-add-put-offset Inv-loop μ-loop
 add-put-offset c = let t = c .before .before in omega (arith, so-far t, start-of t .pre .2)
@@ -129,15 +117,6 @@ array-read-widest c =
     let t = c .before .before .before .before in
     omega (arith, t .loop-test .taken, start-of (t .before) .pre .1 .2)
 
-add-before : tie.Need-add-before Inv-loop μ-loop
-add-before c = omega (arith, further c, few (s c))
-
-add-c : tie.Need-add-c Inv-loop μ-loop
-add-c c = omega (arith, lt c, s c .pre .1 .2)
-
-loop-less : tie.Need-loop-less Inv-loop μ-loop
-loop-less c = omega (arith, lt c)
-
 loop-again : tie.Need-loop-again Inv-loop μ-loop
 loop-again c =
     let b = s c in
@@ -154,15 +133,6 @@ loop-again c =
       starts-more (f b) (h b) (l .starts) (l .c) (l .before) (omega (arith, lt c, l .inv .1, b .pre .1 .2))
           (prefix-stands (f b) (h b) (l .c) (l .before) (lt c) (l .inv .4)) (l .inv .5),
     )
-
-cast-starts-2 : tie.Need-cast-starts-2 Inv-loop μ-loop
-cast-starts-2 c = omega (arith, small (c .before))
-
-mul-starts-2 : tie.Need-mul-starts-2 Inv-loop μ-loop
-mul-starts-2 c = omega (arith, start-of (c .before) .pre .1 .2)
-
-element-write-starts-2 : tie.Need-element-write-starts-2 Inv-loop μ-loop
-element-write-starts-2 c = omega (arith, start-of (c .before) .pre .1 .2)
 
 add-put-offset-2 : tie.Need-add-put-offset-2 Inv-loop μ-loop
 add-put-offset-2 c = let t = c .before .before in omega (arith, so-far t, start-of t .pre .2)
@@ -207,6 +177,9 @@ returns c =
 pub emit-offsets-spec : {M : Type 1} → statement M
 emit-offsets-spec =
     tie.close
-    (tie.spec Inv-loop μ-loop count-runs-requires loop-holds cast-starts mul-starts element-write-starts add-put-offset
-    put-offset-requires mul-widest array-read-widest (λ c κs. search needs) add-before add-c loop-less loop-again cast-starts-2
-    mul-starts-2 element-write-starts-2 add-put-offset-2 put-offset-requires-2 same-length returns)
+    (tie.spec Inv-loop μ-loop (λ c κs. c .before .pre .1) loop-holds (λ c. omega (arith, small (c .before)))
+    (λ c. omega (arith, start-of (c .before) .pre .1 .2)) (λ c. omega (arith, start-of (c .before) .pre .1 .2)) add-put-offset
+    put-offset-requires mul-widest array-read-widest (λ c κs. search needs) (λ c. omega (arith, further c, few (s c)))
+    (λ c. omega (arith, lt c, s c .pre .1 .2)) (λ c. omega (arith, lt c)) loop-again (λ c. omega (arith, small (c .before)))
+    (λ c. omega (arith, start-of (c .before) .pre .1 .2)) (λ c. omega (arith, start-of (c .before) .pre .1 .2)) add-put-offset-2
+    put-offset-requires-2 same-length returns)

@@ -126,9 +126,6 @@ loop-again c =
           (l .inv .1) (rw (starts-at w) at (c .before .before .put-record .ensures)),
     )
 
-same-length : tie.Need-same-length Inv-loop μ-loop
-same-length c = c .before .loop .inv .1 .size
-
 returns : tie.Need-returns Inv-loop μ-loop
 returns c =
     let b = c .before .before .before .before in
@@ -138,5 +135,5 @@ pub emit-records-spec : {M : Type 1} → statement M
 emit-records-spec =
     tie.close
     (tie.spec Inv-loop μ-loop loop-holds mul-wider element-copy-out-wider (λ c κs. search needs) mul-wider-2
-    element-copy-out-wider-2 (λ c κs. search needs) add-put-record put-record-requires add-x loop-less loop-again same-length
-    returns)
+    element-copy-out-wider-2 (λ c κs. search needs) add-put-record put-record-requires add-x loop-less loop-again
+    (λ c. c .before .loop .inv .1 .size) returns)

@@ -111,26 +111,8 @@ element-copy-out-wider c = omega (arith, c .before .before .before .before .befo
 add-out : tie.Need-add-out Inv-loop μ-loop
 add-out c = omega (arith, inside c, pending c .size, begun c .pending .size)
 
-slice-write-out : tie.Need-slice-write-out Inv-loop μ-loop
-slice-write-out c = inside c
-
-add-nexts : tie.Need-add-nexts Inv-loop μ-loop
-add-nexts c = omega (arith, small c)
-
-cast-nexts : tie.Need-cast-nexts Inv-loop μ-loop
-cast-nexts c = omega (arith, small c)
-
-mul-nexts : tie.Need-mul-nexts Inv-loop μ-loop
-mul-nexts c = omega (arith, lt c, s c .pre .1)
-
-element-write-nexts : tie.Need-element-write-nexts Inv-loop μ-loop
-element-write-nexts c = omega (arith, lt c, s c .pre .1)
-
 add-c : tie.Need-add-c Inv-loop μ-loop
 add-c c = omega (arith, lt c, s c .pre .1, top c .loop .inv .0)
-
-loop-less : tie.Need-loop-less Inv-loop μ-loop
-loop-less c = omega (arith, lt c, v c, top c .loop .inv .0)
 
 loop-again : tie.Need-loop-again Inv-loop μ-loop
 loop-again w =
@@ -165,5 +147,6 @@ pub emit-runs-spec : {M : Type 1} → statement M
 emit-runs-spec =
     tie.close
     (tie.spec Inv-loop μ-loop (λ c κs. search needs) (λ c κs. search needs) loop-holds mul-wider element-copy-out-wider
-    (λ c κs. search needs) add-out slice-write-out add-nexts cast-nexts mul-nexts element-write-nexts add-c loop-less loop-again
-    same-length returns)
+    (λ c κs. search needs) add-out inside (λ c. omega (arith, small c)) (λ c. omega (arith, small c))
+    (λ c. omega (arith, lt c, s c .pre .1)) (λ c. omega (arith, lt c, s c .pre .1)) add-c
+    (λ c. omega (arith, lt c, v c, top c .loop .inv .0)) loop-again same-length returns)

@@ -27,12 +27,6 @@ loop-holds : tie.Need-loop-holds Inv-loop μ-loop
 unfolding tailBy
 loop-holds c = (omega arith, rw (joined-starts (entry (c .before)) (c .before .args .n)) starts)
 
-mul-put-entry : tie.Need-mul-put-entry Inv-loop μ-loop
-mul-put-entry c = omega (arith, start (c .before) .pre .0)
-
-element-copy-out-put-entry : tie.Need-element-copy-out-put-entry Inv-loop μ-loop
-element-copy-out-put-entry c = omega (arith, start (c .before) .pre .0)
-
 element-copy-out-put-entry-2 : tie.Need-element-copy-out-put-entry-2 Inv-loop μ-loop
 element-copy-out-put-entry-2 c = omega (arith, c .before .loop-test .taken, start (c .before .before) .pre .0)
 
@@ -54,9 +48,6 @@ turned c = c .before .before .before .before .before .before .before
 add-x : tie.Need-add-x Inv-loop μ-loop
 add-x c = omega (arith, turned c .loop-test .taken, start (turned c .before) .pre .0)
 
-loop-less : tie.Need-loop-less Inv-loop μ-loop
-loop-less c = omega (arith, turned c .loop-test .taken)
-
 loop-again : tie.Need-loop-again Inv-loop μ-loop
 loop-again c =
     let t = turned c in
@@ -67,9 +58,6 @@ loop-again c =
           (c .before .before .put-entry .ensures),
     )
 
-same-length : tie.Need-same-length Inv-loop μ-loop
-same-length c = c .before .loop .inv .1 .size
-
 returns : tie.Need-returns Inv-loop μ-loop
 returns c =
     let l = c .before in
@@ -79,5 +67,6 @@ returns c =
 pub emit-tail-spec : {M : Type 1} → statement M
 emit-tail-spec =
     tie.close
-    (tie.spec Inv-loop μ-loop loop-holds mul-put-entry element-copy-out-put-entry element-copy-out-put-entry-2
-    element-copy-out-put-entry-3 put-entry-requires add-x loop-less loop-again same-length returns)
+    (tie.spec Inv-loop μ-loop loop-holds (λ c. omega (arith, start (c .before) .pre .0))
+    (λ c. omega (arith, start (c .before) .pre .0)) element-copy-out-put-entry-2 element-copy-out-put-entry-3 put-entry-requires
+    add-x (λ c. omega (arith, turned c .loop-test .taken)) loop-again (λ c. c .before .loop .inv .1 .size) returns)

@@ -13,9 +13,6 @@ use Rattle.image_write.proofs.lay_out.Tie as tie
 few : (s : tie.Start) → (s .args .tables .signals ≤ 64) × (s .args .h ≤ 240)
 few s = (declared (s .pre .1 .prepared) .few, s .pre .1 .hyper)
 
-lists-at-requires : tie.Need-lists-at-requires
-lists-at-requires c κs = few (c .before)
-
 lists-length-requires : tie.Need-lists-length-requires
 lists-length-requires c κs =
     let r = c .before .before .pre .1 in
@@ -35,9 +32,6 @@ start-most c =
       lists-most (s .args .periods .now) (s .args .order .now) (s .args .phases .now) (s .args .tables .signals) (s .args .h)
           (b .0),
     )
-
-add-code : tie.Need-add-code
-add-code c = omega (arith, start-most c)
 
 mul-wider : tie.Need-mul-wider
 mul-wider c = omega (arith, few (c .before .before .before) .0)
@@ -70,5 +64,5 @@ returns c =
 pub lay-out-spec : {M : Type 1} → statement M
 lay-out-spec =
     tie.close
-    (tie.spec lists-at-requires lists-length-requires add-code mul-wider array-read-wider (λ c κs. search needs) add-end
-    mul-written add-written returns)
+    (tie.spec (λ c κs. few (c .before)) lists-length-requires (λ c. omega (arith, start-most c)) mul-wider array-read-wider
+    (λ c κs. search needs) add-end mul-written add-written returns)

@@ -22,9 +22,6 @@ loop-holds c =
     let a = c .args in
     (omega arith, omega (arith, length-starts (a .periods .now) (a .order .now) (a .phases .now) (a .n) (a .h)))
 
-element-copy-out-run-count : tie.Need-element-copy-out-run-count Inv-loop μ-loop
-element-copy-out-run-count c = omega (arith, c .before .before .pre .0 .few)
-
 run-count-requires : tie.Need-run-count-requires Inv-loop μ-loop
 run-count-requires c κs =
     let s = c .before .before .before in
@@ -61,9 +58,6 @@ add-total c =
 add-i : tie.Need-add-i Inv-loop μ-loop
 add-i c = omega (arith, c .before .before .before .before .pre .0 .few)
 
-loop-again : tie.Need-loop-again Inv-loop μ-loop
-loop-again c = (omega arith, next c)
-
 returns : tie.Need-returns Inv-loop μ-loop
 returns c =
     let a = c .before .before .args in
@@ -76,5 +70,5 @@ returns c =
 pub lists-length-spec : {M : Type 1} → statement M
 lists-length-spec =
     tie.close
-    (tie.spec Inv-loop μ-loop loop-holds element-copy-out-run-count run-count-requires add-total add-i (λ c. omega arith)
-    loop-again returns)
+    (tie.spec Inv-loop μ-loop loop-holds (λ c. omega (arith, c .before .before .pre .0 .few)) run-count-requires add-total add-i
+    (λ c. omega arith) (λ c. (omega arith, next c)) returns)

@@ -44,14 +44,8 @@ slice-write-out-2 c = simp length-set (omega (arith, here c, wrote-size (labelle
 add-result : tie.Need-add-result
 add-result c = omega (arith, here c, start c .pre, start c .good)
 
-same-length : tie.Need-same-length
-same-length c = simp length-set (wrote-size (labelled c))
-
-returns : tie.Need-returns
-returns c = after (labelled c) (put-both _ _ _ _)
-
 pub put-entry-spec : {M : Type 1} → statement M
 put-entry-spec =
     tie.close
-    (tie.spec (λ c κs. search needs) (λ c κs. search needs) slice-write-out add-out slice-write-out-2 add-result same-length
-    returns)
+    (tie.spec (λ c κs. search needs) (λ c κs. search needs) slice-write-out add-out slice-write-out-2 add-result
+    (λ c. simp length-set (wrote-size (labelled c))) (λ c. after (labelled c) (put-both _ _ _ _)))

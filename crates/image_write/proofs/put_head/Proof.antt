@@ -7,12 +7,6 @@ use borrow.Author.Needs.{needs}
 use Rattle.image_write.proofs.put_head.Statement.{statement}
 use Rattle.image_write.proofs.put_head.Tie as tie
 
-slice-write-out-2 : tie.Need-slice-write-out-2
-slice-write-out-2 c = simp length-set (omega arith)
-
-put-offset-requires : tie.Need-put-offset-requires
-put-offset-requires c κs = simp length-set (omega arith)
-
 same-length : tie.Need-same-length
 same-length c = wrote-size (c .before .before .put-offset .ensures) ∙ simp length-set
 
@@ -26,5 +20,5 @@ returns c =
 pub put-head-spec : {M : Type 1} → statement M
 put-head-spec =
     tie.close
-    (tie.spec (λ c κs. search needs) (λ c. search needs) (λ c κs. search needs) slice-write-out-2 put-offset-requires
-    same-length returns)
+    (tie.spec (λ c κs. search needs) (λ c. search needs) (λ c κs. search needs) (λ c. simp length-set (omega arith))
+    (λ c κs. simp length-set (omega arith)) same-length returns)

@@ -24,15 +24,6 @@ below c = rw (period-is c, phase-is c) (c .before .before .before .before .befor
 add-result : tie.Need-add-result
 add-result c = omega (arith, c .before .before .wide2 .ensures .1, c .before .before .before .before .before .pre .2)
 
-add-result-2 : tie.Need-add-result-2
-add-result-2 c = omega (arith, c .wide3 .ensures .1)
-
-sub-result : tie.Need-sub-result
-sub-result c = omega (arith, below c)
-
-div-result : tie.Need-div-result
-div-result c = omega (arith, below c)
-
 returns : tie.Need-returns
 unfolding stored
 returns c = rw (phase-is c, period-is c, add-one)
@@ -41,4 +32,4 @@ pub run-count-spec : {M : Type 1} → statement M
 run-count-spec =
     tie.close
     (tie.spec (λ c κs. search needs) (λ c. search needs) (λ c κs. search needs) (λ c. search needs) (λ c κs. search needs)
-    add-result add-result-2 sub-result div-result returns)
+    add-result (λ c. omega (arith, c .wide3 .ensures .1)) (λ c. omega (arith, below c)) (λ c. omega (arith, below c)) returns)

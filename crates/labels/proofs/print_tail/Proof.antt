@@ -13,22 +13,11 @@ abbrev μ-loop : tie.MeasureT-loop
 mul-print-entry : tie.Need-mul-print-entry Inv-loop μ-loop
 mul-print-entry c = omega (arith, c .loop-test .taken, c .before .before .before .good)
 
-print-entry-requires : tie.Need-print-entry-requires Inv-loop μ-loop
-print-entry-requires c κs = omega (arith, c .loop-test .taken)
-
 add-x : tie.Need-add-x Inv-loop μ-loop
 add-x c = omega (arith, c .before .loop-test .taken, c .before .before .before .before .good)
-
-loop-less : tie.Need-loop-less Inv-loop μ-loop
-loop-less c = omega (arith, c .before .loop-test .taken)
-
-loop-again : tie.Need-loop-again Inv-loop μ-loop
-loop-again c = omega (arith, c .before .loop-test .taken)
-
-returns : tie.Need-returns Inv-loop μ-loop
-returns c = tt
 
 pub print-tail-spec : {M : Type 1} → statement M
 print-tail-spec =
     tie.close
-    (tie.spec Inv-loop μ-loop (λ c. omega arith) mul-print-entry print-entry-requires add-x loop-less loop-again returns)
+    (tie.spec Inv-loop μ-loop (λ c. omega arith) mul-print-entry (λ c κs. omega (arith, c .loop-test .taken)) add-x
+    (λ c. omega (arith, c .before .loop-test .taken)) (λ c. omega (arith, c .before .loop-test .taken)) (λ c. tt))

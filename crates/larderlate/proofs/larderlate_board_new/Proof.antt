@@ -3,8 +3,6 @@ use borrow.Author.Needs.{needs}
 use Rattle.larderlate.proofs.larderlate_board_new.Statement.{statement}
 use Rattle.larderlate.proofs.larderlate_board_new.Tie as tie
 
-returns : tie.Need-returns
-returns c = c .new-record .ensures
-
 pub larderlate-board-new-spec : {M : Type 1} → statement M
-larderlate-board-new-spec = tie.close (tie.spec (λ c κs. search needs) returns)
+larderlate-board-new-spec = tie.close
+    (tie.spec (λ c κs. search needs) (λ c. c .new-record .ensures))

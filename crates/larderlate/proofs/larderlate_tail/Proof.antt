@@ -15,12 +15,10 @@ returns c =
     let t = c .before in
     rw (number-refused (t .before .tail .ensures) (t .if1 .taken)) (c .code-of-fault .ensures, refl)
 
-sub-start : tie.Need-sub-start
-sub-start c = omega (arith, read c .starts)
-
 returns-2 : tie.Need-returns-2
 returns-2 c = rw (read c .accepts) (refl, omega (arith, read c .starts))
 
 pub larderlate-tail-spec : {M : Type 1} → statement M
 larderlate-tail-spec =
-    tie.close (tie.spec (λ c κs. search needs) (λ c κs. search needs) returns sub-start returns-2)
+    tie.close
+    (tie.spec (λ c κs. search needs) (λ c κs. search needs) returns (λ c. omega (arith, read c .starts)) returns-2)

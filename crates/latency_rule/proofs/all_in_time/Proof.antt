@@ -25,9 +25,6 @@ unfolding allBelow
 loop-holds c =
     (c .pre .0, c .pre .1, c .pre .2, c .pre .3, omega arith, refl)
 
-add-run-latency : tie.Need-add-run-latency Inv-loop μ-loop
-add-run-latency c = omega (arith, c .before .loop .inv .3)
-
 run-latency-requires : tie.Need-run-latency-requires Inv-loop μ-loop
 run-latency-requires c κs = let l = c .before .loop in
     (l .inv .0, l .inv .1, l .inv .2 _ (c .loop-test .taken), omega (arith, l .inv .3))
@@ -77,5 +74,5 @@ returns-2 c =
 pub all-in-time-spec : {M : Type 1} → statement M
 all-in-time-spec =
     tie.close
-    (tie.spec Inv-loop μ-loop loop-holds add-run-latency run-latency-requires (λ c κs. search needs) returns add-i
-    (λ c. omega arith) loop-again returns-2)
+    (tie.spec Inv-loop μ-loop loop-holds (λ c. omega (arith, c .before .loop .inv .3)) run-latency-requires
+    (λ c κs. search needs) returns add-i (λ c. omega arith) loop-again returns-2)

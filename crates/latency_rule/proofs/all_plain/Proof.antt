@@ -23,12 +23,6 @@ loop-holds : tie.Need-loop-holds Inv-loop μ-loop
 unfolding allBelow
 loop-holds c = (omega arith, c .pre, refl)
 
-mul-hop : tie.Need-mul-hop Inv-loop μ-loop
-mul-hop c = omega (arith, c .before .loop .inv .1)
-
-array-copy-out-hop : tie.Need-array-copy-out-hop Inv-loop μ-loop
-array-copy-out-hop c = omega (arith, c .before .loop .inv .1)
-
 returns : tie.Need-returns Inv-loop μ-loop
 returns c =
     let c3 = c .before .before .before in
@@ -59,5 +53,6 @@ returns-2 c =
 pub all-plain-spec : {M : Type 1} → statement M
 all-plain-spec =
     tie.close
-    (tie.spec Inv-loop μ-loop loop-holds mul-hop array-copy-out-hop (λ c κs. search needs) returns (λ c. omega arith)
-    (λ c. omega arith) loop-again returns-2)
+    (tie.spec Inv-loop μ-loop loop-holds (λ c. omega (arith, c .before .loop .inv .1))
+    (λ c. omega (arith, c .before .loop .inv .1)) (λ c κs. search needs) returns (λ c. omega arith) (λ c. omega arith) loop-again
+    returns-2)

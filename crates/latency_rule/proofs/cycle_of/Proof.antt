@@ -9,14 +9,7 @@ use Rattle.latency_rule.proofs.cycle_of.Tie as tie
 product : (s : tie.Start) → s .args .k * s .args .timing .period ≤ 255000000
 product s = times-byte (s .args .k) (s .args .timing .period) (s .pre) (omega arith)
 
-mul-result : tie.Need-mul-result
-mul-result c = omega (arith, product (c .before))
-
-add-result : tie.Need-add-result
-add-result c = omega (arith, product (c .before .before))
-
-returns : tie.Need-returns
-returns c = omega (arith, product (c .before .before))
-
 pub cycle-of-spec : {M : Type 1} → statement M
-cycle-of-spec = tie.close (tie.spec (λ c. search needs) mul-result (λ c. search needs) add-result returns)
+cycle-of-spec = tie.close
+    (tie.spec (λ c. search needs) (λ c. omega (arith, product (c .before))) (λ c. search needs)
+    (λ c. omega (arith, product (c .before .before))) (λ c. omega (arith, product (c .before .before))))

@@ -3,8 +3,6 @@ use borrow.Author.Needs.{needs}
 use Rattle.latency_rule.proofs.is_late.Statement.{statement}
 use Rattle.latency_rule.proofs.is_late.Tie as tie
 
-returns : tie.Need-returns
-returns c = rw (c .before .latency .given .1)
-
 pub is-late-spec : {M : Type 1} → statement M
-is-late-spec = tie.close (tie.spec (λ c. search needs) (λ c. search needs) returns (λ c. search needs))
+is-late-spec = tie.close
+    (tie.spec (λ c. search needs) (λ c. search needs) (λ c. rw (c .before .latency .given .1)) (λ c. search needs))

@@ -68,9 +68,6 @@ loop-again c =
       omega arith,
     )
 
-same-length : tie.Need-same-length Inv-loop μ-loop
-same-length c = long (c .before)
-
 returns : tie.Need-returns Inv-loop μ-loop
 returns c =
     let l = c .before in
@@ -84,4 +81,4 @@ pub initial-words-spec : {M : Type 1} → statement M
 initial-words-spec =
     tie.close
     (tie.spec Inv-loop μ-loop (λ c. omega arith) loop-holds record-at-requires word-at-requires add-x mul-w slice-set-from-w
-    (λ c. omega arith) loop-again same-length returns)
+    (λ c. omega arith) loop-again (λ c. long (c .before)) returns)

@@ -20,9 +20,6 @@ stood e = position _ (e .before .position .given) (e .if1 .left)
 shared-slice-read-wide : tie.Need-shared-slice-read-wide
 shared-slice-read-wide c = omega (arith, head _ (formed _ (c .before .before .pre .0) .good) .four)
 
-shared-slice-copy-out-position : tie.Need-shared-slice-copy-out-position
-shared-slice-copy-out-position c = c .before .before .before .pre .1
-
 returns : tie.Need-returns
 returns c =
     let a = c .before .before .before .before .before .args in
@@ -39,4 +36,4 @@ returns-2 c =
 pub is-positioned-spec : {M : Type 1} → statement M
 is-positioned-spec =
     tie.close
-    (tie.spec shared-slice-read-wide (λ c κs. search needs) shared-slice-copy-out-position returns cast-c returns-2)
+    (tie.spec shared-slice-read-wide (λ c κs. search needs) (λ c. c .before .before .before .pre .1) returns cast-c returns-2)

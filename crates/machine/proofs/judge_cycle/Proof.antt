@@ -68,9 +68,6 @@ returns-2 c =
     (cycle-state (lends w) _ _ (well (checked w))
     (le-ltb (countOf (here w)) (length (start w .args .state .now)) (omega (arith, w .wide .ensures .0, c .if2 .taken))))
 
-is-positioned-requires : tie.Need-is-positioned-requires
-is-positioned-requires c κs = (well (checked (c .before)), omega arith)
-
 returns-3 : tie.Need-returns-3
 returns-3 c =
     let e = c .before .before in
@@ -103,4 +100,4 @@ pub judge-cycle-spec : {M : Type 1} → statement M
 judge-cycle-spec =
     tie.close
     (tie.spec (λ c κs. search needs) (λ c κs. search needs) returns shared-slice-read-wide (λ c κs. search needs) returns-2
-    is-positioned-requires returns-3 returns-4 returns-5)
+    (λ c κs. (well (checked (c .before)), omega arith)) returns-3 returns-4 returns-5)

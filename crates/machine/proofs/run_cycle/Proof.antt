@@ -72,9 +72,6 @@ shared-slice-read-n c = omega (arith, head _ (formed _ (c .before .before .befor
 cast-c : tie.Need-cast-c
 cast-c c = rw (here c .back) (tt, record { fits = omega (arith, here c .small) })
 
-run-list-requires : tie.Need-run-list-requires
-run-list-requires c κs = (start c .pre .formed, rw (place c) (below c))
-
 run-signals-requires : tie.Need-run-signals-requires
 run-signals-requires c κs =
     let r = c .before in
@@ -107,5 +104,6 @@ returns c =
 pub run-cycle-spec : {M : Type 1} → statement M
 run-cycle-spec =
     tie.close
-    (tie.spec shared-slice-read-wide (λ c κs. search needs) shared-slice-read-n (λ c. search needs) cast-c run-list-requires
-    run-signals-requires next-position-requires (λ c. search needs) (λ c. search needs) returns)
+    (tie.spec shared-slice-read-wide (λ c κs. search needs) shared-slice-read-n (λ c. search needs) cast-c
+    (λ c κs. (start c .pre .formed, rw (place c) (below c))) run-signals-requires next-position-requires (λ c. search needs)
+    (λ c. search needs) returns)

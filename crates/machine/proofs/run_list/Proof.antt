@@ -21,9 +21,6 @@ rises : (o : tie.After-list-offset2) → o .before .list-offset .result ≤ o .l
 rises o = let s = start o in rw (o .before .list-offset .ensures, o .list-offset2 .ensures)
     (listed s .rising (s .args .c) (s .pre .1))
 
-shared-slice-read-wide : tie.Need-shared-slice-read-wide
-shared-slice-read-wide c = omega (arith, top (c .before .before) .four)
-
 list-offset-requires : tie.Need-list-offset-requires
 list-offset-requires c κs = let s = c .before .before .before in
     (formed _ (s .pre .0) .good, c .wide .ensures .0, omega (arith, s .pre .1))
@@ -34,12 +31,6 @@ add-list-offset c = let s = c .before .before .before .before in omega (arith, s
 list-offset-requires-2 : tie.Need-list-offset-requires-2
 list-offset-requires-2 c κs = let s = c .before .before .before .before in
     (formed _ (s .pre .0) .good, c .before .wide .ensures .0, omega (arith, s .pre .1))
-
-sub-result : tie.Need-sub-result
-sub-result c = rises c
-
-part-result-start : tie.Need-part-result-start
-part-result-start c = rises c
 
 part-result-end : tie.Need-part-result-end
 part-result-end c = let s = start c in
@@ -52,5 +43,5 @@ returns c = let o = c .before in rw (← (o .list-offset2 .ensures), ← (o .bef
 pub run-list-spec : {M : Type 1} → statement M
 run-list-spec =
     tie.close
-    (tie.spec shared-slice-read-wide (λ c κs. search needs) list-offset-requires add-list-offset list-offset-requires-2
-    sub-result part-result-start part-result-end returns)
+    (tie.spec (λ c. omega (arith, top (c .before .before) .four)) (λ c κs. search needs) list-offset-requires add-list-offset
+    list-offset-requires-2 rises rises part-result-end returns)

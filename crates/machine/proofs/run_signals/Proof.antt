@@ -86,28 +86,13 @@ this o =
     (o .before .code-offset .ensures ∙ ap (codeOffset image) own)
     (o .code-offset2 .ensures ∙ ap (λ (k : ℕ). codeOffset image (k + 1)) own)
 
-loop-holds : tie.Need-loop-holds Inv-loop μ-loop
-loop-holds c = (refl, refl, omega arith, omega arith)
-
 code-offset-requires : tie.Need-code-offset-requires Inv-loop μ-loop
 code-offset-requires c κs = let l = c .before .before .before in let s = start l in
     (good s, l .before .wide .ensures .0 ∙ s .pre .0 .1)
 
-add-code-offset : tie.Need-add-code-offset Inv-loop μ-loop
-add-code-offset c = omega (arith, c .before .wide2 .ensures .1)
-
 code-offset-requires-2 : tie.Need-code-offset-requires-2 Inv-loop μ-loop
 code-offset-requires-2 c κs = let l = c .before .before .before .before in let s = start l in
     (good s, l .before .wide .ensures .0 ∙ s .pre .0 .1)
-
-sub-run-code : tie.Need-sub-run-code Inv-loop μ-loop
-sub-run-code c = this c .ordered
-
-part-run-code-start : tie.Need-part-run-code-start Inv-loop μ-loop
-part-run-code-start c = this c .ordered
-
-part-run-code-end : tie.Need-part-run-code-end Inv-loop μ-loop
-part-run-code-end c = this c .within
 
 run-code-requires : tie.Need-run-code-requires Inv-loop μ-loop
 run-code-requires c κs =
@@ -178,9 +163,6 @@ loop-again c =
       counts r,
     )
 
-same-length : tie.Need-same-length Inv-loop μ-loop
-same-length c = c .before .loop .inv .1
-
 returns : tie.Need-returns Inv-loop μ-loop
 returns c =
     let l = c .before in
@@ -193,6 +175,7 @@ returns c =
 pub run-signals-spec : {M : Type 1} → statement M
 run-signals-spec =
     tie.close
-    (tie.spec Inv-loop μ-loop (λ c κs. search needs) loop-holds (λ c. omega arith) (λ c κs. search needs) code-offset-requires
-    add-code-offset code-offset-requires-2 sub-run-code part-run-code-start part-run-code-end run-code-requires add-w mul-w
-    slice-set-from-w add-total (λ c. omega arith) (λ c. omega arith) loop-again same-length returns)
+    (tie.spec Inv-loop μ-loop (λ c κs. search needs) (λ c. (refl, refl, omega arith, omega arith)) (λ c. omega arith)
+    (λ c κs. search needs) code-offset-requires (λ c. omega (arith, c .before .wide2 .ensures .1)) code-offset-requires-2
+    (λ c. this c .ordered) (λ c. this c .ordered) (λ c. this c .within) run-code-requires add-w mul-w slice-set-from-w add-total
+    (λ c. omega arith) (λ c. omega arith) loop-again (λ c. c .before .loop .inv .1) returns)

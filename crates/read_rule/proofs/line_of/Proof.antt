@@ -55,9 +55,6 @@ module _ (c : tie.After-either6) where
   ahead-small : c .either6 .result ≤ 256
   ahead-small = c .either6 .ensures .1 (omega (arith, c .before .minus .ensures, step-small)) (omega arith)
 
-add-t13 : tie.Need-add-t13
-add-t13 c = omega (arith, start-small c, ahead-small c)
-
 returns : tie.Need-returns
 unfolding lineIn
 returns c =
@@ -112,4 +109,4 @@ line-of-spec =
     (tie.spec (λ c κs. search needs) (λ c κs. search needs) (λ c κs. search needs) (λ c κs. search needs) (λ c κs. search needs)
     (λ c κs. search needs) (λ c κs. search needs) (λ c κs. search needs) (λ c κs. search needs) (λ c κs. search needs)
     (λ c κs. search needs) (λ c κs. search needs) (λ c κs. search needs) (λ c κs. search needs) (λ c κs. search needs)
-    (λ c κs. search needs) add-t13 returns)
+    (λ c κs. search needs) (λ c. omega (arith, start-small c, ahead-small c)) returns)

@@ -9,9 +9,6 @@ use Rattle.read_rule.specs.Lines.{numberAt, meetsAt}
 use Rattle.read_rule.proofs.lowest_index.Statement.{statement}
 use Rattle.read_rule.proofs.lowest_index.Tie as tie
 
-returns : tie.Need-returns
-returns c = λ k l. absurd (omega arith)
-
 returns-2 : tie.Need-returns-2
 unfolding meetsAt between
 returns-2 c =
@@ -33,4 +30,6 @@ returns-2 c =
 
 pub lowest-index-spec : {M : Type 1} → statement M
 lowest-index-spec =
-    tie.close (tie.spec returns (λ c. search needs) (λ c. search needs) (λ c κs. search needs) (λ c. search needs) returns-2)
+    tie.close
+    (tie.spec (λ c. λ k l. absurd (omega arith)) (λ c. search needs) (λ c. search needs) (λ c κs. search needs)
+    (λ c. search needs) returns-2)

@@ -15,9 +15,6 @@ Inv-loop line from to i₀ i =
 abbrev μ-loop : tie.MeasureT-loop
 μ-loop line from to i₀ i = to - i
 
-loop-holds : tie.Need-loop-holds Inv-loop μ-loop
-loop-holds c = (c .pre .0, c .pre .1, refl)
-
 meets-requires : tie.Need-meets-requires Inv-loop μ-loop
 meets-requires c κs = (c .before .loop .inv .0, omega (arith, c .before .loop .inv .1, c .if1 .left))
 
@@ -40,4 +37,5 @@ returns-2 c =
 pub settle-spec : {M : Type 1} → statement M
 settle-spec =
     tie.close
-    (tie.spec Inv-loop μ-loop loop-holds meets-requires (λ c. omega arith) (λ c. omega arith) loop-again returns returns-2)
+    (tie.spec Inv-loop μ-loop (λ c. (c .pre .0, c .pre .1, refl)) meets-requires (λ c. omega arith) (λ c. omega arith) loop-again
+    returns returns-2)

@@ -53,18 +53,9 @@ loop-again c =
     let kept = n .next-block .kept .1 .1 .1 in
     (n .next-block .ensures .underway, kept .0 ∙ i .1, kept .1 .0 ∙ i .2, kept .1 .1 .0 ∙ i .3)
 
-same-length : tie.Need-same-length Inv-loop μ-loop
-same-length c = c .before .loop .inv .1
-
-same-length-2 : tie.Need-same-length-2 Inv-loop μ-loop
-same-length-2 c = c .before .loop .inv .2
-
-returns : tie.Need-returns Inv-loop μ-loop
-returns c = tt
-
 pub hash-lines-spec : {M : Type 1} → statement M
 hash-lines-spec =
     tie.close
     (tie.spec Inv-loop μ-loop (λ c κs. search needs) (λ c κs. search needs) loop-holds (λ c. search needs) next-block-requires
-    array-share-prefix-block slice-aggregate-hash-more (λ c κs. search needs) loop-less loop-again same-length same-length-2
-    returns)
+    array-share-prefix-block slice-aggregate-hash-more (λ c κs. search needs) loop-less loop-again (λ c. c .before .loop .inv .1)
+    (λ c. c .before .loop .inv .2) (λ c. tt))

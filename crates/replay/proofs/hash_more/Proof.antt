@@ -12,20 +12,11 @@ Inv-loop before bytes hash₀ i₀ hash i = Unit {0}
 abbrev μ-loop : tie.MeasureT-loop
 μ-loop before bytes hash₀ i₀ hash i = length bytes - i
 
-loop-holds : tie.Need-loop-holds Inv-loop μ-loop
-loop-holds c = tt
-
 loop-less : tie.Need-loop-less Inv-loop μ-loop
 loop-less c = omega (arith, c .before .before .loop-test .taken)
-
-loop-again : tie.Need-loop-again Inv-loop μ-loop
-loop-again c = tt
-
-returns : tie.Need-returns Inv-loop μ-loop
-returns c = tt
 
 pub hash-more-spec : {M : Type 1} → statement M
 hash-more-spec =
     tie.close
-    (tie.spec Inv-loop μ-loop loop-holds (λ c. search needs) (λ c κs. search needs) (λ c. search needs) loop-less loop-again
-    returns)
+    (tie.spec Inv-loop μ-loop (λ c. tt) (λ c. search needs) (λ c κs. search needs) (λ c. search needs) loop-less (λ c. tt)
+    (λ c. tt))

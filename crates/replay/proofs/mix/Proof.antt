@@ -9,11 +9,6 @@ use Rattle.replay.proofs.mix.Tie as tie
 small : (c : tie.Start) → bitXor (c .args .hash) (c .args .byte) < 2 ^ 32
 small c = xor-lt 32 (c .args .hash) (c .args .byte) (search needs) (search needs)
 
-cast-mixed : tie.Need-cast-mixed
-cast-mixed c = omega (arith, small c)
-
-mul-result : tie.Need-mul-result
-mul-result c = omega (arith, small c)
-
 pub mix-spec : {M : Type 1} → statement M
-mix-spec = tie.close (tie.spec cast-mixed mul-result (λ c. search needs) (λ c. search needs))
+mix-spec = tie.close
+    (tie.spec (λ c. omega (arith, small c)) (λ c. omega (arith, small c)) (λ c. search needs) (λ c. search needs))

@@ -13,9 +13,6 @@ started : (t : tie.After-enum-told) → let k = t .before .before .before in let
 started t = let k = t .before .before .before in
     is-started _ _ _ (k .prepare .result) (t .enum-told .given .1) (k .prepare .ensures)
 
-array-share-prefix-image : tie.Need-array-share-prefix-image
-array-share-prefix-image c = started (c .before .before .before) .fits
-
 slice-aggregate-hash-lines : tie.Need-slice-aggregate-hash-lines
 slice-aggregate-hash-lines c = simp length-take (omega (arith, started (c .before .before .before .before) .fits))
 
@@ -26,5 +23,5 @@ pub trial-spec : {M : Type 1} → statement M
 trial-spec =
     tie.close
     (tie.spec (λ c κs. search needs) (λ c. search needs) (λ c. search needs) (λ c κs. search needs) (λ c κs. search needs)
-    (λ c. search needs) (λ c. search needs) array-share-prefix-image slice-aggregate-hash-lines (λ c. search needs)
-    (λ c. search needs) hash-lines-requires (λ c κs. search needs) (λ c. search needs))
+    (λ c. search needs) (λ c. search needs) (λ c. started (c .before .before .before) .fits) slice-aggregate-hash-lines
+    (λ c. search needs) (λ c. search needs) hash-lines-requires (λ c κs. search needs) (λ c. search needs))

@@ -45,23 +45,8 @@ two e =
     by (eqb b 0x51) (λ t. load-leaf _ _ _ _ (s .pre .2) (eqb-true b 0x51 t) .0)
     (λ t. fetch-leaf _ _ _ _ (s .pre .2) (omega (arith, s .pre .0, s .pre .1, e .if1 .left, eqb-false b 0x51 t)) .0)
 
-shared-slice-read-byte : tie.Need-shared-slice-read-byte
-shared-slice-read-byte c = within _ _ _ _ (c .before .before .pre .2)
-
-add-word-at : tie.Need-add-word-at
-add-word-at c = omega (arith, at-push c .0)
-
-word-at-requires : tie.Need-word-at-requires
-word-at-requires c κs = omega (arith, at-push c .0)
-
 returns : tie.Need-returns
 returns c = let t = c .before in kept _ (c .word-at .ok) ∙ c .word-at .ensures ∙ rw (at-push t .1)
-
-add-wide : tie.Need-add-wide
-add-wide c = omega (arith, two c)
-
-shared-slice-read-wide : tie.Need-shared-slice-read-wide
-shared-slice-read-wide c = omega (arith, two (c .before))
 
 shared-slice-copy-out-result : tie.Need-shared-slice-copy-out-result
 shared-slice-copy-out-result c = omega (arith, c .before .wide .ensures .0, at-load c .1)
@@ -86,6 +71,7 @@ returns-3 c =
 pub leaf-word-spec : {M : Type 1} → statement M
 leaf-word-spec =
     tie.close
-    (tie.spec shared-slice-read-byte add-word-at word-at-requires returns add-wide shared-slice-read-wide (λ c κs. search needs)
-    (λ c. search needs) (λ c. search needs) shared-slice-copy-out-result returns-2 (λ c. search needs)
+    (tie.spec (λ c. within _ _ _ _ (c .before .before .pre .2)) (λ c. omega (arith, at-push c .0))
+    (λ c κs. omega (arith, at-push c .0)) returns (λ c. omega (arith, two c)) (λ c. omega (arith, two (c .before)))
+    (λ c κs. search needs) (λ c. search needs) (λ c. search needs) shared-slice-copy-out-result returns-2 (λ c. search needs)
     shared-slice-copy-out-result-2 returns-3)

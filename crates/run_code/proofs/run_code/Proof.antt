@@ -164,9 +164,6 @@ loop-holds c =
       most = omega (arith, c .new .ensures .1);
     }
 
-add-count : tie.Need-add-count Inv-loop μ-loop
-add-count c = omega (arith, few (c .before .before))
-
 pop-requires : tie.Need-pop-requires Inv-loop μ-loop
 pop-requires c κs = (omega (arith, last _ _ _ _ _ (at-store c .1) .0), c .before .before .before .loop .inv .most)
 
@@ -198,15 +195,6 @@ loop-again-2 c =
 leaf-word-requires : tie.Need-leaf-word-requires Inv-loop μ-loop
 leaf-word-requires c κs = (c .before .if1 .left, omega (arith, c .if2 .taken), at-leaf c .reads)
 
-leaf-length-requires : tie.Need-leaf-length-requires Inv-loop μ-loop
-leaf-length-requires c κs = tt
-
-add-at-2 : tie.Need-add-at-2 Inv-loop μ-loop
-add-at-2 c = omega (arith, inside c)
-
-shared-slice-read-next : tie.Need-shared-slice-read-next Inv-loop μ-loop
-shared-slice-read-next c = inside (c .before)
-
 add-count-2 : tie.Need-add-count-2 Inv-loop μ-loop
 add-count-2 c = omega (arith, few (turn (leaf-of (c .before .before))))
 
@@ -215,9 +203,6 @@ returns-2 c =
     let o = c .before .before in
     let ends = last _ _ _ _ _ (store _ _ _ _ _ (inside o) (follows o) (c .if3 .taken) .1) in
     (kept _ (o .before .leaf-word .ok) ∙ ends .1, ends .2)
-
-operator-requires : tie.Need-operator-requires Inv-loop μ-loop
-operator-requires c κs = (then-binary c .0, then-binary c .1)
 
 binary-with-requires : tie.Need-binary-with-requires Inv-loop μ-loop
 binary-with-requires c κs = (
@@ -261,9 +246,6 @@ loop-again-4 c =
     ap (λ (z : ℤ). z ∷ view (turn (leaf-of o) .loop .stack)) (kept _ (o .before .leaf-word .ok))) (c .push .ensures .1)
     (follows o)
 
-operator-requires-2 : tie.Need-operator-requires-2 Inv-loop μ-loop
-operator-requires-2 c κs = (at-binary c .0, at-binary c .1)
-
 binary-requires : tie.Need-binary-requires Inv-loop μ-loop
 binary-requires c κs = (combined _ _ _ _ _ (at-operator c) .0, c .before .before .before .before .before .loop .inv .most)
 
@@ -280,7 +262,8 @@ pub run-code-spec : {M : Type 1} → statement M
 run-code-spec =
     tie.close
     (tie.spec Inv-loop μ-loop (λ c κs. search needs) (λ c κs. search needs) loop-holds (λ c. search needs) (λ c. search needs)
-    add-count pop-requires returns unary-requires (λ c. omega arith) loop-again choose-requires (λ c. omega arith) loop-again-2
-    leaf-word-requires leaf-length-requires add-at-2 shared-slice-read-next add-count-2 returns-2 operator-requires
-    binary-with-requires add-at-3 add-count-3 push-requires loop-less-3 loop-again-3 loop-less-4 loop-again-4
-    operator-requires-2 binary-requires (λ c. omega arith) loop-again-5 returns-3)
+    (λ c. omega (arith, few (c .before .before))) pop-requires returns unary-requires (λ c. omega arith) loop-again
+    choose-requires (λ c. omega arith) loop-again-2 leaf-word-requires (λ c κs. tt) (λ c. omega (arith, inside c))
+    (λ c. inside (c .before)) add-count-2 returns-2 (λ c κs. (then-binary c .0, then-binary c .1)) binary-with-requires add-at-3
+    add-count-3 push-requires loop-less-3 loop-again-3 loop-less-4 loop-again-4 (λ c κs. (at-binary c .0, at-binary c .1))
+    binary-requires (λ c. omega arith) loop-again-5 returns-3)

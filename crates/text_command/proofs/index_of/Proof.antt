@@ -3,11 +3,6 @@ use borrow.Author.Tests.{ne-eqb}
 use Rattle.text_command.proofs.index_of.Statement.{statement}
 use Rattle.text_command.proofs.index_of.Tie as tie
 
-returns : tie.Need-returns
-returns c = rw (c .if1 .taken)
-
-returns-2 : tie.Need-returns-2
-returns-2 c = rw (ne-eqb _ 255 (c .if1 .left))
-
 pub index-of-spec : {M : Type 1} → statement M
-index-of-spec = tie.close (tie.spec returns returns-2)
+index-of-spec = tie.close
+    (tie.spec (λ c. rw (c .if1 .taken)) (λ c. rw (ne-eqb _ 255 (c .if1 .left))))

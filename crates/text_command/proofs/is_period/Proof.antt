@@ -3,11 +3,6 @@ use borrow.Author.Tests.{le-leb, lt-leb}
 use Rattle.text_command.proofs.is_period.Statement.{statement}
 use Rattle.text_command.proofs.is_period.Tie as tie
 
-returns : tie.Need-returns
-returns c = rw (le-leb 1 _ (c .if1 .taken))
-
-returns-2 : tie.Need-returns-2
-returns-2 c = rw (lt-leb 1 _ (c .if1 .left))
-
 pub is-period-spec : {M : Type 1} → statement M
-is-period-spec = tie.close (tie.spec returns returns-2)
+is-period-spec = tie.close
+    (tie.spec (λ c. rw (le-leb 1 _ (c .if1 .taken))) (λ c. rw (lt-leb 1 _ (c .if1 .left))))

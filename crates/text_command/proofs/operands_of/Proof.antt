@@ -39,10 +39,8 @@ returns-3 : tie.Need-returns-3
 unfolding operandsOf
 returns-3 c = rw (c .enum-told3 .given .1)
 
-returns-4 : tie.Need-returns-4
-returns-4 c = none _ (c .match .keys4)
-
 pub operands-of-spec : {M : Type 1} → statement M
 operands-of-spec =
     tie.close
-    (tie.spec (λ c. search needs) (λ c. search needs) (λ c. search needs) returns returns-2 returns-3 returns-4)
+    (tie.spec (λ c. search needs) (λ c. search needs) (λ c. search needs) returns returns-2 returns-3
+    (λ c. none _ (c .match .keys4)))

@@ -23,12 +23,6 @@ apart : {A B : Type 0} {b : ℕ} → A ⊎ B → (A → b < 0x21) → (B → 0x2
 apart (inl t) f g l h = omega (arith, f t)
 apart (inr t) f g l h = omega (arith, g t)
 
-shared-slice-read-byte : tie.Need-shared-slice-read-byte
-shared-slice-read-byte c = stands-inside (c .before .before .pre)
-
-constant-at-requires : tie.Need-constant-at-requires
-constant-at-requires c κs = stands-inside (c .before .before .before .pre)
-
 standing-read-requires : tie.Need-standing-read-requires
 standing-read-requires c κs =
     let s = c .before .before .before .before .before in
@@ -47,9 +41,6 @@ returns-3 : tie.Need-returns-3
 unfolding operatorOf
 returns-3 c = let h = here (c .before .before .before) in (rw (c .match .keys3) at h)
 
-returns-4 : tie.Need-returns-4
-returns-4 c = c .standing-read .ensures
-
 returns-5 : tie.Need-returns-5
 returns-5 c =
     let s = c .before .before .before .before .before in
@@ -62,5 +53,5 @@ returns-5 c =
 pub operator-at-spec : {M : Type 1} → statement M
 operator-at-spec =
     tie.close
-    (tie.spec shared-slice-read-byte constant-at-requires standing-read-requires (λ c κs. search needs) returns returns-2
-    returns-3 returns-4 returns-5)
+    (tie.spec (λ c. stands-inside (c .before .before .pre)) (λ c κs. stands-inside (c .before .before .before .pre))
+    standing-read-requires (λ c κs. search needs) returns returns-2 returns-3 (λ c. c .standing-read .ensures) returns-5)

@@ -31,12 +31,6 @@ space c =
     room (step c) (c .before .before .loop .inv .1)
     (copy-fits (a .text .now) (a .at) (a .n) (a .to) _ (c3 .pre .0) (c3 .pre .1))
 
-loop-holds : tie.Need-loop-holds Inv-loop μ-loop
-loop-holds c = (omega (arith, c .pre .0), starts)
-
-slice-write-out : tie.Need-slice-write-out Inv-loop μ-loop
-slice-write-out c = omega (arith, space c)
-
 add-end : tie.Need-add-end Inv-loop μ-loop
 add-end c = omega (arith, space c, c .before .before .loop .inv .1 .size)
 
@@ -46,14 +40,11 @@ loop-again c = (
   turn (step c) (c .before .before .loop .inv .1) (record { holds = refl; ends = refl }),
 )
 
-same-length : tie.Need-same-length Inv-loop μ-loop
-same-length c = c .before .loop .inv .1 .size
-
 returns : tie.Need-returns Inv-loop μ-loop
 returns c = done (take-none (c .before .loop .left) _ (omega arith)) (c .before .loop .inv .1)
 
 pub copy-spec : {M : Type 1} → statement M
 copy-spec =
     tie.close
-    (tie.spec Inv-loop μ-loop loop-holds (λ c. search needs) slice-write-out add-end (λ c. search needs) (λ c. search needs)
-    (λ c. search needs) loop-again same-length returns)
+    (tie.spec Inv-loop μ-loop (λ c. (omega (arith, c .pre .0), starts)) (λ c. search needs) (λ c. omega (arith, space c)) add-end
+    (λ c. search needs) (λ c. search needs) (λ c. search needs) loop-again (λ c. c .before .loop .inv .1 .size) returns)

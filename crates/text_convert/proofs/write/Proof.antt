@@ -44,9 +44,6 @@ loop-again c =
     let t = now-turn c5 in
     rw (c .width-in .ensures) (t .inside, turn (t .parts) (c7 .loop .inv .1) (c3 .put .ensures))
 
-same-length : tie.Need-same-length Inv-loop μ-loop
-same-length c = c .before .loop .inv .1 .size
-
 returns : tie.Need-returns Inv-loop μ-loop
 returns c =
     done (rewrite-ends (c .before .before .before .before .args .text .now) (c .before .loop .at) (c .before .loop .left)
@@ -57,4 +54,4 @@ pub write-spec : {M : Type 1} → statement M
 write-spec =
     tie.close
     (tie.spec Inv-loop μ-loop loop-holds (λ c κs. search needs) put-requires (λ c κs. search needs) add-at (λ c. search needs)
-    (λ c. search needs) loop-again same-length returns)
+    (λ c. search needs) loop-again (λ c. c .before .loop .inv .1 .size) returns)

@@ -35,9 +35,6 @@ none n h = omega arith
 some : (n : ℕ) → n < 16 → 16 - n ≡ suc (16 - (n + 1))
 some n h = omega arith
 
-loop-holds : tie.Need-loop-holds Inv-loop μ-loop
-loop-holds c = ([], refl, omega arith, refl)
-
 returns : tie.Need-returns Inv-loop μ-loop
 unfolding linksOf
 returns c =
@@ -85,12 +82,6 @@ there : (c : tie.After-enum-told Inv-loop μ-loop) →
     loop (c .before .before .before) .loop .next + 2 ≤ length (text (c .before .before .before))
 there c = link-there _ _ (c .before .before .link-at .ensures) (c .enum-told .given .1)
 
-add-next : tie.Need-add-next Inv-loop μ-loop
-add-next c = omega (arith, there (c .before))
-
-loop-less : tie.Need-loop-less Inv-loop μ-loop
-loop-less c = omega (arith, there (c .before))
-
 loop-again : tie.Need-loop-again Inv-loop μ-loop
 loop-again c =
     let b = c .before .before .before .before in
@@ -110,6 +101,6 @@ returns-4 c =
 pub read-links-spec : {M : Type 1} → statement M
 read-links-spec =
     tie.close
-    (tie.spec Inv-loop μ-loop loop-holds (λ c. search needs) returns (λ c κs. search needs) returns-2 (λ c κs. search needs)
-    (λ c. search needs) (λ c κs. search needs) returns-3 (λ c κs. search needs) add-next (λ c. omega arith) loop-less loop-again
-    returns-4)
+    (tie.spec Inv-loop μ-loop (λ c. ([], refl, omega arith, refl)) (λ c. search needs) returns (λ c κs. search needs) returns-2
+    (λ c κs. search needs) (λ c. search needs) (λ c κs. search needs) returns-3 (λ c κs. search needs)
+    (λ c. omega (arith, there (c .before))) (λ c. omega arith) (λ c. omega (arith, there (c .before))) loop-again returns-4)

@@ -105,9 +105,6 @@ loop-holds c =
     let pre = c .before .before .before .pre in
     (refl, starts-empty _ _ _ _ (pre .0) (pre .1) (c .new .ensures))
 
-read-command-requires : tie.Need-read-command-requires Inv-loop μ-loop
-read-command-requires c κs = c .before .before .loop .inv .1 .room
-
 returns : tie.Need-returns Inv-loop μ-loop
 returns c =
     let b = c .before .before .before .before in
@@ -115,17 +112,11 @@ returns c =
     program-stops (top .loop .inv .1) (b .before .before .loop-test .taken) _ _ (c .before .match .keys2)
     (b .read-command .ensures _ _ (top .loop .inv .1 .tables .counts)) _ (c .judged-at .ensures)
 
-loop-less : tie.Need-loop-less Inv-loop μ-loop
-loop-less c = forward (c .before .before .before)
-
 loop-again : tie.Need-loop-again Inv-loop μ-loop
 loop-again c = let k = c .before .before .before in (
   kept-size k ∙ top k .loop .inv .0,
   signal-next (reading k) (inside k) (added k) (c .before .entry .given .1),
 )
-
-loop-less-2 : tie.Need-loop-less-2 Inv-loop μ-loop
-loop-less-2 c = forward (c .before .before .before)
 
 loop-again-2 : tie.Need-loop-again-2 Inv-loop μ-loop
 loop-again-2 c = let k = c .before .before .before in (
@@ -133,17 +124,11 @@ loop-again-2 c = let k = c .before .before .before in (
   chain-next (reading k) (inside k) (added k) (c .before .entry2 .given .1),
 )
 
-loop-less-3 : tie.Need-loop-less-3 Inv-loop μ-loop
-loop-less-3 c = forward (c .before .before .before)
-
 loop-again-3 : tie.Need-loop-again-3 Inv-loop μ-loop
 loop-again-3 c = let k = c .before .before .before in (
   kept-size k ∙ top k .loop .inv .0,
   cap-next (reading k) (inside k) (added k) (c .before .entry3 .given .1),
 )
-
-loop-less-4 : tie.Need-loop-less-4 Inv-loop μ-loop
-loop-less-4 c = forward (c .before .before .before)
 
 loop-again-4 : tie.Need-loop-again-4 Inv-loop μ-loop
 loop-again-4 c = let k = c .before .before .before in (
@@ -159,15 +144,16 @@ returns-2 c =
 pub read-program-spec : {M : Type 1} → statement M
 read-program-spec =
     tie.close
-    (tie.spec Inv-loop μ-loop (λ c κs. search needs) loop-holds read-command-requires (λ c. search needs) (λ c κs. search needs)
-    (λ c. search needs) returns (λ c. search needs) (λ c. omega (arith, place-small (adds c)))
+    (tie.spec Inv-loop μ-loop (λ c κs. search needs) loop-holds (λ c κs. c .before .before .loop .inv .1 .room)
+    (λ c. search needs) (λ c κs. search needs) (λ c. search needs) returns (λ c. search needs)
+    (λ c. omega (arith, place-small (adds c))) (λ c. omega (arith, fits c .below)) (λ c. omega (arith, fits c .below))
     (λ c. omega (arith, fits c .below)) (λ c. omega (arith, fits c .below)) (λ c. omega (arith, fits c .below))
+    (λ c. omega (arith, fits c .below)) (λ c. omega (arith, fits c .below)) (λ c. omega (arith, fits c .few))
     (λ c. omega (arith, fits c .below)) (λ c. omega (arith, fits c .below)) (λ c. omega (arith, fits c .below))
-    (λ c. omega (arith, fits c .below)) (λ c. omega (arith, fits c .few)) (λ c. omega (arith, fits c .below))
-    (λ c. omega (arith, fits c .below)) (λ c. omega (arith, fits c .below)) (λ c. omega (arith, fits c .small))
-    (λ c. omega (arith, fits c .below)) (λ c. omega (arith, fits c .below)) (λ c. omega (arith, fits c .below))
-    (λ c. omega (arith, fits c .below)) loop-less loop-again (λ c. search needs) (λ c. omega (arith, chains-below c))
+    (λ c. omega (arith, fits c .small)) (λ c. omega (arith, fits c .below)) (λ c. omega (arith, fits c .below))
+    (λ c. omega (arith, fits c .below)) (λ c. omega (arith, fits c .below)) (λ c. forward (c .before .before .before)) loop-again
+    (λ c. search needs) (λ c. omega (arith, chains-below c)) (λ c. omega (arith, chains-below c))
     (λ c. omega (arith, chains-below c)) (λ c. omega (arith, chains-below c)) (λ c. omega (arith, chains-below c))
-    (λ c. omega (arith, chains-below c)) loop-less-2 loop-again-2 (λ c. search needs) loop-less-3 loop-again-3
-    (λ c. search needs) loop-less-4 loop-again-4 (λ c κs. search needs) (λ c κs. search needs) (λ c κs. search needs)
-    (λ c. search needs) returns-2)
+    (λ c. forward (c .before .before .before)) loop-again-2 (λ c. search needs) (λ c. forward (c .before .before .before))
+    loop-again-3 (λ c. search needs) (λ c. forward (c .before .before .before)) loop-again-4 (λ c κs. search needs)
+    (λ c κs. search needs) (λ c κs. search needs) (λ c. search needs) returns-2)

@@ -27,9 +27,6 @@ below : {P : ℕ → Type 0} (y x : ℕ) → Dec (y < x) → y < x + 1 → ((z :
 below {P} y x (yes q) h f g = f y q
 below {P} y x (no q) h f g = subst P (omega arith) g
 
-loop-holds : tie.Need-loop-holds Inv-loop μ-loop
-loop-holds c = (omega arith, c .pre, λ y h. absurd (none y h))
-
 returns : tie.Need-returns Inv-loop μ-loop
 unfolding allRanked
 returns c = sym (not-all _ _ (c .before .before .before .loop .x) (c .before .before .loop-test .taken)
@@ -47,4 +44,5 @@ returns-2 c = sym (true-all _ _ (λ y h. c .before .loop .inv .2 y (omega arith)
 pub all-put-spec : {M : Type 1} → statement M
 all-put-spec =
     tie.close
-    (tie.spec Inv-loop μ-loop loop-holds (λ c. omega arith) returns (λ c. omega arith) (λ c. omega arith) loop-again returns-2)
+    (tie.spec Inv-loop μ-loop (λ c. (omega arith, c .pre, λ y h. absurd (none y h))) (λ c. omega arith) returns
+    (λ c. omega arith) (λ c. omega arith) loop-again returns-2)

@@ -115,21 +115,6 @@ module _ (c : tie.After-wide Inv-loop μ-loop) where
   puts-few : top judged-at .loop .puts < 64
   puts-few = let l = top judged-at in omega (arith, l .loop .inv .0, l .loop .inv .3)
 
-array-write-order : tie.Need-array-write-order Inv-loop μ-loop
-array-write-order c = puts-few c
-
-array-write-phases : tie.Need-array-write-phases Inv-loop μ-loop
-array-write-phases c = signal-low c
-
-cast-ranks : tie.Need-cast-ranks Inv-loop μ-loop
-cast-ranks c = omega (arith, puts-few c)
-
-array-write-ranks : tie.Need-array-write-ranks Inv-loop μ-loop
-array-write-ranks c = signal-low c
-
-add-puts : tie.Need-add-puts Inv-loop μ-loop
-add-puts c = omega (arith, puts-few c)
-
 loop-again : tie.Need-loop-again Inv-loop μ-loop
 loop-again c =
     let w = c .before in
@@ -183,5 +168,6 @@ place-signals-spec =
     tie.close
     (tie.spec Inv-loop μ-loop loop-holds (λ c κs. search needs) (λ c. search needs) (λ c κs. search needs) returns
     (λ c κs. omega arith) (λ c. search needs) (λ c. search needs) (λ c κs. search needs) returns-2 (λ c κs. search needs)
-    array-write-order array-write-phases cast-ranks array-write-ranks add-puts (λ c κs. search needs) (λ c. omega arith)
-    (λ c. omega arith) loop-again (λ c κs. omega arith) (λ c κs. search needs) (λ c κs. search needs) returns-3 returns-4)
+    puts-few signal-low (λ c. omega (arith, puts-few c)) signal-low (λ c. omega (arith, puts-few c)) (λ c κs. search needs)
+    (λ c. omega arith) (λ c. omega arith) loop-again (λ c κs. omega arith) (λ c κs. search needs) (λ c κs. search needs)
+    returns-3 returns-4)

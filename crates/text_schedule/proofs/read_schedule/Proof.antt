@@ -45,9 +45,6 @@ returns c =
     (puts-stop text (l .at) (i .1 - 1) (i .0) _ (c .before .match .keys2)
     (sym (c .before .before .schedule-command-at .ensures))))
 
-add-at : tie.Need-add-at Inv-loop μ-loop
-add-at c = omega (arith, inside (c .before))
-
 loop-again : tie.Need-loop-again Inv-loop μ-loop
 loop-again c =
     let c3 = c .before .before .before in
@@ -76,4 +73,5 @@ pub read-schedule-spec : {M : Type 1} → statement M
 read-schedule-spec =
     tie.close
     (tie.spec Inv-loop μ-loop loop-holds (λ c κs. search needs) (λ c. search needs) (λ c κs. search needs) returns
-    (λ c κs. search needs) add-at (λ c. omega arith) loop-again (λ c κs. search needs) returns-2)
+    (λ c κs. search needs) (λ c. omega (arith, inside (c .before))) (λ c. omega arith) loop-again (λ c κs. search needs)
+    returns-2)

@@ -14,9 +14,6 @@ started t =
     let k = t .before .before .before in
     is-started _ _ _ (k .prepare .result) (t .enum-told .given .1) (k .prepare .ensures)
 
-array-share-prefix-image : tie.Need-array-share-prefix-image
-array-share-prefix-image c = started (c .before .before .before) .fits
-
 slice-aggregate-print-lines : tie.Need-slice-aggregate-print-lines
 slice-aggregate-print-lines c = simp length-take (omega (arith, started (c .before .before .before .before) .fits))
 
@@ -27,5 +24,5 @@ pub run-spec : {M : Type 1} → statement M
 run-spec =
     tie.close
     (tie.spec (λ c κs. search needs) (λ c. search needs) (λ c κs. search needs) (λ c. search needs) (λ c. search needs)
-    array-share-prefix-image slice-aggregate-print-lines (λ c. search needs) (λ c. search needs) print-lines-requires
-    (λ c. search needs))
+    (λ c. started (c .before .before .before) .fits) slice-aggregate-print-lines (λ c. search needs) (λ c. search needs)
+    print-lines-requires (λ c. search needs))

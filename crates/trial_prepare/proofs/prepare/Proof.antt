@@ -29,17 +29,8 @@ imaged : (l : tie.After-stated-length) → let i = l .before .before .before .be
     (l .stated-length .result)
 imaged l = first-bytes _ _ _ _ (made (l .before .before)) _ (l .stated-length .ensures)
 
-array-share-prefix-image : tie.Need-array-share-prefix-image
-array-share-prefix-image c = made c .inside
-
 slice-aggregate-stated-length : tie.Need-slice-aggregate-stated-length
 slice-aggregate-stated-length c = simp length-take (omega (arith, made (c .before) .inside))
-
-stated-length-requires : tie.Need-stated-length-requires
-stated-length-requires c κs = has-head _ _ _ _ (made (c .before))
-
-array-share-prefix-image-2 : tie.Need-array-share-prefix-image-2
-array-share-prefix-image-2 c = imaged c .inside
 
 slice-aggregate-prepare-image : tie.Need-slice-aggregate-prepare-image
 slice-aggregate-prepare-image c = simp length-take (omega (arith, imaged (c .before) .inside))
@@ -64,6 +55,6 @@ returns-2 c =
 pub prepare-spec : {M : Type 1} → statement M
 prepare-spec =
     tie.close
-    (tie.spec (λ c. search needs) (λ c κs. search needs) (λ c. search needs) array-share-prefix-image
-    slice-aggregate-stated-length stated-length-requires array-share-prefix-image-2 slice-aggregate-prepare-image
-    prepare-image-requires (λ c. search needs) (λ c κs. search needs) returns returns-2)
+    (tie.spec (λ c. search needs) (λ c κs. search needs) (λ c. search needs) (λ c. made c .inside) slice-aggregate-stated-length
+    (λ c κs. has-head _ _ _ _ (made (c .before))) (λ c. imaged c .inside) slice-aggregate-prepare-image prepare-image-requires
+    (λ c. search needs) (λ c κs. search needs) returns returns-2)

@@ -30,9 +30,6 @@ fine : (e : tie.After-enum-told) → let a = e .before .before .before .before .
     checkOf (fetches (a .image .now)) (a .text .now) ≡ accepted tt
 fine e = let k = e .before .before in sym (judged-is k) ∙ ap ruledOf (e .enum-told .given .1)
 
-count-cycles-requires : tie.Need-count-cycles-requires
-count-cycles-requires c κs = checked-short _ _ (fine c)
-
 returns-2 : tie.Need-returns-2
 unfolding PreparesOn
 returns-2 c =
@@ -49,4 +46,4 @@ pub prepare-image-spec : {M : Type 1} → statement M
 prepare-image-spec =
     tie.close
     (tie.spec (λ c κs. search needs) (λ c κs. search needs) (λ c. search needs) (λ c κs. search needs) returns
-    (λ c. search needs) count-cycles-requires (λ c. search needs) (λ c κs. search needs) returns-2)
+    (λ c. search needs) (λ c κs. checked-short _ _ (fine c)) (λ c. search needs) (λ c κs. search needs) returns-2)

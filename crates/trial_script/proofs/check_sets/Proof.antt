@@ -41,9 +41,6 @@ stands : (m : tie.After-may-stand Inv-loop μ-loop) →
     let w = m .before .before in m .may-stand .result ≡ mayStand (isInput w) (scriptCommandAt (text w) (turn w .loop .at))
 stands m = let w = m .before .before in m .may-stand .ensures ∙ ap (mayStand (isInput w)) (w .before .script-command-at .ensures)
 
-loop-holds : tie.Need-loop-holds Inv-loop μ-loop
-loop-holds c = (refl, omega arith)
-
 returns : tie.Need-returns Inv-loop μ-loop
 returns c = let w = c .before in
     let l = turn w in
@@ -79,5 +76,5 @@ returns-3 c = let l = c .before in
 pub check-sets-spec : {M : Type 1} → statement M
 check-sets-spec =
     tie.close
-    (tie.spec Inv-loop μ-loop loop-holds (λ c κs. search needs) (λ c κs. search needs) returns (λ c κs. search needs)
-    (λ c κs. search needs) returns-2 add-at loop-less loop-again returns-3)
+    (tie.spec Inv-loop μ-loop (λ c. (refl, omega arith)) (λ c κs. search needs) (λ c κs. search needs) returns
+    (λ c κs. search needs) (λ c κs. search needs) returns-2 add-at loop-less loop-again returns-3)

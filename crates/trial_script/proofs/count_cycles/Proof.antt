@@ -30,9 +30,6 @@ width w = w .action-width .ensures ∙ ap actionWidth (w .before .script-command
 within : (w : tie.After-action-width Inv-loop μ-loop) → turn w .loop .at + w .action-width .result ≤ length (text w)
 within w = inside (text w) (turn w .loop .at) (w .action-width .result) (width w) (w .before .before .loop-test .taken)
 
-loop-holds : tie.Need-loop-holds Inv-loop μ-loop
-loop-holds c = (omega arith, omega arith, omega arith)
-
 returns : tie.Need-returns Inv-loop μ-loop
 returns c = let w = c .before in
     let l = turn w in
@@ -66,5 +63,5 @@ returns-2 c = let l = c .before in
 pub count-cycles-spec : {M : Type 1} → statement M
 count-cycles-spec =
     tie.close
-    (tie.spec Inv-loop μ-loop loop-holds (λ c κs. search needs) (λ c κs. search needs) returns (λ c κs. search needs)
-    (λ c κs. search needs) add-total add-at loop-less loop-again returns-2)
+    (tie.spec Inv-loop μ-loop (λ c. (omega arith, omega arith, omega arith)) (λ c κs. search needs) (λ c κs. search needs)
+    returns (λ c κs. search needs) (λ c κs. search needs) add-total add-at loop-less loop-again returns-2)

@@ -20,9 +20,6 @@ abbrev μ-loop : tie.MeasureT-loop
 shared-slice-read-n : tie.Need-shared-slice-read-n Inv-loop μ-loop
 shared-slice-read-n c = omega (arith, head _ (formed _ (c .before .before .pre) .good) .four)
 
-loop-holds : tie.Need-loop-holds Inv-loop μ-loop
-loop-holds c = (marks-none _, omega arith)
-
 add-x : tie.Need-add-x Inv-loop μ-loop
 add-x c = record { fits = omega (arith, c .before .before .before .before .before .shared-slice-known .given 1 .fits) }
 
@@ -47,5 +44,5 @@ returns c y =
 pub mark-inputs-spec : {M : Type 1} → statement M
 mark-inputs-spec =
     tie.close
-    (tie.spec Inv-loop μ-loop shared-slice-read-n loop-holds (λ c κs. search needs) (λ c κs. search needs) (λ c. search needs)
-    add-x (λ c. search needs) loop-again returns)
+    (tie.spec Inv-loop μ-loop shared-slice-read-n (λ c. (marks-none _, omega arith)) (λ c κs. search needs)
+    (λ c κs. search needs) (λ c. search needs) add-x (λ c. search needs) loop-again returns)

@@ -29,9 +29,6 @@ width w = w .action-width .ensures ∙ ap actionWidth (w .before .script-command
 within : (w : tie.After-action-width Inv-loop μ-loop) → turn w .loop .at + w .action-width .result ≤ length (text w)
 within w = inside (text w) (turn w .loop .at) (w .action-width .result) (width w) (w .before .before .loop-test .taken)
 
-loop-holds : tie.Need-loop-holds Inv-loop μ-loop
-loop-holds c = (refl, omega arith)
-
 returns : tie.Need-returns Inv-loop μ-loop
 returns c = let t = c .before in
     let w = t .before in
@@ -57,5 +54,5 @@ returns-2 c = let l = c .before .before in
 pub read-script-spec : {M : Type 1} → statement M
 read-script-spec =
     tie.close
-    (tie.spec Inv-loop μ-loop loop-holds (λ c κs. search needs) (λ c κs. search needs) (λ c κs. omega arith) returns add-at
-    loop-less loop-again (λ c κs. search needs) returns-2)
+    (tie.spec Inv-loop μ-loop (λ c. (refl, omega arith)) (λ c κs. search needs) (λ c κs. search needs) (λ c κs. omega arith)
+    returns add-at loop-less loop-again (λ c κs. search needs) returns-2)

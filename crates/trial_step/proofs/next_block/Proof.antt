@@ -36,12 +36,6 @@ block-same b =
 loop-holds : tie.Need-loop-holds Inv-loop μ-loop
 loop-holds c = let s = c .before .before .before in filling-none _ (s .pre .0)
 
-sub-loop : tie.Need-sub-loop Inv-loop μ-loop
-sub-loop c = c .loop .inv .fits
-
-sub-next-line : tie.Need-sub-next-line Inv-loop μ-loop
-sub-next-line c = c .before .before .before .loop .inv .fits
-
 next-line-requires : tie.Need-next-line-requires Inv-loop μ-loop
 next-line-requires c κs =
     let l = c .before .before .before .before in
@@ -100,24 +94,12 @@ add-size c =
     let l = turn (at-step c) in
     omega (arith, l .loop .inv .fits, this c .fits, at-step c .next-line .kept .1 .1 .1 .1 .1 .0)
 
-loop-less : tie.Need-loop-less Inv-loop μ-loop
-loop-less c = omega (arith, ap length (this c .next-line))
-
 loop-again : tie.Need-loop-again Inv-loop μ-loop
 loop-again c =
     let n = at-step c in
     let l = turn n in
     filling-more (postOf (l .loop .size) (length (l .loop .block) - l .loop .size) (l .loop .block)) (l .loop .inv) (this c)
     (n .next-line .kept .1 .1 .1 .0) (n .next-line .kept .1 .1 .1 .1 .0) (block-same (c .before .before .before .before))
-
-same-length-4 : tie.Need-same-length-4 Inv-loop μ-loop
-same-length-4 c = c .before .loop .inv .samples-kept
-
-same-length-5 : tie.Need-same-length-5 Inv-loop μ-loop
-same-length-5 c = c .before .loop .inv .state-kept
-
-same-length-6 : tie.Need-same-length-6 Inv-loop μ-loop
-same-length-6 c = c .before .loop .inv .block-kept
 
 returns-2 : tie.Need-returns-2 Inv-loop μ-loop
 returns-2 c =
@@ -136,6 +118,8 @@ returns-2 c =
 pub next-block-spec : {M : Type 1} → statement M
 next-block-spec =
     tie.close
-    (tie.spec Inv-loop μ-loop loop-holds sub-loop sub-next-line (λ c. search needs) (λ c. search needs) next-line-requires
-    (λ c. search needs) (λ c. search needs) same-length same-length-2 same-length-3 returns add-size loop-less loop-again
-    same-length-4 same-length-5 same-length-6 returns-2)
+    (tie.spec Inv-loop μ-loop loop-holds (λ c. c .loop .inv .fits) (λ c. c .before .before .before .loop .inv .fits)
+    (λ c. search needs) (λ c. search needs) next-line-requires (λ c. search needs) (λ c. search needs) same-length same-length-2
+    same-length-3 returns add-size (λ c. omega (arith, ap length (this c .next-line))) loop-again
+    (λ c. c .before .loop .inv .samples-kept) (λ c. c .before .loop .inv .state-kept) (λ c. c .before .loop .inv .block-kept)
+    returns-2)

@@ -50,12 +50,6 @@ here r =
     (r .before .before .alter .ensures ∙ ap (altered (l .loop .samples)) is)
     (r .cycles-made .ensures ∙ ap cyclesMade is)
 
-loop-holds : tie.Need-loop-holds Inv-loop μ-loop
-loop-holds c = (refl, refl)
-
-same-length : tie.Need-same-length Inv-loop μ-loop
-same-length c = turn (c .before) .loop .inv .1
-
 returns : tie.Need-returns Inv-loop μ-loop
 returns c = let w = c .before in
     let l = turn w in
@@ -90,9 +84,6 @@ loop-again c = let r = c .before in
       r .before .before .alter .kept .0 ∙ l .loop .inv .1,
     )
 
-same-length-3 : tie.Need-same-length-3 Inv-loop μ-loop
-same-length-3 c = c .before .loop .inv .1
-
 returns-3 : tie.Need-returns-3 Inv-loop μ-loop
 returns-3 c = let l = c .before in
     let none = actions-past (l .before .before .args .text .now) (l .loop .at) (omega arith) in
@@ -101,6 +92,6 @@ returns-3 c = let l = c .before in
 pub seek-spec : {M : Type 1} → statement M
 seek-spec =
     tie.close
-    (tie.spec Inv-loop μ-loop loop-holds (λ c κs. search needs) (λ c κs. search needs) same-length returns
-    (λ c κs. search needs) add-at (λ c κs. search needs) (λ c. search needs) same-length-2 returns-2 loop-less loop-again
-    same-length-3 returns-3)
+    (tie.spec Inv-loop μ-loop (λ c. (refl, refl)) (λ c κs. search needs) (λ c κs. search needs)
+    (λ c. turn (c .before) .loop .inv .1) returns (λ c κs. search needs) add-at (λ c κs. search needs) (λ c. search needs)
+    same-length-2 returns-2 loop-less loop-again (λ c. c .before .loop .inv .1) returns-3)

@@ -6,18 +6,6 @@ use Rattle.width.proofs.Cases.{inside, under, over, less, more}
 use Rattle.width.proofs.code.Statement.{statement}
 use Rattle.width.proofs.code.Tie as tie
 
-returns : tie.Need-returns
-returns c = rw (c .match .keys1)
-
-returns-2 : tie.Need-returns-2
-returns-2 c = rw (c .match .keys2)
-
-returns-3 : tie.Need-returns-3
-returns-3 c = rw (c .match .keys3)
-
-returns-4 : tie.Need-returns-4
-returns-4 c = rw (c .match .keys4)
-
 returns-5 : tie.Need-returns-5
 returns-5 c = simp (inside (c .before .before .before .args .byte) 0x30 0x36 (omega arith) (omega arith))
 
@@ -72,4 +60,6 @@ returns-9 c =
     )
 
 pub code-spec : {M : Type 1} → statement M
-code-spec = tie.close (tie.spec returns returns-2 returns-3 returns-4 returns-5 returns-6 returns-7 returns-8 returns-9)
+code-spec = tie.close
+    (tie.spec (λ c. rw (c .match .keys1)) (λ c. rw (c .match .keys2)) (λ c. rw (c .match .keys3)) (λ c. rw (c .match .keys4))
+    returns-5 returns-6 returns-7 returns-8 returns-9)

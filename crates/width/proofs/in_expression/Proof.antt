@@ -3,8 +3,6 @@ use borrow.Author.Needs.{needs}
 use Rattle.width.proofs.in_expression.Statement.{statement}
 use Rattle.width.proofs.in_expression.Tie as tie
 
-returns : tie.Need-returns
-returns c = cc
-
 pub in-expression-spec : {M : Type 1} → statement M
-in-expression-spec = tie.close (tie.spec (λ c κs. search needs) (λ c κs. search needs) returns)
+in-expression-spec = tie.close
+    (tie.spec (λ c κs. search needs) (λ c κs. search needs) (λ c. cc))

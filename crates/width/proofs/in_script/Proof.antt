@@ -3,8 +3,6 @@ use borrow.Author.Needs.{needs}
 use Rattle.width.proofs.in_script.Statement.{statement}
 use Rattle.width.proofs.in_script.Tie as tie
 
-returns : tie.Need-returns
-returns c = cc
-
 pub in-script-spec : {M : Type 1} → statement M
-in-script-spec = tie.close (tie.spec (λ c κs. search needs) (λ c κs. search needs) returns)
+in-script-spec = tie.close
+    (tie.spec (λ c κs. search needs) (λ c κs. search needs) (λ c. cc))

@@ -3,16 +3,11 @@ use borrow.Author.Tests.{ne-eqb}
 use Rattle.width.proofs.schedule.Statement.{statement}
 use Rattle.width.proofs.schedule.Tie as tie
 
-returns : tie.Need-returns
-returns c = rw (c .match .keys1)
-
-returns-2 : tie.Need-returns-2
-returns-2 c = rw (c .match .keys2)
-
 returns-3 : tie.Need-returns-3
 returns-3 c =
     let b = c .before .args .byte in
     simp (ne-eqb b 0x00 (c .match .rest .0 .1), ne-eqb b 0x40 (c .match .rest .1))
 
 pub schedule-spec : {M : Type 1} → statement M
-schedule-spec = tie.close (tie.spec returns returns-2 returns-3)
+schedule-spec = tie.close
+    (tie.spec (λ c. rw (c .match .keys1)) (λ c. rw (c .match .keys2)) returns-3)

@@ -3,15 +3,6 @@ use borrow.Author.Tests.{ne-eqb}
 use Rattle.width.proofs.script.Statement.{statement}
 use Rattle.width.proofs.script.Tie as tie
 
-returns : tie.Need-returns
-returns c = rw (c .match .keys1)
-
-returns-2 : tie.Need-returns-2
-returns-2 c = rw (c .match .keys2)
-
-returns-3 : tie.Need-returns-3
-returns-3 c = rw (c .match .keys3)
-
 returns-4 : tie.Need-returns-4
 returns-4 c =
     let b = c .before .args .byte in
@@ -19,4 +10,5 @@ returns-4 c =
     simp (ne-eqb b 0x00 (r .0 .0 .1), ne-eqb b 0x70 (r .0 .1), ne-eqb b 0x71 (r .1))
 
 pub script-spec : {M : Type 1} → statement M
-script-spec = tie.close (tie.spec returns returns-2 returns-3 returns-4)
+script-spec = tie.close
+    (tie.spec (λ c. rw (c .match .keys1)) (λ c. rw (c .match .keys2)) (λ c. rw (c .match .keys3)) returns-4)

@@ -6,15 +6,6 @@ use Rattle.word.proofs.Results.{wide-fits, sum-fits, of-result}
 use Rattle.word.proofs.add.Statement.{statement}
 use Rattle.word.proofs.add.Tie as tie
 
-cast-nearest : tie.Need-cast-nearest
-cast-nearest c = wide-fits (c .fits .a)
-
-cast-nearest-2 : tie.Need-cast-nearest-2
-cast-nearest-2 c = wide-fits (c .fits .b)
-
-add-nearest : tie.Need-add-nearest
-add-nearest c = sum-fits (c .fits .a) (c .fits .b)
-
 returns : tie.Need-returns
 unfolding addWord
 returns c =
@@ -23,4 +14,6 @@ returns c =
     of-result _+ℤ_ a b (sum-fits a b) (c .nearest .ok) (c .nearest .ensures)
 
 pub add-spec : {M : Type 1} → statement M
-add-spec = tie.close (tie.spec cast-nearest cast-nearest-2 add-nearest (λ c κs. search needs) returns)
+add-spec = tie.close
+    (tie.spec (λ c. wide-fits (c .fits .a)) (λ c. wide-fits (c .fits .b)) (λ c. sum-fits (c .fits .a) (c .fits .b))
+    (λ c κs. search needs) returns)

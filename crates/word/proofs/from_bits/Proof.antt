@@ -13,9 +13,6 @@ use Rattle.word.proofs.Locals.{high}
 is : (c : tie.Else1) → negsuc 0 -ℤ toZ w32 (4294967295 - c .before .args .u) ≡ toZ w32 (c .before .args .u)
 is c = high (c .before .args .u) (c .if1 .left) (c .before .fits .u .fits)
 
-sub-result-2 : tie.Need-sub-result-2
-sub-result-2 c = rw (is c) (sfits-toZ (c .before .fits .u))
-
 returns : tie.Need-returns
 unfolding wordOf
 returns c = refl
@@ -26,4 +23,6 @@ returns-2 c = rw (is c) (toZ-ofZ (sfits-toZ (c .before .fits .u)))
 
 pub from-bits-spec : {M : Type 1} → statement M
 from-bits-spec =
-    tie.close (tie.spec (λ c. search needs) (λ c. search needs) (λ c. search needs) sub-result-2 returns returns-2)
+    tie.close
+    (tie.spec (λ c. search needs) (λ c. search needs) (λ c. search needs) (λ c. rw (is c) (sfits-toZ (c .before .fits .u)))
+    returns returns-2)

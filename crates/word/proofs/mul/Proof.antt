@@ -6,15 +6,6 @@ use Rattle.word.proofs.Results.{wide-fits, product-fits, of-result}
 use Rattle.word.proofs.mul.Statement.{statement}
 use Rattle.word.proofs.mul.Tie as tie
 
-cast-nearest : tie.Need-cast-nearest
-cast-nearest c = wide-fits (c .fits .a)
-
-cast-nearest-2 : tie.Need-cast-nearest-2
-cast-nearest-2 c = wide-fits (c .fits .b)
-
-mul-nearest : tie.Need-mul-nearest
-mul-nearest c = product-fits (c .fits .a) (c .fits .b)
-
 returns : tie.Need-returns
 unfolding mulWord
 returns c =
@@ -23,4 +14,6 @@ returns c =
     of-result _*ℤ_ a b (product-fits a b) (c .nearest .ok) (c .nearest .ensures)
 
 pub mul-spec : {M : Type 1} → statement M
-mul-spec = tie.close (tie.spec cast-nearest cast-nearest-2 mul-nearest (λ c κs. search needs) returns)
+mul-spec = tie.close
+    (tie.spec (λ c. wide-fits (c .fits .a)) (λ c. wide-fits (c .fits .b)) (λ c. product-fits (c .fits .a) (c .fits .b))
+    (λ c κs. search needs) returns)

@@ -7,9 +7,6 @@ use Rattle.word.proofs.Results.{below, above, within}
 use Rattle.word.proofs.nearest.Statement.{statement}
 use Rattle.word.proofs.nearest.Tie as tie
 
-returns : tie.Need-returns
-returns c = below (c .before .fits .x) (c .if1 .taken)
-
 returns-2 : tie.Need-returns-2
 returns-2 c = above (c .before .before .fits .x) (c .if2 .taken)
 
@@ -25,4 +22,5 @@ returns-3 c =
     rw (toZ-ofZ f) (kept _ (w .0) ∙ w .1)
 
 pub nearest-spec : {M : Type 1} → statement M
-nearest-spec = tie.close (tie.spec returns returns-2 cast-result returns-3)
+nearest-spec = tie.close
+    (tie.spec (λ c. below (c .before .fits .x) (c .if1 .taken)) returns-2 cast-result returns-3)

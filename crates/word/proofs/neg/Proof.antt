@@ -9,12 +9,6 @@ use Rattle.word.proofs.Results.{wide-fits, wide-back, minus-fits}
 use Rattle.word.proofs.neg.Statement.{statement}
 use Rattle.word.proofs.neg.Tie as tie
 
-cast-nearest : tie.Need-cast-nearest
-cast-nearest c = wide-fits (c .fits .a)
-
-sub-nearest : tie.Need-sub-nearest
-sub-nearest c = minus-fits (c .fits .a)
-
 returns : tie.Need-returns
 unfolding negWord
 returns c =
@@ -22,4 +16,5 @@ returns c =
     kept _ (c .nearest .ok) ∙ c .nearest .ensures ∙ rw (toZ-ofZ (minus-fits a), wide-back a) (ap nearest (+ℤ-idl _))
 
 pub neg-spec : {M : Type 1} → statement M
-neg-spec = tie.close (tie.spec cast-nearest sub-nearest (λ c κs. search needs) returns)
+neg-spec = tie.close
+    (tie.spec (λ c. wide-fits (c .fits .a)) (λ c. minus-fits (c .fits .a)) (λ c κs. search needs) returns)

@@ -6,9 +6,6 @@ use Rattle.model.specs.Rules.Word.{twoBytes}
 use Rattle.word.proofs.put_two.Statement.{statement}
 use Rattle.word.proofs.put_two.Tie as tie
 
-slice-write-out-2 : tie.Need-slice-write-out-2
-slice-write-out-2 c = simp length-set (omega arith)
-
 returns : tie.Need-returns
 unfolding twoBytes
 returns c = simp towards-suc
@@ -16,5 +13,5 @@ returns c = simp towards-suc
 pub put-two-spec : {M : Type 1} → statement M
 put-two-spec =
     tie.close
-    (tie.spec (λ c. search needs) (λ c. search needs) (λ c. search needs) (λ c. search needs) slice-write-out-2
-    (λ c. search needs) returns)
+    (tie.spec (λ c. search needs) (λ c. search needs) (λ c. search needs) (λ c. search needs)
+    (λ c. simp length-set (omega arith)) (λ c. search needs) returns)

@@ -6,15 +6,6 @@ use Rattle.word.proofs.Results.{wide-fits, difference-fits, of-result}
 use Rattle.word.proofs.sub.Statement.{statement}
 use Rattle.word.proofs.sub.Tie as tie
 
-cast-nearest : tie.Need-cast-nearest
-cast-nearest c = wide-fits (c .fits .a)
-
-cast-nearest-2 : tie.Need-cast-nearest-2
-cast-nearest-2 c = wide-fits (c .fits .b)
-
-sub-nearest : tie.Need-sub-nearest
-sub-nearest c = difference-fits (c .fits .a) (c .fits .b)
-
 returns : tie.Need-returns
 unfolding subWord
 returns c =
@@ -23,4 +14,6 @@ returns c =
     of-result _-ℤ_ a b (difference-fits a b) (c .nearest .ok) (c .nearest .ensures)
 
 pub sub-spec : {M : Type 1} → statement M
-sub-spec = tie.close (tie.spec cast-nearest cast-nearest-2 sub-nearest (λ c κs. search needs) returns)
+sub-spec = tie.close
+    (tie.spec (λ c. wide-fits (c .fits .a)) (λ c. wide-fits (c .fits .b)) (λ c. difference-fits (c .fits .a) (c .fits .b))
+    (λ c κs. search needs) returns)
