@@ -1,4 +1,2 @@
--- The promises of the calls.
+-- What the proofs of the calls cite.
 pub mod TailCode
-pub mod Promises
-pub mod BoardPromises

@@ -1,22 +1,16 @@
 -- The answer of a call as one number, for a C caller.
-use Prim.Native.Nat.{ℕ, _+_, _*_, _%_, _≤_, _<_}
+use Prim.Native.Nat.{ℕ, _+_, _*_, _%_}
 use mathlib.Core.List.{List}
 use lib.ListN.{length}
 use Rattle.model.specs.Rules.Machine.{statedLength}
 use Rattle.model.specs.Rules.Outcome.{Outcome, accepted, refused}
 use Rattle.model.specs.declared.Sizes.{Sizes}
 
--- What the call yields; or the refusal's number × 2^32 + its place, which is always below 2^32 (`compile-code`, `call-code` of
--- proofs/Promises.antt).
+-- What the call yields; or the refusal's number × 2^32 + its place, which is always below 2^32 (`compile-codable` and its
+-- like in crate `promises`).
 abbrev pub codeNumber : Outcome ℕ → ℕ
 codeNumber (accepted n) = n
 codeNumber (refused f) = f .number * 4294967296 + f .place % 4294967296
-
--- An answer that one number tells (`code-tells`): what is yielded is below 2^32; a refusal's number is above 0 and its place
--- below 2^32.
-abbrev pub Codable : Outcome ℕ → Type 0
-Codable (accepted n) = n < 4294967296
-Codable (refused f) = (1 ≤ f .number) × (f .place < 4294967296)
 
 -- Of what a report answers: L, and L + 4N and the stack use, or what was there before.
 abbrev pub lengthIn : Outcome Sizes → Outcome ℕ

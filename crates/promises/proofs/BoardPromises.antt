@@ -23,10 +23,10 @@ use Rattle.theorems.specs.Streams.{Satisfies}
 use Rattle.board.specs.Board.{placeWords, placeAt, nextDue, onStretch, resetIn, BoardEffect, Yield, loadOf, markPlaceOf, turnOf}
 use Rattle.board.specs.Events.{Event, load, Scene, loadBy, afterEvent, afterEvents, Throughout, Untouched, ownCycles}
 use Rattle.board_words.specs.Record.{turnDone}
-use Rattle.larderlate.specs.Code.{Codable}
+use Rattle.promises.specs.Codable.{Codable}
 use Rattle.board.specs.declared.Board.{Board}
 use Rattle.board.proofs.Promises.{place-alone, place-cycles}
-use Rattle.larderlate.proofs.Promises.{calls-hold, reset-codable}
+use Rattle.promises.proofs.Promises.{calls-hold, reset-codable}
 use Rattle.board.proofs.Answers.{
   load-place,
   load-state,

@@ -1,6 +1,6 @@
--- What the calls promise together: the buyer's three demands. The contracts in src/lib.rt say that each call answers and leaves
--- what compileOf, resetOf and cycleOf say; here is what these say. Each proof is a few lines over the theorems and the laws of
--- the model.
+-- What the calls promise together: the buyer's three demands. The contracts of crate `larderlate` say that each call answers and
+-- leaves what compileOf, resetOf and cycleOf say; here is what these say. Each proof is a few lines over the theorems and the laws
+-- of the model.
 -- Assumes nothing.
 use Prim.Native.Nat.{ℕ, suc, _+_, _*_, _^_, _≤_, _<_}
 use mathlib.Core.Bool.{Bool, true, false}
@@ -106,7 +106,8 @@ use Rattle.theorems.specs.TrialRefusals.{LegalScript, TrialRefusedAt}
 use Rattle.theorems.specs.WellFormed.{WellFormed}
 use Rattle.theorems.specs.Nearest.{NearestResults}
 use Rattle.theorems.specs.Images.{TailExactly, ReportsExactly, OneImage, Reports}
-use Rattle.larderlate.specs.Code.{codeNumber, Codable, lengthIn, lengthOfTail}
+use Rattle.larderlate.specs.Code.{codeNumber, lengthIn, lengthOfTail}
+use Rattle.promises.specs.Codable.{Codable}
 use Rattle.model.specs.declared.Code.{Code}
 use Rattle.model.specs.declared.Declaration.{Declaration}
 use Rattle.model.specs.declared.Declaration.the-variants as Declaration

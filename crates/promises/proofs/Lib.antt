@@ -1,0 +1,3 @@
+-- The promises of the calls.
+pub mod Promises
+pub mod BoardPromises

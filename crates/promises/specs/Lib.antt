@@ -1,0 +1,2 @@
+-- What a promise says of an answer.
+pub mod Codable

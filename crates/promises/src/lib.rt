@@ -1,0 +1,1 @@
+// No code: what the calls of crate `larderlate` promise together (proofs/Promises.antt), and those of a board (proofs/BoardPromises.antt).
