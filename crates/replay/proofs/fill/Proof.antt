@@ -1,8 +1,7 @@
 -- `replay::fill` is safe and ends. Assumes nothing.
-use Prim.Native.Nat.{_≤_}
 use native.Mathlib.Omega.{arith}
 use borrow.Author.Needs.{needs}
-use lib.ListN.{length, length-append}
+use lib.ListN.{length-append}
 use Rattle.replay.proofs.Starts.{taken}
 use Rattle.replay.proofs.fill.Statement.{statement}
 use Rattle.replay.proofs.fill.Tie as tie
