@@ -11,12 +11,12 @@
  *
  * Every call takes any bytes and words, ends, and does its job or refuses. A refused call changes nothing that was lent to it.
  * The calls keep nothing between them and need no memory but their stack, so any number may run at once on different state. Of the
- * stack, measured on x86-64 with 64 signals, 16 chains and expressions 16 deep, a compile or a report takes 21 KB, a conversion
- * 14 KB, each other call less than 1 KB.
+ * stack, measured on x86-64 with 64 signals, 16 chains, 32 rows and expressions 16 deep (bench/stack), a compile or a report takes 23 KB, a
+ * conversion 15 KB, each other call less than 1 KB.
  *
  * AN IMAGE has L bytes, and bytes 2-3 hold L, low byte first. After them stands its tail, four bytes for each of its N signals: label
- * (2 bytes, low byte first), period, phase. Compile always writes both. Reset, cycle and tail take an image at exactly L bytes,
- * without its tail, or at exactly L + 4N, with a tail of any bytes, and run both alike.
+ * (2 bytes, low byte first), period, phase. Compile always writes both. Reset, cycle and tail take an image at exactly L
+ * bytes, without its tail, or at exactly L + 4N, with a tail of any bytes, and run both alike.
  *
  * THE ANSWER is one number of 64 bits: number x 2^32 + value. Number 0 says done; the value is then L + 4N for a compile, L for a
  * report, 0 for a reset, the number of commands run for a cycle, the tail's length for a tail, and the new text's for a conversion.
@@ -53,13 +53,14 @@ enum {
     LARDERLATE_BOARD_STATE_WORDS = 260,
     LARDERLATE_BOARD_SAMPLES = 256,
     LARDERLATE_BOARD_RECORD = 17,
-    /* 4 + 64 x 6 + 241 x 2 + 240 x 64 bytes before the code, which is no longer than the program, and 64 x 4 of tail: proved
+    /* 4 + 64 x 6 + 241 x 2 + 240 x 64 + 1 bytes beside rows and code, which are no longer than the program, and 64 x 4 of tail: proved
      * (`image-bytes`). */
-    LARDERLATE_IMAGE_BYTES = 24678
+    LARDERLATE_IMAGE_BYTES = 24679
 };
 
-/* The numbers of an answer, with the place of each in parentheses, in the order in which a call judges: 1; then 2 to 6 together,
- * command after command; then the others, of each the lowest, 7 and 8 together in order of offset, and so 12 and 13. */
+/* The numbers of an answer, with the place of each in parentheses, in the order in which a call judges (29 and 30 between 10 and 11):
+ * 1; then 2 to 6 together, command after command; then the others, of each the lowest, 7 and 8 together in order of offset, and so
+ * 12 and 13. */
 enum {
     LARDERLATE_DONE = 0,
 
@@ -69,13 +70,18 @@ enum {
     /* Compile: the program text. */
     LARDERLATE_PROGRAM_ENDS_EARLY = 2,  /* also right after a TAG (the program's length) */
     LARDERLATE_NO_SUCH_COMMAND = 3,     /* also a TAG that is not directly before IN or EQ (its offset) */
-    LARDERLATE_OVER_A_BOUND = 4,        /* over 64 signals, 16 chains, 16 links or depth 16 (the command or operator) */
-    LARDERLATE_OPERAND_OUT_OF_RANGE = 5, /* also a factor of 1, a second CAP or a chain under 2 links (the command or read; LAT for a chain) */
+    LARDERLATE_OVER_A_BOUND = 4,        /* over 64 signals, 16 chains, 16 links, 32 rows or depth 16 (the command or operator) */
+    LARDERLATE_OPERAND_OUT_OF_RANGE = 5, /* also a factor of 1, a row's low above its high, a second CAP or a chain under 2 links (the
+                                          * command or read; LAT for a chain) */
     LARDERLATE_BYTES_AFTER_END = 6,     /* (the first of them) */
     LARDERLATE_UNDECLARED_SIGNAL = 7,   /* (the read or LINK) */
     LARDERLATE_PERIOD_RULE_BROKEN = 8,  /* (the read) */
     LARDERLATE_HYPERCYCLE_TOO_LONG = 9, /* over 240 (0) */
     LARDERLATE_LINK_NOT_READ_ONCE = 10, /* a link without exactly one read of the link before (the LAT) */
+
+    /* Compile: the rows, where the program has a ROW or a TABLE. */
+    LARDERLATE_WORD_IN_TWO_ROWS = 29, /* (the first ROW that meets an earlier one) */
+    LARDERLATE_WORD_IN_NO_ROW = 30,   /* (0) */
 
     /* Compile: the schedule text. */
     LARDERLATE_SCHEDULE_TEXT = 11,   /* ends early (its length), unknown command (its offset), bytes after END (the first) */
@@ -85,13 +91,14 @@ enum {
     /* Compile: program and schedule together. */
     LARDERLATE_READ_UNMET = 14, /* (the read's offset in the program) */
     LARDERLATE_OVER_CAP = 15,   /* (the cycle) */
-    LARDERLATE_LATENCY = 16,    /* a chain over its bound (the LAT) */
+    LARDERLATE_LATENCY = 16,    /* a chain that does not keep its bound (the LAT) */
 
-    /* Compile: the pair is accepted but the image buffer is shorter than L + 4N. Convert: the buffer is shorter than the result. */
+    /* Compile: all else is accepted, but the image buffer is shorter than L + 4N. Convert: than the result. */
     LARDERLATE_IMAGE_BUFFER_SHORT = 17, /* (L + 4N; the result's length) */
 
     /* Tail gives 20, reset 20 and 21, cycle all four. */
-    LARDERLATE_IMAGE_NOT_WELL_FORMED = 20, /* also neither L nor L + 4N bytes long (0) */
+    LARDERLATE_IMAGE_NOT_WELL_FORMED = 20, /* also neither L nor L + 4N bytes long, or without a table, as earlier
+                                            * libraries wrote it (0) */
     LARDERLATE_STATE_SHORT = 21,           /* fewer than N + 1 words (0) */
     LARDERLATE_POSITION = 22,              /* word 0 of the state not from 0 to H - 1 (0) */
     LARDERLATE_SAMPLES_SHORT = 23,         /* fewer than N words (0) */
@@ -120,16 +127,16 @@ static inline uint32_t larderlate_value(uint64_t answer)
 }
 
 /* Checks the program and the schedule and writes their image and its tail to the start of the buffer `image`. The answer's value is
- * how many bytes these are, L + 4N; bytes of the buffer past that stay. Gives 1 to 17. A buffer of length 0 (its pointer
- * not null) is a way to ask for L + 4N: 17 has it as its place. */
+ * how many bytes these are, L + 4N; bytes of the buffer past that stay. Gives 1 to 17, 29 and 30. A buffer of length 0
+ * (its pointer not null) is a way to ask for L + 4N: 17 has it as its place. */
 uint64_t larderlate_compile(const uint8_t *program, size_t program_length,
                             const uint8_t *schedule, size_t schedule_length,
                             uint8_t *image, size_t image_length);
 
 /* Checks the program and the schedule and tells what they need, without an image. The answer's value is the image's length L;
  * `counts` gets the commands of each cycle of the hypercycle H, those from H on being 0, `written` the length with the tail, L + 4N,
- * and `stack` the most words that the code of any signal has on the working stack. Gives 1 to 16, and then leaves all three as they
- * were. */
+ * and `stack` the most words that the code of any signal has on the working stack. Gives 1 to 16, 29 and 30, and then leaves
+ * all three as they were. */
 uint64_t larderlate_report(const uint8_t *program, size_t program_length,
                            const uint8_t *schedule, size_t schedule_length,
                            uint32_t counts[LARDERLATE_COUNTS], size_t *written, size_t *stack);

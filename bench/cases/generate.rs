@@ -3,14 +3,19 @@
 //! Here it is found by trial (every index, every cycle, many runs) what a met read, a load or a latency is, and not by the
 //! reference's arithmetic. So what is expected of these pairs tests the reference too.
 use crate::random::Random;
+use crate::tables::{self, ROWS};
 
 pub const PROGRAM_BYTES: usize = 8192;
+pub const SCHEDULE_BYTES: usize = 193;
 const NOW: u8 = 0x21;
 const LAST: u8 = 0x22;
 const WHEN: u8 = 0x23;
 const LASTWHEN: u8 = 0x24;
 const CURRENT: u8 = 0x25;
+const TABLE: u8 = 0x3B;
+const ROW: u8 = 0x16;
 
+#[derive(Clone)]
 pub struct Pair {
     pub program: Vec<u8>,
     pub schedule: Vec<u8>,
@@ -32,6 +37,8 @@ pub struct Shape {
     pub capped: bool,
     /// Whether some signals have labels.
     pub tagged: bool,
+    /// How many rows its table has. Without one there is no TABLE.
+    pub rows: usize,
     /// The least factor of a sampled read: 2, or 1 in a text of the earlier rule.
     pub least: i64,
     /// About how many bytes all expressions have at most.
@@ -62,6 +69,7 @@ impl Shape {
             chains: if random.one_in(2) { random.below(if large { 17 } else { 4 }) } else { 0 },
             capped: random.one_in(3),
             tagged: random.one_in(2),
+            rows: if random.one_in(3) { tables::any_count(random) } else { 0 },
             least: 2,
             bytes: if large { 7300 } else { 40 + random.below(600) },
         }
@@ -81,11 +89,18 @@ pub enum Twist {
     Cap,
     Latency,
     Tag,
+    Rows,
+    RowTurnedOver,
+    RowCut,
+    RowTagged,
+    Gap,
+    Meeting,
+    TableAlone,
 }
 
 impl Twist {
     pub fn any(random: &mut Random) -> Twist {
-        match random.below(40) {
+        match random.below(60) {
             0 => Twist::Signals,
             1 => Twist::Depth,
             2 => Twist::Chains,
@@ -95,15 +110,23 @@ impl Twist {
             6 | 7 => Twist::Cap,
             8..=10 => Twist::Latency,
             11..=13 => Twist::Tag,
+            14 => Twist::Rows,
+            15 => Twist::RowTurnedOver,
+            16 => Twist::RowCut,
+            17 => Twist::RowTagged,
+            18 | 19 => Twist::Gap,
+            20 | 21 => Twist::Meeting,
+            22 => Twist::TableAlone,
             _ => Twist::None,
         }
     }
 }
 
-struct Signal {
-    input: bool,
-    period: i64,
-    phase: i64,
+#[derive(Clone)]
+pub struct Signal {
+    pub input: bool,
+    pub period: i64,
+    pub phase: i64,
     /// Its place in PUT order.
     rank: usize,
     weight: u16,
@@ -111,7 +134,7 @@ struct Signal {
 }
 
 #[derive(Clone, Copy)]
-struct Read {
+pub struct Read {
     kind: u8,
     signal: usize,
     index: i64,
@@ -119,6 +142,11 @@ struct Read {
 }
 
 pub fn pair(random: &mut Random, shape: &Shape, twist: Twist) -> Pair {
+    pair_with_signals(random, shape, twist).0
+}
+
+/// The signals are those without what a fault has added.
+pub fn pair_with_signals(random: &mut Random, shape: &Shape, twist: Twist) -> (Pair, Vec<Signal>) {
     let mut signals = signals(random, shape);
     let room = shape.bytes / shape.signals.max(1);
     let mut commands: Vec<Vec<u8>> = vec![];
@@ -128,8 +156,10 @@ pub fn pair(random: &mut Random, shape: &Shape, twist: Twist) -> Pair {
         commands.push(text);
     }
     let declared = commands.len();
-    let mut expected = constraints(random, shape, &signals, twist, &mut commands);
-    // Constraints may stand anywhere between declarations.
+    let constrained = constraints(random, shape, &signals, twist, &mut commands);
+    let tabled = table(random, shape, twist, &mut commands);
+    let mut expected = if tabled > 0 { tabled } else { constrained };
+    // Constraints and rows may stand anywhere between declarations.
     for constraint in declared..commands.len() {
         let text = commands.remove(constraint);
         commands.insert(random.below(constraint + 1), text);
@@ -140,7 +170,7 @@ pub fn pair(random: &mut Random, shape: &Shape, twist: Twist) -> Pair {
     if program.len() > PROGRAM_BYTES {
         expected = 1;
     }
-    Pair { program, schedule: schedule(&signals), expected }
+    (Pair { program, schedule: schedule(&signals), expected }, signals)
 }
 
 fn signals(random: &mut Random, shape: &Shape) -> Vec<Signal> {
@@ -166,14 +196,14 @@ fn declaration(random: &mut Random, shape: &Shape, signals: &[Signal], own: usiz
         return (text, vec![]);
     }
     text.extend(signal.weight.to_le_bytes());
-    let mut equation = Equation { signals, own, least: shape.least, room, text, reads: vec![] };
+    let mut equation = Equation { signals, own, least: shape.least, looks_up: shape.rows > 0, room, text, reads: vec![] };
     equation.expression(random, shape.depth, shape.bushy);
     (equation.text, equation.reads)
 }
 
 /// A TAG, its label now and then of bytes that are commands themselves.
 fn tag(random: &mut Random) -> Vec<u8> {
-    let byte = |random: &mut Random| if random.one_in(2) { random.byte() } else { 0x10 + random.below(6) as u8 };
+    let byte = |random: &mut Random| if random.one_in(2) { random.byte() } else { 0x10 + random.below(7) as u8 };
     vec![0x15, byte(random), byte(random)]
 }
 
@@ -182,6 +212,7 @@ struct Equation<'a> {
     signals: &'a [Signal],
     own: usize,
     least: i64,
+    looks_up: bool,
     room: usize,
     text: Vec<u8>,
     reads: Vec<Read>,
@@ -192,9 +223,10 @@ impl Equation<'_> {
         if depth == 1 || self.text.len() >= self.room || random.one_in(8) {
             return self.leaf(random);
         }
-        let operator = random.pick(&[0x30, 0x31, 0x32, 0x33, 0x34, 0x35, 0x36, 0x38, 0x3A]);
+        let operators = [0x30, 0x31, 0x32, 0x33, 0x34, 0x35, 0x36, 0x38, 0x3A, TABLE];
+        let operator = random.pick(&operators[..9 + usize::from(self.looks_up)]);
         let operands = match operator {
-            0x38 => 1,
+            0x38 | TABLE => 1,
             0x3A => 3,
             _ => 2,
         };
@@ -275,7 +307,7 @@ fn line(kind: u8, i: i64, r: &Signal, w: &Signal) -> bool {
 fn constraints(random: &mut Random, shape: &Shape, signals: &[Signal], twist: Twist, commands: &mut Vec<Vec<u8>>) -> u8 {
     let mut expected = 0;
     if shape.capped || matches!(twist, Twist::Cap) {
-        let most = most_load(signals, shape.hypercycle);
+        let most = most_load(signals.iter(), shape.hypercycle);
         let over = matches!(twist, Twist::Cap) && most > 0;
         let cap = if over { most - 1 } else { most + random.pick(&[0, 0, 1, 1000]) };
         commands.push([&[0x14][..], &cap.to_le_bytes()].concat());
@@ -296,6 +328,34 @@ fn constraints(random: &mut Random, shape: &Shape, signals: &[Signal], twist: Tw
     expected
 }
 
+/// Adds the rows. Yields the number expected. Where a twist is judged before 29 and 30, or after, one of these now and then is too.
+fn table(random: &mut Random, shape: &Shape, twist: Twist, commands: &mut Vec<Vec<u8>>) -> u8 {
+    let expected = match twist {
+        Twist::RowTurnedOver => 5,
+        Twist::Meeting => 29,
+        Twist::Gap => 30,
+        Twist::Hypercycle | Twist::LinkUnread | Twist::Cap | Twist::Latency if random.one_in(3) => random.pick(&[29, 30]),
+        _ => 0,
+    };
+    let count = if expected > 0 { shape.rows.max(1) } else { shape.rows };
+    if count == 0 {
+        return 0;
+    }
+    let mut rows = tables::covering(random, count);
+    match expected {
+        5 => tables::turn_over(random, &mut rows),
+        29 => tables::meet(random, &mut rows),
+        30 => tables::gap(random, &mut rows),
+        _ => {}
+    }
+    commands.extend(rows.into_iter().map(row_text));
+    expected
+}
+
+fn row_text(row: tables::Row) -> Vec<u8> {
+    [vec![ROW], tables::bytes(row)].concat()
+}
+
 fn chain_text(backward: bool, bound: u16, links: &[usize]) -> Vec<u8> {
     let mut text = vec![0x12, backward.into()];
     text.extend(bound.to_le_bytes());
@@ -303,9 +363,9 @@ fn chain_text(backward: bool, bound: u16, links: &[usize]) -> Vec<u8> {
     text
 }
 
-fn most_load(signals: &[Signal], hypercycle: usize) -> u32 {
+pub fn most_load<'a>(signals: impl Iterator<Item = &'a Signal> + Clone, hypercycle: usize) -> u32 {
     let load = |cycle| {
-        let run = signals.iter().filter(|signal| !signal.input && runs(signal, cycle));
+        let run = signals.clone().filter(|signal| !signal.input && runs(signal, cycle));
         run.map(|signal| u32::from(signal.weight)).sum()
     };
     (0..hypercycle as i64).map(load).max().unwrap_or(0)
@@ -412,7 +472,51 @@ fn excess(random: &mut Random, signals: &[Signal], twist: Twist, commands: &mut 
             commands.insert(place, tag(random));
             *expected = if placed { *expected } else { 3 };
         }
+        _ => excess_of_rows(random, signals, twist, commands, expected),
+    }
+}
+
+fn excess_of_rows(random: &mut Random, signals: &[Signal], twist: Twist, commands: &mut Vec<Vec<u8>>, expected: &mut u8) {
+    let rows = commands.iter().filter(|command| command[0] == ROW).count();
+    match twist {
+        // The last of them may be cut: it is refused before.
+        Twist::Rows => {
+            commands.extend((rows..ROWS).map(|_| row_text(tables::any(random))));
+            let mut over = row_text([random.word(), random.word(), 0]);
+            over.truncate(1 + random.below(over.len()));
+            commands.push(over);
+            *expected = 4;
+        }
+        // END is taken for a byte of the row.
+        Twist::RowCut => {
+            let mut cut = row_text([random.word(), random.word(), random.word()]);
+            cut.truncate(1 + random.below(12));
+            *expected = if rows == ROWS { 4 } else { cut_row(&cut) };
+            commands.push(cut);
+        }
+        Twist::RowTagged => {
+            let place = commands.iter().position(|command| command[0] == ROW).unwrap_or(commands.len());
+            if rows == 0 {
+                commands.push(row_text([i32::MIN, i32::MAX, 0]));
+            }
+            commands.insert(place, tag(random));
+            *expected = 3;
+        }
+        Twist::TableAlone if rows == 0 && signals.len() < 64 => {
+            commands.push(vec![0x11, 1, 0, 0, 0, 0, 0, 0, TABLE, 0x20, 0, 0, 0, 0]);
+            *expected = 30;
+        }
         _ => {}
+    }
+}
+
+/// What is expected where these bytes and END are the last: 5 if both ends are there and low is above high, else 2.
+fn cut_row(row: &[u8]) -> u8 {
+    let bytes = [row, &[0]].concat();
+    let word = |at: usize| bytes.get(at..at + 4).map(|word| i32::from_le_bytes(word.try_into().expect("four bytes")));
+    match (word(1), word(5)) {
+        (Some(low), Some(high)) if low > high => 5,
+        _ => 2,
     }
 }
 
@@ -443,16 +547,17 @@ pub fn reschedule(random: &mut Random, schedule: &mut Vec<u8>) {
 /// One change to what seems a command or a read: to its byte or to an operand, now and then with the text cut just there, so that
 /// what is judged first shows.
 pub fn mistake(random: &mut Random, program: &mut Vec<u8>) {
-    let seems = |&at: &usize| matches!(program[at], 0x10..=0x15 | NOW..=CURRENT);
+    let seems = |&at: &usize| matches!(program[at], 0x10..=ROW | NOW..=CURRENT);
     let places: Vec<usize> = (0..program.len()).filter(seems).collect();
     if places.is_empty() {
         return;
     }
-    let offset = random.below(4);
-    let at = (random.pick(&places) + offset).min(program.len() - 1);
+    let command = random.pick(&places);
+    let offset = random.below(if program[command] == ROW { 13 } else { 4 });
+    let at = (command + offset).min(program.len() - 1);
     program[at] = match random.below(4) {
         0 if offset == 0 => NOW + random.below(5) as u8,
-        1 if offset == 0 => 0x10 + random.below(6) as u8,
+        1 if offset == 0 => 0x10 + random.below(7) as u8,
         0 | 1 => random.below(6) as u8,
         2 => random.below(65) as u8,
         _ => random.byte(),

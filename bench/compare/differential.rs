@@ -2,9 +2,10 @@
 //!
 //!     differential [COUNT [SEED]]
 //!
-//! Each of COUNT rounds lends one pair to compile and to report, a program text of the earlier rule to convert, and then images, states
-//! and samples to reset, cycle and tail, and makes calls of a board. After each call the answers and all that was lent must be equal. It
-//! stops at the first difference with the bytes lent. Round r depends on the seed and on r alone.
+//! Each of COUNT rounds lends one pair to compile and to report, a program text of the earlier rule
+//! to convert, and then images, states and samples to reset, cycle and tail, and makes calls of a board. After each call the answers and
+//! all that was lent must be equal. It stops at the first difference with the bytes lent. Round r depends on the seed and on r alone. At
+//! the end it prints how often each call gave each number, how often rows or the table were the reason where a number has others too.
 mod board;
 #[path = "../cases/generate.rs"]
 mod generate;
@@ -16,6 +17,8 @@ mod images;
 mod library;
 #[path = "../cases/random.rs"]
 mod random;
+#[path = "../cases/tables.rs"]
+mod tables;
 // A trial is compared by a program of its own.
 #[allow(dead_code)]
 #[path = "../reference/mod.rs"]
@@ -29,11 +32,12 @@ use std::process::exit;
 const COUNT: u64 = 200_000;
 const SEED: u64 = 20_260_101;
 /// Every image fits, with its tail.
-const IMAGE_BYTES: usize = 24_678;
+const IMAGE_BYTES: usize = 24_679;
 /// The refusals of the paper.
-const NUMBERS: [usize; 24] = [1, 2, 3, 4, 5, 6, 7, 8, 9, 10, 11, 12, 13, 14, 15, 16, 17, 20, 21, 22, 23, 26, 27, 28];
+const NUMBERS: [usize; 26] = [1, 2, 3, 4, 5, 6, 7, 8, 9, 10, 29, 30, 11, 12, 13, 14, 15, 16, 17, 20, 21, 22, 23, 26, 27, 28];
 /// One more than the highest.
-const TOP: usize = 29;
+const TOP: usize = 31;
+const ROW: u8 = 0x16;
 
 /// How many answers of each number a call gave.
 #[derive(Default)]
@@ -49,11 +53,30 @@ struct Seen {
     turn: [u64; TOP],
     /// What the runs of turns answered.
     run: [u64; TOP],
+    /// Compiles refused by 4 and by 5 at a ROW.
+    row_counts: u64,
+    row_ranges: u64,
+    /// Well-formed images that a change to the table alone has made 20.
+    tables: u64,
+    /// Well-formed images as they were before there were tables.
+    older: u64,
 }
 
 impl Seen {
-    fn calls(&self) -> [&[u64; TOP]; 10] {
-        [&self.compile, &self.report, &self.reset, &self.cycle, &self.tail, &self.convert, &self.load, &self.mark, &self.turn, &self.run]
+    /// With the name of each.
+    fn calls(&self) -> [(&'static str, &[u64; TOP]); 10] {
+        [
+            ("compile", &self.compile),
+            ("report", &self.report),
+            ("reset", &self.reset),
+            ("cycle", &self.cycle),
+            ("tail", &self.tail),
+            ("convert", &self.convert),
+            ("load", &self.load),
+            ("mark", &self.mark),
+            ("turn", &self.turn),
+            ("run", &self.run),
+        ]
     }
 }
 
@@ -63,6 +86,15 @@ fn hexadecimal(bytes: &[u8]) -> String {
 
 fn count(seen: &mut [u64; TOP], answer: u64) {
     seen[(answer >> 32) as usize] += 1;
+}
+
+fn count_rows(seen: &mut Seen, program: &[u8], answer: u64) {
+    let at_row = program.get(answer as u32 as usize) == Some(&ROW);
+    match answer >> 32 {
+        4 if at_row => seen.row_counts += 1,
+        5 if at_row => seen.row_ranges += 1,
+        _ => {}
+    }
 }
 
 /// Prints the call that differs and stops.
@@ -138,7 +170,7 @@ impl Round<'_> {
         let over = self.random.below(2);
         match self.random.below(4) {
             0 => pair.program.resize(pair.program.len().max(generate::PROGRAM_BYTES + over), 0),
-            1 => pair.schedule.resize(pair.schedule.len().max(193 + over), 0x40),
+            1 => pair.schedule.resize(pair.schedule.len().max(generate::SCHEDULE_BYTES + over), 0x40),
             2 => pair.program = (0..self.random.below(40)).map(|_| self.random.byte()).collect(),
             _ => pair.schedule = (0..self.random.below(40)).map(|_| self.random.byte()).collect(),
         }
@@ -172,6 +204,7 @@ impl Round<'_> {
             differ(self.number, "compile", &[program, schedule, buffer], library, reference, kept);
         }
         count(&mut self.seen.compile, library);
+        count_rows(self.seen, &pair.program, library);
         image
     }
 
@@ -296,9 +329,32 @@ impl Round<'_> {
         self.cycle(image, &mut state);
         self.reset(image, &mut state);
         let hypercycle = usize::from(image.first().copied().unwrap_or(0));
-        let cycles = if self.random.one_in(32) { 2 * hypercycle + 3 } else { self.random.below(4) };
+        // A refused image has no hypercycle.
+        let long = self.random.one_in(32) && reference::tail(image).is_ok();
+        let cycles = if long { 2 * hypercycle + 3 } else { self.random.below(4) };
         for _ in 0..cycles {
             self.cycle(image, &mut state);
+        }
+    }
+
+    /// The calls on a well-formed image with its table changed; where it has no rows, now and then and also without its count byte, as
+    /// images were before there were tables.
+    fn tables(&mut self, image: &[u8]) {
+        let image = &image[..stated(image)];
+        if reference::tail(image).is_err() {
+            return;
+        }
+        let older = images::before_tables(image);
+        if older.is_none() || self.random.one_in(8) {
+            let mut changed = image.to_vec();
+            images::change_table(&mut self.random, &mut changed);
+            self.seen.tables += u64::from(reference::tail(&changed).is_err());
+            self.calls(&changed);
+        }
+        if let Some(older) = older.filter(|_| self.random.one_in(8)) {
+            assert_eq!(reference::tail(&older), Err((20, 0)));
+            self.seen.older += 1;
+            self.calls(&older);
         }
     }
 
@@ -438,6 +494,7 @@ impl Round<'_> {
         self.retail(&mut image);
         self.calls(&image);
         self.board(&image);
+        self.tables(&image);
         if self.random.one_in(2) {
             image.truncate(stated(&image));
         }
@@ -452,16 +509,22 @@ impl Round<'_> {
 }
 
 fn print_seen(seen: &Seen) -> bool {
-    println!("number    compile     report      reset      cycle       tail    convert       load       mark       turn        run");
+    let calls = seen.calls();
+    println!("number {}", calls.map(|(name, _)| format!("{name:>10}")).join(" "));
     let mut all = true;
     for number in [0].into_iter().chain(NUMBERS) {
-        let row = seen.calls().map(|counts| counts[number]);
+        let row = calls.map(|(_, counts)| counts[number]);
         println!("{number:>6} {}", row.map(|count| format!("{count:>10}")).join(" "));
         all &= row.iter().sum::<u64>() > 0;
     }
-    let totals = seen.calls().map(|counts| counts.iter().sum::<u64>());
+    let totals = calls.map(|(_, counts)| counts.iter().sum::<u64>());
     println!(" calls {}", totals.map(|total| format!("{total:>10}")).join(" "));
-    all && seen.calls().iter().zip(totals).all(|(counts, total)| counts[0] * 4 >= total)
+    let by_rows = [seen.row_counts, seen.row_ranges, seen.tables, seen.older];
+    let [counts, ranges, tables, older] = by_rows;
+    println!("compiles refused at a ROW: {counts} by 4, {ranges} by 5");
+    println!("images refused by 20 for their table alone: {tables}, as from before there were tables: {older}");
+    all &= by_rows.iter().all(|&count| count > 0);
+    all && calls.iter().zip(totals).all(|((_, counts), total)| counts[0] * 4 >= total)
 }
 
 fn main() {

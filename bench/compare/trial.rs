@@ -19,6 +19,9 @@ mod reference;
 #[allow(dead_code)]
 #[path = "../measure/rows.rs"]
 mod rows;
+#[allow(dead_code)]
+#[path = "../cases/tables.rs"]
+mod tables;
 
 use generate::{Pair, Shape, Twist};
 use random::Random;

@@ -16,10 +16,17 @@ mod random;
 #[path = "../reference/mod.rs"]
 mod reference;
 mod rows;
+#[allow(dead_code)]
+#[path = "../cases/tables.rs"]
+mod tables;
 
 use generate::Pair;
-use rows::{image_of, images_of, long_chains, measure, open_reads, print, program_a, program_of, row, Row, ROUNDS};
+use rows::{
+    image_of, images_of, long_chains, look_ups, measure, open_reads, print, program_a, program_of, row, Row, ROUNDS,
+};
 use std::hint::black_box;
+
+const LOOK_UPS: &str = "63 TABLEs, 32 rows";
 
 fn compile_row(name: &str, pair: &Pair) -> Row {
     let image = image_of(pair);
@@ -112,10 +119,12 @@ fn turn_row(name: &str, image: &[u8]) -> Row {
 }
 
 fn main() {
-    let (small, large) = (program_a(), program_of(64, &[1, 2, 8, 24, 240], 240));
-    let mut rows = vec![compile_row("program A", &small), compile_row("64 signals", &large)];
-    rows.extend([report_row("program A", &small), report_row("64 signals", &large)]);
-    let images = images_of(&small, &large);
+    let (small, large, look_ups) = (program_a(), program_of(64, &[1, 2, 8, 24, 240], 240), look_ups());
+    let pairs = [("program A", &small), ("64 signals", &large), (LOOK_UPS, &look_ups)];
+    let mut rows: Vec<Row> = pairs.iter().map(|(name, pair)| compile_row(name, pair)).collect();
+    rows.extend(pairs.iter().map(|(name, pair)| report_row(name, pair)));
+    let mut images = images_of(&small, &large).to_vec();
+    images.push((LOOK_UPS, image_of(&look_ups)));
     rows.extend(images.iter().map(|(name, image)| reset_row(name, image)));
     rows.extend(images.iter().map(|(name, image)| cycle_row(name, image)));
     let calls = rows.len();
@@ -125,9 +134,9 @@ fn main() {
         rows.push(compile_row(&format!("{signals} signals"), &program_of(signals, &[1, 2, 4, 8, 24], 24)));
     }
     rows.extend([compile_row("long chains", &long_chains()), compile_row("open reads", &open_reads())]);
-    measure(&mut rows);
+    measure(&mut rows, ROUNDS);
     println!("medians of {ROUNDS} interleaved rounds; buffers and states not cleared between calls\n");
-    print("call", ["ours", "Rust"], &mut rows[..calls]);
-    print("a turn beside a cycle of its image", ["turn", "cycle"], &mut rows[calls..turns]);
-    print("compile by length and shape", ["ours", "Rust"], &mut rows[turns..]);
+    print("call", "L", ["ours", "Rust"], &mut rows[..calls]);
+    print("a turn beside a cycle of its image", "L", ["turn", "cycle"], &mut rows[calls..turns]);
+    print("compile by length and shape", "L", ["ours", "Rust"], &mut rows[turns..]);
 }

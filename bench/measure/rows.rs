@@ -52,7 +52,19 @@ pub fn program_a() -> Pair {
 pub fn program_of(signals: usize, periods: &[usize], hypercycle: usize) -> Pair {
     let bytes = signals * 124;
     let chains = signals / 4;
-    let shape = Shape { signals, periods: periods.to_vec(), hypercycle, depth: 16, bushy: true, chains, capped: true, tagged: false, least: 2, bytes };
+    let shape = Shape {
+        signals,
+        periods: periods.to_vec(),
+        hypercycle,
+        depth: 16,
+        bushy: true,
+        chains,
+        capped: true,
+        tagged: false,
+        rows: 0,
+        least: 2,
+        bytes,
+    };
     let mut random = Random(SEED);
     loop {
         let pair = generate::pair(&mut random, &shape, Twist::None);
@@ -63,7 +75,7 @@ pub fn program_of(signals: usize, periods: &[usize], hypercycle: usize) -> Pair 
 }
 
 pub fn image_of(pair: &Pair) -> Vec<u8> {
-    let mut image = vec![0; 24_678];
+    let mut image = vec![0; 24_679];
     let length = reference::compile(&pair.program, &pair.schedule, &mut image).expect("a legal pair");
     image.truncate(length);
     image
@@ -101,6 +113,28 @@ pub fn open_reads() -> Pair {
     pair_of(&[vec![0x10, 1, 0, 0, 0, 0], equation], &[0x40, 0, 0, 0x40, 1, 239, 0])
 }
 
+/// 32 rows of 2^27 words, and 63 equations that look up the sum of an input and their own last word. The result of a row lies in the
+/// middle of another one, so that from cycle to cycle an equation goes through all rows, up and down.
+pub fn look_ups() -> Pair {
+    let next = |row: i32| (5 * row + 7) % 32;
+    let middle = |row: i32| i32::MIN + (row << 27) + (1 << 26);
+    let words = |words: &[i32]| words.iter().flat_map(|word| word.to_le_bytes()).collect::<Vec<u8>>();
+    let row = |row: i32| {
+        let low = i32::MIN + (row << 27);
+        [vec![0x16], words(&[low, low + ((1 << 27) - 1), middle(next(row))])].concat()
+    };
+    let equation = |own: u8| {
+        let initial = words(&[middle(i32::from(own) % 32)]);
+        [vec![0x11, 1], initial, vec![0, 0, 0x3B, 0x30, 0x21, 0, 0x22, own]].concat()
+    };
+    let mut commands = vec![vec![0x10, 1, 0, 0, 0, 0]];
+    commands.extend((0..32).map(next).map(row));
+    commands.extend((1..64).map(equation));
+    let mut schedule: Vec<u8> = (0..64).flat_map(|signal| [0x40, signal, 0]).collect();
+    schedule.push(0);
+    pair_of(&commands, &schedule)
+}
+
 /// The images that reset and cycle are measured on: of the two programs, and two that no program was compiled to.
 pub fn images_of(small: &Pair, large: &Pair) -> [(&'static str, Vec<u8>); 4] {
     let mut random = Random(SEED);
@@ -112,8 +146,8 @@ pub fn images_of(small: &Pair, large: &Pair) -> [(&'static str, Vec<u8>); 4] {
     ]
 }
 
-pub fn measure(rows: &mut [Row]) {
-    for round in 0..ROUNDS {
+pub fn measure(rows: &mut [Row], rounds: usize) {
+    for round in 0..rounds {
         for row in rows.iter_mut() {
             // The sides take turns to be first.
             for side in [round % 2, 1 - round % 2] {
@@ -129,9 +163,10 @@ fn median(times: &mut [f64]) -> f64 {
 }
 
 /// The medians of both sides, named, and their ratio.
-pub fn print(title: &str, sides: [&str; 2], rows: &mut [Row]) {
+pub fn print(title: &str, length: &str, sides: [&str; 2], rows: &mut [Row]) {
     let [ours, other] = sides.map(|side| format!("{side} (ns)"));
-    println!("{title:<52} {:>7} {ours:>11} {other:>11} {:>6} {:>11}", "L", "ratio", "ns / L");
+    let each = format!("ns / {length}");
+    println!("{title:<52} {length:>7} {ours:>11} {other:>11} {:>6} {each:>11}", "ratio");
     for row in rows {
         let [ours, other] = row.times.each_mut().map(|times| median(times));
         let length = row.length;

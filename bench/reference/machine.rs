@@ -1,4 +1,5 @@
 //! Reset and cycle (refusals 20 to 23) on any bytes.
+use super::table::{self, ROW_BYTES};
 use super::Refusal;
 
 const STACK: usize = 32;
@@ -8,6 +9,7 @@ pub(super) struct Image<'a> {
     bytes: &'a [u8],
     hypercycle: usize,
     pub(super) signals: usize,
+    rows: &'a [[u8; ROW_BYTES]],
 }
 
 impl<'a> Image<'a> {
@@ -51,13 +53,13 @@ impl<'a> Image<'a> {
         if lent.len() != length && lent.len() != length + 4 * usize::from(signals) {
             return Err((20, 0));
         }
-        let image = Image { bytes: &lent[..length], hypercycle: hypercycle.into(), signals: signals.into() };
-        let formed = length >= 4
-            && (1..=240).contains(&hypercycle)
-            && signals <= 64
-            && image.lists_formed()
-            && image.codes_formed();
-        formed.then_some(image).ok_or((20, 0))
+        if length < 4 || !(1..=240).contains(&hypercycle) || signals > 64 {
+            return Err((20, 0));
+        }
+        let image = Image { bytes: &lent[..length], hypercycle: hypercycle.into(), signals: signals.into(), rows: &[] };
+        let rows = image.lists_end().and_then(|end| image.rows_from(end)).ok_or((20, 0))?;
+        let image = Image { rows, ..image };
+        (table::formed(rows) && image.codes_formed()).then_some(image).ok_or((20, 0))
     }
 
     /// Runs the cycle at a position, on a state and samples that are long enough. Yields how many commands ran.
@@ -65,43 +67,59 @@ impl<'a> Image<'a> {
         let mut stack = Stack { words: [0; STACK], height: 0, commands: 0 };
         for &signal in self.list(position) {
             let signal = usize::from(signal);
-            state[signal + 1] = stack.run(self.code(signal), state, samples);
+            state[signal + 1] = stack.run(self.code(signal), self.rows, state, samples);
         }
         state[0] = if position + 1 == self.hypercycle { 0 } else { position as i32 + 1 };
         stack.commands
     }
 
-    /// The run lists follow their offsets and each other up to the first code, and name signals only.
-    fn lists_formed(&self) -> bool {
+    /// Where the run lists end, if they follow their offsets and each other and name signals only.
+    fn lists_end(&self) -> Option<usize> {
         let start = self.offsets() + 2 * (self.hypercycle + 1);
         if self.bytes.len() < start || self.two(self.offsets()) != start {
-            return false;
+            return None;
         }
         let mut last = start;
         for pair in self.bytes[self.offsets() + 2..start].chunks_exact(2) {
             let next = u16::from_le_bytes([pair[0], pair[1]]).into();
             if next < last {
-                return false;
+                return None;
             }
             last = next;
         }
-        last <= self.bytes.len()
-            && last == self.code_start(0)
-            && self.bytes[start..last].iter().all(|&signal| usize::from(signal) < self.signals)
+        let lists = self.bytes.get(start..last)?;
+        lists.iter().all(|&signal| usize::from(signal) < self.signals).then_some(last)
+    }
+
+    /// The rows of the table that starts here, if it ends where the first code starts.
+    fn rows_from(&self, start: usize) -> Option<&'a [[u8; ROW_BYTES]]> {
+        let (&count, rows) = self.bytes.get(start..self.code_start(0))?.split_first()?;
+        let (rows, rest) = rows.as_chunks();
+        (rest.is_empty() && rows.len() == usize::from(count)).then_some(rows)
     }
 
     /// The codes follow each other up to the end.
     fn codes_formed(&self) -> bool {
+        let shapes = if self.rows.is_empty() { &WITHOUT_ROWS } else { &WITH_ROWS };
+        let mut start = self.code_start(0);
         (0..self.signals).all(|signal| {
-            let (start, end) = (self.code_start(signal), self.code_start(signal + 1));
-            start <= end && end <= self.bytes.len() && code_formed(&self.bytes[start..end], signal as u8, self.signals)
+            let end = self.code_start(signal + 1);
+            let code = self.bytes.get(start..end);
+            start = end;
+            code.is_some_and(|code| code_formed(code, signal as u8, self.signals, shapes))
         })
     }
 }
 
 /// For each byte that is an operator: how many bytes it has with its operand, and how many words it takes from the stack. A table,
 /// since which operator comes next is hard to predict.
-const SHAPES: [(u8, u8); 256] = {
+type Shapes = [(u8, u8); 256];
+
+static WITHOUT_ROWS: Shapes = shapes(false);
+static WITH_ROWS: Shapes = shapes(true);
+
+/// Without rows nothing can be looked up.
+const fn shapes(rows: bool) -> Shapes {
     let mut shapes = [(0, 0); 256];
     shapes[0x50] = (5, 0);
     shapes[0x51] = (2, 0);
@@ -113,17 +131,20 @@ const SHAPES: [(u8, u8); 256] = {
         shapes[binary] = (1, 2);
         binary += 1;
     }
+    if rows {
+        shapes[0x3B] = (1, 1);
+    }
     shapes
-};
+}
 
-fn code_formed(mut code: &[u8], own: u8, signals: usize) -> bool {
+fn code_formed(mut code: &[u8], own: u8, signals: usize, shapes: &Shapes) -> bool {
     let mut height = 0;
     // No operator but STORE can stand last, and STORE has an operand: so two bytes are left at each.
     while let &[operator, operand, ..] = code {
         if operator == 0x5F {
             return code.len() == 2 && operand == own && height == 1;
         }
-        let (bytes, words) = SHAPES[usize::from(operator)];
+        let (bytes, words) = shapes[usize::from(operator)];
         let below = height - i32::from(words);
         height = below + 1;
         let formed = (bytes != 0)
@@ -198,6 +219,11 @@ impl Stack {
         self.push(operator(first, second));
     }
 
+    fn unary(&mut self, operator: impl Fn(i32) -> i32) {
+        let word = self.pop();
+        self.push(operator(word));
+    }
+
     fn choose(&mut self) {
         let otherwise = self.pop();
         let then = self.pop();
@@ -206,7 +232,7 @@ impl Stack {
     }
 
     /// The word that a checked code stores. Leaves the stack empty.
-    fn run(&mut self, code: &[u8], state: &[i32], samples: &[i32]) -> i32 {
+    fn run(&mut self, code: &[u8], rows: &[[u8; ROW_BYTES]], state: &[i32], samples: &[i32]) -> i32 {
         let mut at = 0;
         loop {
             let operator = code[at];
@@ -232,11 +258,9 @@ impl Stack {
                 0x34 => self.binary(|a, b| (a == b).into()),
                 0x35 => self.binary(i32::min),
                 0x36 => self.binary(i32::max),
-                0x38 => {
-                    let word = self.pop();
-                    self.push(word.saturating_neg());
-                }
+                0x38 => self.unary(i32::saturating_neg),
                 0x3A => self.choose(),
+                0x3B => self.unary(|word| table::look_up(rows, word)),
                 _ => return self.pop(),
             }
         }

@@ -11,6 +11,7 @@ mod machine;
 mod program;
 mod report;
 mod schedule;
+mod table;
 mod trial;
 
 // No program here uses all calls.
@@ -24,6 +25,7 @@ pub use {
 };
 use program::Program;
 use schedule::Schedule;
+use table::Row;
 
 /// The number of a refusal and its place.
 pub type Refusal = (u8, usize);
@@ -31,8 +33,17 @@ pub type Refusal = (u8, usize);
 const PROGRAM_BYTES: usize = 8192;
 const SCHEDULE_BYTES: usize = 193;
 
-/// The program, schedule and hypercycle of an accepted pair (1 to 16).
-fn check(program: &[u8], schedule: &[u8]) -> Result<(Program, Schedule, u32), Refusal> {
+/// An accepted pair.
+struct Accepted {
+    program: Program,
+    schedule: Schedule,
+    hypercycle: u32,
+    /// By rising low.
+    rows: Vec<Row>,
+}
+
+/// The refusals 1 to 16, 29 and 30.
+fn check(program: &[u8], schedule: &[u8]) -> Result<Accepted, Refusal> {
     if program.len() > PROGRAM_BYTES || schedule.len() > SCHEDULE_BYTES {
         return Err((1, 0));
     }
@@ -40,23 +51,28 @@ fn check(program: &[u8], schedule: &[u8]) -> Result<(Program, Schedule, u32), Re
     checks::mentions(&program)?;
     let hypercycle = checks::hypercycle(&program)?;
     checks::links(&program)?;
+    let rows = table::sorted(&program)?;
     let schedule = schedule::parse(schedule, &program.signals)?;
     checks::reads_met(&program, &schedule)?;
     checks::load(&program, &schedule, hypercycle)?;
     latency::check(&program, &schedule, hypercycle)?;
-    Ok((program, schedule, hypercycle))
+    Ok(Accepted { program, schedule, hypercycle, rows })
 }
 
 /// Writes the image of an accepted pair and its tail to the start of `image` and yields how many bytes these are.
 pub fn compile(program: &[u8], schedule: &[u8], image: &mut [u8]) -> Result<usize, Refusal> {
-    let (program, schedule, hypercycle) = check(program, schedule)?;
-    let length = image::length(&program, hypercycle);
-    let written = length + 4 * program.signals.len();
+    write(&check(program, schedule)?, image)
+}
+
+/// The image and its tail, or 17.
+fn write(pair: &Accepted, image: &mut [u8]) -> Result<usize, Refusal> {
+    let length = image::length(pair);
+    let written = length + 4 * pair.program.signals.len();
     if image.len() < written {
         return Err((17, written));
     }
-    image::write(&program, &schedule, hypercycle, &mut image[..length]);
-    image::write_tail(&program, &schedule, &mut image[length..written]);
+    image::write(pair, &mut image[..length]);
+    image::write_tail(pair, &mut image[length..written]);
     Ok(written)
 }
 

@@ -1,9 +1,10 @@
 //! The program text (refusals 2 to 6). One pass reads the tables and writes each signal's code.
+use super::table::{Row, ROWS};
 use super::Refusal;
 use std::ops::Range;
 
-const SIGNALS: usize = 64;
-const CHAINS: usize = 16;
+pub const SIGNALS: usize = 64;
+pub const CHAINS: usize = 16;
 const LINKS: usize = 16;
 const DEPTH: usize = 16;
 const PERIODS: std::ops::RangeInclusive<u8> = 1..=240;
@@ -59,8 +60,27 @@ pub struct Program {
     pub reads: Vec<Read>,
     pub chains: Vec<Chain>,
     pub links: Vec<Link>,
+    /// With the offset of each ROW.
+    pub rows: Vec<(usize, Row)>,
+    /// Whether there is a TABLE.
+    pub looks_up: bool,
     pub cap: Option<u32>,
     pub code: Vec<u8>,
+}
+
+impl Program {
+    pub fn empty() -> Program {
+        Program {
+            signals: vec![],
+            reads: vec![],
+            chains: vec![],
+            links: vec![],
+            rows: vec![],
+            looks_up: false,
+            cap: None,
+            code: vec![],
+        }
+    }
 }
 
 /// Factors go from `least` on: 2, or 1 by the earlier rule.
@@ -73,11 +93,9 @@ pub fn parse(text: &[u8], least: u8) -> Result<Program, Refusal> {
         program: Program {
             signals: Vec::with_capacity(SIGNALS.min(text.len() / 6)),
             reads: Vec::with_capacity(text.len() / 4),
-            chains: Vec::new(),
-            links: Vec::new(),
-            cap: None,
             // No command's code is longer than the command.
             code: Vec::with_capacity(text.len()),
+            ..Program::empty()
         },
     };
     while parser.command()? {}
@@ -105,6 +123,10 @@ impl Parser<'_> {
         self.take::<1>().map(|[byte]| byte)
     }
 
+    fn word(&mut self) -> Result<i32, Refusal> {
+        self.take().map(i32::from_le_bytes)
+    }
+
     /// One command with its operands. False after END.
     fn command(&mut self) -> Result<bool, Refusal> {
         let at = self.at;
@@ -116,6 +138,7 @@ impl Parser<'_> {
             0x12 => self.chain(at)?,
             0x14 => self.cap(at)?,
             0x15 => self.tag(at)?,
+            0x16 => self.row(at)?,
             _ => return Err((3, at)),
         }
         Ok(true)
@@ -166,7 +189,7 @@ impl Parser<'_> {
         let operator = self.byte()?;
         let operands = match operator {
             0x20..=0x25 => 0,
-            0x38 => 1,
+            0x38 | 0x3B => 1,
             0x30..=0x36 => 2,
             0x3A => 3,
             _ => return Err((3, at)),
@@ -189,6 +212,7 @@ impl Parser<'_> {
                 for _ in 0..operands {
                     self.expression(reader, depth + 1)?;
                 }
+                self.program.looks_up |= operator == 0x3B;
                 self.program.code.push(operator);
             }
         }
@@ -253,6 +277,20 @@ impl Parser<'_> {
             return Err((5, at));
         }
         self.program.cap = Some(u32::from_le_bytes(self.take()?));
+        Ok(())
+    }
+
+    /// The ends are judged before the result is taken.
+    fn row(&mut self, at: usize) -> Result<(), Refusal> {
+        if self.program.rows.len() == ROWS {
+            return Err((4, at));
+        }
+        let (low, high) = (self.word()?, self.word()?);
+        if low > high {
+            return Err((5, at));
+        }
+        let result = self.word()?;
+        self.program.rows.push((at, Row { low, high, result }));
         Ok(())
     }
 

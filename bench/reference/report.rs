@@ -15,20 +15,20 @@ pub struct Sizes {
 
 /// Puts the commands of each cycle into `counts`, 0 from the hypercycle on. A refused report leaves them.
 pub fn report(program: &[u8], schedule: &[u8], counts: &mut [u32; COUNTS]) -> Result<Sizes, Refusal> {
-    let (program, schedule, hypercycle) = check(program, schedule)?;
+    let pair = check(program, schedule)?;
     *counts = [0; COUNTS];
     let mut stack = 0;
-    let mut code = &program.code[..];
-    for (signal, phase) in program.signals.iter().zip(schedule.phase) {
+    let mut code = &pair.program.code[..];
+    for (signal, phase) in pair.program.signals.iter().zip(pair.schedule.phase) {
         let (commands, height, rest) = walk(code);
         code = rest;
         stack = stack.max(height);
-        for count in counts[..hypercycle as usize].iter_mut().skip(phase as usize).step_by(signal.period as usize) {
+        for count in counts[..pair.hypercycle as usize].iter_mut().skip(phase as usize).step_by(signal.period as usize) {
             *count += commands;
         }
     }
-    let length = image::length(&program, hypercycle);
-    Ok(Sizes { length, written: length + 4 * program.signals.len(), stack })
+    let length = image::length(&pair);
+    Ok(Sizes { length, written: length + 4 * pair.program.signals.len(), stack })
 }
 
 /// The commands up to STORE, the most words on the stack, and the code after STORE.
@@ -46,7 +46,7 @@ fn walk(mut code: &[u8]) -> (u32, usize, &[u8]) {
                 height += 1;
                 2
             }
-            0x38 => 1,
+            0x38 | 0x3B => 1,
             0x3A => {
                 height -= 2;
                 1

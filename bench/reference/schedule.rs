@@ -14,6 +14,19 @@ pub struct Schedule {
 }
 
 impl Schedule {
+    /// No signal is put.
+    pub fn new() -> Schedule {
+        Schedule { phase: [0; 64], rank: [NOT_PUT; 64], order: [0; 64], count: 0 }
+    }
+
+    /// Puts one of at most 64 signals, which is not put yet, after the others.
+    pub fn put(&mut self, signal: u8, phase: u32) {
+        self.phase[usize::from(signal)] = phase;
+        self.rank[usize::from(signal)] = self.count as u8;
+        self.order[self.count] = signal;
+        self.count += 1;
+    }
+
     pub fn order(&self) -> &[u8] {
         &self.order[..self.count]
     }
@@ -25,7 +38,7 @@ const NOT_PUT: u8 = 255;
 
 pub fn parse(text: &[u8], signals: &[Signal]) -> Result<Schedule, Refusal> {
     let end = end(text)?;
-    let mut schedule = Schedule { phase: [0; 64], rank: [NOT_PUT; 64], order: [0; 64], count: 0 };
+    let mut schedule = Schedule::new();
     for (number, put) in text[..end].chunks_exact(PUT_BYTES).enumerate() {
         let at = number * PUT_BYTES;
         let (signal, phase) = (usize::from(put[1]), u32::from(put[2]));
@@ -35,11 +48,7 @@ pub fn parse(text: &[u8], signals: &[Signal]) -> Result<Schedule, Refusal> {
         if phase >= signals[signal].period {
             return Err((13, at));
         }
-        schedule.phase[signal] = phase;
-        schedule.rank[signal] = number as u8;
-        // No signal is put twice, so there are at most 64.
-        schedule.order[number] = signal as u8;
-        schedule.count = number + 1;
+        schedule.put(signal as u8, phase);
     }
     if schedule.count < signals.len() {
         return Err((12, end));

@@ -39,7 +39,7 @@ fn parse(script: &[u8]) -> Result<Vec<Command>, Refusal> {
 
 /// Prints a line for each cycle, block after block, and yields how many there are. Before a refusal nothing is printed.
 pub fn trial(program: &[u8], schedule: &[u8], script: &[u8], mut print: impl FnMut(&[u8])) -> Result<usize, Refusal> {
-    let (parsed, ..) = check(program, schedule)?;
+    let parsed = check(program, schedule)?.program;
     let commands = parse(script)?;
     for command in &commands {
         if let &Command::Set(at, signal, _) = command {

@@ -13,21 +13,6 @@ use Rattle.board.specs.declared.Board.{Board}
 use Rattle.board.proofs.Due.{true≢false, next-at, next-none}
 use Rattle.board_words.specs.Record.{firstDue}
 
--- There is one first.
-pub first-is : (i n : ℕ) (test : ℕ → Bool) (f : Found) → IsFirst i n test f → f ≡ firstFrom i n test
-first-is i n test f h = same f (firstFrom i n test) h (from-first i n test)
-  where
-    least : (j k : ℕ) → IsFirst i n test (At j) → IsFirst i n test (At k) → Dec (j < k) → Dec (k < j) → j ≡ k
-    least j k a b (yes l) r = absurd (true≢false (sym (a .2) ∙ b .3 j (a .0) l))
-    least j k a b (no g) (yes l) = absurd (true≢false (sym (b .2) ∙ a .3 k (b .0) l))
-    least j k a b (no g) (no u) = omega arith
-
-    same : (f g : Found) → IsFirst i n test f → IsFirst i n test g → f ≡ g
-    same (At j) (At k) a b = ap At (least j k a b (decLt j k) (decLt k j))
-    same (At j) Nowhere a b = absurd (true≢false (sym (a .2) ∙ b j (a .0) (a .1)))
-    same Nowhere (At k) a b = absurd (true≢false (sym (b .2) ∙ a k (b .0) (b .1)))
-    same Nowhere Nowhere a b = refl
-
 module _ (b : Board) where
   abbrev dueAt : ℕ → Bool
   dueAt k = placeAt b k .due

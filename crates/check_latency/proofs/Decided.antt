@@ -89,7 +89,7 @@ chain-command text tables periods phases h p s chain t lt =
 
 -- The commands other than LAT.
 abbrev others : List ℕ
-others = 0 ∷ 1 ∷ 2 ∷ 3 ∷ 4 ∷ 5 ∷ 7 ∷ 8 ∷ 9 ∷ []
+others = 0 ∷ 1 ∷ 2 ∷ 3 ∷ 4 ∷ 5 ∷ 7 ∷ 8 ∷ 9 ∷ 10 ∷ []
 
 pub missed : (c : Declaration) {mode : Mode} {bound : ℕ} → c ≡ Declaration.Latency mode bound →
     OneOf others (tagOf (sum enum) c) → ⊥

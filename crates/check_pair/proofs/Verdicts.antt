@@ -8,6 +8,7 @@ use borrow.Author.Tests.{leb-true}
 use lib.Dec.{leb}
 use lib.ListN.{length}
 use Rattle.model.specs.Rules.Compile.{shortEnough, pairOf}
+use Rattle.model.specs.Rules.Cover.{tabled}
 use Rattle.model.specs.Rules.Latency.{timely}
 use Rattle.model.specs.Rules.Load.{loaded}
 use Rattle.model.specs.Rules.Outcome.{Outcome, accepted, refused, _▷_, Parsed}
@@ -115,14 +116,16 @@ ended-refused (refused g) r f h e = let same : g ≡ f = cc in ap refused same
 
 -- The steps are those of the verdict.
 rates-then : {B : Type 0} (p : Program) (next : ℕ → Outcome B) →
-    ratesOf p ▷ next ≡ declaredAndRated p ▷ λ _. hypercycle p ▷ λ h. linked p ▷ λ _. next h
+    ratesOf p ▷ next ≡ declaredAndRated p ▷ λ _. hypercycle p ▷ λ h. linked p ▷ λ _. tabled p ▷ λ _. next h
 unfolding ratesOf _▷_
 rates-then p next =
     then-then (declaredAndRated p) _ next ∙
     then-same (declaredAndRated p) _ _ (λ _.
     then-then (hypercycle p) _ next ∙
     then-same (hypercycle p) _ _ (λ h.
-    then-then (linked p) _ next))
+    then-then (linked p) _ next ∙
+    then-same (linked p) _ _ (λ _.
+    then-then (tabled p) _ next)))
 
 runs-then : {B : Type 0} (p : Program) (s : Schedule) (h : ℕ) (next : Unit {0} → Outcome B) →
     runsOf p s h ▷ next ≡ met p s ▷ λ _. loaded p s h ▷ λ _. timely p s h ▷ next
@@ -142,20 +145,23 @@ pair-steps program schedule =
     then-same (declaredAndRated p) _ _ (λ _.
     then-same (hypercycle p) _ _ (λ h.
     then-same (linked p) _ _ (λ _.
+    then-same (tabled p) _ _ (λ _.
     then-then (parseSchedule schedule) _ _ ∙
     then-same (parseSchedule schedule) _ _ (λ puts.
     then-same (placed p puts) _ _ (λ s.
-    runs-then p s h _))))))))
+    runs-then p s h _)))))))))
 
 -- What rates that pass, and a schedule, have passed.
 pub rates-passed : (p : Program) (h : ℕ) → ratesOf p ≡ accepted h →
-    (declaredAndRated p ≡ accepted tt) × (hypercycle p ≡ accepted h) × (linked p ≡ accepted tt)
+    (declaredAndRated p ≡ accepted tt) × (hypercycle p ≡ accepted h) × (linked p ≡ accepted tt) ×
+    (tabled p ≡ accepted tt)
 unfolding ratesOf
 rates-passed p h e =
     let a = then-accepted (declaredAndRated p) _ h e in
     let b = then-accepted (hypercycle p) _ h (a .2) in
     let l = then-accepted (linked p) _ h (b .2) in
-    (a .1, b .1 ∙ l .2, l .1)
+    let t = then-accepted (tabled p) _ h (l .2) in
+    (a .1, b .1 ∙ t .2, l .1, t .1)
 
 pub schedule-passed : (p : Program) (text : List ℕ) (s : Schedule) → scheduleFor p text ≡ accepted s →
     (puts : Parsed (List Put)) × (parseSchedule text ≡ accepted puts) × (placed p puts ≡ accepted s)

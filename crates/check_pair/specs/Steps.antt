@@ -2,6 +2,7 @@
 use Prim.Native.Nat.{ℕ}
 use mathlib.Core.List.{List}
 use Rattle.model.specs.Rules.Compile.{shortEnough, Pair}
+use Rattle.model.specs.Rules.Cover.{tabled}
 use Rattle.model.specs.Rules.Latency.{timely}
 use Rattle.model.specs.Rules.Load.{loaded}
 use Rattle.model.specs.Rules.Outcome.{Outcome, accepted, _▷_}
@@ -10,12 +11,13 @@ use Rattle.model.specs.Rules.Rates.{declaredAndRated, hypercycle, linked}
 use Rattle.model.specs.Rules.Reads.{met}
 use Rattle.model.specs.Rules.Schedule.{Schedule, parseSchedule, placed}
 
--- The program alone, once it is read: 7 to 10. Yields the hypercycle.
+-- The program alone, once it is read: 7 to 10, 29 and 30. Yields the hypercycle.
 unfoldable pub ratesOf : Program → Outcome ℕ
 ratesOf p =
     declaredAndRated p ▷ λ _.
     hypercycle p ▷ λ h.
     linked p ▷ λ _.
+    tabled p ▷ λ _.
     accepted h
 
 -- The schedule of a program: 11 to 13.

@@ -62,7 +62,7 @@ fn judged_cycles(cycles: Cycles) -> Judged
     }
 }
 
-// A program that is read: 7 and 8, 9, 10.
+// A program that is read: 7 and 8, 9, 10, then 29 and 30.
 fn check_rates(text: &[u8], reads: &[u16], tables: Tables) -> Rated
     requires { ⌜ TabledAs (now text) (now reads) tables ⌝ }
     ensures { λ r. ⌜ ((p : Program) → parseProgram (now (text .entry)) ≡ accepted p → TablesOf p tables → RatedAs (ratesOf p) r) ⌝ }
@@ -76,8 +76,12 @@ fn check_rates(text: &[u8], reads: &[u16], tables: Tables) -> Rated
     let Cycles::Least(h) = cycles else {
         return unrated(judged_cycles(cycles));
     };
+    let links = check_rates::linked(text, reads, tables);
+    let Judged::Fine = links else {
+        return unrated(links);
+    };
     Rated {
-        judged: check_rates::linked(text, reads, tables),
+        judged: check_table::check_table(text, tables),
         hypercycle: h,
     }
 }
@@ -198,7 +202,7 @@ fn check_long(program: &[u8], schedule: &[u8]) -> Checked
     check_with(program, schedule, &mut reads)
 }
 
-// All checks of a program and a schedule, 1 to 16.
+// All checks of a program and a schedule, 1 to 16, 29 and 30.
 pub fn check_pair(program: &[u8], schedule: &[u8]) -> Checked
     ensures { λ r. ⌜ CheckedAs (now (program .entry)) (pairOf (now (program .entry)) (now (schedule .entry))) r ⌝ }
 {

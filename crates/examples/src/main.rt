@@ -142,13 +142,13 @@ fn run(image: &[u8], state: &mut [i32]) {
 fn main() {
     let program = program();
     let schedule = schedule();
-    let mut short = [0u8; 47];
-    let mut image = [0u8; 60];
+    let mut short = [0u8; 48];
+    let mut image = [0u8; 61];
     let mut state = [0i32; 4];
     let refused = larderlate::compile(&program, &schedule, &mut short);
-    write_compiled(b"47 bytes: ", refused);
+    write_compiled(b"48 bytes: ", refused);
     let compiled = larderlate::compile(&program, &schedule, &mut image);
-    write_compiled(b"60 bytes: ", compiled);
+    write_compiled(b"61 bytes: ", compiled);
     write(b"position and signals 0, 1, 2 after each call, input 0 being 10, 11, 12, 13\n");
     run(&image, &mut state);
 }

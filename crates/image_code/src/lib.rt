@@ -40,6 +40,7 @@ fn unary_byte(operator: Unary) -> u8
 {
     match operator {
         Unary::Negate => 0x38,
+        Unary::Table => 0x3B,
     }
 }
 

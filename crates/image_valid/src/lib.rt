@@ -4,8 +4,8 @@ ghost use mathlib.Core.Bool.{true};
 ghost use Prim.Native.Nat.{ℕ, _+_, _<_, _≤_};
 ghost use lib.Dec.{ltb};
 ghost use lib.ListN.{length, take};
-ghost use Rattle.model.specs.Rules.Machine.{hyperOf, countOf, statedLength, listOffset, codeOffset};
-ghost use Rattle.model.specs.Rules.Machine.{headOk, listsOk, entriesOk, codesOk, wellFormed};
+ghost use Rattle.model.specs.Rules.Machine.{hyperOf, countOf, statedLength, listOffset, tableOffset, rowCount, codeOffset};
+ghost use Rattle.model.specs.Rules.Machine.{headOk, listsOk, tableOk, entriesOk, codesOk, wellFormed};
 ghost use Rattle.image_valid.specs.Lends.{Lends};
 ghost use Rattle.model.specs.Rules.Search.{allBelow};
 ghost use Rattle.model.specs.Rules.Word.{byteAt, twoAt};
@@ -31,6 +31,14 @@ pub fn list_offset(image: &[u8], n: usize, c: usize) -> usize
     ensures { λ r. ⌜ r ≡ listOffset (now (image .entry)) c ⌝ }
 {
     offset_at(image, image_layout::record_at(n) + 2 * c)
+}
+
+// Where the table starts, in an image of n signals and h cycles: where the last list ends.
+pub fn table_offset(image: &[u8], n: usize, h: usize) -> usize
+    requires { ⌜ (headOk (now image) ≡ true) × (n ≡ countOf (now image)) × (h ≡ hyperOf (now image)) ⌝ }
+    ensures { λ r. ⌜ r ≡ tableOffset (now (image .entry)) ⌝ }
+{
+    list_offset(image, n, h)
 }
 
 // Where the code of signal x starts, and that of signal x - 1 ends.
@@ -69,7 +77,7 @@ fn head_ok(image: &[u8]) -> bool
     image_layout::lists_at(n, h) <= image.len()
 }
 
-// Every list starts where the one before ended, the first after the offsets, and the code after the last.
+// Every list starts where the one before ended, the first after the offsets; the last ends within the image.
 fn lists_ok(image: &[u8], n: usize, h: usize) -> bool
     requires { ⌜ (headOk (now image) ≡ true) × (n ≡ countOf (now image)) × (h ≡ hyperOf (now image)) ⌝ }
     ensures { λ r. ⌜ r ≡ listsOk (now (image .entry)) ⌝ }
@@ -87,10 +95,20 @@ fn lists_ok(image: &[u8], n: usize, h: usize) -> bool
         last = next;
         c = c + 1;
     }
-    if last != code_offset(image, n, 0) {
+    last <= image.len()
+}
+
+// The table that starts at `at` is well formed, and the code starts where it ends.
+fn table_ok(image: &[u8], n: usize, at: usize) -> bool
+    requires { ⌜ (headOk (now image) ≡ true) × (n ≡ countOf (now image)) × (at ≡ tableOffset (now image)) ⌝ }
+    ensures { λ r. ⌜ r ≡ tableOk (now (image .entry)) ⌝ }
+{
+    if !rows::area_ok(image, at) {
         return false;
     }
-    last <= image.len()
+    let count = basics::wide(image[at]);
+    let end = at + 1 + 12 * count;
+    code_offset(image, n, 0) == end
 }
 
 // The greatest byte, 0 where there is none.
@@ -109,26 +127,25 @@ fn greatest_byte(list: &[u8]) -> u8
     most
 }
 
-// List entries are below n.
-fn entries_ok(image: &[u8], n: u8, h: usize) -> bool
-    requires { ⌜ (headOk (now image) ≡ true) × (listsOk (now image) ≡ true) × (n ≡ countOf (now image)) × (h ≡ hyperOf (now image)) ⌝ }
+// List entries, up to the table at `end`, are below n.
+fn entries_ok(image: &[u8], n: u8, h: usize, end: usize) -> bool
+    requires { ⌜ (headOk (now image) ≡ true) × (listsOk (now image) ≡ true) × (n ≡ countOf (now image)) × (h ≡ hyperOf (now image)) × (end ≡ tableOffset (now image)) ⌝ }
     ensures { λ r. ⌜ r ≡ entriesOk (now (image .entry)) ⌝ }
 {
     let count = basics::wide(n);
     let start = image_layout::lists_at(count, h);
-    let end = code_offset(image, count, 0);
     if n == 0 {
         return start == end;
     }
     greatest_byte(&image[start..end]) < n
 }
 
-// Every code starts where the one before ended, the last ending at L, and is well formed.
-fn codes_ok(image: &[u8], n: u8) -> bool
-    requires { ⌜ (headOk (now image) ≡ true) × (n ≡ countOf (now image)) ⌝ }
+// Every code starts where the one before ended, the last ending at L, and is well formed, in an image with rows or without.
+fn codes_ok(image: &[u8], n: u8, rows: bool) -> bool
+    requires { ⌜ (headOk (now image) ≡ true) × (n ≡ countOf (now image)) × (rows ≡ ltb 0 (rowCount (now image))) ⌝ }
     ensures { λ r. ⌜ r ≡ codesOk (now (image .entry)) ⌝ }
 {
-    let table = image_valid_code::shapes();
+    let table = image_valid_code::shapes(rows);
     let count = basics::wide(n);
     let mut from = code_offset(image, count, 0);
     let mut x: u8 = 0;
@@ -158,13 +175,19 @@ pub fn well_formed(image: &[u8]) -> bool
     }
     let h = basics::wide(image[0]);
     let n = image[1];
-    if !lists_ok(image, basics::wide(n), h) {
+    let count = basics::wide(n);
+    if !lists_ok(image, count, h) {
         return false;
     }
-    if !entries_ok(image, n, h) {
+    let table = table_offset(image, count, h);
+    if !table_ok(image, count, table) {
         return false;
     }
-    codes_ok(image, n)
+    if !entries_ok(image, n, h, table) {
+        return false;
+    }
+    let rows = image[table];
+    codes_ok(image, n, 0 < rows)
 }
 
 // L, where what is lent has exactly L or exactly L + 4N bytes, and else 0.

@@ -7,9 +7,10 @@ use lib.Dec.{leb, ltb, eqb}
 use Rattle.model.specs.Rules.Width.{inCode}
 use Rattle.model.specs.Rules.Word.{byteAt}
 
--- 0: no command, or STORE; else 1 and the words that it takes off the stack, and 8 more for LOAD.
-unfoldable pub shapeOf : ℕ → ℕ
-shapeOf b =
+-- 0: no command, or STORE; else 1 and the words that it takes off the stack, and 8 more for LOAD. In an image with rows, which
+-- TABLE needs, or without.
+unfoldable pub shapeOf : Bool → ℕ → ℕ
+shapeOf rows b =
     cond (eqb b 0x50) 1
     (cond (eqb b 0x51) 9
     (cond (eqb b 0x52) 1
@@ -22,11 +23,16 @@ shapeOf b =
     (cond (eqb b 0x35) 3
     (cond (eqb b 0x36) 3
     (cond (eqb b 0x38) 2
-    (cond (eqb b 0x3A) 4 0))))))))))))
+    (cond (eqb b 0x3A) 4
+    (cond (eqb b 0x3B) (cond rows 2 0) 0)))))))))))))
 
 -- A table of them.
-pub record Shapes (table : List ℕ) : Type 0 where
-  pub entry : (b : ℕ) → b < 256 → byteAt table b ≡ shapeOf b
+pub record Shapes (rows : Bool) (table : List ℕ) : Type 0 where
+  pub entry : (b : ℕ) → b < 256 → byteAt table b ≡ shapeOf rows b
+
+-- Whether it is one of an image with rows.
+abbrev pub isTabled : List ℕ → Bool
+isTabled table = ltb 0 (byteAt table 0x3B)
 
 -- The bytes of a command that is not STORE.
 unfoldable pub commandBytes : ℕ → ℕ

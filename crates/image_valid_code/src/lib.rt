@@ -1,12 +1,13 @@
 // Whether the code of a signal is well formed: one turn for a command, by a table of what each byte commands.
+ghost use mathlib.Core.Bool.{false};
 ghost use mathlib.Core.Path.{_≡_};
 ghost use Prim.Native.Nat.{_<_, _≤_};
-ghost use Rattle.image_valid_code.specs.Shape.{shapeOf, Shapes, commandBytes, afterOf, lastOf};
+ghost use Rattle.image_valid_code.specs.Shape.{shapeOf, Shapes, isTabled, commandBytes, afterOf, lastOf};
 ghost use Rattle.model.specs.Rules.Machine.{codeOk};
 
-// 0: no command, or STORE; else 1 and the words that it takes off the stack, and 8 more for LOAD.
-pub fn shapes() -> [u8; 256]
-    ensures { λ r. ⌜ Shapes r ⌝ }
+// 0: no command, or STORE; else 1 and the words that it takes off the stack, and 8 more for LOAD. In an image without rows.
+fn plain_shapes() -> [u8; 256]
+    ensures { λ r. ⌜ Shapes false r ⌝ }
 {
     let mut table = [0; 256];
     table[0x30] = 3;
@@ -24,9 +25,21 @@ pub fn shapes() -> [u8; 256]
     table
 }
 
+// The same in an image with rows, which TABLE needs, or without.
+pub fn shapes(rows: bool) -> [u8; 256]
+    ensures { λ r. ⌜ Shapes rows r ⌝ }
+{
+    let mut table = plain_shapes();
+    if !rows {
+        return table;
+    }
+    table[0x3B] = 2;
+    table
+}
+
 fn shape(table: &[u8; 256], byte: u8) -> usize
-    requires { ⌜ Shapes (now table) ⌝ }
-    ensures { λ r. ⌜ r ≡ shapeOf byte ⌝ }
+    requires { ⌜ Shapes (isTabled (now table)) (now table) ⌝ }
+    ensures { λ r. ⌜ r ≡ shapeOf (isTabled (now (table .entry))) byte ⌝ }
 {
     let i = basics::wide(byte);
     basics::wide(table[i])
@@ -79,10 +92,10 @@ fn is_last(byte: u8, x: u8, own: u8, h: usize) -> bool
     false
 }
 
-// Whether the code of signal `own` is well formed in an image of n signals.
+// Whether the code of signal `own` is well formed in an image of n signals, with rows or without as the table of shapes is.
 pub fn code_ok(code: &[u8], n: u8, own: u8, table: &[u8; 256]) -> bool
-    requires { ⌜ Shapes (now table) × (own < n) ⌝ }
-    ensures { λ r. ⌜ r ≡ codeOk (now (code .entry)) n own ⌝ }
+    requires { ⌜ Shapes (isTabled (now table)) (now table) × (own < n) ⌝ }
+    ensures { λ r. ⌜ r ≡ codeOk (isTabled (now (table .entry))) (now (code .entry)) n own ⌝ }
 {
     let mut at: usize = 0;
     let mut h: usize = 0;

@@ -3,4 +3,5 @@ pub mod Codes
 pub mod Cursors
 pub mod Lists
 pub mod Prepared
+pub mod Rows
 pub mod Tail

@@ -17,6 +17,7 @@ ghost use Rattle.image_write.specs.Cursors.{StartsOf, Open, WritesRuns};
 ghost use Rattle.image_write.specs.Lists.{listBy, listsBy, pairs, HasPeriods, Phased, RunsCounted};
 ghost use Rattle.text_program.specs.Prepared.{Prepared};
 ghost use Rattle.image_write.specs.Prepared.{LaidOut, Tabled, Fits};
+ghost use Rattle.image_write.specs.Rows.{tableBy, TableStands};
 ghost use Rattle.image_write.specs.Tail.{tailBy};
 ghost use Rattle.model.specs.Rules.Writing.{Wrote};
 
@@ -174,6 +175,15 @@ fn emit_offsets(
     put_offset(out, end, start + before)
 }
 
+// Writes the table of so many rows, whose commands stand at the offsets.
+fn emit_table(text: &[u8], offsets: &[u16; 32], count: usize, out: &mut [u8], to: usize) -> usize
+    requires { ⌜ TableStands (now text) (now offsets) count × (to + length (tableBy (now text) (now offsets) count) ≤ length (now out)) ⌝ }
+    ensures { λ r. ⌜ Wrote (now (out .entry)) to (tableBy (now (text .entry)) (now (offsets .entry)) count) (now (out .exit)) r ⌝ }
+{
+    rows::emit_rows(text, offsets, count, out, to);
+    to + 1 + 12 * count
+}
+
 // Writes the code of n signals.
 fn emit_codes(text: &[u8], places: &[u16; 64], n: usize, out: &mut [u8], to: usize) -> usize
     requires { ⌜ Declared (now text) (now places) n × (to + length (joined (codesFrom 0 (declaredBy (now text)))) ≤ length (now out)) ⌝ }
@@ -235,7 +245,7 @@ fn put_head(h: usize, n: usize, size: usize, out: &mut [u8]) -> usize
     put_offset(out, 2, size)
 }
 
-// Where the run lists and the code start, where the image ends, L, and where its tail does: L + 4N.
+// Where the run lists and the code, after the table, start, where the image ends, L, and where its tail does: L + 4N.
 pub struct Layout {
     pub lists: usize,
     pub code: usize,
@@ -258,7 +268,8 @@ pub fn lay_out(
     let codes = tables.codes;
     let lists = image_layout::lists_at(n, h);
     let runs = lists_length(periods, order, phases, n, h);
-    let code = lists + runs;
+    let table = 1 + 12 * tables.rows;
+    let code = lists + runs + table;
     let size = basics::wider(codes[n]);
     let end = code + size;
     let written = end + 4 * n;
@@ -301,7 +312,9 @@ pub fn emit(
         out,
         offsets,
     );
-    let codes = emit_lists(periods, order, phases, n, h, &mut nexts, out, lists);
+    let table = emit_lists(periods, order, phases, n, h, &mut nexts, out, lists);
+    let row_offsets = tables.offsets;
+    let codes = emit_table(text, &row_offsets, tables.rows, out, table);
     emit_codes(text, &places, n, out, codes);
 }
 

@@ -1,5 +1,6 @@
-// Larderlate: compile, report, reset, cycle, tail and convert; for C the calls of a board too. Each call takes any bytes and words, and
-// its answer and what it leaves are the definition's. What they promise together is in crates `promises` and `board`.
+// Larderlate: compile, report, reset, cycle, tail and convert; for C the calls of a board too. Each call takes any
+// bytes and words, and its answer and what it leaves are the definition's. What they promise together is in crates `promises` and
+// `board`.
 use board::Turned;
 use model::Compiled;
 use model::Cycled;

@@ -1,17 +1,13 @@
 -- Laws of going back over hops. Assumes nothing.
 use Prim.Native.Nat.{ℕ, zero, suc, _+_, _*_, _-_, _≤_, _<_}
-use mathlib.Core.Bool.{Bool, true, false, false≢true}
 use mathlib.Core.List.{List}
 use mathlib.Core.Path.{_≡_, refl, sym, ap, subst, _∙_}
 use native.Mathlib.Nat.{mul-le-mul-left, mul-le-mul-right, le-trans}
-use native.Mathlib.Numerals.{add-one}
 use native.Mathlib.Omega.{arith}
 use lib.ListN.{getD}
 use Rattle.model.specs.Rules.Latency.{onward}
-use Rattle.model.specs.Rules.Search.{allBelow}
 use Rattle.model.specs.declared.Found.{Found}
 use Rattle.model.specs.declared.Found.the-variants.{At}
-use Rattle.model.proofs.Pairs.Decide.{all-true}
 use Rattle.latency_rule.specs.declared.Hop.{Hop}
 use Rattle.latency_rule.specs.Back.{noHop, usedBy, backBy, Small, onwardSmall}
 
@@ -50,18 +46,6 @@ module _ (hops : List Hop) where
   unfolding Small
   small-start zero k s = s
   small-start (suc n) k s = s .0
-
--- A test that fails below n.
-pub all-fails : (n k : ℕ) (test : ℕ → Bool) → k < n → test k ≡ false → allBelow n test ≡ false
-all-fails n k test lt e = go (allBelow n test) refl
-  where
-    go : (b : Bool) → allBelow n test ≡ b → allBelow n test ≡ false
-    go true q = absurd (false≢true (sym e ∙ all-true n test q k lt))
-    go false q = q
-
-pub all-more : (n : ℕ) (test : ℕ → Bool) → allBelow n test ≡ true → test n ≡ true → allBelow (n + 1) test ≡ true
-unfolding allBelow
-all-more n test e q = rw (add-one n, allBelow, e, q)
 
 -- An entry that is not 0.
 pub onward-at : (go : ℕ → Found) (e : ℕ) → (e ≡ 0 → ⊥) → onward go e ≡ go (e - 1)

@@ -17,6 +17,7 @@ use mir.Val.{toZ, ofZ}
 use Rattle.model.proofs.Basics.Outcomes.{table-length}
 use Rattle.model.specs.Rules.Machine.{
   countOf,
+  rowsIn,
   codeOf,
   runCode,
   runSignals,
@@ -34,7 +35,7 @@ module _ (image list : List ℕ) (i : ℕ) (samples state : List ℤ) where
   pub signals-next : i < length list
       → runSignals image (drop i list) samples state
       ≡ runSignals image (drop (i + 1) list) samples
-      (set state (byteAt list i + 1) (runCode (codeOf image (byteAt list i)) state samples))
+      (set state (byteAt list i + 1) (runCode (rowsIn image) (codeOf image (byteAt list i)) state samples))
   unfolding runSignals
   signals-next h = ap (λ (l : List ℕ). runSignals image l samples state) (drop-cons list i 0 h) ∙ rw (add-one i)
 

@@ -5,9 +5,13 @@ use mathlib.Core.List.{List}
 use mathlib.Core.Path.{_≡_}
 use lib.IntN.{ℤ, pos}
 use lib.ListN.{length, getD}
-use Rattle.model.specs.Rules.Machine.{hyperOf, countOf, wellFormed, isPosition, cycleOf}
+use Rattle.model.specs.Rules.Machine.{stretch, hyperOf, countOf, tableOffset, codeOffset, wellFormed, isPosition, cycleOf}
 use Rattle.model.specs.Rules.Outcome.{refuse}
 use Rattle.image_valid.specs.Lends.{Lends}
+
+-- The table of an image, from its count byte to the code.
+unfoldable pub tableIn : List ℕ → List ℕ
+tableIn image = stretch image (tableOffset image) (codeOffset image 0)
 
 pub record Runnable (image : List ℕ) (state samples : List ℤ) : Type 0 where
   pub formed : wellFormed image ≡ true

@@ -9,7 +9,7 @@ ghost use lib.IntN.{pos};
 ghost use lib.ListN.{length, getD};
 ghost use Rattle.model.specs.Rules.Machine.{hyperOf, countOf, wellFormed, isPosition, listOf, runSignals, countSignals, nextPosition, resetWords};
 ghost use Rattle.model.specs.Rules.Machine.{cycleWords, cycleCount, ranOf, cycledOf, resetOf, cycleOf};
-ghost use Rattle.machine.specs.Runnable.{Runnable, JudgesCycle};
+ghost use Rattle.machine.specs.Runnable.{tableIn, Runnable, JudgesCycle};
 ghost use Rattle.model.specs.Rules.Outcome.{refuse};
 ghost use Rattle.model.specs.Rules.Word.{byteAt};
 
@@ -45,9 +45,28 @@ pub fn run_list(image: &[u8], c: usize) -> &[u8]
     &image[from..to]
 }
 
-// Runs the signals of a list in order: the word of each is stored. Yields how many commands have run.
-fn run_signals(list: &[u8], image: &[u8], n: u8, state: &mut [i32], samples: &[i32]) -> u32
-    requires { ⌜ (wellFormed (now image) ≡ true) × (n ≡ countOf (now image)) ⌝ }
+// The table, from its count byte to the code: a stretch of the lent image.
+fn table_of(image: &[u8]) -> &[u8]
+    requires { ⌜ wellFormed (now image) ≡ true ⌝ }
+    ensures { λ r. ⌜ now r ≡ tableIn (now (image .entry)) ⌝ }
+{
+    let h = basics::wide(image[0]);
+    let n = basics::wide(image[1]);
+    let from = image_valid::table_offset(image, n, h);
+    let to = image_valid::code_offset(image, n, 0);
+    &image[from..to]
+}
+
+// Runs the signals of a list in order, with the table of the image: the word of each is stored. Yields how many commands have run.
+fn run_signals(
+    list: &[u8],
+    image: &[u8],
+    table: &[u8],
+    n: u8,
+    state: &mut [i32],
+    samples: &[i32],
+) -> u32
+    requires { ⌜ (wellFormed (now image) ≡ true) × (n ≡ countOf (now image)) × (now table ≡ tableIn (now image)) ⌝ }
     requires { ⌜ ((k : ℕ) → k < length (now list) → byteAt (now list) k < n) ⌝ }
     requires { ⌜ (n < length (now state)) × (n ≤ length (now samples)) × (length (now image) ≤ 65535) × (length (now list) ≤ length (now image)) ⌝ }
     ensures count { λ r. ⌜ r ≡ countSignals (now (image .entry)) (now (list .entry)) ⌝ }
@@ -61,7 +80,7 @@ fn run_signals(list: &[u8], image: &[u8], n: u8, state: &mut [i32], samples: &[i
         let own = basics::wide(x);
         let from = image_valid::code_offset(image, count, own);
         let to = image_valid::code_offset(image, count, own + 1);
-        let run = run_code::run_code(&image[from..to], n, x, &state[..], samples);
+        let run = run_code::run_code(&image[from..to], table, n, x, &state[..], samples);
         let w = run.word;
         state[own + 1] = w;
         total = total + run.count;
@@ -120,7 +139,8 @@ pub fn run_cycle(image: &[u8], state: &mut [i32], samples: &[i32]) -> u32
     let n = image[1];
     let position = state[0];
     let c = position as usize;
-    let total = run_signals(run_list(image, c), image, n, &mut state[..], samples);
+    let table = table_of(image);
+    let total = run_signals(run_list(image, c), image, table, n, &mut state[..], samples);
     let next = next_position(h, c);
     state[0] = next;
     total

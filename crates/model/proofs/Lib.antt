@@ -2,5 +2,6 @@
 pub mod Basics
 pub mod Texts
 pub mod Pairs
+pub mod Rows
 pub mod Images
 pub mod Bench

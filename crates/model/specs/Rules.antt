@@ -3,9 +3,11 @@ pub mod Outcome
 pub mod Search
 pub mod Word
 pub mod Width
+pub mod Table
 pub mod Command
 pub mod Program
 pub mod Rates
+pub mod Cover
 pub mod Schedule
 pub mod Reads
 pub mod Load

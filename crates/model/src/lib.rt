@@ -36,6 +36,8 @@ pub enum Binary {
 // The operators with one operand.
 pub enum Unary {
     Negate,
+    // the result of the row that contains the operand
+    Table,
 }
 
 // The mode of a latency constraint.
@@ -66,6 +68,8 @@ pub enum Declaration {
     Cap(u32),
     // label
     Tag(u16),
+    // low, high, result
+    Row(i32, i32, i32),
 }
 
 // A command of an expression with its operands; the expressions that it is applied to are commands of their own.

@@ -1,32 +1,34 @@
 -- Demand 3 for each place of a board, and that one number tells the answers of its calls. What they promise besides is in crate
 -- `board`. Assumes nothing.
-use Prim.Native.Nat.{ℕ, _+_}
+use Prim.Native.Nat.{ℕ, _+_, _≤_, _<_}
 use mathlib.Core.List.{List, _∷_}
-use mathlib.Core.Path.{_≡_, subst, refl, sym}
+use mathlib.Core.Path.{_≡_, subst, refl, sym, ap}
 use mathlib.Core.Bool.{Bool, true, false, cond}
 use native.Mathlib.Omega.{arith}
+use borrow.Author.Tests.{le-leb, lt-ltb}
 use lib.IntN.{ℤ}
 use lib.ListN.{length}
 use lib.Dec.{leb, ltb}
 use Rattle.model.specs.Rules.Compile.{pairOf}
 use Rattle.model.specs.Rules.Image.{imageOf}
 use Rattle.model.specs.Rules.Machine.{stretch, resetOf}
-use Rattle.model.specs.Rules.Outcome.{accepted, Outcome, refused, refuse}
+use Rattle.model.specs.Rules.Outcome.{accepted, Outcome, refused, refuse, fault}
 use Rattle.model.specs.Rules.Program.{Program}
 use Rattle.model.specs.Rules.Reads.{settled}
 use Rattle.model.specs.Rules.Schedule.{Schedule}
 use Rattle.model.specs.Rules.Tail.{Bears}
 use Rattle.model.specs.Rules.Word.{AreBytes}
+use Rattle.model.specs.Says.Calls.{Call, callOf}
 use Rattle.theorems.specs.Held.{stateBy, logBy, Supplied, Holds}
-use Rattle.theorems.specs.Lists.{KeptBy}
 use Rattle.theorems.specs.Streams.{Satisfies}
-use Rattle.board.specs.Board.{placeWords, placeAt, nextDue, onStretch, resetIn, BoardEffect, Yield, loadOf, markPlaceOf, turnOf}
+use Rattle.theorems.specs.Tables.{WithoutTable}
+use Rattle.board.specs.Board.{placeWords, placeAt, nextDue, onStretch, resetIn, cycleIn, BoardEffect, Yield, loadOf, markPlaceOf, turnOf}
 use Rattle.board.specs.Events.{Event, load, Scene, loadBy, afterEvent, afterEvents, Throughout, Untouched, ownCycles}
 use Rattle.board_words.specs.Record.{turnDone}
 use Rattle.promises.specs.Codable.{Codable}
 use Rattle.board.specs.declared.Board.{Board}
 use Rattle.board.proofs.Promises.{place-alone, place-cycles}
-use Rattle.promises.proofs.Promises.{calls-hold, reset-codable}
+use Rattle.promises.proofs.Promises.{calls-hold, reset-codable, former-refused}
 use Rattle.board.proofs.Answers.{
   load-place,
   load-state,
@@ -40,29 +42,25 @@ use Rattle.board.proofs.Answers.{
   turn-done,
 }
 
--- A place whose stretch keeps demand 3 by itself (`KeptBy`), with c the number of turns that ran it since its load: word 0 is the
--- remainder of c by H, signal x its element floor((c − 1 − p)/P), or its initial word if c ≤ p, of every stream that satisfies
--- the
--- equations with the samples that these turns were lent for the place; words beyond N are as before the load.
-place-kept : (program schedule : List ℕ) (p : Program) (q : Schedule) (h : ℕ) (s : Scene) (k start size n : ℕ) →
+-- What a list on its image holds a place holds, with c the number of turns that ran it since its load: word 0 is the remainder of c
+-- by H, signal x its element floor((c − 1 − p)/P), or its initial word if c ≤ p, and words beyond N are as before the load.
+place-holds : (p : Program) (q : Schedule) (h : ℕ) (s : Scene) (k start size n : ℕ) →
     length (s .board .places) ≡ 4 → loadBy s k start size .answer ≡ accepted n → (es : List Event) →
-    Throughout (Untouched k) (afterEvent s (load k start size)) es → (inputs X : ℕ → ℕ → ℤ) →
+    Throughout (Untouched k) (afterEvent s (load k start size)) es → (X : ℕ → ℕ → ℤ) →
     let image = stretch (s .images) start (start + size) in
     let cycles = ownCycles k (afterEvent s (load k start size)) es in
     let old = placeWords k (s .state) in
-    KeptBy program schedule p q h image old cycles → Supplied p q (logBy image old cycles) inputs →
-    Satisfies p (settled p q) inputs X →
+    Holds p q h X old (length (logBy image old cycles)) (stateBy image old cycles) →
     Holds p q h X old (length cycles) (placeWords k (afterEvents s (load k start size ∷ es) .state))
-place-kept program schedule p q h s k start size n four a es free inputs X kept supplied satisfied =
+place-holds p q h s k start size n four a es free X holds =
     let image = stretch (s .images) start (start + size) in
     let cycles = ownCycles k (afterEvent s (load k start size)) es in
     let old = placeWords k (s .state) in
     rw (place-alone s k start size n four a es free)
-    (subst (λ (c : ℕ). Holds p q h X old c (stateBy image old cycles)) (place-cycles s k start size n four a es free .1)
-    (kept .holds inputs X supplied satisfied))
+    (subst (λ (c : ℕ). Holds p q h X old c (stateBy image old cycles)) (place-cycles s k start size n four a es free .1) holds)
 
 -- So it is where the stretch holds the image of an accepted pair, with a tail or without, and it and the place's words are not
--- changed from outside.
+-- changed from outside: of every stream that satisfies the equations with the samples that these turns were lent for the place.
 module _ (program schedule : List ℕ) (bytes : AreBytes program) (p : Program) (q : Schedule) (h : ℕ)
     (e : pairOf program schedule ≡ accepted (record { program = p; schedule = q; hypercycle = h })) where
   pub place-streams : (s : Scene) (k start size n : ℕ) → length (s .board .places) ≡ 4 →
@@ -74,10 +72,11 @@ module _ (program schedule : List ℕ) (bytes : AreBytes program) (p : Program) 
       let old = placeWords k (s .state) in
       Supplied p q (logBy image old cycles) inputs → Satisfies p (settled p q) inputs X →
       Holds p q h X old (length cycles) (placeWords k (afterEvents s (load k start size ∷ es) .state))
-  place-streams s k start size n four a tail bears es free inputs X =
-      place-kept program schedule p q h s k start size n four a es free inputs X
+  place-streams s k start size n four a tail bears es free inputs X supplied satisfied =
+      place-holds p q h s k start size n four a es free X
       (calls-hold program schedule bytes p q h e tail (stretch (s .images) start (start + size)) bears (placeWords k (s .state))
-      (place-cycles s k start size n four a es free .0) (ownCycles k (afterEvent s (load k start size)) es))
+      (place-cycles s k start size n four a es free .0) (ownCycles k (afterEvent s (load k start size)) es)
+      .holds inputs X supplied satisfied)
 
 -- One number tells the answers of a board's calls too: they yield 0, or refuse with a number above 0 at place 0.
 -- A call that has come to an effect.
@@ -138,3 +137,23 @@ turn-codable b images state samples = words (leb 260 (length state)) refl
     words : (t : Bool) → leb 260 (length state) ≡ t → Codable (turnDone (turnOf b images state samples .answer))
     words true p = lent p (leb 256 (length samples)) refl
     words false p = turn-comes (turn-state b images state samples p) (omega arith, omega arith)
+
+-- A place takes no image from before: a load of one is refused by 20, and so is the run of a turn.
+module _ {image tail : List ℕ} (o : WithoutTable image) (images : List ℕ) (start size : ℕ)
+    (inside : start + size ≤ length images) (bears : Bears image tail (stretch images start (start + size))) where
+  pub former-reset : (words : List ℤ) → resetIn images start size words .answer ≡ refuse 20 0
+  unfolding onStretch callOf
+  former-reset words =
+      rw (le-leb (start + size) (length images) inside) (former-refused image tail _ o bears .0 words Call.reset)
+
+  pub former-cycle : (words samples : List ℤ) → cycleIn images start size words samples .answer ≡ refuse 20 0
+  unfolding onStretch callOf
+  former-cycle words samples =
+      rw (le-leb (start + size) (length images) inside) (former-refused image tail _ o bears .0 words (Call.cycle samples))
+
+  pub former-load : (b : Board) (state : List ℤ) (k : ℕ) → k < 4 → 260 ≤ length state →
+      loadOf b images state k start size .answer ≡ refuse 20 0
+  former-load b state k lt long =
+      ap (λ r. r .answer)
+      (load-refused b images state k start size (lt-ltb k 4 lt) (le-leb 260 (length state) long) (fault 20 0)
+      (former-reset (placeWords k state)))

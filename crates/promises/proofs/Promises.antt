@@ -18,6 +18,9 @@ use Rattle.model.specs.Says.Calls.{Call, callOf}
 use Rattle.model.specs.Rules.Command.{declarationAt, operatorAt}
 use Rattle.model.specs.Rules.Compile.{Pair, pairOf, verdictOf, compileOf}
 use Rattle.model.specs.Rules.Decimal.{natural, decimal}
+use Rattle.model.specs.Rules.Table.{Row, tableWord, rowAt}
+use Rattle.model.specs.Says.Rows.{Lies, Covers, Reordered}
+use Rattle.model.specs.Says.Words.{IsWord}
 use Rattle.model.specs.Rules.Image.{lengthOf, imageOf, tailOf, writtenOf, writtenLength}
 use Rattle.model.specs.Rules.Latency.{readsBack, backwards, back, source, latencyOf}
 use Rattle.model.specs.Rules.Machine.{
@@ -28,6 +31,8 @@ use Rattle.model.specs.Rules.Machine.{
   countOf,
   statedLength,
   wellFormed,
+  rowCount,
+  rowsIn,
   imagePart,
   lentOk,
   cycleWords,
@@ -37,7 +42,7 @@ use Rattle.model.specs.Rules.Machine.{
   codeAt,
 }
 use Rattle.model.specs.Rules.Outcome.{Outcome, accepted, refused, refuse, fault, _▷_, provided}
-use Rattle.model.specs.Rules.Program.{Program, Chain, Read, count, parseWith, parseProgram}
+use Rattle.model.specs.Rules.Program.{Program, Chain, Read, Expr, equation, unary, count, signalAt, parseWith, parseProgram}
 use Rattle.model.specs.Rules.Rates.{hypercycle}
 use Rattle.model.specs.Rules.Reads.{rateOf, runCycle, settled}
 use Rattle.model.specs.Rules.Report.{highest, needsOf, reportJob, reportOf}
@@ -65,8 +70,8 @@ use Rattle.model.specs.Says.Written.{
   CodeWritten,
   CodeWhole,
 }
-use Rattle.theorems.specs.Held.{stateBy, logBy}
 use Rattle.theorems.specs.Conditions.{_among_, ReadIn, LegalPairWith, LegalPair}
+use Rattle.theorems.specs.Held.{stateBy, logBy}
 use Rattle.theorems.specs.Conversion.{earlierFactor, Converts, ConversionKeeps}
 use Rattle.theorems.specs.Decimals.{SaysNumber, SaysWord}
 use Rattle.theorems.specs.Enums.{
@@ -100,14 +105,17 @@ use Rattle.theorems.specs.Lists.{
 }
 use Rattle.theorems.specs.Reach.{WidthsListed}
 use Rattle.theorems.specs.Refusals.{RefusedAt}
-use Rattle.theorems.specs.Streams.{Satisfies}
+use Rattle.theorems.specs.Streams.{Satisfies, value, wordRead}
+use Rattle.theorems.specs.Subexpression.{Subexpression}
+use Rattle.theorems.specs.Tables.{Yields, StoresRows, WithoutTable}
 use Rattle.theorems.specs.Trials.{inputsOf, TrialLines}
 use Rattle.theorems.specs.TrialRefusals.{LegalScript, TrialRefusedAt}
 use Rattle.theorems.specs.WellFormed.{WellFormed}
-use Rattle.theorems.specs.Nearest.{NearestResults}
+use Rattle.theorems.specs.Nearest.{WordsRange, NearestResults}
 use Rattle.theorems.specs.Images.{TailExactly, ReportsExactly, OneImage, Reports}
 use Rattle.larderlate.specs.Code.{codeNumber, lengthIn, lengthOfTail}
 use Rattle.promises.specs.Codable.{Codable}
+use Rattle.model.specs.declared.Unary.the-variants.{Table}
 use Rattle.model.specs.declared.Code.{Code}
 use Rattle.model.specs.declared.Declaration.{Declaration}
 use Rattle.model.specs.declared.Declaration.the-variants as Declaration
@@ -125,6 +133,7 @@ use Rattle.model.proofs.Basics.Outcomes.{accepted≢refused}
 use Rattle.model.proofs.Images.Stretches.{image-length, length-bytes}
 use Rattle.model.proofs.Images.Tails as Tails
 use Rattle.model.proofs.Images.Tails.{lent-formed, tail-length, tail-tells, written-bears, written-length}
+use Rattle.model.proofs.Rows.Rule as Rule
 use Rattle.model.proofs.Texts.Written as Commands
 use Rattle.model.proofs.Pairs.Verdict.{pair-passed, pair-accepted, pair-multiple, pair-bounded}
 use Rattle.theorems.proofs.Calls.Among as Among
@@ -139,6 +148,8 @@ use Rattle.theorems.proofs.Bench.Decimals as Decimals
 use Rattle.theorems.proofs.Streams.Alike.{open-alike, alike-satisfy}
 use Rattle.theorems.proofs.Streams.AlikeBytes.{entry-alike}
 use Rattle.theorems.proofs.Streams.Demand as Demand
+use Rattle.theorems.proofs.Streams.Looked.{table-of-image, rows-stored}
+use Rattle.theorems.proofs.Streams.Worded.{elements-words, table-yields}
 use Rattle.theorems.proofs.Texts.Enums as Enums
 use Rattle.theorems.proofs.Pairs.Exact as Exact
 use Rattle.theorems.proofs.Examples as Examples
@@ -152,6 +163,7 @@ use Rattle.theorems.proofs.Calls.Places.{refusal-small, places-small, places-ze
 use Rattle.theorems.proofs.Calls.Refused as Refused
 use Rattle.theorems.proofs.Bench.Scripts.{script-actions}
 use Rattle.theorems.proofs.Pairs.Settled as Settled
+use Rattle.theorems.proofs.Images.Former.{not-lent}
 use Rattle.theorems.proofs.Images.Tailed
 use Rattle.theorems.proofs.Images.Tailed.{part-bytes}
 use Rattle.theorems.proofs.Bench.TrialLines.{tried-count, tried-line}
@@ -514,13 +526,76 @@ same-program program schedule schedule′ q q′ e e′ =
     let one : q .program ≡ q′ .program = cc (sym (t .parses) ∙ t′ .parses) in
     (one, cc (sym (t .hyper) ∙ ap hypercycle one ∙ t′ .hyper))
 
+-- Words are the numbers from −2147483648 to 2147483647.
+pub words-range : WordsRange
+words-range = Nearest.words-range
+
 -- Request d. ADD, SUB, MUL and NEG, in the streams as in a cycle, give the nearest word to the true result: a word; the result
 -- itself, where it is one; and no word is nearer to it.
 pub nearest-word : (a b : ℤ) → NearestResults a b
 nearest-word = Nearest.nearest-word
 
+-- Request j. A word that one row contains, and no other, has its result, however many rows there are ..
+pub table-rule : (rows : List Row) (w : ℤ) (n : ℕ) → Lies rows w n → ((m : ℕ) → Lies rows w m → m ≡ n) →
+    tableWord rows w ≡ rowAt rows n .result
+table-rule = Rule.table-rule
+
+-- .. and where the rows cover, their order does not matter.
+pub sorted-rule : (rows others : List Row) → Reordered rows others → Covers rows → (w : ℤ) → IsWord w →
+    tableWord others w ≡ tableWord rows w
+sorted-rule rows others r c w f = sym (Rule.table-reordered r c w f)
+
+-- In a well-formed image with a row every word lies in exactly one, whose result TABLE yields.
+pub formed-covers : (image : List ℕ) → wellFormed image ≡ true → 0 < rowCount image → (w : ℤ) → IsWord w →
+    (n : ℕ) × Lies (rowsIn image) w n × ((m : ℕ) → Lies (rowsIn image) w m → m ≡ n) ×
+    (tableWord (rowsIn image) w ≡ rowAt (rowsIn image) n .result)
+formed-covers image e some w f =
+    let o = FormedExactly.well-formed-exactly image .0 e .covers some w f in
+    (o .0, o .1, o .2, table-rule (rowsIn image) w (o .0) (o .1) (o .2))
+
+-- The image of an accepted pair yields for TABLE what the program's rows do, in whatever order they stand in the text.
+pub image-table : (program schedule : List ℕ) → AreBytes program → (q : Pair) → pairOf program schedule ≡ accepted q → (w : ℤ) →
+    tableWord (rowsIn (imageOf (q .program) (q .schedule) (q .hypercycle))) w ≡ tableWord (q .program .rows) w
+image-table program schedule bytes q e w =
+    table-of-image (q .program) (q .schedule) (q .hypercycle) (pair-accepted program schedule q e)
+    (pair-multiple program schedule q e) (pair-bounded program schedule q e bytes) w
+
+-- Its rows are the program's, each once, by rising low.
+pub image-rows : (program schedule : List ℕ) → AreBytes program → (q : Pair) → pairOf program schedule ≡ accepted q →
+    StoresRows (q .program .rows) (rowsIn (imageOf (q .program) (q .schedule) (q .hypercycle)))
+image-rows program schedule bytes q e =
+    rows-stored (q .program) (q .schedule) (q .hypercycle) (pair-accepted program schedule q e)
+    (pair-multiple program schedule q e) (pair-bounded program schedule q e bytes)
+
+-- In the streams of an accepted pair whose inputs are words ..
+module _ (program schedule : List ℕ) (bytes : AreBytes program) (p : Program) (s : Schedule) (h : ℕ)
+    (e : pairOf program schedule ≡ accepted (record { program = p; schedule = s; hypercycle = h })) (inputs X : ℕ → ℕ → ℤ)
+    (given : (x k : ℕ) → x < count p → IsWord (inputs x k)) (sat : Satisfies p (settled p s) inputs X) where
+  -- .. every element is a word ..
+  pub stream-words : (x j : ℕ) → x < count p → IsWord (X x j)
+  stream-words =
+      elements-words p s h (pair-accepted program schedule _ e) (pair-bounded program schedule _ e bytes) inputs given X sat
+
+  -- .. and a TABLE in the equation of signal x yields for element k the result of the one row that contains its operand.
+  pub stream-table : (x k : ℕ) → x < count p → (weight : ℕ) (equated operand : Expr) →
+      signalAt p x .body ≡ equation weight equated → Subexpression (unary Table operand) equated →
+      Yields (p .rows) (value (p .rows) (wordRead (settled p s) X x k) operand)
+      (value (p .rows) (wordRead (settled p s) X x k) (unary Table operand))
+  stream-table =
+      table-yields p s h (pair-accepted program schedule _ e) (pair-bounded program schedule _ e bytes) inputs given X sat
+
+-- Images from before have no table: every call on one, with its tail or without, is refused by 20.
+pub former-refused : (image tail lent : List ℕ) → WithoutTable image → Bears image tail lent →
+    ((state : List ℤ) (c : Call) → callOf lent state c .answer ≡ refuse 20 0) × (tailIn lent ≡ refuse 20 0)
+unfolding callOf resetOf cycleOf tailIn _▷_ provided
+former-refused image tail lent o b = (λ state c. called state c, rw (not-lent o b))
+  where
+    called : (state : List ℤ) (c : Call) → callOf lent state c .answer ≡ refuse 20 0
+    called state Call.reset = rw (not-lent o b)
+    called state (Call.cycle samples) = rw (not-lent o b)
+
 -- Request e. A bench trial is refused with each number at its place exactly under its condition, in the stated order: the pair's
--- 1 to 16, then 24 and 25 of the script.
+-- 1 to 16, 29 and 30, then 24 and 25 of the script.
 pub trial-refused-exactly : (program schedule text : List ℕ) (f : Fault) →
     (trialOf program schedule text ≡ refused f) ↔ TrialRefusedAt program schedule text f
 trial-refused-exactly = trial-refused
@@ -607,9 +682,9 @@ pub cycle-exactly : (lent : List ℕ) (state samples : List ℤ) →
     Exactly state (Cycles lent state samples) (CycleRefusedAt lent state samples) (cycleOf lent state samples)
 cycle-exactly = CallsExact.cycle-exactly
 
--- 24,678 bytes, the header's LARDERLATE_IMAGE_BYTES, hold what compile writes for every accepted pair.
+-- 24,679 bytes, the header's LARDERLATE_IMAGE_BYTES, hold what compile writes for every accepted pair.
 pub image-bytes : (program schedule : List ℕ) → AreBytes program → (q : Pair) → pairOf program schedule ≡ accepted q →
-    (buffer : List ℕ) → 24678 ≤ length buffer → compileOf program schedule buffer .answer ≡ accepted (sizeOf q)
+    (buffer : List ℕ) → 24679 ≤ length buffer → compileOf program schedule buffer .answer ≡ accepted (sizeOf q)
 image-bytes program schedule bytes q e buffer le =
     compile-exactly program schedule buffer .done (sizeOf q) _ .1
     (record {

@@ -1,6 +1,6 @@
 -- One command of a well-formed code, by its byte: what the check says of it, and what it does. Assumes nothing.
 use mathlib.Core.Path.{_≡_, refl, _∙_}
-use mathlib.Core.Bool.{true, false, _&&_}
+use mathlib.Core.Bool.{Bool, true, false, _&&_}
 use mathlib.Core.List.{List, _∷_}
 use mathlib.Core.Logic.{_⊎_, ⊎-elim, inl, inr}
 use Prim.Native.Nat.{ℕ, zero, suc, _+_, _-_, _≤_, _<_}
@@ -13,6 +13,7 @@ use Rattle.model.specs.Rules.Machine.{
   operatorCode,
   codeAt,
   wholeCode,
+  isServed,
   commandOk,
   codeOkFrom,
   runCommand,
@@ -23,13 +24,14 @@ use Rattle.model.specs.Rules.Machine.{
   onTwo,
   onThree,
 }
-use Rattle.model.specs.Rules.Word.{byteAt, wordAt, binaryWord, unaryWord, ifWord}
+use Rattle.model.specs.Rules.Table.{Row, unaryWord}
+use Rattle.model.specs.Rules.Word.{byteAt, wordAt, binaryWord, ifWord}
 use Rattle.run_code.specs.Leaf.{leafWord, leafOk, leafLength}
 use Rattle.model.specs.declared.Binary.{Binary}
 use Rattle.model.specs.declared.Code.{Code}
 use Rattle.model.specs.declared.Code.the-variants as Code
 use Rattle.model.specs.declared.Unary.{Unary}
-use Rattle.model.specs.declared.Unary.the-variants.{Negate}
+use Rattle.model.specs.declared.Unary.the-variants.{Negate, Table}
 use Rattle.model.proofs.Basics.Tests.{never, by, both}
 
 -- The command at an offset within a code, by its byte.
@@ -57,6 +59,10 @@ module _ (code : List ℕ) (at : ℕ) (here : at < length code) where
   unfolding codeAt operatorCode
   is-negate e = rw (inside, e)
 
+  is-table : byteAt code at ≡ 0x3B → codeAt code at ≡ Code.Unary Table
+  unfolding codeAt operatorCode
+  is-table e = rw (inside, e)
+
   is-if : byteAt code at ≡ 0x3A → codeAt code at ≡ Code.If
   unfolding codeAt operatorCode
   is-if e = rw (inside, e)
@@ -72,9 +78,9 @@ unfolding codeAt
 is-end code at e = rw (le-ltb at (length code) e)
 
 -- no operator with two operands has another byte
-is-unknown : (b : ℕ) → (b ≡ 0x38 → ⊥) → (b ≡ 0x3A → ⊥) → (b < 0x30) ⊎ (0x36 < b) → operatorCode b ≡ Code.Unknown
+is-unknown : (b : ℕ) → (b ≡ 0x38 → ⊥) → (b ≡ 0x3A → ⊥) → (b ≡ 0x3B → ⊥) → (b < 0x30) ⊎ (0x36 < b) → operatorCode b ≡ Code.Unknown
 unfolding operatorCode
-is-unknown b not-negate not-if o =
+is-unknown b not-negate not-if not-table o =
     let no : (k : ℕ) → 0x30 ≤ k → k ≤ 0x36 → eqb b k ≡ false = λ k l h.
     ne-eqb b k (λ e. ⊎-elim (λ p. omega arith) (λ p. omega arith) o) in
     rw (
@@ -87,28 +93,30 @@ is-unknown b not-negate not-if o =
       no 0x36 (omega arith) (omega arith),
       ne-eqb _ _ not-negate,
       ne-eqb _ _ not-if,
+      ne-eqb _ _ not-table,
     )
 
 -- The code from `at` on, with so many words on the stack and so many commands at most: how it is judged, and what it stores.
-module _ (code : List ℕ) (n own : ℕ) (state samples : List ℤ) where
+module _ (tabled : Bool) (rows : List Row) (code : List ℕ) (n own : ℕ) (state samples : List ℤ) where
   -- The code is well formed from `at` on, and stores `stored`; `ran` commands have run, and in the end it is `total`.
   pub record Goes (stored : ℤ) (total ran at : ℕ) (stack : List ℤ) (height : ℕ) : Type 0 where
     pub left : ℕ
-    pub good : codeOkFrom left code n own at height ≡ true
-    pub runs : runFrom left code state samples at stack ≡ stored
+    pub good : codeOkFrom left tabled code n own at height ≡ true
+    pub runs : runFrom left rows code state samples at stack ≡ stored
     pub counts : ran + countFrom left code at ≡ total
     pub most : height ≤ 32
 
   -- the same, by the command at `at`
   pub record Command (stored : ℤ) (total ran at : ℕ) (stack : List ℤ) (height : ℕ) (command : Code) : Type 0 where
     pub fewer : ℕ
-    pub judged : commandOk (λ a h. codeOkFrom fewer code n own a h) (length code) n own at height command ≡ true
-    pub does : runCommand (λ a k. runFrom fewer code state samples a k) state samples at stack command ≡ stored
+    pub judged : commandOk (λ a h. codeOkFrom fewer tabled code n own a h) tabled (length code) n own at height command ≡ true
+    pub does : runCommand (λ a k. runFrom fewer rows code state samples a k) rows state samples at stack command ≡ stored
     pub counted : ran + countCommand (λ a. countFrom fewer code a) at command ≡ total
     pub few : height ≤ 32
 
   module _ {stored : ℤ} {total ran at height : ℕ} {stack : List ℤ} where
-    taken : (left : ℕ) → codeOkFrom left code n own at height ≡ true → runFrom left code state samples at stack ≡ stored
+    taken : (left : ℕ) → codeOkFrom left tabled code n own at height ≡ true → runFrom left rows code state samples at stack ≡
+        stored
         → ran + countFrom left code at ≡ total → height ≤ 32 → Command stored total ran at stack height (codeAt code at)
     unfolding codeOkFrom runFrom countFrom
     taken zero g r k m = never g
@@ -150,6 +158,9 @@ module _ (code : List ℕ) (n own : ℕ) (state samples : List ℤ) where
       pub negate : byteAt code at ≡ 0x38 → Command stored total ran at stack height (Code.Unary Negate)
       negate e = seen (is-negate code at here e) (command g)
 
+      pub table : byteAt code at ≡ 0x3B → Command stored total ran at stack height (Code.Unary Table)
+      table e = seen (is-table code at here e) (command g)
+
       pub choose : byteAt code at ≡ 0x3A → Command stored total ran at stack height Code.If
       choose e = seen (is-if code at here e) (command g)
 
@@ -159,14 +170,14 @@ module _ (code : List ℕ) (n own : ℕ) (state samples : List ℤ) where
 
     pub combine : at < length code → Goes stored total ran at stack height
         → (byteAt code at ≡ 0x50 → ⊥) → (byteAt code at ≡ 0x51 → ⊥) → (byteAt code at ≡ 0x52 → ⊥) → (byteAt code at ≡ 0x5F → ⊥)
-        → (byteAt code at ≡ 0x38 → ⊥) → (byteAt code at ≡ 0x3A → ⊥)
+        → (byteAt code at ≡ 0x38 → ⊥) → (byteAt code at ≡ 0x3A → ⊥) → (byteAt code at ≡ 0x3B → ⊥)
         → (0x30 ≤ byteAt code at) × (byteAt code at ≤ 0x36) ×
         Command stored total ran at stack height (operatorCode (byteAt code at))
-    combine here g p l f s n i =
+    combine here g p l f s n i t₀ =
         let b = byteAt code at in
         let c = seen (is-operator code at here p l f s) (command g) in (
-          by (ltb b 0x30) (λ t. unknown (seen (is-unknown b n i (inl (ltb-true b 0x30 t))) c)) (λ t. ltb-false b 0x30 t),
-          by (ltb 0x36 b) (λ t. unknown (seen (is-unknown b n i (inr (ltb-true 0x36 b t))) c)) (λ t. ltb-false 0x36 b t),
+          by (ltb b 0x30) (λ t. unknown (seen (is-unknown b n i t₀ (inl (ltb-true b 0x30 t))) c)) (λ t. ltb-false b 0x30 t),
+          by (ltb 0x36 b) (λ t. unknown (seen (is-unknown b n i t₀ (inr (ltb-true 0x36 b t))) c)) (λ t. ltb-false 0x36 b t),
           c,
         )
 
@@ -225,10 +236,10 @@ module _ (code : List ℕ) (n own : ℕ) (state samples : List ℤ) where
         (eqb-true height 1 (both (eqb x own) (eqb height 1) (p .0) .1), c .does, c .counted)
 
     pub negated : (operator : Unary) → Command stored total ran at stack height (Code.Unary operator) →
-        (1 ≤ height) × Goes stored total (ran + 1) (at + 1) (onOne (unaryWord operator) stack) height
+        (1 ≤ height) × Goes stored total (ran + 1) (at + 1) (onOne (unaryWord rows operator) stack) height
     unfolding commandOk runCommand countCommand
-    negated operator c = let p = both (leb 1 height) _ (c .judged) in (
-      leb-true 1 height (p .0),
+    negated operator c = let p = both (isServed tabled operator && leb 1 height) _ (c .judged) in (
+      leb-true 1 height (both (isServed tabled operator) (leb 1 height) (p .0) .1),
       record
           { left = c .fewer; good = p .1; runs = c .does; counts = omega (arith, c .counted); most = c .few },
     )

@@ -1,12 +1,14 @@
 // Runs the code of one signal. The code is known to be well formed, so nothing is checked again here.
 use model::Binary;
 use model::Code;
-use model::Unary;
 use run_stack::Stack;
 ghost use mathlib.Core.Path.{_≡_};
 ghost use mathlib.Core.Bool.{true};
 ghost use Prim.Native.Nat.{_<_, _≤_};
+ghost use lib.Dec.{ltb};
 ghost use lib.ListN.{length};
+ghost use Rattle.model.specs.Rules.Cover.{areaOk};
+ghost use Rattle.model.specs.Rules.Table.{areaRows};
 ghost use Rattle.model.specs.Rules.Machine.{operatorCode, codeAt, codeOk, runCode, countCode};
 ghost use Rattle.model.specs.Rules.Word.{byteAt};
 ghost use Rattle.run_code.specs.Leaf.{leafWord, leafOk, leafLength};
@@ -60,11 +62,11 @@ pub struct Run {
     pub count: u32,
 }
 
-// Runs the code of signal `own`, in an image of n signals. A leaf and the operator or STORE that follows it are run in one
-// turn, which counts 2: its word is not pushed. All operators are as wide as ADD.
-pub fn run_code(code: &[u8], n: u8, own: u8, state: &[i32], samples: &[i32]) -> Run
-    requires { ⌜ (codeOk (now code) n own ≡ true) × (n < length (now state)) × (n ≤ length (now samples)) × (own < n) × (length (now code) ≤ 65535) ⌝ }
-    ensures { λ r. ⌜ (r .word ≡ runCode (now (code .entry)) (now (state .entry)) (now (samples .entry))) × (r .count ≡ countCode (now (code .entry))) ⌝ }
+// Runs the code of signal `own`, in an image of n signals with this table. A leaf and the operator or STORE that follows it are
+// run in one turn, which counts 2: its word is not pushed. All operators are as wide as ADD.
+pub fn run_code(code: &[u8], table: &[u8], n: u8, own: u8, state: &[i32], samples: &[i32]) -> Run
+    requires { ⌜ (codeOk (ltb 0 (byteAt (now table) 0)) (now code) n own ≡ true) × (n < length (now state)) × (n ≤ length (now samples)) × (own < n) × (length (now code) ≤ 65535) × (areaOk (now table) 0 ≡ true) ⌝ }
+    ensures { λ r. ⌜ (r .word ≡ runCode (areaRows (now (table .entry)) 0) (now (code .entry)) (now (state .entry)) (now (samples .entry))) × (r .count ≡ countCode (now (code .entry))) ⌝ }
 {
     let operator_width = width::in_code(0x30);
     let mut at: usize = 0;
@@ -97,8 +99,9 @@ pub fn run_code(code: &[u8], n: u8, own: u8, state: &[i32], samples: &[i32]) -> 
                 let word = popped.word;
                 return Run { word, count };
             }
-            0x38 => stack = stack.unary(Unary::Negate),
+            0x38 => stack = stack.negate(),
             0x3A => stack = stack.choose(),
+            0x3B => stack = stack.look_up(table),
             _ => stack = stack.binary(operator(byte)),
         }
     }

@@ -1,11 +1,13 @@
 // The working stack of an image's code, by value: each method hands the next stack back. It is never short and never over 32.
 use model::Binary;
-use model::Unary;
+ghost use mathlib.Core.Bool.{true};
 ghost use mathlib.Core.Path.{_≡_};
 ghost use mathlib.Core.List.{[], _∷_};
 ghost use Prim.Native.Nat.{_+_, _<_, _≤_};
+ghost use Rattle.model.specs.Rules.Cover.{areaOk};
 ghost use Rattle.model.specs.Rules.Machine.{onOne, onTwo, onThree};
-ghost use Rattle.model.specs.Rules.Word.{binaryWord, unaryWord, ifWord};
+ghost use Rattle.model.specs.Rules.Table.{tableWord, areaRows};
+ghost use Rattle.model.specs.Rules.Word.{binaryWord, negWord, ifWord};
 ghost use Rattle.run_stack.specs.View.{view};
 
 // The top word apart, the words under it in an array, whose word 0 is not used.
@@ -64,12 +66,26 @@ impl Stack {
         }
     }
 
-    pub fn unary(self, operator: Unary) -> Self
+    pub fn negate(self) -> Self
         requires { ⌜ (1 ≤ self .height) × (self .height ≤ 32) ⌝ }
-        ensures { λ r. ⌜ (view r ≡ onOne (unaryWord operator) (view self)) × (r .height ≡ self .height) ⌝ }
+        ensures { λ r. ⌜ (view r ≡ onOne negWord (view self)) × (r .height ≡ self .height) ⌝ }
     {
         let below = self.below;
-        let top = word::unary(operator, self.top);
+        let top = word::neg(self.top);
+        Self {
+            top,
+            below,
+            height: self.height,
+        }
+    }
+
+    // What a table gives for the top word.
+    pub fn look_up(self, table: &[u8]) -> Self
+        requires { ⌜ (1 ≤ self .height) × (self .height ≤ 32) × (areaOk (now table) 0 ≡ true) ⌝ }
+        ensures { λ r. ⌜ (view r ≡ onOne (tableWord (areaRows (now (table .entry)) 0)) (view self)) × (r .height ≡ self .height) ⌝ }
+    {
+        let below = self.below;
+        let top = rows::look_up(table, self.top);
         Self {
             top,
             below,

@@ -6,7 +6,7 @@ use mathlib.Core.Path.{_≡_, refl}
 use native.Mathlib.Decide.{decLt}
 use native.Mathlib.Omega.{arith}
 use borrow.Author.Tests.{le-leb}
-use lib.Dec.{leb}
+use lib.Dec.{eqb, leb}
 use lib.ListN.{length}
 use Rattle.model.specs.Rules.Command.{plainRead, operatorOf, operatorAt}
 use Rattle.model.specs.Rules.Program.{isAllowed}
@@ -17,8 +17,9 @@ use Rattle.model.specs.declared.Kind.the-variants.{Now, Last, When, LastWhen, C
 use Rattle.model.specs.declared.Operator.{Operator}
 use Rattle.model.specs.declared.Operator.the-variants as Operator
 use Rattle.model.specs.declared.Sampled.{Sampled}
+use Rattle.model.specs.declared.Unary.the-variants.{Table}
 use Rattle.model.proofs.Texts.Written.{operator-written}
-use Rattle.text_command.specs.Operator.{kindOf, HasFactor, restricted, operatorFrom}
+use Rattle.text_command.specs.Operator.{kindOf, ifOrTable, HasFactor, restricted, operatorFrom}
 use Rattle.text_command.proofs.Shape.{plainAt}
 
 module _ (least : ℕ) (text : List ℕ) (at : ℕ) where
@@ -86,3 +87,12 @@ module _ (least b : ℕ) where
       go (yes p) q = let e : b ≡ 0x23 = omega arith in rw e
       go (no p) (yes q) = let e : b ≡ 0x24 = omega arith in rw e
       go (no p) (no q) = let e : b ≡ 0x25 = omega arith in rw e
+
+-- IF and TABLE have no factor.
+pub if-or-table-kept : (least b : ℕ) → ifOrTable b ≡ restricted least (ifOrTable b)
+unfolding ifOrTable
+if-or-table-kept least b = go (eqb b 0x3A)
+  where
+    go : (t : Bool) → cond t Operator.If (Operator.Unary Table) ≡ restricted least (cond t Operator.If (Operator.Unary Table))
+    go true = refl
+    go false = refl

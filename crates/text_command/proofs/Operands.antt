@@ -9,7 +9,7 @@ use lib.ListN.{length}
 use Rattle.model.specs.Rules.Command.{plainRead, sampledRead, operatorOf, operatorAt}
 use Rattle.model.specs.Rules.Word.{byteAt}
 use Rattle.model.specs.declared.Operator.the-variants as Operator
-use Rattle.text_command.specs.Operator.{kindOf, binaryOf}
+use Rattle.text_command.specs.Operator.{kindOf, binaryOf, ifOrTable}
 
 -- At a byte that is there it is the operator of that byte.
 pub at-byte : (text : List ℕ) (at : ℕ) → at < length text → operatorAt text at ≡ operatorOf (byteAt text at) text at
@@ -49,10 +49,19 @@ module _ (text : List ℕ) (at b : ℕ) where
       go (no p) (no q) (no r) (no s) (no t) (no u) = let e : b ≡ 0x36 = omega arith in rw e
 
   -- A byte that is none of them.
+  pub if-or-table-is : 0x3A ≤ b → b ≤ 0x3B → operatorOf b text at ≡ ifOrTable b
+  unfolding operatorOf ifOrTable
+  if-or-table-is l h = go (decLt b 0x3B)
+    where
+      go : Dec (b < 0x3B) → operatorOf b text at ≡ ifOrTable b
+      go (yes k) = let e : b ≡ 0x3A = omega arith in rw e
+      go (no k) = let e : b ≡ 0x3B = omega arith in rw e
+
   pub unknown-is : (0x20 ≤ b → b ≤ 0x25 → ⊥) → (0x30 ≤ b → b ≤ 0x36 → ⊥) → (b ≡ 0x38 → ⊥) → (b ≡ 0x3A → ⊥) →
+      (b ≡ 0x3B → ⊥) →
       operatorOf b text at ≡ Operator.Unknown
   unfolding operatorOf
-  unknown-is n m g h =
+  unknown-is n m g h t =
       rw (
         ne-eqb b 0x20 (λ e. n (omega arith) (omega arith)),
         ne-eqb b 0x21 (λ e. n (omega arith) (omega arith)),
@@ -69,4 +78,5 @@ module _ (text : List ℕ) (at b : ℕ) where
         ne-eqb b 0x36 (λ e. m (omega arith) (omega arith)),
         ne-eqb b 0x38 g,
         ne-eqb b 0x3A h,
+        ne-eqb b 0x3B t,
       )

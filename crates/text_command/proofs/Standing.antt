@@ -12,7 +12,7 @@ use Rattle.model.specs.declared.Binary.the-variants.{Add, Sub, Mul, Less, Same,
 use Rattle.model.specs.declared.Kind.{Kind}
 use Rattle.model.specs.declared.Kind.the-variants.{Now, Last, When, LastWhen, Current}
 use Rattle.model.specs.declared.Operator.{Operator}
-use Rattle.model.specs.declared.Unary.the-variants.{Negate}
+use Rattle.model.specs.declared.Unary.the-variants.{Negate, Table}
 use Rattle.model.proofs.Texts.Written.{operator-written}
 use Rattle.text_command.specs.Operator.{OperatorStands, ReadStands}
 
@@ -49,20 +49,22 @@ module _ {text : List ℕ} {at : ℕ} where
       record { kind = kind; operands = _; is = operator-written text at _ .1 (OperatorWritten.sampled kind e h b r i) .0 }
   is-read (OperatorWritten.binary operator h b) l m = absurd (omega (arith, binary-range operator .0))
   is-read (OperatorWritten.unary Negate h b) l m = absurd (omega arith)
+  is-read (OperatorWritten.unary Table h b) l m = absurd (omega arith)
   is-read (OperatorWritten.choose h b) l m = absurd (omega arith)
 
   is-binary : {o : Operator} → OperatorWritten text at o → (byteAt text at ≡ 0x20 → ⊥) →
       (0x21 ≤ byteAt text at → byteAt text at ≤ 0x25 → ⊥) → (byteAt text at ≡ 0x38 → ⊥) → (byteAt text at ≡ 0x3A → ⊥) →
-      (0x30 ≤ byteAt text at) × (byteAt text at ≤ 0x36)
-  is-binary (OperatorWritten.constant h b) c r u f = absurd (c b)
-  is-binary (OperatorWritten.plain kind e h b) c r u f =
+      (byteAt text at ≡ 0x3B → ⊥) → (0x30 ≤ byteAt text at) × (byteAt text at ≤ 0x36)
+  is-binary (OperatorWritten.constant h b) c r u f t = absurd (c b)
+  is-binary (OperatorWritten.plain kind e h b) c r u f t =
       absurd (r (omega (arith, read-range kind .0)) (omega (arith, read-range kind .1)))
-  is-binary (OperatorWritten.sampled kind e h b s i) c r u f =
+  is-binary (OperatorWritten.sampled kind e h b s i) c r u f t =
       absurd (r (omega (arith, read-range kind .0)) (omega (arith, read-range kind .1)))
-  is-binary (OperatorWritten.binary operator h b) c r u f =
+  is-binary (OperatorWritten.binary operator h b) c r u f t =
       (omega (arith, binary-range operator .0), omega (arith, binary-range operator .1))
-  is-binary (OperatorWritten.unary Negate h b) c r u f = absurd (u b)
-  is-binary (OperatorWritten.choose h b) c r u f = absurd (f b)
+  is-binary (OperatorWritten.unary Negate h b) c r u f t = absurd (u b)
+  is-binary (OperatorWritten.unary Table h b) c r u f t = absurd (t b)
+  is-binary (OperatorWritten.choose h b) c r u f t = absurd (f b)
 
 module _ {text : List ℕ} {at : ℕ} (s : OperatorStands text at) where
   pub stands-inside : at < length text
@@ -74,5 +76,5 @@ module _ {text : List ℕ} {at : ℕ} (s : OperatorStands text at) where
   -- A byte that is none of the others.
   pub stands-binary : (byteAt text at ≡ 0x20 → ⊥) → (0x21 ≤ byteAt text at → byteAt text at ≤ 0x25 → ⊥) →
       (byteAt text at ≡ 0x38 → ⊥) → (byteAt text at ≡ 0x3A → ⊥) →
-      (0x30 ≤ byteAt text at) × (byteAt text at ≤ 0x36)
+      (byteAt text at ≡ 0x3B → ⊥) → (0x30 ≤ byteAt text at) × (byteAt text at ≤ 0x36)
   stands-binary = is-binary (s .written)

@@ -5,7 +5,7 @@ use mathlib.Core.List.{List}
 use mathlib.Core.Path.{_≡_}
 use lib.Dec.{eqb, leb}
 use Rattle.model.specs.Rules.Command.{operatorAt}
-use Rattle.model.specs.Rules.Program.{isAllowed}
+use Rattle.model.specs.Rules.Program.{isAllowed, unaryLookups}
 use Rattle.model.specs.Says.Written.{OperatorWritten}
 use Rattle.model.specs.declared.Binary.{Binary}
 use Rattle.model.specs.declared.Binary.the-variants as Binary
@@ -14,6 +14,7 @@ use Rattle.model.specs.declared.Kind.the-variants.{Now, Last, When, LastWhen, C
 use Rattle.model.specs.declared.Operator.{Operator}
 use Rattle.model.specs.declared.Operator.the-variants as Operator
 use Rattle.model.specs.declared.Sampled.{Sampled}
+use Rattle.model.specs.declared.Unary.the-variants.{Table}
 use Rattle.text_command.specs.declared.Taken.{Taken}
 
 -- The read of a byte from 21 to 25.
@@ -28,6 +29,10 @@ binaryOf b =
     (cond (eqb b 0x32) Binary.Mul
     (cond (eqb b 0x33) Binary.Less
     (cond (eqb b 0x34) Binary.Same (cond (eqb b 0x35) Binary.Min Binary.Max)))))
+
+-- IF or TABLE, the operators of 3A and 3B.
+unfoldable pub ifOrTable : ℕ → Operator
+ifOrTable b = cond (eqb b 0x3A) Operator.If (Operator.Unary Table)
 
 -- A read with a factor below the least one is outside its range.
 abbrev pub restricted : ℕ → Operator → Operator
@@ -58,6 +63,17 @@ operandsOf (Operator.Read kind x) = 0
 operandsOf (Operator.Binary operator) = 2
 operandsOf (Operator.Unary operator) = 1
 operandsOf Operator.If = 3
+
+-- How many TABLEs an operator is.
+unfoldable pub lookupsOf : Operator → ℕ
+lookupsOf Operator.EndsEarly = 0
+lookupsOf Operator.Unknown = 0
+lookupsOf Operator.OutOfRange = 0
+lookupsOf (Operator.Constant w) = 0
+lookupsOf (Operator.Read kind x) = 0
+lookupsOf (Operator.Binary operator) = 0
+lookupsOf (Operator.Unary operator) = unaryLookups operator
+lookupsOf Operator.If = 0
 
 -- An operator stands at `at`, and this is it.
 pub record OperatorStands (text : List ℕ) (at : ℕ) : Type 0 where

@@ -10,12 +10,13 @@ use model::ScheduleCommand;
 use model::Unary;
 ghost use mathlib.Core.Bool.{cond};
 ghost use mathlib.Core.Path.{_≡_};
-ghost use Prim.Native.Nat.{_<_};
+ghost use Prim.Native.Nat.{_<_, _≤_};
 ghost use lib.ListN.{length};
 ghost use Rattle.model.specs.Rules.Command.{isPeriod, isIndex, indexOf, modeOf, declarationOf, declarationAt};
 ghost use Rattle.model.specs.Rules.Command.{plainRead, sampledRead, operatorOf, operatorAt};
+ghost use Rattle.model.specs.Rules.Program.{unaryLookups};
 ghost use Rattle.model.specs.Rules.Schedule.{scheduleCommandAt};
-ghost use Rattle.text_command.specs.Operator.{kindOf, binaryOf, HasFactor, restricted, operatorFrom, OperatorStands, ReadStands, ReadTaken, operandsOf};
+ghost use Rattle.text_command.specs.Operator.{kindOf, binaryOf, ifOrTable, HasFactor, restricted, operatorFrom, OperatorStands, ReadStands, ReadTaken, operandsOf, lookupsOf};
 
 fn is_period(n: u8) -> bool
     ensures { λ r. ⌜ r ≡ isPeriod n ⌝ }
@@ -149,6 +150,27 @@ fn tag_at(text: &[u8], at: usize) -> Declaration
     Declaration::Tag(label)
 }
 
+// ROW: low, high, result. Low and high are judged before the result is looked for, so their 9 is no width.
+fn row_at(text: &[u8], at: usize) -> Declaration
+    requires { ⌜ at < length (now text) ⌝ }
+    ensures { λ r. ⌜ r ≡ declarationOf 0x16 (now (text .entry)) at ⌝ }
+{
+    let left = text.len() - at;
+    if left < 9 {
+        return Declaration::EndsEarly;
+    }
+    let low = word::word_at(text, at + 1);
+    let high = word::word_at(text, at + 5);
+    if high < low {
+        return Declaration::OutOfRange;
+    }
+    if left < width::in_program(0x16) {
+        return Declaration::EndsEarly;
+    }
+    let result = word::word_at(text, at + 9);
+    Declaration::Row(low, high, result)
+}
+
 // The declaration at an offset of the program text, with its operands.
 pub fn declaration_at(text: &[u8], at: usize) -> Declaration
     ensures { λ r. ⌜ r ≡ declarationAt (now (text .entry)) at ⌝ }
@@ -165,6 +187,7 @@ pub fn declaration_at(text: &[u8], at: usize) -> Declaration
         0x13 => link_at(text, at),
         0x14 => cap_at(text, at),
         0x15 => tag_at(text, at),
+        0x16 => row_at(text, at),
         _ => Declaration::Unknown,
     }
 }
@@ -262,6 +285,16 @@ fn binary_of(byte: u8) -> Binary
     }
 }
 
+// IF or TABLE, by its byte: one arm of the decoders, which with one more would be too large for their callers to take in.
+fn if_or_table(byte: u8) -> Operator
+    ensures { λ r. ⌜ r ≡ ifOrTable byte ⌝ }
+{
+    match byte {
+        0x3A => Operator::If,
+        _ => Operator::Unary(Unary::Table),
+    }
+}
+
 // The operator at an offset of an expression whose factors go from `least` on, with its operands. What acts alike is one arm, and its
 // callers take it in.
 pub fn operator_from(least: u8, text: &[u8], at: usize) -> Operator
@@ -277,7 +310,7 @@ pub fn operator_from(least: u8, text: &[u8], at: usize) -> Operator
         0x23 | 0x24 | 0x25 => sampled_read(least, kind_of(byte), text, at),
         0x30 | 0x31 | 0x32 | 0x33 | 0x34 | 0x35 | 0x36 => Operator::Binary(binary_of(byte)),
         0x38 => Operator::Unary(Unary::Negate),
-        0x3A => Operator::If,
+        0x3A | 0x3B => if_or_table(byte),
         _ => Operator::Unknown,
     }
 }
@@ -359,8 +392,27 @@ pub fn operator_at(text: &[u8], at: usize) -> Operator
         0x20 => constant_at(text, at),
         0x21 | 0x22 | 0x23 | 0x24 | 0x25 => standing_read(text, at),
         0x38 => Operator::Unary(Unary::Negate),
-        0x3A => Operator::If,
+        0x3A | 0x3B => if_or_table(byte),
         _ => Operator::Binary(binary_of(byte)),
+    }
+}
+
+fn unary_lookups(operator: Unary) -> usize
+    ensures { λ r. ⌜ (r ≡ unaryLookups operator) × (r ≤ 1) ⌝ }
+{
+    match operator {
+        Unary::Negate => 0,
+        Unary::Table => 1,
+    }
+}
+
+// How many TABLEs an operator is.
+pub fn lookups_of(operator: Operator) -> usize
+    ensures { λ r. ⌜ (r ≡ lookupsOf operator) × (r ≤ 1) ⌝ }
+{
+    match operator {
+        Operator::Unary(o) => unary_lookups(o),
+        _ => 0,
     }
 }
 

@@ -140,6 +140,7 @@ declaration-inside text at (Declaration.Latency mode bound) h le = h
 declaration-inside text at (Declaration.Link signal) h le = h
 declaration-inside text at (Declaration.Cap n) h le = h
 declaration-inside text at (Declaration.Tag label) h le = h .1
+declaration-inside text at (Declaration.Row low high result) h le = h .4
 
 operator-inside : (text : List ℕ) (at : ℕ) (o : Operator) → OperatorSound text at o → at ≤ length text →
     at + operatorWidth o ≤ length text

@@ -51,6 +51,7 @@ fn declaration_width(declaration: Declaration) -> usize
         Declaration::Link(_) => width::in_program(0x13),
         Declaration::Cap(_) => width::in_program(0x14),
         Declaration::Tag(_) => width::in_program(0x15),
+        Declaration::Row(_, _, _) => width::in_program(0x16),
     }
 }
 

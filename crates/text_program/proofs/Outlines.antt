@@ -13,7 +13,7 @@ use Rattle.model.specs.declared.Kind.{Kind}
 use Rattle.model.specs.declared.Operator.{Operator}
 use Rattle.model.specs.declared.Operator.the-variants as Operator
 use Rattle.model.specs.declared.Sampled.{Sampled}
-use Rattle.text_command.specs.Operator.{operandsOf}
+use Rattle.text_command.specs.Operator.{operandsOf, lookupsOf}
 use Rattle.text_program.specs.Walks.{
   placesOf,
   Outline,
@@ -32,9 +32,9 @@ abbrev mapped : (Outline → Outline) → Outcome Outline → Outcome Outline
 mapped f (accepted x) = accepted (f x)
 mapped f (refused g) = refused g
 
--- The operator's own byte of code.
-abbrev operated : Outline → Outline
-operated x = record { places = x .places; code = x .code + 1; next = x .next }
+-- The operator's own byte of code, and whether it is a TABLE.
+abbrev operated : ℕ → Outline → Outline
+operated k x = record { places = x .places; code = x .code + 1; lookups = k + x .lookups; next = x .next }
 
 module _ (sub : ℕ → Outcome (Parsed Expr)) where
   -- An operand, and what comes of it and of those after it.
@@ -69,8 +69,8 @@ module _ (sub : ℕ → Outcome (Parsed Expr)) where
     leaf-outline Operator.If e h = absurd (omega arith)
 
     pub operator-outline : (o : Operator) → (operandsOf o ≡ 0 → ⊥) →
-        outlineOf (node least sub text at o) ≡ mapped operated (outlines sub (operandsOf o) (at + 1))
-    unfolding node operandsOf outlines readsOf exprCode
+        outlineOf (node least sub text at o) ≡ mapped (operated (lookupsOf o)) (outlines sub (operandsOf o) (at + 1))
+    unfolding node operandsOf lookupsOf outlines readsOf exprCode
     operator-outline Operator.EndsEarly h = absurd (h refl)
     operator-outline Operator.Unknown h = absurd (h refl)
     operator-outline Operator.OutOfRange h = absurd (h refl)
@@ -78,24 +78,30 @@ module _ (sub : ℕ → Outcome (Parsed Expr)) where
     operator-outline (Operator.Read kind x) h = absurd (h refl)
     operator-outline (Operator.Unary operator) h =
         operand 0 _ _ _ (λ x. ap {B = Outcome Outline} accepted
-        (alike (sym (append-nil (placesOf (readsOf (x .value))))) (simp length-append (omega arith))))
+        (alike (sym (append-nil (placesOf (readsOf (x .value))))) (simp length-append (omega arith)) (omega arith)))
     operator-outline (Operator.Binary operator) h =
         operand 1 _ _ _ (λ x. operand 0 _ _ _ (λ y. ap {B = Outcome Outline} accepted
-        (alike (simp (map-append, append-nil)) (simp length-append (omega arith)))))
+        (alike (simp (map-append, append-nil)) (simp length-append (omega arith)) (omega arith))))
     operator-outline Operator.If h =
         operand 2 _ _ _ (λ x. operand 1 _ _ _ (λ y. operand 0 _ _ _ (λ z. ap {B = Outcome Outline} accepted
-        (alike (simp (map-append, append-nil)) (simp length-append (omega arith))))))
+        (alike (simp (map-append, append-nil)) (simp length-append (omega arith)) (omega arith)))))
 
-pub walks-operated : (o : Outcome Outline) {l l′ : List ℕ} {count to : ℕ} {r : Walked} → Walks o l count (to + 1) l′ r →
-    Walks (mapped operated o) l count to l′ r
+pub walks-operated : (o : Outcome Outline) {l l′ : List ℕ} {count to looks : ℕ} {r : Walked} (k : ℕ) →
+    Walks o l count (to + 1) (looks + k) l′ r → Walks (mapped (operated k) o) l count to looks l′ r
 unfolding WalksBy
-walks-operated (accepted x) w =
+walks-operated (accepted x) k w =
     let m = w .by .2 in
     record {
       by = (
         w .by .0,
         w .by .1,
-        record { goes = m .goes; counts = m .counts; codes = omega (arith, m .codes); holds = m .holds },
+        record {
+          goes = m .goes;
+          counts = m .counts;
+          codes = omega (arith, m .codes);
+          looked = omega (arith, m .looked);
+          holds = m .holds;
+        },
       );
     }
-walks-operated (refused f) w = record { by = w .by }
+walks-operated (refused f) k w = record { by = w .by }

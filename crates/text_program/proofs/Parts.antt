@@ -44,7 +44,7 @@ linkAt text at = record { place = at; signal = byteAt text (at + 1) }
 
 -- One LINK is there, or cut.
 abbrev others : List ℕ
-others = 0 ∷ 1 ∷ 2 ∷ 3 ∷ 4 ∷ 5 ∷ 6 ∷ 8 ∷ 9 ∷ []
+others = 0 ∷ 1 ∷ 2 ∷ 3 ∷ 4 ∷ 5 ∷ 6 ∷ 8 ∷ 9 ∷ 10 ∷ []
 
 module _ (text : List ℕ) (at : ℕ) {r : Declaration} (e : r ≡ declarationOf 0x13 text at) where
   pub link-missing : OneOf others (tagOf (declared enum) r) → length text < at + 2
@@ -93,42 +93,43 @@ unfolding parseLinks _▷_ provided
 links-more room text at links e h = rw (eq-eqb (byteAt text at) 0x13 e, parseLinks) (rw (le-leb (at + 2) (length text) h))
 
 -- The step of a LAT from its LINKs.
-pub chain-short : (at count to : ℕ) (o : Outcome (Parsed (List Link))) {r : LinksRead} {k n : ℕ} → r ≡ linksOf o →
+pub chain-short : (at count to looks : ℕ) (o : Outcome (Parsed (List Link))) {r : LinksRead} {k n : ℕ} → r ≡ linksOf o →
     r ≡ Read.Links k n →
-    k < 2 → Step.Refused (fault 5 at) ≡ chainOf at count to o
+    k < 2 → Step.Refused (fault 5 at) ≡ chainOf at count to looks o
 unfolding linksOf chainOf
-chain-short at count to (accepted x) {r} {k} {n} e g h =
+chain-short at count to looks (accepted x) {r} {k} {n} e g h =
     let z : k ≡ length (x .value) = cc in rw (lt-leb 2 (length (x .value)) (omega arith))
-chain-short at count to (refused f) {r} {k} {n} e g h = let z : _≡_ {A = ℕ} 0 1 = cc in absurd (omega arith)
+chain-short at count to looks (refused f) {r} {k} {n} e g h = let z : _≡_ {A = ℕ} 0 1 = cc in absurd (omega arith)
 
-pub chain-next : (at count to : ℕ) (o : Outcome (Parsed (List Link))) {r : LinksRead} {k n : ℕ} → r ≡ linksOf o →
+pub chain-next : (at count to looks : ℕ) (o : Outcome (Parsed (List Link))) {r : LinksRead} {k n : ℕ} → r ≡ linksOf o →
     r ≡ Read.Links k n →
-    2 ≤ k → Step.Adds (Entry.Chain k) (record { at = n; reads = count; code = to }) ≡ chainOf at count to o
+    2 ≤ k → Step.Adds (Entry.Chain k) (record { at = n; reads = count; code = to; lookups = looks }) ≡ chainOf at count to looks o
 unfolding linksOf chainOf
-chain-next at count to (accepted x) {r} {k} {n} e g h =
+chain-next at count to looks (accepted x) {r} {k} {n} e g h =
     let z : k ≡ length (x .value) = cc in
     let y : n ≡ x .next = cc in
     rw (le-leb 2 (length (x .value)) (omega arith), z, y)
-chain-next at count to (refused f) {r} {k} {n} e g h = let z : _≡_ {A = ℕ} 0 1 = cc in absurd (omega arith)
+chain-next at count to looks (refused f) {r} {k} {n} e g h = let z : _≡_ {A = ℕ} 0 1 = cc in absurd (omega arith)
 
-pub chain-refused : (at count to : ℕ) (o : Outcome (Parsed (List Link))) {r : LinksRead} {f : Fault} → r ≡ linksOf o →
+pub chain-refused : (at count to looks : ℕ) (o : Outcome (Parsed (List Link))) {r : LinksRead} {f : Fault} → r ≡ linksOf o →
     r ≡ Read.Refused f →
-    Step.Refused f ≡ chainOf at count to o
+    Step.Refused f ≡ chainOf at count to looks o
 unfolding linksOf chainOf
-chain-refused at count to (accepted x) {r} {f} e g = let z : _≡_ {A = ℕ} 0 1 = cc in absurd (omega arith)
-chain-refused at count to (refused q) {r} {f} e g = let z : f ≡ q = cc in ap Step.Refused z
+chain-refused at count to looks (accepted x) {r} {f} e g = let z : _≡_ {A = ℕ} 0 1 = cc in absurd (omega arith)
+chain-refused at count to looks (refused q) {r} {f} e g = let z : f ≡ q = cc in ap Step.Refused z
 
 -- The step of a TAG from the byte after it.
-module _ (text : List ℕ) (at label count to : ℕ) where
-  pub tag-ends : length text ≤ at + 3 → Step.Refused (fault 2 (length text)) ≡ Results.tagOf text at label count to
+module _ (text : List ℕ) (at label count to looks : ℕ) where
+  pub tag-ends : length text ≤ at + 3 → Step.Refused (fault 2 (length text)) ≡ Results.tagOf text at label count to looks
   unfolding Results.tagOf
   tag-ends h = rw (le-ltb (at + 3) (length text) h)
 
   abbrev tagBy : Bool → Step
-  tagBy t = cond t (Step.Adds (Entry.Label label) (record { at = at + 3; reads = count; code = to })) (Step.Refused (fault 3 at))
+  tagBy t = cond t (Step.Adds (Entry.Label label) (record { at = at + 3; reads = count; code = to; lookups = looks }))
+      (Step.Refused (fault 3 at))
 
   pub tag-by : (t : Bool) → at + 3 < length text → isSignal (byteAt text (at + 3)) ≡ t →
-      tagBy t ≡ Results.tagOf text at label count to
+      tagBy t ≡ Results.tagOf text at label count to looks
   unfolding Results.tagOf
   tag-by t h e = rw (lt-ltb (at + 3) (length text) h) (ap tagBy (sym e))
 

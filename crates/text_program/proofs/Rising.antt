@@ -138,6 +138,8 @@ module _ {text : List ℕ} where
   rising-one (DeclaresOne.caps {at = at} {p = p} room e) h =
       let m = rises-more p at (at + 5) (omega arith) h in record { signals = m .signals; chains = m .chains }
   rising-one (DeclaresOne.tags {at = at} {p = p} e more s) h = rises-more p at (at + 3) (omega arith) h
+  rising-one (DeclaresOne.rows {at = at} {p = p} room e) h =
+      let m = rises-more p at (at + 13) (omega arith) h in record { signals = m .signals; chains = m .chains }
 
   rising-declares : {at label end : ℕ} {p q : Program} → Declares leastFactor text at label p end q → Rises p at → Rises q end
   rising-declares (Declares.ends e le) h = h

@@ -23,12 +23,16 @@ use Rattle.model.specs.Rules.Program.{
   withSignal,
   withChain,
   withCap,
+  withRow,
   bodyReads,
   weightOf,
+  bodyLookups,
+  lookups,
   declarationHere,
   parseCommands,
   parseWith,
 }
+use Rattle.model.specs.Rules.Table.{noRow}
 use Rattle.text_program.specs.Steps.{AddsSignal, Adds, labelAfter, Added, Stepped}
 use Rattle.text_program.specs.Tables.{
   noChain,
@@ -67,9 +71,15 @@ one-more f d xs x table n k e lt v h y ly =
 snoc-length : {A : Type 0} (xs : List A) (x : A) (n : ℕ) → length xs ≡ n → length (xs ++ (x ∷ [])) ≡ n + 1
 snoc-length xs x n e = length-append xs (x ∷ []) ∙ ap (_+ 1) e
 
+-- One signal more.
+lookups-more : (xs : List Signal) (x : Signal) → lookups (xs ++ (x ∷ [])) ≡ lookups xs + bodyLookups (x .body)
+unfolding lookups
+lookups-more [] x = omega arith
+lookups-more (y ∷ ys) x = omega (arith, lookups-more ys x)
+
 -- The tables with one entry more.
-abbrev pub signalAdded : Tables → ℕ → ℕ → ℕ → ℕ → ℕ → ℕ → Tables
-signalAdded t at label period weight n to =
+abbrev pub signalAdded : Tables → ℕ → ℕ → ℕ → ℕ → ℕ → ℕ → ℕ → Tables
+signalAdded t at label period weight n to looks =
     record {
       signals = t .signals + 1;
       places = set (t .places) (t .signals) at;
@@ -83,6 +93,9 @@ signalAdded t at label period weight n to =
       lengths = t .lengths;
       capped = t .capped;
       limit = t .limit;
+      rows = t .rows;
+      offsets = t .offsets;
+      lookups = looks;
     }
 
 abbrev pub chainAdded : Tables → ℕ → ℕ → Tables
@@ -100,6 +113,9 @@ chainAdded t at k =
       lengths = set (t .lengths) (t .chains) k;
       capped = t .capped;
       limit = t .limit;
+      rows = t .rows;
+      offsets = t .offsets;
+      lookups = t .lookups;
     }
 
 abbrev pub capAdded : Tables → ℕ → Tables
@@ -117,6 +133,29 @@ capAdded t n =
       lengths = t .lengths;
       capped = true;
       limit = n;
+      rows = t .rows;
+      offsets = t .offsets;
+      lookups = t .lookups;
+    }
+
+abbrev pub rowAdded : Tables → ℕ → Tables
+rowAdded t at =
+    record {
+      signals = t .signals;
+      places = t .places;
+      periods = t .periods;
+      weights = t .weights;
+      labels = t .labels;
+      firsts = t .firsts;
+      codes = t .codes;
+      chains = t .chains;
+      starts = t .starts;
+      lengths = t .lengths;
+      capped = t .capped;
+      limit = t .limit;
+      rows = t .rows + 1;
+      offsets = set (t .offsets) (t .rows) at;
+      lookups = t .lookups;
     }
 
 -- The program read up to `at`, its tables, a TAG's label, and what is still to be read.
@@ -127,7 +166,7 @@ pub record Reading (least : ℕ) (text reads : List ℕ) (t : Tables) (at label 
   pub count-is : getD (t .firsts) (t .signals) 0 ≡ n
   pub code-is : getD (t .codes) (t .signals) 0 ≡ to
   pub space : Space t
-  pub room : WalkRoom (length text) at n to (length reads)
+  pub room : WalkRoom (length text) at n to (t .lookups) (length reads)
   pub left : ℕ
   pub bytes : length text ≤ at + left
   pub onward : parseWith least text ≡ parseCommands least left text at label program
@@ -137,23 +176,24 @@ one-less n h = omega arith
 
 module _ {least : ℕ} {text reads : List ℕ} {t : Tables} {at label n to : ℕ} (r : Reading least text reads t at label n to)
     (lt : at < length text)
-    {e : Entry} {reads′ : List ℕ} {w : Walk} (a : Added least text at label (r .program) e reads n to reads′ w) where
+    {e : Entry} {reads′ : List ℕ} {w : Walk} (a : Added least text at label (r .program) e reads n to (t .lookups) reads′ w) where
   abbrev p : Program
   p = r .program
 
-  abbrev m : Moves (w .at) (a .places) (a .code) reads n to reads′ w
+  abbrev m : Moves (w .at) (a .places) (a .code) (a .looked) reads n to (t .lookups) reads′ w
   m = a .moves
 
   pub same-size : length reads′ ≡ length reads
   same-size = ap length (m .holds) ∙ simp length-sets
 
-  pub room-next : WalkRoom (length text) (w .at) (w .reads) (w .code) (length reads′)
+  pub room-next : WalkRoom (length text) (w .at) (w .reads) (w .code) (w .lookups) (length reads′)
   room-next =
       record {
         short = r .room .short;
         table = omega (arith, r .room .table, same-size);
         few = omega (arith, r .room .few, m .counts, a .few);
         small = omega (arith, r .room .small, m .codes, a .small);
+        rare = omega (arith, r .room .rare, m .looked, a .rare);
       }
 
   bytes-next : length text ≤ w .at + (r .left - 1)
@@ -167,6 +207,18 @@ module _ {least : ℕ} {text reads : List ℕ} {t : Tables} {at label n to : ℕ
       r .onward ∙ ap (λ j. parseCommands least j text at label p) (one-less (r .left) h) ∙ a .onward k ∙
       ap (λ (y : Entry). parseCommands least k text (w .at) (labelAfter y) (a .program)) f ∙
       ap (parseCommands least k text (w .at) (labelAfter z)) g
+
+  -- Where no TABLE is read.
+  room-same : a .looked ≡ 0 → WalkRoom (length text) (w .at) (w .reads) (w .code) (t .lookups) (length reads′)
+  room-same none =
+      let h = room-next in
+      record {
+        short = h .short;
+        table = h .table;
+        few = h .few;
+        small = h .small;
+        rare = omega (arith, h .rare, m .looked, none);
+      }
 
   -- Where nothing is read.
   module _ (none : a .places ≡ []) (no-code : a .code ≡ 0) where
@@ -193,7 +245,8 @@ module _ {least : ℕ} {text reads : List ℕ} {t : Tables} {at label n to : ℕ
   pub chain-next : {k : ℕ} → e ≡ Entry.Chain k → Reading least text reads′ (chainAdded t at k) (w .at) 0 (w .reads) (w .code)
   unfolding Adds
   chain-next {k} q =
-      let b = subst (λ (z : Entry). Adds (length text) p at label z (a .program) (w .at) (a .places) (a .code)) q (a .adds) in
+      let b = subst (λ (z : Entry). Adds (length text) p at label z (a .program) (w .at) (a .places) (a .code) (a .looked)) q
+      (a .adds) in
       let c = b .0 in
       let h = r .tables in
       let s = r .space in
@@ -205,6 +258,7 @@ module _ {least : ℕ} {text reads : List ℕ} {t : Tables} {at label n to : ℕ
                   record {
                     signals-are = h .counts .signals-are;
                     chains-are = snoc-length (p .chains) (c .chain) (t .chains) (h .counts .chains-are);
+                    rows-are = h .counts .rows-are;
                     cap-is = h .counts .cap-is;
                   };
               places = h .places;
@@ -220,6 +274,8 @@ module _ {least : ℕ} {text reads : List ℕ} {t : Tables} {at label n to : ℕ
                   (h .counts .chains-are)
                   (omega (arith, s .lengths, c .room, h .counts .chains-are)) (c .links-are) (h .lengths);
               cap = h .cap;
+              offsets = h .offsets;
+              lookups-are = h .lookups-are;
             };
         reads-are = chain-reads (c .chain) (c .is) (b .1);
         count-is = r .count-is ∙ sym (count-same (b .1) (b .2));
@@ -234,8 +290,9 @@ module _ {least : ℕ} {text reads : List ℕ} {t : Tables} {at label n to : ℕ
               codes = s .codes;
               starts = length-set (t .starts) (t .chains) at ∙ s .starts;
               lengths = length-set (t .lengths) (t .chains) k ∙ s .lengths;
+              offsets = s .offsets;
             };
-        room = room-next;
+        room = room-same (b .3);
         left = r .left - 1;
         bytes = bytes-next;
         onward = onward-next q (c .is);
@@ -244,14 +301,16 @@ module _ {least : ℕ} {text reads : List ℕ} {t : Tables} {at label n to : ℕ
   pub chain-fits : {k : ℕ} → e ≡ Entry.Chain k → t .chains < 16
   unfolding Adds
   chain-fits {k} q =
-      let b = subst (λ (z : Entry). Adds (length text) p at label z (a .program) (w .at) (a .places) (a .code)) q (a .adds) in
+      let b = subst (λ (z : Entry). Adds (length text) p at label z (a .program) (w .at) (a .places) (a .code) (a .looked)) q
+      (a .adds) in
       omega (arith, b .0 .room, r .tables .counts .chains-are)
 
   -- A CAP.
   pub cap-next : {k : ℕ} → e ≡ Entry.Cap k → Reading least text reads′ (capAdded t k) (w .at) 0 (w .reads) (w .code)
   unfolding Adds
   cap-next {k} q =
-      let b = subst (λ (z : Entry). Adds (length text) p at label z (a .program) (w .at) (a .places) (a .code)) q (a .adds) in
+      let b = subst (λ (z : Entry). Adds (length text) p at label z (a .program) (w .at) (a .places) (a .code) (a .looked)) q
+      (a .adds) in
       let h = r .tables in
       let s = r .space in
       let g = r .reads-are in
@@ -260,7 +319,13 @@ module _ {least : ℕ} {text reads : List ℕ} {t : Tables} {at label n to : ℕ
         tables =
             record {
               counts =
-                  record { signals-are = h .counts .signals-are; chains-are = h .counts .chains-are; cap-is = refl };
+                  record {
+                    signals-are = h .counts .signals-are;
+                    chains-are = h .counts .chains-are;
+                    rows-are =
+                        h .counts .rows-are;
+                    cap-is = refl;
+                  };
               places = h .places;
               periods = h .periods;
               weights = h .weights;
@@ -269,6 +334,8 @@ module _ {least : ℕ} {text reads : List ℕ} {t : Tables} {at label n to : ℕ
               starts = h .starts;
               lengths = h .lengths;
               cap = refl;
+              offsets = h .offsets;
+              lookups-are = h .lookups-are;
             };
         reads-are =
             record {
@@ -290,8 +357,9 @@ module _ {least : ℕ} {text reads : List ℕ} {t : Tables} {at label n to : ℕ
               codes = s .codes;
               starts = s .starts;
               lengths = s .lengths;
+              offsets = s .offsets;
             };
-        room = room-next;
+        room = room-same (b .3);
         left = r .left - 1;
         bytes = bytes-next;
         onward = onward-next q (b .0);
@@ -301,7 +369,8 @@ module _ {least : ℕ} {text reads : List ℕ} {t : Tables} {at label n to : ℕ
   pub tag-next : {k : ℕ} → e ≡ Entry.Label k → Reading least text reads′ t (w .at) k (w .reads) (w .code)
   unfolding Adds
   tag-next {k} q =
-      let b = subst (λ (z : Entry). Adds (length text) p at label z (a .program) (w .at) (a .places) (a .code)) q (a .adds) in
+      let b = subst (λ (z : Entry). Adds (length text) p at label z (a .program) (w .at) (a .places) (a .code) (a .looked)) q
+      (a .adds) in
       record {
         program = p;
         tables = r .tables;
@@ -309,15 +378,84 @@ module _ {least : ℕ} {text reads : List ℕ} {t : Tables} {at label n to : ℕ
         count-is = r .count-is ∙ sym (count-same (b .1) (b .2));
         code-is = r .code-is ∙ sym (code-same (b .1) (b .2));
         space = r .space;
-        room = room-next;
+        room = room-same (b .3);
         left = r .left - 1;
         bytes = bytes-next;
         onward = onward-next q (b .0);
       }
 
+  -- A row.
+  pub row-next : e ≡ Entry.Row → Reading least text reads′ (rowAdded t at) (w .at) 0 (w .reads) (w .code)
+  unfolding Adds
+  row-next q =
+      let b = subst (λ (z : Entry). Adds (length text) p at label z (a .program) (w .at) (a .places) (a .code) (a .looked)) q
+      (a .adds) in
+      let c = b .0 in
+      let h = r .tables in
+      let s = r .space in
+      let g = r .reads-are in
+      record {
+        program = withRow p (c .row);
+        tables =
+            record {
+              counts =
+                  record {
+                    signals-are = h .counts .signals-are;
+                    chains-are = h .counts .chains-are;
+                    rows-are = snoc-length (p .rows) (c .row) (t .rows) (h .counts .rows-are);
+                    cap-is = h .counts .cap-is;
+                  };
+              places = h .places;
+              periods = h .periods;
+              weights = h .weights;
+              labels = h .labels;
+              codes = record { from-zero = h .codes .from-zero; rises = h .codes .rises };
+              starts = h .starts;
+              lengths = h .lengths;
+              cap = h .cap;
+              offsets =
+                  one-more (λ x. x .place) noRow (p .rows) (c .row) (t .offsets) (t .rows) at (h .counts .rows-are)
+                  (omega (arith, s .offsets, c .room, h .counts .rows-are)) (c .stands) (h .offsets);
+              lookups-are = h .lookups-are;
+            };
+        reads-are =
+            record {
+              sums = record { from-zero = g .sums .from-zero; rises = g .sums .rises };
+              stand = λ x j lx lj.
+                  ap (λ (l : List ℕ). getD l (getD (t .firsts) x 0 + j) 0) (m .holds ∙ ap (sets reads n) (b .1)) ∙
+                  g .stand x j lx lj;
+              fits = omega (arith, g .fits, same-size);
+            };
+        count-is = r .count-is ∙ sym (count-same (b .1) (b .2));
+        code-is = r .code-is ∙ sym (code-same (b .1) (b .2));
+        space =
+            record {
+              places = s .places;
+              periods = s .periods;
+              weights = s .weights;
+              labels = s .labels;
+              firsts = s .firsts;
+              codes = s .codes;
+              starts = s .starts;
+              lengths = s .lengths;
+              offsets = length-set (t .offsets) (t .rows) at ∙ s .offsets;
+            };
+        room = room-same (b .3);
+        left = r .left - 1;
+        bytes = bytes-next;
+        onward = onward-next q (c .is);
+      }
+
+  pub row-fits : e ≡ Entry.Row → t .rows < 32
+  unfolding Adds
+  row-fits q =
+      let b = subst (λ (z : Entry). Adds (length text) p at label z (a .program) (w .at) (a .places) (a .code) (a .looked)) q
+      (a .adds) in
+      omega (arith, b .0 .room, r .tables .counts .rows-are)
+
   -- A signal.
   module _ {period weight : ℕ} (f : e ≡ Entry.Signal period weight)
-      (b : AddsSignal (length text) p at label period weight (a .program) (w .at) (a .places) (a .code)) where
+      (b : AddsSignal (length text) p at label period weight (a .program) (w .at) (a .places) (a .code) (a .looked)) where
     abbrev σ : Signal
     σ = b .signal
 
@@ -369,8 +507,8 @@ module _ {least : ℕ} {text reads : List ℕ} {t : Tables} {at label n to : ℕ
             (sets-inside reads n (a .places) j (omega (arith, places-length))
             (omega (arith, same-size, room-next .few, room-next .table, b .inside, m .counts)))
 
-    signal-made : Reading least text reads′ (signalAdded t at label period weight (w .reads) (w .code)) (w .at) 0 (w .reads)
-        (w .code)
+    signal-made : Reading least text reads′ (signalAdded t at label period weight (w .reads) (w .code) (w .lookups)) (w .at) 0
+        (w .reads) (w .code)
     signal-made =
         let h = r .tables in
         let s = r .space in
@@ -384,6 +522,7 @@ module _ {least : ℕ} {text reads : List ℕ} {t : Tables} {at label n to : ℕ
                     record {
                       signals-are = snoc-length (p .signals) σ (t .signals) c;
                       chains-are = h .counts .chains-are;
+                      rows-are = h .counts .rows-are;
                       cap-is = h .counts .cap-is;
                     };
                 places =
@@ -404,6 +543,8 @@ module _ {least : ℕ} {text reads : List ℕ} {t : Tables} {at label n to : ℕ
                 starts = h .starts;
                 lengths = h .lengths;
                 cap = h .cap;
+                offsets = h .offsets;
+                lookups-are = omega (arith, m .looked, h .lookups-are, b .lookups-are, lookups-more (p .signals) σ);
               };
           reads-are =
               record {
@@ -425,6 +566,7 @@ module _ {least : ℕ} {text reads : List ℕ} {t : Tables} {at label n to : ℕ
                 codes = length-set (t .codes) (t .signals + 1) (w .code) ∙ s .codes;
                 starts = s .starts;
                 lengths = s .lengths;
+                offsets = s .offsets;
               };
           room = room-next;
           left = r .left - 1;
@@ -433,12 +575,14 @@ module _ {least : ℕ} {text reads : List ℕ} {t : Tables} {at label n to : ℕ
         }
 
   signal-added : {period weight : ℕ} → e ≡ Entry.Signal period weight →
-      AddsSignal (length text) p at label period weight (a .program) (w .at) (a .places) (a .code)
+      AddsSignal (length text) p at label period weight (a .program) (w .at) (a .places) (a .code) (a .looked)
   unfolding Adds
-  signal-added q = subst (λ (z : Entry). Adds (length text) p at label z (a .program) (w .at) (a .places) (a .code)) q (a .adds)
+  signal-added q = subst (λ (z : Entry). Adds (length text) p at label z (a .program) (w .at) (a .places) (a .code) (a .looked))
+      q (a .adds)
 
   pub signal-next : {period weight : ℕ} → e ≡ Entry.Signal period weight →
-      Reading least text reads′ (signalAdded t at label period weight (w .reads) (w .code)) (w .at) 0 (w .reads) (w .code)
+      Reading least text reads′ (signalAdded t at label period weight (w .reads) (w .code) (w .lookups)) (w .at) 0 (w .reads)
+      (w .code)
   signal-next q = signal-made q (signal-added q)
 
   -- There is space for it, and its numbers fit two bytes.
@@ -463,7 +607,7 @@ stops = 1 ∷ 2 ∷ []
 pub program-stops : {least : ℕ} {text reads : List ℕ} {t : Tables} {at label n to : ℕ}
     (r : Reading least text reads t at label n to) →
     at < length text → (reads′ : List ℕ) (step : Step) → OneOf stops (tagOf (declared enum) step) →
-    Stepped least text at label (r .program) reads n to reads′ step → (j : Judged) → j ≡ judgedOf step →
+    Stepped least text at label (r .program) reads n to (t .lookups) reads′ step → (j : Judged) → j ≡ judgedOf step →
     ProgramReads (parseWith least text) reads′ (record { judged = j; tables = t })
 unfolding Stepped judgedOf ProgramReads
 program-stops r lt reads′ (Step.Adds x w) k s j q = absurd (miss stops 0 tt k)
@@ -494,13 +638,18 @@ program-ends {least} {text} {at = at} {label = label} r h reads′ t′ j q =
 -- Nothing is read at first.
 pub starts-empty : (least : ℕ) (text reads : List ℕ) (t : Tables) → length text ≤ 8192 → length text ≤ 2 * length reads →
     Unread t → Reading least text reads t 0 0 0 0
-unfolding parseWith
+unfolding parseWith lookups
 starts-empty least text reads t short table u =
     record {
       program = empty;
       tables =
           record {
-            counts = record { signals-are = sym (u .no-signals); chains-are = sym (u .no-chains); cap-is = rw (u .no-cap) };
+            counts = record {
+              signals-are = sym (u .no-signals);
+              chains-are = sym (u .no-chains);
+              rows-are = sym (u .no-rows);
+              cap-is = rw (u .no-cap);
+            };
             places = λ x lt. absurd (omega arith);
             periods = λ x lt. absurd (omega arith);
             weights = λ x lt. absurd (omega arith);
@@ -509,6 +658,8 @@ starts-empty least text reads t short table u =
             starts = λ x lt. absurd (omega arith);
             lengths = λ x lt. absurd (omega arith);
             cap = rw (u .no-cap);
+            offsets = λ n lt. absurd (omega arith);
+            lookups-are = u .no-lookups;
           };
       reads-are =
           record {
@@ -519,7 +670,7 @@ starts-empty least text reads t short table u =
       count-is = rw (u .no-signals) (u .first);
       code-is = rw (u .no-signals) (u .code);
       space = u .space;
-      room = record { short = short; table = table; few = omega arith; small = omega arith };
+      room = record { short = short; table = table; few = omega arith; small = omega arith; rare = omega (arith, u .no-lookups) };
       left = length text;
       bytes = omega arith;
       onward = refl;

@@ -28,19 +28,20 @@ linksOf (accepted x) = Read.Links (length (x .value)) (x .next)
 linksOf (refused f) = Read.Refused f
 
 -- The step of a LAT at `at`, from what follows it.
-unfoldable pub chainOf : ℕ → ℕ → ℕ → Outcome (Parsed (List Link)) → Step
-chainOf at count to (accepted x) =
+unfoldable pub chainOf : ℕ → ℕ → ℕ → ℕ → Outcome (Parsed (List Link)) → Step
+chainOf at count to looks (accepted x) =
     cond (leb 2 (length (x .value)))
-    (Step.Adds (Entry.Chain (length (x .value))) (record { at = x .next; reads = count; code = to }))
+    (Step.Adds (Entry.Chain (length (x .value))) (record { at = x .next; reads = count; code = to; lookups = looks }))
     (Step.Refused (fault 5 at))
-chainOf at count to (refused f) = Step.Refused f
+chainOf at count to looks (refused f) = Step.Refused f
 
 -- The step of a TAG at `at`, by the byte after it.
-unfoldable pub tagOf : List ℕ → ℕ → ℕ → ℕ → ℕ → Step
-tagOf text at label count to =
+unfoldable pub tagOf : List ℕ → ℕ → ℕ → ℕ → ℕ → ℕ → Step
+tagOf text at label count to looks =
     let next = at + inProgram 0x15 in
     cond (ltb next (length text))
-    (cond (isSignal (byteAt text next)) (Step.Adds (Entry.Label label) (record { at = next; reads = count; code = to }))
+    (cond (isSignal (byteAt text next)) (Step.Adds (Entry.Label label)
+    (record { at = next; reads = count; code = to; lookups = looks }))
     (Step.Refused (fault 3 at)))
     (Step.Refused (fault 2 (length text)))
 

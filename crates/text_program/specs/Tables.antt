@@ -17,9 +17,11 @@ use Rattle.model.specs.Rules.Program.{
   signalAt,
   bodyReads,
   weightOf,
+  lookups,
   parseProgram,
 }
 use Rattle.model.specs.Rules.Reads.{Rate, rank}
+use Rattle.model.specs.Rules.Table.{rowAt}
 use Rattle.model.specs.Rules.Schedule.{Schedule, phaseOf}
 use Rattle.model.specs.declared.Mode.the-variants.{Exists}
 use Rattle.text_program.specs.Steps.{Counts}
@@ -76,7 +78,7 @@ pub record ReadsOf (p : Program) (reads firsts : List ℕ) : Type 0 where
 
 -- The tables are those of the program p.
 pub record TablesOf (p : Program) (t : Tables) : Type 0 where
-  pub counts : Counts p (t .signals) (t .chains) (t .capped)
+  pub counts : Counts p (t .signals) (t .chains) (t .rows) (t .capped)
   pub places : (x : ℕ) → x < count p → getD (t .places) x 0 ≡ signalAt p x .place
   pub periods : PeriodsOf p (t .periods)
   pub weights : WeightsOf p (t .weights)
@@ -85,6 +87,8 @@ pub record TablesOf (p : Program) (t : Tables) : Type 0 where
   pub starts : (j : ℕ) → j < length (p .chains) → getD (t .starts) j 0 ≡ chainAt p j .place
   pub lengths : (j : ℕ) → j < length (p .chains) → getD (t .lengths) j 0 ≡ length (chainAt p j .links)
   pub cap : p .cap ≡ capOf (t .capped) (t .limit)
+  pub offsets : (n : ℕ) → n < length (p .rows) → getD (t .offsets) n 0 ≡ rowAt (p .rows) n .place
+  pub lookups-are : t .lookups ≡ lookups (p .signals)
 
 -- How many entries the tables have space for.
 pub record Space (t : Tables) : Type 0 where
@@ -96,6 +100,7 @@ pub record Space (t : Tables) : Type 0 where
   pub codes : length (t .codes) ≡ 65
   pub starts : length (t .starts) ≡ 16
   pub lengths : length (t .lengths) ≡ 16
+  pub offsets : length (t .offsets) ≡ 32
 
 -- Nothing is read yet.
 pub record Unread (t : Tables) : Type 0 where
@@ -103,6 +108,8 @@ pub record Unread (t : Tables) : Type 0 where
   pub no-signals : t .signals ≡ 0
   pub no-chains : t .chains ≡ 0
   pub no-cap : t .capped ≡ false
+  pub no-rows : t .rows ≡ 0
+  pub no-lookups : t .lookups ≡ 0
   pub first : getD (t .firsts) 0 0 ≡ 0
   pub code : getD (t .codes) 0 0 ≡ 0
 

@@ -48,12 +48,13 @@ fn operator_here(text: &[u8], at: usize) -> Reached
     }
 }
 
-// Where the reading of an expression stands: the offset in the text, how many reads the program has so far, and how many bytes of
-// code.
+// Where the reading of an expression stands: the offset in the text, how many reads the program has so far, how many bytes of
+// code, and how many TABLEs.
 pub struct Walk {
     pub at: usize,
     pub reads: usize,
     pub code: usize,
+    pub lookups: usize,
 }
 
 // Where the reading of an expression goes on, or the refusal.
@@ -71,13 +72,14 @@ fn refuse_walk(number: u8, place: usize) -> Walked
     })
 }
 
-fn moved_on(at: usize, reads: usize, code: usize) -> Walked
-    ensures { λ r. ⌜ r ≡ Walked.Next (record { at = at; reads = reads; code = code }) ⌝ }
+fn moved_on(at: usize, reads: usize, code: usize, lookups: usize) -> Walked
+    ensures { λ r. ⌜ r ≡ Walked.Next (record { at = at; reads = reads; code = code; lookups = lookups }) ⌝ }
 {
     Walked::Next(Walk {
         at: at,
         reads: reads,
         code: code,
+        lookups: lookups,
     })
 }
 
@@ -99,10 +101,11 @@ fn read_leaf(
     at: usize,
     count: usize,
     to: usize,
+    looks: usize,
     reads: &mut [u16],
 ) -> Walked
-    requires { ⌜ LeafRoom operator size at count to (length (now reads)) ⌝ }
-    ensures { λ r. ⌜ Walks (leafOf size at operator) (now (reads .entry)) count to (now (reads .exit)) r ⌝ }
+    requires { ⌜ LeafRoom operator size at count to looks (length (now reads)) ⌝ }
+    ensures { λ r. ⌜ Walks (leafOf size at operator) (now (reads .entry)) count to looks (now (reads .exit)) r ⌝ }
 {
     match operator {
         Operator::EndsEarly => refuse_walk(2, size),
@@ -111,6 +114,7 @@ fn read_leaf(
             at + width::in_expression(0x20),
             count,
             to + width::in_code(0x50),
+            looks,
         ),
         Operator::Read(kind, _) => {
             reads[count] = at as u16;
@@ -118,6 +122,7 @@ fn read_leaf(
                 at + width::of_read(kind),
                 count + 1,
                 to + width::in_code(0x51),
+                looks,
             )
         }
         _ => refuse_walk(3, at),
@@ -125,8 +130,8 @@ fn read_leaf(
 }
 
 // Reads so many expressions from `at` on, one after another, each of which may nest `depth` deep: an operator is followed by its
-// operands. Keeps the offset of each of their reads in `reads`, from `count` on, and counts the bytes of their code, from `to` on. The
-// text goes by a reference to its slice, which no level of the recursion has to copy.
+// operands. Keeps the offset of each of their reads in `reads`, from `count` on, and counts the bytes of their code, from `to` on,
+// and their TABLEs, from `looks` on. The text goes by a reference to its slice, which no level of the recursion has to copy.
 pub fn read_expressions(
     least: u8,
     text: &&[u8],
@@ -134,16 +139,18 @@ pub fn read_expressions(
     at: usize,
     count: usize,
     to: usize,
+    looks: usize,
     depth: usize,
     reads: &mut [u16],
 ) -> Walked
-    requires { ⌜ WalkRoom (length (now (now text))) at count to (length (now reads)) ⌝ }
-    ensures { λ r. ⌜ Walks (outlines (parseExpr least depth (now (now (text .entry)))) number at) (now (reads .entry)) count to (now (reads .exit)) r ⌝ }
+    requires { ⌜ WalkRoom (length (now (now text))) at count to looks (length (now reads)) ⌝ }
+    ensures { λ r. ⌜ Walks (outlines (parseExpr least depth (now (now (text .entry)))) number at) (now (reads .entry)) count to looks (now (reads .exit)) r ⌝ }
 {
     let mut walk = Walk {
         at: at,
         reads: count,
         code: to,
+        lookups: looks,
     };
     let mut left = number;
     while 0 < left {
@@ -153,7 +160,15 @@ pub fn read_expressions(
         let operator = text_command::operator_from(least, *text, walk.at);
         let operands = text_command::operands_of(operator);
         let step = if operands == 0 {
-            read_leaf(operator, text.len(), walk.at, walk.reads, walk.code, reads)
+            read_leaf(
+                operator,
+                text.len(),
+                walk.at,
+                walk.reads,
+                walk.code,
+                walk.lookups,
+                reads,
+            )
         } else {
             read_expressions(
                 least,
@@ -162,6 +177,7 @@ pub fn read_expressions(
                 walk.at + width::in_expression(0x30),
                 walk.reads,
                 walk.code + width::in_code(0x30),
+                walk.lookups + text_command::lookups_of(operator),
                 depth - 1,
                 reads,
             )
@@ -214,12 +230,13 @@ pub fn read_links(text: &[u8], at: usize) -> LinksRead
 }
 
 // What a command adds to a program: a signal of a period and a weight, a chain of so many LINKs, a CAP, a label for the signal
-// after it.
+// after it, a row.
 pub enum Entry {
     Signal(u8, u16),
     Chain(usize),
     Cap(u32),
     Label(u16),
+    Row,
 }
 
 // What one command of the program text is: an entry with where the reading stands after it, END, or the refusal.
@@ -249,9 +266,16 @@ fn judge(holds: bool, number: u8, at: usize) -> Reached
     }
 }
 
-// Whether a declaration may stand at `at` after so many signals and chains: 2, 3, then counts and second CAP.
-fn declaration_here(text: &[u8], at: usize, signals: usize, chains: usize, capped: bool) -> Reached
-    ensures { λ r. ⌜ ((p : Program) → Counts p signals chains capped → r ≡ hereOf at (declarationHere (now (text .entry)) at p)) ⌝ }
+// Whether a declaration may stand at `at` after so many signals, chains and rows: 2, 3, then counts and second CAP.
+fn declaration_here(
+    text: &[u8],
+    at: usize,
+    signals: usize,
+    chains: usize,
+    rows: usize,
+    capped: bool,
+) -> Reached
+    ensures { λ r. ⌜ ((p : Program) → Counts p signals chains rows capped → r ≡ hereOf at (declarationHere (now (text .entry)) at p)) ⌝ }
 {
     if text.len() <= at {
         return refuse(2, text.len());
@@ -264,6 +288,7 @@ fn declaration_here(text: &[u8], at: usize, signals: usize, chains: usize, cappe
         0x12 => judge(chains < 16, 4, at),
         0x14 => judge(!capped, 5, at),
         0x15 => Reached::Next(at),
+        0x16 => judge(rows < 32, 4, at),
         _ => refuse(3, at),
     }
 }
@@ -297,8 +322,8 @@ fn step_of_links(read: LinksRead) -> Step
 }
 
 // The step to an entry.
-fn adds(entry: Entry, at: usize, count: usize, to: usize) -> Step
-    ensures { λ r. ⌜ r ≡ Step.Adds entry (record { at = at; reads = count; code = to }) ⌝ }
+fn adds(entry: Entry, at: usize, count: usize, to: usize, looks: usize) -> Step
+    ensures { λ r. ⌜ r ≡ Step.Adds entry (record { at = at; reads = count; code = to; lookups = looks }) ⌝ }
 {
     Step::Adds(
         entry,
@@ -306,6 +331,7 @@ fn adds(entry: Entry, at: usize, count: usize, to: usize) -> Step
             at: at,
             reads: count,
             code: to,
+            lookups: looks,
         },
     )
 }
@@ -318,23 +344,30 @@ fn equation_step(
     entry: Entry,
     count: usize,
     to: usize,
+    looks: usize,
     reads: &mut [u16],
 ) -> Step
-    requires { ⌜ (at < length (now text)) × WalkRoom (length (now text)) at count to (length (now reads)) ⌝ }
-    ensures { λ r. ⌜ WalksEquation (parseExpr least 16 (now (text .entry)) (at + inProgram 0x11)) entry (now (reads .entry)) count to (now (reads .exit)) r ⌝ }
+    requires { ⌜ (at < length (now text)) × WalkRoom (length (now text)) at count to looks (length (now reads)) ⌝ }
+    ensures { λ r. ⌜ WalksEquation (parseExpr least 16 (now (text .entry)) (at + inProgram 0x11)) entry (now (reads .entry)) count to looks (now (reads .exit)) r ⌝ }
 {
     let start = at + width::in_program(0x11);
-    let walked = read_expressions(least, &text, 1, start, count, to, 16, reads);
+    let walked = read_expressions(least, &text, 1, start, count, to, looks, 16, reads);
     let Walked::Next(w) = walked else {
         return step_of_walked(walked);
     };
-    adds(entry, w.at, w.reads, w.code + width::in_code(0x5F))
+    adds(
+        entry,
+        w.at,
+        w.reads,
+        w.code + width::in_code(0x5F),
+        w.lookups,
+    )
 }
 
 // A LAT ends where its LINKs do; a chain has two of them at least.
-fn chain_step(text: &[u8], at: usize, count: usize, to: usize) -> Step
+fn chain_step(text: &[u8], at: usize, count: usize, to: usize, looks: usize) -> Step
     requires { ⌜ at < length (now text) ⌝ }
-    ensures { λ r. ⌜ r ≡ chainOf at count to (parseLinks 16 (now (text .entry)) (at + inProgram 0x12) []) ⌝ }
+    ensures { λ r. ⌜ r ≡ chainOf at count to looks (parseLinks 16 (now (text .entry)) (at + inProgram 0x12) []) ⌝ }
 {
     let read = read_links(text, at + width::in_program(0x12));
     let LinksRead::Links(links, next) = read else {
@@ -343,7 +376,7 @@ fn chain_step(text: &[u8], at: usize, count: usize, to: usize) -> Step
     if links < 2 {
         return refuse_step(5, at);
     }
-    adds(Entry::Chain(links), next, count, to)
+    adds(Entry::Chain(links), next, count, to, looks)
 }
 
 fn is_signal(byte: u8) -> bool
@@ -353,9 +386,9 @@ fn is_signal(byte: u8) -> bool
 }
 
 // A TAG stands directly before IN or EQ, which takes its label.
-fn tag_step(text: &[u8], at: usize, label: u16, count: usize, to: usize) -> Step
+fn tag_step(text: &[u8], at: usize, label: u16, count: usize, to: usize, looks: usize) -> Step
     requires { ⌜ at < length (now text) ⌝ }
-    ensures { λ r. ⌜ r ≡ tagOf (now (text .entry)) at label count to ⌝ }
+    ensures { λ r. ⌜ r ≡ tagOf (now (text .entry)) at label count to looks ⌝ }
 {
     let next = at + width::in_program(0x15);
     if text.len() <= next {
@@ -365,7 +398,7 @@ fn tag_step(text: &[u8], at: usize, label: u16, count: usize, to: usize) -> Step
     if !is_signal(byte) {
         return refuse_step(3, at);
     }
-    adds(Entry::Label(label), next, count, to)
+    adds(Entry::Label(label), next, count, to, looks)
 }
 
 // END is the last byte.
@@ -380,23 +413,25 @@ fn end_step(text: &[u8], at: usize) -> Step
     Step::End
 }
 
-// One declaration of the program text, after so many signals and chains. Its reads are kept from `count` on; the code before it takes `to`
-// bytes.
+// One declaration of the program text, after so many signals, chains and rows. Its reads are kept from `count` on; the code before it
+// takes `to` bytes and has `looks` TABLEs.
 fn read_command(
     least: u8,
     text: &[u8],
     at: usize,
     signals: usize,
     chains: usize,
+    rows: usize,
     capped: bool,
     count: usize,
     to: usize,
+    looks: usize,
     reads: &mut [u16],
 ) -> Step
-    requires { ⌜ WalkRoom (length (now text)) at count to (length (now reads)) ⌝ }
-    ensures { λ r. ⌜ ((p : Program) (label : ℕ) → Counts p signals chains capped → Stepped least (now (text .entry)) at label p (now (reads .entry)) count to (now (reads .exit)) r) ⌝ }
+    requires { ⌜ WalkRoom (length (now text)) at count to looks (length (now reads)) ⌝ }
+    ensures { λ r. ⌜ ((p : Program) (label : ℕ) → Counts p signals chains rows capped → Stepped least (now (text .entry)) at label p (now (reads .entry)) count to looks (now (reads .exit)) r) ⌝ }
 {
-    let here = declaration_here(text, at, signals, chains, capped);
+    let here = declaration_here(text, at, signals, chains, rows, capped);
     let Reached::Next(_) = here else {
         return step_of_reached(here);
     };
@@ -409,23 +444,28 @@ fn read_command(
         Declaration::Input(period, _) => {
             let next = at + width::in_program(0x10);
             let end = to + (width::in_code(0x52) + width::in_code(0x5F));
-            adds(Entry::Signal(period, 0), next, count, end)
+            adds(Entry::Signal(period, 0), next, count, end, looks)
         }
         Declaration::Equation(period, _, weight) => {
             let entry = Entry::Signal(period, weight);
-            equation_step(least, text, at, entry, count, to, reads)
+            equation_step(least, text, at, entry, count, to, looks, reads)
         }
-        Declaration::Latency(_, _) => chain_step(text, at, count, to),
+        Declaration::Latency(_, _) => chain_step(text, at, count, to, looks),
         Declaration::Link(_) => refuse_step(3, at),
         Declaration::Cap(limit) => {
-            adds(Entry::Cap(limit), at + width::in_program(0x14), count, to)
+            let next = at + width::in_program(0x14);
+            adds(Entry::Cap(limit), next, count, to, looks)
         }
-        Declaration::Tag(label) => tag_step(text, at, label, count, to),
+        Declaration::Tag(label) => tag_step(text, at, label, count, to, looks),
+        Declaration::Row(_, _, _) => {
+            let next = at + width::in_program(0x16);
+            adds(Entry::Row, next, count, to, looks)
+        }
     }
 }
 
-// What stands where in a program text, by signal and by chain. The reads of signal x are those from `firsts[x]` to
-// `firsts[x + 1]` of the table of reads, its code the bytes from `codes[x]` to `codes[x + 1]` of the whole code.
+// What stands where in a program text, by signal, by chain and by row; row n stands at `offsets[n]`. The reads of signal x are those
+// from `firsts[x]` to `firsts[x + 1]` of the table of reads, its code the bytes from `codes[x]` to `codes[x + 1]` of the whole code.
 pub struct Tables {
     pub signals: usize,
     pub places: [u16; 64],
@@ -439,6 +479,9 @@ pub struct Tables {
     pub lengths: [usize; 16],
     pub capped: bool,
     pub limit: u32,
+    pub rows: usize,
+    pub offsets: [u16; 32],
+    pub lookups: usize,
 }
 
 impl Tables {
@@ -458,6 +501,9 @@ impl Tables {
             lengths: [0; 16],
             capped: false,
             limit: 0,
+            rows: 0,
+            offsets: [0; 32],
+            lookups: 0,
         }
     }
 }
@@ -493,15 +539,18 @@ pub fn read_program(least: u8, text: &[u8], reads: &mut [u16]) -> ProgramRead
     while at < text.len() {
         let signals = tables.signals;
         let chains = tables.chains;
+        let rows = tables.rows;
         let step = read_command(
             least,
             text,
             at,
             signals,
             chains,
+            rows,
             tables.capped,
             count,
             to,
+            tables.lookups,
             reads,
         );
         let Step::Adds(entry, walk) = step else {
@@ -522,6 +571,7 @@ pub fn read_program(least: u8, text: &[u8], reads: &mut [u16]) -> ProgramRead
                 tables.labels[signals] = label;
                 tables.firsts[signals + 1] = count as u16;
                 tables.codes[signals + 1] = to as u16;
+                tables.lookups = walk.lookups;
                 tables.signals = signals + 1;
                 label = 0;
             }
@@ -538,6 +588,11 @@ pub fn read_program(least: u8, text: &[u8], reads: &mut [u16]) -> ProgramRead
             }
             Entry::Label(given) => {
                 label = given;
+            }
+            Entry::Row => {
+                tables.offsets[rows] = place as u16;
+                tables.rows = rows + 1;
+                label = 0;
             }
         }
     }

@@ -440,14 +440,6 @@ module _ (t : Slots) (periods : List ℕ) (n : ℕ) (q : Put) where
 pub unranked : (x : ℕ) → x < 64 → _≡_ {A = ℕ} (getD (replicate 64 64) x 0) 64
 unranked x lt = getD-replicate 64 x 64 0 lt
 
--- One that fails.
-pub not-all : (n : ℕ) (f : ℕ → Bool) (x : ℕ) → x < n → f x ≡ false → allBelow n f ≡ false
-not-all n f x lt e = go (allBelow n f) refl
-  where
-    go : (b : Bool) → allBelow n f ≡ b → b ≡ false
-    go true h = absurd (false≢true (sym e ∙ all-true n f h x lt))
-    go false h = refl
-
 -- At the start nothing is done.
 pub progress-start : (text : List ℕ) (p : Program) (o : Parsed (List Put)) (t : Slots) → parseSchedule text ≡ accepted o →
     SlotsAfter [] t → Progress text p o 0 t

@@ -34,6 +34,19 @@ use Rattle.model.specs.Rules.Program.{
   parseCommands,
   parseWith,
   readsOf,
+  lookups,
+}
+use Rattle.model.specs.Rules.Table.{contains, tableWord, insert, byLow, rowBytes, tableBytes, rowsFrom, areaRows}
+use Rattle.model.specs.Rules.Cover.{
+  apart,
+  meetsEarlier,
+  startingAt,
+  continues,
+  noGap,
+  covering,
+  tabled,
+  chained,
+  areaOk,
 }
 use Rattle.model.specs.Rules.Rates.{
   readFaults,
@@ -79,6 +92,7 @@ use Rattle.model.specs.Rules.Image.{
   runLists,
   offsets,
   records,
+  rowsAt,
   codesAt,
   lengthOf,
   head,
@@ -90,6 +104,7 @@ use Rattle.model.specs.Rules.Machine.{
   operatorCode,
   codeAt,
   listOffset,
+  tableOffset,
   codeOffset,
   listOf,
   codeOf,
@@ -98,6 +113,7 @@ use Rattle.model.specs.Rules.Machine.{
   codeOk,
   headOk,
   listsOk,
+  tableOk,
   entriesOk,
   codesOk,
   wellFormed,
@@ -146,5 +162,6 @@ unfolding _▷_ provided lowest firstFrom firstBelow allBelow tableFrom table ch
     entriesOk codesOk wellFormed imagePart lentOk runCommand runFrom runCode runSignals nextPosition resetWords cycleWords resetOf
     cycleOf shortEnough pairOf verdictOf compileOf listCommands cycleCommands highest countsOf reportOf callOf after logAfter
     lentAt digitsUpTo natural decimal spaced lineOf scriptCommandAt scriptCommand scriptFrom scriptAt isInputOf inputsOnly checkOf
-    callsFrom linesFrom trialOf
+    callsFrom linesFrom trialOf lookups contains tableWord insert byLow rowBytes tableBytes rowsFrom areaRows apart meetsEarlier
+    startingAt continues noGap covering tabled chained areaOk rowsAt tableOffset tableOk
 examples = refl

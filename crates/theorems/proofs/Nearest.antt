@@ -2,10 +2,21 @@
 use Prim.Native.Nat.{ℕ, zero, suc, _+_, _-_, _≤_}
 use mathlib.Core.Path.{_≡_, ap}
 use native.Mathlib.Omega.{arith}
+use borrow.Author.Needs.{sfits-of}
 use lib.IntN.{ℤ, pos, negsuc, natAbs, negℤ, _+ℤ_, _-ℤ_, _*ℤ_}
+use mir.Syntax.{w32}
 use Rattle.model.specs.Rules.Word.{nearest, addWord, subWord, mulWord, negWord}
-use Rattle.theorems.specs.Nearest.{IsWord, distance, NearestWord, NearestResults}
+use Rattle.model.specs.Says.Words.{IsWord}
+use Rattle.theorems.specs.Nearest.{WordsRange, distance, NearestWord, NearestResults}
+use Rattle.model.proofs.Basics.Order.{le-true, true-le}
 use Rattle.model.proofs.Basics.Tests.{sub-by}
+use Rattle.model.proofs.Rows.Levels.{word-range, range-word}
+
+pub words-range : WordsRange
+words-range z = (
+  λ f. let r = word-range z f in (true-le (r .0), true-le (r .1)),
+  λ r. range-word z (le-true (r .0)) (le-true (r .1)),
+)
 
 -- How far two numbers are apart: with one sign, and with two.
 apart-pos : (m n : ℕ) → distance (pos m) (pos n) ≡ m - n + (n - m)
@@ -24,16 +35,25 @@ apart-above m n = omega arith
 
 none-nearer : (z v : ℤ) → IsWord v → distance (nearest z) z ≤ distance v z
 unfolding nearest
-none-nearer (pos n) (pos k) h = simp apart-pos (omega arith)
-none-nearer (pos n) (negsuc k) h = simp (apart-pos, apart-below) (omega arith)
-none-nearer (negsuc n) (pos k) h = simp (apart-neg, apart-above) (omega arith)
-none-nearer (negsuc n) (negsuc k) h = simp apart-neg (omega arith)
+none-nearer (pos n) (pos k) h = let l = h .sfits in simp apart-pos (omega arith)
+none-nearer (pos n) (negsuc k) h = let l = h .sfits in simp (apart-pos, apart-below) (omega arith)
+none-nearer (negsuc n) (pos k) h = let l = h .sfits in simp (apart-neg, apart-above) (omega arith)
+none-nearer (negsuc n) (negsuc k) h = let l = h .sfits in simp apart-neg (omega arith)
 
 nearest-is : (z : ℤ) → NearestWord z (nearest z)
 unfolding nearest
-nearest-is (pos n) = record { word = omega arith; itself = λ h. ap pos (omega arith); none-nearer = none-nearer (pos n) }
+nearest-is (pos n) =
+    record {
+      word = sfits-of {w = w32} (omega arith);
+      itself = λ h. let l = h .sfits in ap pos (omega arith);
+      none-nearer = none-nearer (pos n);
+    }
 nearest-is (negsuc n) =
-    record { word = omega arith; itself = λ h. ap negsuc (omega arith); none-nearer = none-nearer (negsuc n) }
+    record {
+      word = sfits-of {w = w32} (omega arith);
+      itself = λ h. let l = h .sfits in ap negsuc (omega arith);
+      none-nearer = none-nearer (negsuc n);
+    }
 
 pub nearest-word : (a b : ℤ) → NearestResults a b
 unfolding addWord subWord mulWord negWord

@@ -2,6 +2,8 @@
 pub mod Faults
 pub mod Judged
 pub mod JudgedPuts
+pub mod Lookups
+pub mod JudgedRows
 pub mod Window
 pub mod Latency
 pub mod JudgedRuns

@@ -2,9 +2,11 @@
 pub mod Values
 pub mod Fix
 pub mod Unique
+pub mod Worded
 pub mod Turns
 pub mod Lists
 pub mod Computes
+pub mod Looked
 pub mod OnBytes
 pub mod Alike
 pub mod AlikeBytes

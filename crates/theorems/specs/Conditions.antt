@@ -25,7 +25,9 @@ use Rattle.model.specs.Rules.Program.{
 }
 use Rattle.model.specs.Rules.Rates.{countReads}
 use Rattle.model.specs.Rules.Schedule.{Schedule, Put, scheduleOf}
+use Rattle.model.specs.Says.Rows.{Covers}
 use Rattle.theorems.specs.Latency.{Timely}
+use Rattle.theorems.specs.Subexpression.{LooksUp}
 
 infix 20 _among_
 -- x is one of the elements of a list.
@@ -65,13 +67,23 @@ Linked p c =
     (j : ℕ) → suc j < length (linkSignals c) →
     countReads (getD (linkSignals c) j 0) (bodyReads (signalAt p (getD (linkSignals c) (suc j) 0) .body)) ≡ 1
 
--- What the program text has to keep: 1 to 10.
+-- A program has a ROW or a TABLE.
+pub data HasTable (p : Program) : Type 0 where
+  row : 0 < length (p .rows) → HasTable p
+  lookup : (x : ℕ) → x < count p → LooksUp (signalAt p x .body) → HasTable p
+
+-- 29, 30: then every word lies in exactly one row.
+abbrev pub Tabled : Program → Type 0
+Tabled p = HasTable p → Covers (p .rows)
+
+-- What the program text has to keep: 1 to 10, 29 and 30.
 pub record LegalRatesWith (least : ℕ) (program schedule : List ℕ) (p : Program) (h : ℕ) : Type 0 where
   pub short : ShortEnough program schedule
   pub legal : LegalWith least program p
   pub rated : DeclaredAndRated p
   pub hypercycle : Least p h
   pub linked : (c : Chain) → c among p .chains → Linked p c
+  pub tabled : Tabled p
 
 abbrev pub LegalRates : List ℕ → List ℕ → Program → ℕ → Type 0
 LegalRates program schedule p h = LegalRatesWith leastFactor program schedule p h

@@ -26,7 +26,8 @@ use Rattle.model.specs.Rules.Program.{
 }
 use Rattle.model.specs.Rules.Schedule.{Schedule, Put}
 use Rattle.model.specs.Rules.Rewrite.{singleKind}
-use Rattle.theorems.specs.Conditions.{_among_, ReadIn, DeclaredAndRated, Linked, Placed, Over, KeepsTime}
+use Rattle.model.specs.Rules.Table.{Row}
+use Rattle.theorems.specs.Conditions.{_among_, ReadIn, DeclaredAndRated, Linked, Tabled, Placed, Over, KeepsTime}
 use Rattle.model.specs.declared.Index.{Index}
 use Rattle.model.specs.declared.Index.the-variants.{Fixed, Open}
 use Rattle.model.specs.declared.Kind.{Kind}
@@ -87,8 +88,17 @@ module _ (f : Read → Read) (g : ℕ → ℕ) where
   abbrev pub mapChain : Chain → Chain
   mapChain c = record { place = g (c .place); mode = c .mode; bound = c .bound; links = map mapLink (c .links) }
 
+  abbrev pub mapRow : Row → Row
+  mapRow r = record { place = g (r .place); low = r .low; high = r .high; result = r .result }
+
   abbrev pub mapProgram : Program → Program
-  mapProgram p = record { signals = map mapSignal (p .signals); chains = map mapChain (p .chains); cap = p .cap }
+  mapProgram p =
+      record {
+        signals = map mapSignal (p .signals);
+        chains = map mapChain (p .chains);
+        cap = p .cap;
+        rows = map mapRow (p .rows);
+      }
 
 -- The conversion, with all places 0.
 abbrev pub bareRead : Read → Read
@@ -98,15 +108,16 @@ abbrev pub bare : Program → Program
 bare p = mapProgram bareRead (λ at. 0) p
 
 -- Two programs that are the same up to places and to the conversion: the same signals, periods, initial words, weights, chains,
--- bounds and cap, and expressions of the same shape whose reads are the same or differ by the conversion.
+-- bounds, rows and cap, and expressions of the same shape whose reads are the same or differ by the conversion.
 pub record Renamed (p q : Program) : Type 0 where
   pub same : bare p ≡ bare q
 
--- The conditions 7 to 16 that a program keeps with PUTs, a schedule and a hypercycle: all that do not speak of texts.
+-- The conditions 7 to 16, 29 and 30 that a program keeps with PUTs, a schedule and a hypercycle: all that do not speak of texts.
 pub record Keeps (p : Program) (puts : List Put) (s : Schedule) (h : ℕ) : Type 0 where
   pub rated : DeclaredAndRated p
   pub hypercycle : Least p h
   pub linked : (c : Chain) → c among p .chains → Linked p c
+  pub tabled : Tabled p
   pub placed : Placed p puts s
   pub met : (r : ℕ) (ρ : Read) → ReadIn p r ρ → Met p s r ρ
   pub loads : (c : ℕ) → ¬ Over (p .cap) (load p s c)

@@ -5,10 +5,11 @@ use Prim.Native.Nat.{ℕ, _≤_, _<_, _^_}
 use mathlib.Core.List.{List, [], _∷_, _++_}
 use mathlib.Core.Path.{_≡_}
 use lib.ListN.{length, take, drop}
+use lib.Signed.{_≤ℤ_}
 use Rattle.model.specs.Rules.Image.{binaryByte, unaryByte}
 use Rattle.model.specs.Rules.Word.{twoBytes, fourBytes, wordBytes}
 use Rattle.model.specs.Says.Written.{InPeriods, readByte}
-use Rattle.theorems.specs.Nearest.{IsWord}
+use Rattle.model.specs.Says.Words.{IsWord}
 use Rattle.model.specs.declared.Code.{Code}
 use Rattle.model.specs.declared.Code.the-variants as Code
 use Rattle.model.specs.declared.Declaration.{Declaration}
@@ -55,6 +56,7 @@ declarationBytes (Declaration.Latency mode bound) = 0x12 ∷ modeByte mode ∷ t
 declarationBytes (Declaration.Link signal) = 0x13 ∷ signal ∷ []
 declarationBytes (Declaration.Cap n) = 0x14 ∷ fourBytes n
 declarationBytes (Declaration.Tag label) = 0x15 ∷ twoBytes label
+declarationBytes (Declaration.Row low high result) = 0x16 ∷ (wordBytes low ++ wordBytes high ++ wordBytes result)
 
 -- An operator of an expression.
 abbrev pub operatorBytes : Operator → List ℕ
@@ -110,6 +112,8 @@ DeclarationRanged (Declaration.Latency mode bound) = bound ≤ 65535
 DeclarationRanged (Declaration.Link signal) = Unit {0}
 DeclarationRanged (Declaration.Cap n) = n < 2 ^ 32
 DeclarationRanged (Declaration.Tag label) = label ≤ 65535
+DeclarationRanged (Declaration.Row low high result) =
+    IsWord low × IsWord high × IsWord result × (low ≤ℤ high)
 
 abbrev pub OperatorRanged : Operator → Type 0
 OperatorRanged Operator.EndsEarly = ⊥

@@ -35,7 +35,7 @@ module _ (program schedule buffer : List ℕ) where
     pub fits : n ≤ length buffer
     pub leaves : left ≡ writtenOf (pair .program) (pair .schedule) (pair .hypercycle) ++ drop n buffer
 
-  -- It is refused: 1 to 16, or the pair is legal and the buffer shorter than L + 4N (17).
+  -- It is refused: 1 to 16, 29 or 30, or the pair is legal and the buffer shorter than L + 4N (17).
   pub data CompileRefusedAt : Fault → Type 0 where
     pair : {f : Fault} → RefusedAt program schedule f → CompileRefusedAt f
     space : {q : Pair} → LegalPair program schedule q → length buffer < sizeOf q → CompileRefusedAt (fault 17 (sizeOf q))

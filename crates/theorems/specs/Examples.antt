@@ -1,4 +1,5 @@
--- The examples of paper 01 that are marked m: one table of questions, each with the answer that the paper gives.
+-- The examples of paper 01 that are marked m, and some of request j: one table of questions, each with the answer that the paper
+-- gives.
 use Prim.Native.Nat.{ℕ, suc}
 use mathlib.Core.List.{List, [], _∷_, _++_, map}
 use mathlib.Core.Path.{_≡_}
@@ -20,13 +21,15 @@ use Rattle.model.specs.declared.Binary.the-variants.{Add, Sub, Mul}
 
 -- A question about a program and its schedule, or about an operator.
 pub data Question : Type 0 where
-  verdict hypercycles indices runs codeOffsets size needs : List ℕ → List ℕ → Question
+  verdict hypercycles indices runs codeOffsets size written needs : List ℕ → List ℕ → Question
   -- what compile answers, given the length of its buffer
   intoBuffer : List ℕ → List ℕ → ℕ → Question
   -- the words of a signal after each cycle, given the words of input 0
   words : List ℕ → List ℕ → ℕ → List ℤ → Question
   -- what a trial prints, given the script
   printed : List ℕ → List ℕ → List ℕ → Question
+  -- what a reset answers, given what is lent for an image
+  resets : List ℕ → Question
   binary : Binary → ℤ → ℤ → Question
   negation : ℤ → Question
 
@@ -86,12 +89,14 @@ answerTo (codeOffsets program schedule) =
     ofImage (λ image. numbers (table (countOf image) (codeOffset image))) (verdictOf program schedule)
 answerTo (size program schedule) =
     ofImage (λ image. numbers (statedLength image ∷ length image ∷ [])) (verdictOf program schedule)
+answerTo (written program schedule) = ofImage (λ bytes. numbers bytes) (verdictOf program schedule)
 answerTo (intoBuffer program schedule n) = ofCompile (compileOf program schedule (replicate n 7) .answer)
 answerTo (needs program schedule) = ofReport (reportOf program schedule [])
 answerTo (words program schedule x inputs) =
     ofImage (λ image. signals (wordsFrom image (callOf image (replicate 65 (pos 9)) reset .left) x inputs))
     (verdictOf program schedule)
 answerTo (printed program schedule text) = ofTrial (trialOf program schedule text)
+answerTo (resets lent) = ofCompile (callOf lent (replicate 65 (pos 0)) reset .answer)
 answerTo (binary operator a b) = signals (binaryWord operator a b ∷ [])
 answerTo (negation a) = signals (negWord a ∷ [])
 
@@ -107,6 +112,13 @@ A-with more = open-A ++ (more ++ (0x00 ∷ []))
 
 abbrev A : List ℕ
 A = A-with []
+
+-- Its image from before request j, without its tail: 48 bytes, no table.
+abbrev former-A : List ℕ
+former-A =
+    2 ∷ 3 ∷ 48 ∷ 0 ∷ 0 ∷ 0 ∷ 0 ∷ 0 ∷ 33 ∷ 0 ∷ 5 ∷ 0 ∷ 0 ∷ 0 ∷ 37 ∷ 0 ∷ 0 ∷ 0 ∷ 0 ∷ 0 ∷ 41 ∷ 0 ∷ 28 ∷ 0 ∷ 30 ∷ 0 ∷ 33 ∷ 0 ∷
+    0 ∷ 2 ∷ 0 ∷ 1 ∷ 2 ∷
+    0x52 ∷ 0 ∷ 0x5F ∷ 0 ∷ 0x51 ∷ 0 ∷ 0x5F ∷ 1 ∷ 0x51 ∷ 1 ∷ 0x51 ∷ 2 ∷ 0x30 ∷ 0x5F ∷ 2 ∷ []
 
 abbrev in-order : List ℕ
 in-order = 0x40 ∷ 0 ∷ 0 ∷ 0x40 ∷ 1 ∷ 1 ∷ 0x40 ∷ 2 ∷ 0 ∷ 0x00 ∷ []
@@ -135,6 +147,18 @@ one-read command input-period equation-period i =
 abbrev at-phases : ℕ → ℕ → List ℕ
 at-phases a b = 0x40 ∷ 0 ∷ a ∷ 0x40 ∷ 1 ∷ b ∷ 0x00 ∷ []
 
+-- Rows of the words from 0 on and of those below 0, with the results 9 and 7.
+abbrev upper : List ℕ
+upper = 0x16 ∷ 0 ∷ 0 ∷ 0 ∷ 0 ∷ 0xFF ∷ 0xFF ∷ 0xFF ∷ 0x7F ∷ 9 ∷ 0 ∷ 0 ∷ 0 ∷ []
+
+abbrev lower : List ℕ
+lower = 0x16 ∷ 0 ∷ 0 ∷ 0 ∷ 0x80 ∷ 0xFF ∷ 0xFF ∷ 0xFF ∷ 0xFF ∷ 7 ∷ 0 ∷ 0 ∷ 0 ∷ []
+
+-- An input, an equation that looks it up, and rows.
+abbrev looks-up : List ℕ → List ℕ
+looks-up more =
+    0x10 ∷ 1 ∷ 0 ∷ 0 ∷ 0 ∷ 0 ∷ 0x11 ∷ 1 ∷ 0 ∷ 0 ∷ 0 ∷ 0 ∷ 0 ∷ 0 ∷ 0x3B ∷ 0x21 ∷ 0 ∷ (more ++ (0x00 ∷ []))
+
 -- SET of signal x to a small word, and a RUN.
 abbrev set-to : ℕ → ℕ → List ℕ
 set-to x w = 0x70 ∷ x ∷ w ∷ 0 ∷ 0 ∷ 0 ∷ []
@@ -155,17 +179,17 @@ q gives a = record { question = q; answer = a }
 
 abbrev pub cases : List Case
 cases =
-    -- accepted; H 2; open index 1; run lists 0,2 and 0,1,2; code offsets 33, 37, 41; L = 48
+    -- accepted; H 2; open index 1; run lists 0,2 and 0,1,2; code offsets 34, 38, 42; L = 49
     (verdict A in-order gives accepts) ∷
     (hypercycles A in-order gives numbers (2 ∷ [])) ∷
     (indices A in-order gives numbers (1 ∷ 1 ∷ 0 ∷ [])) ∷
     (runs A in-order gives lists ((0 ∷ 2 ∷ []) ∷ (0 ∷ 1 ∷ 2 ∷ []) ∷ [])) ∷
-    (codeOffsets A in-order gives numbers (33 ∷ 37 ∷ 41 ∷ [])) ∷
-    (size A in-order gives numbers (48 ∷ 60 ∷ [])) ∷
-    -- a buffer of 47: 17, place 60, with the tail (request f)
-    (intoBuffer A in-order 47 gives refuses 17 60) ∷
-    -- the report: L 48, 60 with the tail, stack 2, and 6, 8 commands in its two cycles (requests a, f)
-    (needs A in-order gives numbers (48 ∷ 60 ∷ 2 ∷ 6 ∷ 8 ∷ replicate 238 0)) ∷
+    (codeOffsets A in-order gives numbers (34 ∷ 38 ∷ 42 ∷ [])) ∷
+    (size A in-order gives numbers (49 ∷ 61 ∷ [])) ∷
+    -- a buffer of 48: 17, place 61, with the tail (requests f, j)
+    (intoBuffer A in-order 48 gives refuses 17 61) ∷
+    -- the report: L 49, 61 with the tail, stack 2, and 6, 8 commands in its two cycles (requests a, f)
+    (needs A in-order gives numbers (49 ∷ 61 ∷ 2 ∷ 6 ∷ 8 ∷ replicate 238 0)) ∷
     -- inputs 10, 11, 12, 13: signal 2 is 5, 16, 27, 40
     (words A in-order 2 (pos 10 ∷ pos 11 ∷ pos 12 ∷ pos 13 ∷ []) gives signals (pos 5 ∷ pos 16 ∷ pos 27 ∷ pos 40 ∷ [])) ∷
     -- RUN 1 after each SET of 10, 11, 12: `0 10 5 5`, `1 11 11 16`, `2 12 11 27` (request e)
@@ -208,6 +232,26 @@ cases =
     -- 0 SUB −2147483648 and −1 SUB it are 2147483647: SUB is not ADD of NEG, which gives 2147483646 for the second
     (binary Sub (pos 0) (negsuc 2147483647) gives signals (pos 2147483647 ∷ [])) ∷
     (binary Sub (negsuc 0) (negsuc 2147483647) gives signals (pos 2147483647 ∷ [])) ∷
+    -- request j: the result of the row that contains the word, both ends included
+    (words (looks-up (upper ++ lower)) (at-phases 0 0) 1 (negsuc 0 ∷ pos 0 ∷ pos 2147483647 ∷ []) gives
+    signals (pos 7 ∷ pos 9 ∷ pos 9 ∷ [])) ∷
+    -- its image: the table after the lists, by rising low, each row low, high, result; the tail
+    (written (looks-up (upper ++ lower)) (at-phases 0 0) gives
+    numbers (
+    1 ∷ 2 ∷ 56 ∷ 0 ∷ 0 ∷ 0 ∷ 0 ∷ 0 ∷ 47 ∷ 0 ∷ 0 ∷ 0 ∷ 0 ∷ 0 ∷ 51 ∷ 0 ∷ 20 ∷ 0 ∷ 22 ∷ 0 ∷ 0 ∷ 1 ∷
+    2 ∷ 0 ∷ 0 ∷ 0 ∷ 0x80 ∷ 0xFF ∷ 0xFF ∷ 0xFF ∷ 0xFF ∷ 7 ∷ 0 ∷ 0 ∷ 0 ∷
+    0 ∷ 0 ∷ 0 ∷ 0 ∷ 0xFF ∷ 0xFF ∷ 0xFF ∷ 0x7F ∷ 9 ∷ 0 ∷ 0 ∷ 0 ∷
+    0x52 ∷ 0 ∷ 0x5F ∷ 0 ∷ 0x51 ∷ 0 ∷ 0x3B ∷ 0x5F ∷ 1 ∷ 0 ∷ 0 ∷ 1 ∷ 0 ∷ 0 ∷ 0 ∷ 1 ∷ 0 ∷ []
+    )) ∷
+    -- an image from before
+    (resets former-A gives refuses 20 0) ∷
+    -- 30 for a gap, for a TABLE without rows and a ROW without a TABLE
+    (verdict (looks-up upper) (at-phases 0 0) gives refuses 30 0) ∷
+    (verdict (looks-up []) (at-phases 0 0) gives refuses 30 0) ∷
+    (verdict (A-with upper) in-order gives refuses 30 0) ∷
+    -- 29 at the first ROW that meets an earlier one; 5 before the result is looked for
+    (verdict (looks-up (upper ++ lower ++ upper)) (at-phases 0 0) gives refuses 29 43) ∷
+    (verdict (looks-up (0x16 ∷ 1 ∷ 0 ∷ 0 ∷ 0 ∷ 0 ∷ 0 ∷ 0 ∷ 0 ∷ [])) (at-phases 0 0) gives refuses 5 17) ∷
     []
 
 -- The definitions answer every question of the table as the paper does.

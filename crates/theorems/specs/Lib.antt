@@ -4,12 +4,14 @@ pub mod Enums
 pub mod Stops
 pub mod Reach
 pub mod Latency
+pub mod Subexpression
 pub mod Conditions
 pub mod Refusals
 pub mod Height
 pub mod WellFormed
 pub mod Images
 pub mod Streams
+pub mod Tables
 pub mod Held
 pub mod Lists
 pub mod Exactness

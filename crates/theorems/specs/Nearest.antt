@@ -1,13 +1,15 @@
--- What the nearest word to a number is, and that the operators give it.
+-- Words as numbers, what the nearest word to a number is, and that the operators give it.
 use Prim.Native.Nat.{ℕ, _≤_}
+use mathlib.Core.Logic.{_↔_}
 use mathlib.Core.Path.{_≡_}
 use lib.IntN.{ℤ, pos, negsuc, negℤ, natAbs, _+ℤ_, _-ℤ_, _*ℤ_}
+use lib.Signed.{_≤ℤ_}
 use Rattle.model.specs.Rules.Word.{addWord, subWord, mulWord, negWord}
+use Rattle.model.specs.Says.Words.{IsWord}
 
--- A word: from −2147483648 to 2147483647. (negsuc n is −1 − n.)
-abbrev pub IsWord : ℤ → Type 0
-IsWord (pos n) = n ≤ 2147483647
-IsWord (negsuc n) = n ≤ 2147483647
+-- A number is a word exactly if it lies from −2147483648 to 2147483647. (negsuc n is −1 − n.)
+abbrev pub WordsRange : Type 0
+WordsRange = (z : ℤ) → IsWord z ↔ ((negsuc 2147483647 ≤ℤ z) × (z ≤ℤ pos 2147483647))
 
 abbrev pub distance : ℤ → ℤ → ℕ
 distance a b = natAbs (a -ℤ b)

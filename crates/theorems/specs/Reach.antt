@@ -34,6 +34,7 @@ isDeclarationKnown (Declaration.Latency mode bound) = true
 isDeclarationKnown (Declaration.Link signal) = true
 isDeclarationKnown (Declaration.Cap n) = true
 isDeclarationKnown (Declaration.Tag label) = true
+isDeclarationKnown (Declaration.Row low high result) = true
 
 abbrev pub knownInProgram : ℕ → Bool
 knownInProgram b = isDeclarationKnown (declarationAt (b ∷ []) 0)

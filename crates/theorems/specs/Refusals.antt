@@ -13,6 +13,7 @@ use Rattle.theorems.specs.Conditions.{
   ReadRule,
   DeclaredAndRated,
   Linked,
+  HasTable,
   LegalRates,
   putAt,
   Fresh,
@@ -29,6 +30,8 @@ use Rattle.model.specs.Rules.Load.{load}
 use Rattle.model.specs.Rules.Outcome.{fault, Parsed}
 use Rattle.model.specs.Rules.Program.{leastFactor, Program, Read, Link, Chain, empty, count}
 use Rattle.model.specs.Rules.Schedule.{Schedule, Put}
+use Rattle.model.specs.Rules.Table.{rowAt}
+use Rattle.model.specs.Says.Rows.{Disjoint, FirstMeets, Gap}
 use Rattle.model.specs.declared.Fault.{Fault}
 use Rattle.theorems.specs.Stops.{Stops, StopsPuts}
 
@@ -47,6 +50,11 @@ pub data RateFault (p : Program) : Fault → Type 0 where
 -- A chain that does not keep Q, at its LAT.
 pub data ChainFault (p : Program) (Q : Chain → Type 0) (number : ℕ) : Fault → Type 0 where
   broken : (c : Chain) → c among p .chains → ¬ Q c → ChainFault p Q number (fault number (c .place))
+
+-- 29 a word in two rows (the first ROW that meets an earlier one), 30 a word in none (0); 29 before 30.
+pub data TableFault (p : Program) : Fault → Type 0 where
+  meets : (n : ℕ) → FirstMeets (p .rows) n → TableFault p (fault 29 (rowAt (p .rows) n .place))
+  gap : HasTable p → Disjoint (p .rows) → Gap (p .rows) → TableFault p (fault 30 0)
 
 -- 12 signal undeclared (PUT) or put twice (the second PUT), 13 phase not below period (PUT); 12 first at one PUT.
 pub data PutFault (p : Program) (puts : List Put) : Fault → Type 0 where
@@ -79,6 +87,9 @@ pub data RefusedAt (program schedule : List ℕ) : Fault → Type 0 where
   -- 10 link without exactly one read (lowest such LAT).
   unlinked : {f : Fault} {h : ℕ} {p : Program} → ShortEnough program schedule → LegalProgram program p → DeclaredAndRated p →
       Least p h → LowestFault (ChainFault p (Linked p) 10) f → RefusedAt program schedule f
+  -- 29 and 30.
+  uncovered : {f : Fault} {h : ℕ} {p : Program} → ShortEnough program schedule → LegalProgram program p → DeclaredAndRated p →
+      Least p h → ((c : Chain) → c among p .chains → Linked p c) → TableFault p f → RefusedAt program schedule f
   -- 11: the schedule text stops.
   unread : {h : ℕ} {f : Fault} {p : Program} → LegalRates program schedule p h → StopsPuts schedule 0 f →
       RefusedAt program schedule f

@@ -75,12 +75,14 @@ pub data Stops (least : ℕ) (text : List ℕ) : ℕ → ℕ → Program → Fau
   -- A legal command, and what stands after it stops.
   onward : {at label next given : ℕ} {p q : Program} {f : Fault} → DeclaresOne least text at label p next given q →
       Stops least text next given q f → Stops least text at label p f
-  -- At the command: 2, 3, then counts (64 signals, 16 chains) and second CAP.
+  -- At the command: 2, 3, then counts (64 signals, 16 chains, 32 rows) and second CAP.
   early : {at label : ℕ} {p : Program} → length text ≤ at → Stops least text at label p (fault 2 (length text))
   unknown : {at label : ℕ} {p : Program} → at < length text → ¬ DeclarationByte (byteAt text at) →
       Stops least text at label p (fault 3 at)
   signals : {at label : ℕ} {p : Program} → IsSignal (byteAt text at) → 64 ≤ count p → Stops least text at label p (fault 4 at)
   chains : {at label : ℕ} {p : Program} → byteAt text at ≡ 0x12 → 16 ≤ length (p .chains) →
+      Stops least text at label p (fault 4 at)
+  rows : {at label : ℕ} {p : Program} → byteAt text at ≡ 0x16 → 32 ≤ length (p .rows) →
       Stops least text at label p (fault 4 at)
   second : {at label : ℕ} {p : Program} → byteAt text at ≡ 0x14 → ¬ (p .cap ≡ unlimited) →
       Stops least text at label p (fault 5 at)

@@ -1,4 +1,4 @@
--- Which bytes are a legal script, how reading one stops, and each refusal of a trial with its place (1 to 16, 24, 25), as
+-- Which bytes are a legal script, how reading one stops, and each refusal of a trial with its place (1 to 16, 29, 30, 24, 25), as
 -- statements: they rest on bytes, and under all the conditions of the numbers before them.
 use Prim.Native.Nat.{ℕ, _+_, _≤_, _<_}
 use mathlib.Core.List.{List, [], _∷_}
@@ -66,7 +66,7 @@ pub record LegalScript (p : Program) (text : List ℕ) (actions : List Action) :
 
 -- A trial is refused.
 pub data TrialRefusedAt (program schedule text : List ℕ) : Fault → Type 0 where
-  -- 1 to 16: the pair is refused.
+  -- 1 to 16, 29, 30: the pair is refused.
   pair : {f : Fault} → RefusedAt program schedule f → TrialRefusedAt program schedule text f
   -- 24 script over length (0).
   long : {q : Pair} → LegalPair program schedule q → 2048 < length text → TrialRefusedAt program schedule text (fault 24 0)

@@ -58,7 +58,7 @@ fn prepare_image(image: &[u8], text: &[u8]) -> Prepared
     }
 }
 
-// Starts a trial, or tells the refusal (1 to 16, 24, 25).
+// Starts a trial, or tells the refusal (1 to 16, 29, 30, 24, 25).
 pub fn prepare(program: &[u8], schedule: &[u8], text: &[u8]) -> Start
     ensures { λ r. ⌜ Prepares (now (program .entry)) (now (schedule .entry)) (now (text .entry)) r (r .ready .judged) ⌝ }
 {

@@ -170,10 +170,10 @@ unfolding cyclesOf
 cycles-none actions e = rw e
 
 -- The code of a signal has a first byte.
-code-some : (code : List ℕ) (n x : ℕ) → codeOk code n x ≡ true → 0 < length code
+code-some : (rows : Bool) (code : List ℕ) (n x : ℕ) → codeOk rows code n x ≡ true → 0 < length code
 unfolding codeOk codeOkFrom
-code-some [] n x h = let z : _≡_ {A = ℕ} 0 1 = cc in absurd (omega arith)
-code-some (b ∷ code) n x h = omega arith
+code-some rows [] n x h = let z : _≡_ {A = ℕ} 0 1 = cc in absurd (omega arith)
+code-some rows (b ∷ code) n x h = omega arith
 
 pub code-starts : (image : List ℕ) (x : ℕ) → wellFormed image ≡ true → x < countOf image → codeOffset image x < length image
 unfolding codeOf
@@ -181,7 +181,7 @@ code-starts image x h lt =
     let p = codes image (formed image h .coded) x lt in
     omega (
       arith,
-      code-some _ _ _ (p .formed),
+      code-some _ _ _ _ (p .formed),
       stretch-length image (codeOffset image x) (codeOffset image (x + 1))
           (p .within),
       p .within,

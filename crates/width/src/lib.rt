@@ -24,6 +24,8 @@ pub fn program(byte: u8) -> Width
         0x14 => Width::Bytes(5),
         // TAG label
         0x15 => Width::Bytes(3),
+        // ROW low, high, result
+        0x16 => Width::Bytes(13),
         _ => Width::Unlisted,
     }
 }
@@ -45,6 +47,8 @@ pub fn expression(byte: u8) -> Width
         0x38 => Width::Bytes(1),
         // IF
         0x3A => Width::Bytes(1),
+        // TABLE
+        0x3B => Width::Bytes(1),
         _ => Width::Unlisted,
     }
 }
@@ -73,6 +77,8 @@ pub fn code(byte: u8) -> Width
         0x38 => Width::Bytes(1),
         // IF
         0x3A => Width::Bytes(1),
+        // TABLE
+        0x3B => Width::Bytes(1),
         // PUSH word
         0x50 => Width::Bytes(5),
         // LOAD, FETCH signal

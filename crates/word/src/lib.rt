@@ -1,12 +1,11 @@
 // The signed 32-bit words: their operators, their bits, and their bytes with the low byte first.
 use model::Binary;
-use model::Unary;
 ghost use mathlib.Core.Path.{_≡_};
 ghost use Prim.Native.Nat.{_+_, _%_, _^_, _<_, _≤_};
 ghost use lib.ListN.{length};
 ghost use lib.Seq.{sets};
 ghost use Rattle.model.specs.Rules.Word.{bitsOf, wordOf, nearest};
-ghost use Rattle.model.specs.Rules.Word.{addWord, subWord, mulWord, negWord, lessWord, sameWord, minWord, maxWord, ifWord, binaryWord, unaryWord};
+ghost use Rattle.model.specs.Rules.Word.{addWord, subWord, mulWord, negWord, lessWord, sameWord, minWord, maxWord, ifWord, binaryWord};
 ghost use Rattle.model.specs.Rules.Word.{twoAt, fourAt, wordAt, twoBytes, wordBytes};
 
 // The bits of a word, as a number.
@@ -99,15 +98,6 @@ pub fn choose(c: i32, a: i32, b: i32) -> i32
     ensures { λ r. ⌜ r ≡ ifWord c a b ⌝ }
 {
     if c == 0 { b } else { a }
-}
-
-// What an operator with one operand gives.
-pub fn unary(operator: Unary, a: i32) -> i32
-    ensures { λ r. ⌜ r ≡ unaryWord operator a ⌝ }
-{
-    match operator {
-        Unary::Negate => neg(a),
-    }
 }
 
 // What an operator with two operands gives.

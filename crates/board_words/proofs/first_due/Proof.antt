@@ -11,7 +11,7 @@ use Rattle.model.specs.declared.Found.the-variants.{At, Nowhere}
 use Rattle.board.specs.Board.{placeAt}
 use Rattle.board.specs.declared.Board.{Board}
 use Rattle.board_words.specs.Record.{boardOf}
-use Rattle.board_words.proofs.Next.{first-is}
+use Rattle.model.proofs.Pairs.Decide.{first-is}
 use Rattle.board_words.proofs.Places.{due-held}
 use Rattle.board_words.proofs.first_due.Statement.{statement}
 use Rattle.board_words.proofs.first_due.Tie as tie

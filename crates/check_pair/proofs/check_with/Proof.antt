@@ -208,6 +208,7 @@ returns-5 c =
             ranks = d .check-schedule .result .slots .ranks;
             slots = g .slots-are;
             ordered = ordered g;
+            covered = rates-passed _ _ (rated (found d)) .3;
           };
       hyper = refl;
       bound = short-hypercycle g;

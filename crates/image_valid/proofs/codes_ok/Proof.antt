@@ -6,11 +6,12 @@ use Prim.Native.Nat.{ℕ, _+_, _-_, _≤_}
 use native.Mathlib.Omega.{arith}
 use borrow.Author.Needs.{needs}
 use borrow.Author.Tests.{le-leb, lt-leb, not-true, not-false}
-use lib.Dec.{leb}
+use lib.Dec.{leb, ltb}
 use lib.ListN.{length}
-use Rattle.model.specs.Rules.Machine.{countOf, codeOffset, codeOf, codeOk, codesOk}
+use Rattle.model.specs.Rules.Machine.{countOf, rowCount, codeOffset, codeOf, codeOk, codesOk}
 use Rattle.model.specs.Rules.Search.{allBelow}
-use Rattle.image_valid.proofs.All.{all-none, all-more, all-fails}
+use Rattle.image_valid_code.specs.Shape.{shapeOf, Shapes, isTabled}
+use Rattle.model.proofs.Pairs.Decide.{all-none, all-more, all-fails}
 use Rattle.image_valid.proofs.codes_ok.Statement.{statement}
 use Rattle.image_valid.proofs.codes_ok.Tie as tie
 
@@ -18,13 +19,13 @@ use Rattle.image_valid.proofs.codes_ok.Tie as tie
 abbrev good : List ℕ → ℕ → Bool
 good image x =
     leb (codeOffset image x) (codeOffset image (x + 1)) && leb (codeOffset image (x + 1)) (length image) && codeOk
-    (codeOf image x) (countOf image) x
+    (ltb 0 (rowCount image)) (codeOf image x) (countOf image) x
 
 abbrev Inv-loop : tie.InvT-loop
-Inv-loop image n table count from₀ x₀ from x = (allBelow x (good image) ≡ true) × (x ≤ n) × (from ≡ codeOffset image x)
+Inv-loop image n rows table count from₀ x₀ from x = (allBelow x (good image) ≡ true) × (x ≤ n) × (from ≡ codeOffset image x)
 
 abbrev μ-loop : tie.MeasureT-loop
-μ-loop image n table count from₀ x₀ from x = n - x
+μ-loop image n rows table count from₀ x₀ from x = n - x
 
 abbrev start : tie.At-loop Inv-loop μ-loop → tie.Start Inv-loop μ-loop
 start l = l .before .before .before .before .before
@@ -44,13 +45,25 @@ fails : (o : tie.After-code-offset2 Inv-loop μ-loop) → good (start (turn o) .
 unfolding codesOk
 fails o e = sym (all-fails _ _ (turn o .loop .x) (omega (arith, o .before .before .loop-test .taken, start (turn o) .pre .1)) e)
 
+-- the table of shapes is one with rows if there are rows
+tabled-is : (rows : Bool) (table : List ℕ) → Shapes rows table → isTabled table ≡ rows
+unfolding shapeOf
+tabled-is true table h = ap (ltb 0) (h .entry 0x3B (omega arith))
+tabled-is false table h = ap (ltb 0) (h .entry 0x3B (omega arith))
+
+shaped : (l : tie.At-loop Inv-loop μ-loop) → isTabled (l .before .before .before .shapes .result) ≡ start l .args .rows
+shaped l = tabled-is _ _ (l .before .before .before .shapes .ensures)
+
 -- the code that was handed on
 code : (k : tie.After-code-ok Inv-loop μ-loop) {b : Bool} → k .code-ok .result ≡ b
     → let o = k .before .before .before .before .before in let image = start (turn o) .args .image .now in
-    codeOk (codeOf image (turn o .loop .x)) (countOf image) (turn o .loop .x) ≡ b
+    codeOk (ltb 0 (rowCount image)) (codeOf image (turn o .loop .x)) (countOf image) (turn o .loop .x) ≡ b
 unfolding codeOf
 code k e =
     let o = k .before .before .before .before .before in
+    let image = start (turn o) .args .image .now in
+    ap (λ (t : Bool). codeOk t (codeOf image (turn o .loop .x)) (countOf image) (turn o .loop .x))
+    (sym (start (turn o) .pre .2) ∙ sym (shaped (turn o))) ∙
     rw (← (turn o .loop .inv .2), ← (ends o), ← (start (turn o) .pre .1)) (sym (k .code-ok .ensures) ∙ e)
 
 code-offset-requires : tie.Need-code-offset-requires Inv-loop μ-loop
@@ -79,7 +92,7 @@ code-ok-requires : tie.Need-code-ok-requires Inv-loop μ-loop
 code-ok-requires c κs =
     let c6 = c .before .before .before .before .before .before in
     let c10 = c6 .before .before .before .before in
-    (c10 .shapes .ensures, c6 .loop-test .taken)
+    (rw (shaped (c6 .before)) (c10 .shapes .ensures), c6 .loop-test .taken)
 
 returns-3 : tie.Need-returns-3 Inv-loop μ-loop
 unfolding codesOk

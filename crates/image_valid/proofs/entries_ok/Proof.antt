@@ -9,8 +9,8 @@ use borrow.Author.Needs.{needs}
 use Rattle.image_valid.proofs.entries_ok.Statement.{statement}
 use Rattle.image_valid.proofs.entries_ok.Tie as tie
 
-abbrev start : tie.After-code-offset → tie.Start
-start o = o .before .before .before .before
+abbrev start : tie.After-lists-at → tie.Start
+start a = a .before .before .before
 
 listed : (s : tie.Start) → Lists (s .args .image .now)
 listed s = lists _ (s .pre .1)
@@ -23,8 +23,8 @@ begins a =
     let s = w .before .before in
     rw (a .lists-at .ensures, w .wide .ensures .0, s .pre .2, s .pre .3)
 
-holds : (o : tie.After-code-offset) → o .before .lists-at .result ≤ o .code-offset .result
-holds o = rw (begins (o .before), o .code-offset .ensures) (room _ (listed (start o)))
+holds : (a : tie.After-lists-at) → a .lists-at .result ≤ start a .args .end
+holds a = omega (arith, begins a, start a .pre .4, room _ (listed (start a)))
 
 lists-at-requires : tie.Need-lists-at-requires
 lists-at-requires c κs =
@@ -34,24 +34,24 @@ lists-at-requires c κs =
 
 returns : tie.Need-returns
 returns c =
-    let o = c .before in
-    let s = start o in
+    let a = c .before in
+    let s = start a in
     let none : countOf (s .args .image .now) ≡ 0 = sym (s .pre .2) ∙ c .if1 .taken in
-    rw (begins (o .before), o .code-offset .ensures) (entries-none _ (listed s) none)
+    rw (begins a, s .pre .4) (entries-none _ (listed s) none)
 
 part-greatest-byte-end : tie.Need-part-greatest-byte-end
-part-greatest-byte-end c = let o = c .before in rw (o .code-offset .ensures) (listed (start o) .end)
+part-greatest-byte-end c = let s = start (c .before) in rw (s .pre .4) (listed s .end)
 
 returns-2 : tie.Need-returns-2
 returns-2 c =
     let e = c .before .before in
-    let o = e .before in
-    let s = start o in
+    let a = e .before in
+    let s = start a in
     sym (c .greatest-byte .ensures (s .args .n) (omega (arith, e .if1 .left)))
-    ∙ entries-by _ (listed s) _ _ _ (s .pre .2) (begins (o .before)) (o .code-offset .ensures)
+    ∙ entries-by _ (listed s) _ _ _ (s .pre .2) (begins a) (s .pre .4)
 
 pub entries-ok-spec : {M : Type 1} → statement M
 entries-ok-spec =
     tie.close
-    (tie.spec (λ c κs. search needs) lists-at-requires (λ c κs. search needs) returns (λ c. holds (c .before))
+    (tie.spec (λ c κs. search needs) lists-at-requires returns (λ c. holds (c .before))
     (λ c. holds (c .before)) part-greatest-byte-end (λ c κs. search needs) returns-2)

@@ -9,7 +9,8 @@ use lib.Dec.{ltb}
 use lib.ListN.{length}
 use Rattle.model.specs.Rules.Search.{allBelow}
 use Rattle.model.specs.Rules.Word.{byteAt}
-use Rattle.image_valid.proofs.All.{all-none, all-one, below-greater, below-least}
+use Rattle.model.proofs.Pairs.Decide.{all-none, all-one}
+use Rattle.image_valid.proofs.All.{below-greater, below-least}
 use Rattle.image_valid.proofs.greatest_byte.Statement.{statement}
 use Rattle.image_valid.proofs.greatest_byte.Tie as tie
 

@@ -7,9 +7,9 @@ use native.Mathlib.Omega.{arith}
 use borrow.Author.Tests.{le-leb, lt-leb, eq-eqb, ne-eqb}
 use lib.Dec.{leb, eqb}
 use Rattle.model.specs.Rules.Image.{listsAt}
-use Rattle.model.specs.Rules.Machine.{hyperOf, countOf, listOffset, codeOffset, listsOk}
+use Rattle.model.specs.Rules.Machine.{hyperOf, countOf, listOffset, tableOffset, listsOk}
 use Rattle.model.specs.Rules.Search.{allBelow}
-use Rattle.image_valid.proofs.All.{all-none, all-more, all-fails}
+use Rattle.model.proofs.Pairs.Decide.{all-none, all-more, all-fails}
 use Rattle.image_valid.proofs.Parts.{head}
 use Rattle.image_valid.proofs.lists_ok.Statement.{statement}
 use Rattle.image_valid.proofs.lists_ok.Tie as tie
@@ -94,39 +94,15 @@ loop-again c =
       o .list-offset2 .ensures,
     )
 
-code-offset-requires : tie.Need-code-offset-requires Inv-loop μ-loop
-code-offset-requires c κs = let s = start (c .before) in (s .pre .0, s .pre .1)
-
 returns-3 : tie.Need-returns-3 Inv-loop μ-loop
-unfolding listsOk
+unfolding listsOk tableOffset
 returns-3 c =
-    let o = c .before in
-    let l = o .before .before in
+    let l = c .before in
     let image = start l .args .image .now in
-    rw (
-      first (l .before),
-      rose (o .before),
-      ne-eqb (listOffset image (hyperOf image)) _ (λ e. c .if3 .taken (ends (o .before) ∙ e ∙ sym (o .code-offset .ensures))),
-    )
-
-returns-4 : tie.Need-returns-4 Inv-loop μ-loop
-unfolding listsOk
-returns-4 c =
-    let o = c .before in
-    let l = o .before .before in
-    let image = start l .args .image .now in
-    let same : listOffset image (hyperOf image) ≡ codeOffset image 0 = sym (ends (o .before)) ∙ c .if3 .left ∙
-    o .code-offset .ensures in
-    rw (
-      first (l .before),
-      rose (o .before),
-      eq-eqb (listOffset image (hyperOf image)) (codeOffset image 0) same,
-      ← same,
-      ← (ends (o .before)),
-    )
+    rw (first (l .before), rose c, ← (ends c))
 
 pub lists-ok-spec : {M : Type 1} → statement M
 lists-ok-spec =
     tie.close
     (tie.spec Inv-loop μ-loop list-offset-requires lists-at-requires returns loop-holds (λ c. omega arith)
-    list-offset-requires-2 returns-2 (λ c. omega arith) (λ c. omega arith) loop-again code-offset-requires returns-3 returns-4)
+    list-offset-requires-2 returns-2 (λ c. omega arith) (λ c. omega arith) loop-again returns-3)

@@ -8,14 +8,15 @@ use borrow.Author.Tests.{lt-ltb, le-ltb}
 use lib.Dec.{eqb, ltb}
 use lib.ListN.{length, getD}
 use Rattle.model.specs.Rules.Machine.{codeOkFrom, codeOk}
-use Rattle.image_valid_code.specs.Shape.{shapeOf, commandBytes, afterOf, lastOf}
+use Rattle.image_valid_code.specs.Shape.{shapeOf, isTabled, commandBytes, afterOf, lastOf}
 use Rattle.image_valid_code.proofs.Turns.{turn, goes, stops, short, shape-most, length-some, step, commandOf}
 use Rattle.image_valid_code.proofs.code_ok.Statement.{statement}
 use Rattle.image_valid_code.proofs.code_ok.Tie as tie
 
 abbrev Inv-loop : tie.InvT-loop
 Inv-loop code n own table at₀ h₀ at h =
-    ((f : ℕ) × (length code ≤ at + f) × (codeOkFrom f code n own at h ≡ codeOk code n own)) × (at ≤ length code + 4) × (h ≤ 32)
+    ((f : ℕ) × (length code ≤ at + f) × (codeOkFrom f (isTabled table) code n own at h ≡ codeOk (isTabled table) code n own)) ×
+    (at ≤ length code + 4) × (h ≤ 32)
 
 abbrev μ-loop : tie.MeasureT-loop
 μ-loop code n own table at₀ h₀ at h = length code + 5 - at
@@ -27,30 +28,35 @@ loop-holds c = ((length (c .before .args .code .now), omega arith, refl), omega 
 -- what the code is by the command of the turn
 module _ (d : tie.After-shape Inv-loop μ-loop) where
   begun : let l = d .before .before .before .before in let s = l .before .before in let code = s .args .code .now in
-      codeOk code (s .args .n) (s .args .own) ≡ step (commandOf (getD code (l .loop .at) 0) code (l .loop .at))
-      (l .loop .inv .0 .0 - 1) code (l .loop .at) (s .args .n) (s .args .own) (l .loop .h)
+      codeOk (isTabled (s .args .table .now)) code (s .args .n) (s .args .own) ≡ step
+      (commandOf (getD code (l .loop .at) 0) code (l .loop .at))
+      (l .loop .inv .0 .0 - 1) (isTabled (s .args .table .now)) code (l .loop .at) (s .args .n) (s .args .own) (l .loop .h)
   begun = let i = d .before .before .before in let l = i .before in let s = l .before .before in
-      sym (l .loop .inv .0 .2) ∙ turn (l .loop .inv .0 .0) (s .args .code .now) (l .loop .at) (s .args .n) (s .args .own)
+      sym (l .loop .inv .0 .2) ∙ turn (l .loop .inv .0 .0) (isTabled (s .args .table .now)) (s .args .code .now) (l .loop .at)
+      (s .args .n) (s .args .own)
       (l .loop .h) (omega (arith, i .loop-test .taken)) (omega (arith, i .loop-test .taken, l .loop .inv .0 .1))
 
   some : 0 < d .before .before .before .before .before .before .args .n
   some = omega (arith, d .before .before .before .before .before .before .pre .1)
 
-  ended : shapeOf (getD (d .before .before .before .before .before .before .args .code .now)
+  ended : shapeOf (isTabled (d .before .before .before .before .before .before .args .table .now))
+      (getD (d .before .before .before .before .before .before .args .code .now)
       (d .before .before .before .before .loop .at) 0) ≡ 0
       → let l = d .before .before .before .before in let s = l .before .before in let code = s .args .code .now in
-      codeOk code (s .args .n) (s .args .own) ≡
+      codeOk (isTabled (s .args .table .now)) code (s .args .n) (s .args .own) ≡
       (lastOf (getD code (l .loop .at) 0) (getD code (l .loop .at + 1) 0) (s .args .own) (l .loop .h) && eqb (l .loop .at + 2)
       (length code))
   ended e = let i = d .before .before .before in let l = i .before in let s = l .before .before in
-      begun ∙ stops (l .loop .inv .0 .0 - 1) (s .args .code .now) (l .loop .at) (s .args .n) (s .args .own) (l .loop .h)
+      begun ∙ stops (l .loop .inv .0 .0 - 1) (isTabled (s .args .table .now)) (s .args .code .now) (l .loop .at) (s .args .n)
+      (s .args .own) (l .loop .h)
       (i .loop-test .taken) (l .loop .inv .2) some (getD (s .args .code .now) (l .loop .at) 0) e
 
 -- a turn that goes on
 going : (a : tie.After-after Inv-loop μ-loop) → let l = a .before .before .before .before .before .before in let s =
     l .before .before in let code = s .args .code .now in
-    codeOk code (s .args .n) (s .args .own) ≡ cond (ltb 32 (a .after .result)) false
-    (codeOkFrom (l .loop .inv .0 .0 - 1) code (s .args .n) (s .args .own) (l .loop .at + commandBytes (getD code (l .loop .at) 0))
+    codeOk (isTabled (s .args .table .now)) code (s .args .n) (s .args .own) ≡ cond (ltb 32 (a .after .result)) false
+    (codeOkFrom (l .loop .inv .0 .0 - 1) (isTabled (s .args .table .now)) code (s .args .n) (s .args .own)
+    (l .loop .at + commandBytes (getD code (l .loop .at) 0))
     (a .after .result))
 going a =
     let d = a .before .before in
@@ -59,14 +65,17 @@ going a =
     let s = l .before .before in
     let code = s .args .code .now in
     let b = getD code (l .loop .at) 0 in
-    let same : afterOf (shapeOf b) b (getD code (l .loop .at + 1) 0) (l .loop .h) (s .args .n) (s .args .own) ≡ a .after .result =
+    let same : afterOf (shapeOf (isTabled (s .args .table .now)) b) b (getD code (l .loop .at + 1) 0) (l .loop .h) (s .args .n)
+    (s .args .own) ≡ a .after .result =
     sym (a .after .ensures ∙ ap (λ (p : ℕ). afterOf p b (getD code (l .loop .at + 1) 0) (l .loop .h) (s .args .n) (s .args .own))
     (d .shape .ensures)) in
     begun d
-    ∙ goes (l .loop .inv .0 .0 - 1) code (l .loop .at) (s .args .n) (s .args .own) (l .loop .h) (i .loop-test .taken)
+    ∙ goes (l .loop .inv .0 .0 - 1) (isTabled (s .args .table .now)) code (l .loop .at) (s .args .n) (s .args .own) (l .loop .h)
+    (i .loop-test .taken)
     (l .loop .inv .2) (some d) b (λ e. a .before .if1 .left (d .shape .ensures ∙ e))
     ∙ ap (λ (r : ℕ). cond (ltb 32 r) false
-    (codeOkFrom (l .loop .inv .0 .0 - 1) code (s .args .n) (s .args .own) (l .loop .at + commandBytes b) r)) same
+    (codeOkFrom (l .loop .inv .0 .0 - 1) (isTabled (s .args .table .now)) code (s .args .n) (s .args .own)
+    (l .loop .at + commandBytes b) r)) same
 
 returns : tie.Need-returns Inv-loop μ-loop
 returns c =
@@ -81,7 +90,7 @@ returns-2 c =
     rw (sym (c .before .is-last .ensures) ∙ c .if2 .left) refl)
 
 after-requires : tie.Need-after-requires Inv-loop μ-loop
-after-requires c κs = (c .before .before .before .before .before .loop .inv .2, rw (c .before .shape .ensures) (shape-most _))
+after-requires c κs = (c .before .before .before .before .before .loop .inv .2, rw (c .before .shape .ensures) (shape-most _ _))
 
 returns-3 : tie.Need-returns-3 Inv-loop μ-loop
 returns-3 c = sym (going (c .before) ∙ rw (lt-ltb _ _ (c .if3 .taken)) refl)
@@ -121,7 +130,7 @@ loop-again c =
     )
 
 returns-4 : tie.Need-returns-4 Inv-loop μ-loop
-returns-4 c = let l = c .before in sym (sym (l .loop .inv .0 .2) ∙ short _ _ _ _ _ _ (c .loop-test .left))
+returns-4 c = let l = c .before in sym (sym (l .loop .inv .0 .2) ∙ short _ _ _ _ _ _ _ (c .loop-test .left))
 
 pub code-ok-spec : {M : Type 1} → statement M
 code-ok-spec =

@@ -8,6 +8,7 @@ use Rattle.model.specs.Rules.Image.{joined, offsets, records, listsAt}
 use Rattle.model.specs.Rules.Word.{twoBytes}
 use Rattle.image_write.specs.Codes.{declaredBy, codesFrom}
 use Rattle.image_write.specs.Lists.{listsBy, pairs}
+use Rattle.image_write.specs.Rows.{tableBy}
 use Rattle.model.proofs.Basics.Left.{Left, starts, room, turn, done}
 use Rattle.image_write.proofs.Imaged.{
   codesBy,
@@ -17,6 +18,7 @@ use Rattle.image_write.proofs.Imaged.{
   both,
   last,
   declared,
+  table-stands,
   timed,
   phased,
   lists-by,
@@ -41,14 +43,17 @@ module _ (s : tie.Start) where
   abbrev codes : List (List ℕ)
   codes = codesFrom 0 (declaredBy (s .args .text .now))
 
+  abbrev rows : List ℕ
+  rows = tableBy (s .args .text .now) (s .args .tables .offsets) (s .args .tables .rows)
+
   abbrev recorded : List ℕ
-  recorded = records (declaredBy (s .args .text .now)) (offsets (codesBy (s .args .h) count lists) codes)
+  recorded = records (declaredBy (s .args .text .now)) (offsets (codesBy (s .args .h) count lists rows) codes)
 
   abbrev paired : List ℕ
   paired = pairs (offsets (listsAt count (s .args .h)) lists)
 
   abbrev image : List ℕ
-  image = imageBy (s .args .h) count (declaredBy (s .args .text .now)) lists codes
+  image = imageBy (s .args .h) count (declaredBy (s .args .text .now)) lists rows codes
 
   -- what is left of it
   abbrev Rest : List ℕ → ℕ → List ℕ → Type 0
@@ -58,10 +63,10 @@ module _ (s : tie.Start) where
   lists-at : s .args .layout .lists ≡ listsAt count (s .args .h)
   lists-at = s .pre .laid-out .lists-at ∙ lists-by (s .pre .ready .prepared) (s .args .h)
 
-  code-at : s .args .layout .code ≡ codesBy (s .args .h) count lists
+  code-at : s .args .layout .code ≡ codesBy (s .args .h) count lists rows
   code-at = s .pre .laid-out .code-at ∙ code-by (s .pre .ready .prepared) (s .args .h)
 
-  ends : s .args .layout .end ≡ lengthBy (s .args .h) count lists codes
+  ends : s .args .layout .end ≡ lengthBy (s .args .h) count lists rows codes
   ends = s .pre .laid-out .ends ∙ length-by (s .pre .ready .prepared) (s .args .h)
 
   space : 0 + length image ≤ length (s .args .out .now)
@@ -70,16 +75,16 @@ module _ (s : tie.Start) where
 -- what is left after each part
 after-head : (c : tie.After-put-head) → let s = c .before .before .before .before .before .before in
     Rest s (c .put-head .last .1 .1 .1 .0) (c .put-head .result)
-    (recorded s ++ (paired s ++ (joined (lists s) ++ joined (codes s))))
+    (recorded s ++ (paired s ++ (joined (lists s) ++ (rows s ++ joined (codes s)))))
 after-head c =
     let s = c .before .before .before .before .before .before in
-    turn (head-first (s .args .h) (count s) _ (lists s) (codes s)) starts (rw (ends s) at (c .put-head .ensures))
+    turn (head-first (s .args .h) (count s) _ (lists s) (rows s) (codes s)) starts (rw (ends s) at (c .put-head .ensures))
 
 after-records : (c : tie.After-emit-records) →
     let c6 = c .before .before .before .before .before .before in
     let s = c6 .before .before .before .before .before .before in
     Rest s (c .emit-records .last .1 .1 .1 .1 .1 .0) (c .emit-records .result)
-    (paired s ++ (joined (lists s) ++ joined (codes s)))
+    (paired s ++ (joined (lists s) ++ (rows s ++ joined (codes s))))
 after-records c =
     let c6 = c .before .before .before .before .before .before in
     let c12 = c6 .before .before .before .before .before .before in
@@ -90,7 +95,8 @@ after-offsets : (c : tie.After-emit-offsets) →
     let c6 = c .before .before .before .before .before .before in
     let c12 = c6 .before .before .before .before .before .before in
     let s = c12 .before .before .before .before .before in
-    Rest s (c .emit-offsets .last .1 .1 .1 .1 .1 .1 .1 .0) (c .emit-offsets .result) (joined (lists s) ++ joined (codes s))
+    Rest s (c .emit-offsets .last .1 .1 .1 .1 .1 .1 .1 .0) (c .emit-offsets .result)
+    (joined (lists s) ++ (rows s ++ joined (codes s)))
 after-offsets c =
     let c5 = c .before .before .before .before .before in
     let c10 = c5 .before .before .before .before .before in
@@ -104,7 +110,7 @@ after-lists : (c : tie.After-emit-lists) →
     let c12 = c6 .before .before .before .before .before .before in
     let c18 = c12 .before .before .before .before .before .before in
     let s = c18 .before .before .before .before in
-    Rest s (c .emit-lists .last .1 .1 .1 .1 .1 .1 .0) (c .emit-lists .result) (joined (codes s))
+    Rest s (c .emit-lists .last .1 .1 .1 .1 .1 .1 .0) (c .emit-lists .result) (rows s ++ joined (codes s))
 after-lists c =
     let c5 = c .before .before .before .before .before in
     let c10 = c5 .before .before .before .before .before in
@@ -114,13 +120,28 @@ after-lists c =
     let s = c22 in
     turn (both (joined (lists s)) _) (after-offsets c5) (c .emit-lists .ensures)
 
+-- the places before the table
+abbrev begun : tie.After-emit-lists → tie.Start
+begun c =
+    let c6 = c .before .before .before .before .before .before in
+    let c12 = c6 .before .before .before .before .before .before in
+    let c18 = c12 .before .before .before .before .before .before in
+    c18 .before .before .before .before
+
+abbrev listed : tie.After-emit-table → tie.After-emit-lists
+listed c = c .before .before .before .before .before .before
+
+after-table : (c : tie.After-emit-table) → let s = begun (listed c) in
+    Rest s (c .emit-table .last .1 .1 .1 .0) (c .emit-table .result) (joined (codes s))
+after-table c = let s = begun (listed c) in turn (both (rows s) _) (after-lists (listed c)) (c .emit-table .ensures)
+
 put-head-requires : tie.Need-put-head-requires
 unfolding twoBytes
 put-head-requires c κs =
     let s = c .before .before .before .before .before in (
       omega (arith, s .pre .ready .hyper),
       omega (arith, declared (s .pre .ready .prepared) .few),
-      room (head-first (s .args .h) (count s) _ (lists s) (codes s)) (starts {l = s .args .out .now} {to = 0}) (space s),
+      room (head-first (s .args .h) (count s) _ (lists s) (rows s) (codes s)) (starts {l = s .args .out .now} {to = 0}) (space s),
     )
 
 emit-records-requires : tie.Need-emit-records-requires
@@ -163,32 +184,39 @@ emit-lists-requires c κs =
       room (both (joined (lists s)) _) (after-offsets o) (space s),
     )
 
+emit-table-requires : tie.Need-emit-table-requires
+emit-table-requires c κs =
+    let l = c .before .before .before .before .before in
+    let s = begun l in
+    let l7 = l .before .before .before .before .before .before .before in
+    let l14 = l7 .before .before .before .before .before .before .before in
+    let known = l14 .before .before .before .before .before .before .before in (
+      table-stands (s .pre .ready .prepared) (λ i. known .shared-slice-known .given i .fits),
+      room (both (rows s) _)
+          (after-lists l) (space s),
+    )
+
 emit-codes-requires : tie.Need-emit-codes-requires
 emit-codes-requires c κs =
-    let c4 = c .before .before .before .before in
-    let c9 = c4 .before .before .before .before .before in
-    let c14 = c9 .before .before .before .before .before in
-    let c19 = c14 .before .before .before .before .before in
-    let c24 = c19 .before .before .before .before .before in
-    let c26 = c24 .before .before in
-    let s = c26 in
-    (declared (s .pre .ready .prepared), room (last (joined (codes s))) (after-lists c4) (space s))
+    let t = c .before .before .before .before in
+    let s = begun (listed t) in
+    (declared (s .pre .ready .prepared), room (last (joined (codes s))) (after-table t) (space s))
+
+same-length : tie.Need-same-length
+same-length c =
+    let t = c .before .before .before .before .before .before .before in
+    let s = begun (listed t) in
+    turn (last (joined (codes s))) (after-table t) (c .before .before .emit-codes .ensures) .size
 
 returns : tie.Need-returns
 returns c =
-    let c5 = c .before .before .before .before .before in
-    let c7 = c5 .before .before in
-    let c12 = c7 .before .before .before .before .before in
-    let c17 = c12 .before .before .before .before .before in
-    let c22 = c17 .before .before .before .before .before in
-    let c27 = c22 .before .before .before .before .before in
-    let c29 = c27 .before .before in
-    let s = c29 in
-    let l = turn (last (joined (codes s))) (after-lists c7) (c .before .before .emit-codes .ensures) in
+    let t = c .before .before .before .before .before .before .before in
+    let s = begun (listed t) in
+    let l = turn (last (joined (codes s))) (after-table t) (c .before .before .emit-codes .ensures) in
     λ p q e. image-written e (s .args .h) (omega (arith, length-by e (s .args .h), ends s, s .pre .room)) (done refl l)
 
 pub emit-spec : {M : Type 1} → statement M
 emit-spec =
     tie.close
-    (tie.spec put-head-requires emit-records-requires emit-offsets-requires emit-lists-requires emit-codes-requires
-    (λ c. search needs) returns)
+    (tie.spec put-head-requires emit-records-requires emit-offsets-requires emit-lists-requires emit-table-requires
+    emit-codes-requires same-length returns)

@@ -5,9 +5,9 @@ use mathlib.Core.Path.{_≡_, refl, sym, ap, subst, _∙_}
 use native.Mathlib.Omega.{arith}
 use borrow.Author.Needs.{needs}
 use Rattle.model.specs.Rules.Search.{allBelow}
+use Rattle.model.proofs.Pairs.Decide.{all-more, all-fails}
 use Rattle.read_rule.specs.Reads.{rateIn}
 use Rattle.latency_rule.specs.Back.{Sound, Small, lateBy, runLatencyBy}
-use Rattle.latency_rule.proofs.Hops.{all-fails, all-more}
 use Rattle.latency_rule.proofs.all_in_time.Statement.{statement}
 use Rattle.latency_rule.proofs.all_in_time.Tie as tie
 
@@ -36,9 +36,9 @@ returns c =
     let c5 = c4 .before in
     let l = c4 .loop in
     let a = c5 .args in
-    sym (all-fails (a .window) (l .i)
+    sym (all-fails (a .window)
     (λ i. not (lateBy (a .bound) (runLatencyBy (a .hops) (a .count) (rateIn (a .last)) (rateIn (a .source)) (a .from + i))))
-    (c3 .loop-test .taken)
+    (l .i) (c3 .loop-test .taken)
     (ap not (ap (lateBy (a .bound)) (sym (c .before .before .run-latency .ensures)) ∙ sym (c .before .is-late .ensures) ∙
     c .if1 .taken)))
 

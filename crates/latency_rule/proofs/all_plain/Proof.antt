@@ -7,9 +7,9 @@ use borrow.Author.Needs.{needs}
 use borrow.Author.Tests.{not-true, not-false}
 use lib.ListN.{getD}
 use Rattle.model.specs.Rules.Search.{allBelow}
+use Rattle.model.proofs.Pairs.Decide.{all-more, all-fails}
 use Rattle.latency_rule.specs.Back.{noHop, allPlain}
 use Rattle.read_rule.specs.Lines.{isPlain}
-use Rattle.latency_rule.proofs.Hops.{all-fails, all-more}
 use Rattle.latency_rule.proofs.all_plain.Statement.{statement}
 use Rattle.latency_rule.proofs.all_plain.Tie as tie
 
@@ -30,7 +30,7 @@ returns c =
     let c5 = c4 .before in
     let l = c4 .loop in
     let a = c5 .args in
-    sym (all-fails (a .count) (l .i) (λ j. isPlain (getD (a .t1) j noHop .kind)) (c3 .loop-test .taken)
+    sym (all-fails (a .count) (λ j. isPlain (getD (a .t1) j noHop .kind)) (l .i) (c3 .loop-test .taken)
     (sym (c .before .is-plain .ensures) ∙ not-true (c .before .is-plain .result) (c .if1 .taken)))
 
 loop-again : tie.Need-loop-again Inv-loop μ-loop

@@ -5,6 +5,7 @@ use mathlib.Core.List.{List}
 use Prim.Native.Nat.{ℕ, _+_, _-_, _≤_, _<_}
 use native.Mathlib.Omega.{arith}
 use borrow.Author.Needs.{needs}
+use lib.Dec.{ltb}
 use lib.IntN.{ℤ}
 use lib.ListN.{length, drop, set, length-set, length-take, length-drop}
 use mir.Syntax.{w32}
@@ -12,6 +13,8 @@ use mir.Val.{toZ, ofZ}
 use Rattle.model.specs.Rules.Machine.{
   stretch,
   countOf,
+  rowCount,
+  rowsIn,
   codeOffset,
   headOk,
   codeOf,
@@ -21,25 +24,27 @@ use Rattle.model.specs.Rules.Machine.{
   countCode,
   countSignals,
 }
+use Rattle.model.specs.Rules.Table.{Row}
 use Rattle.model.specs.Rules.Word.{byteAt}
 use Rattle.model.proofs.Images.Counts.{signals-fit}
 use Rattle.word.proofs.Locals.{kept}
 use Rattle.image_valid.proofs.Parts.{CodePart, codes, formed}
 use Rattle.machine.proofs.Lists.{signals-next, signals-done, counts-next, counts-done}
+use Rattle.machine.proofs.Tables.{Served, served}
 use Rattle.machine.proofs.run_signals.Statement.{statement}
 use Rattle.machine.proofs.run_signals.Tie as tie
 
 abbrev Inv-loop : tie.InvT-loop
-Inv-loop list image n state₀ samples count total₀ i₀ state total i =
+Inv-loop list image table n state₀ samples count total₀ i₀ state total i =
     (runSignals image (drop i list) samples state ≡ runSignals image list samples state₀) × (length state ≡ length state₀) ×
     (i ≤ length list)
     × (total + countSignals image (drop i list) ≡ countSignals image list)
 
 abbrev μ-loop : tie.MeasureT-loop
-μ-loop list image n state₀ samples count total₀ i₀ state total i = length list - i
+μ-loop list image table n state₀ samples count total₀ i₀ state total i = length list - i
 
 abbrev start : tie.At-loop Inv-loop μ-loop → tie.Start Inv-loop μ-loop
-start l = l .before .before .before .before
+start l = l .before .before .before .before .before
 
 good : (s : tie.Start Inv-loop μ-loop) → headOk (s .args .image .now) ≡ true
 good s = formed _ (s .pre .0 .0) .good
@@ -57,7 +62,7 @@ taken o = o .before .before .before .before .loop-test .taken
 record Part (image : List ℕ) (n x from to : ℕ) : Type 0 where
   ordered : from ≤ to
   within : to ≤ length image
-  formed : codeOk (stretch image from to) n x ≡ true
+  formed : codeOk (ltb 0 (rowCount image)) (stretch image from to) n x ≡ true
   part : stretch image from to ≡ codeOf image x
   short : length (stretch image from to) ≤ length image
 
@@ -94,16 +99,21 @@ code-offset-requires-2 : tie.Need-code-offset-requires-2 Inv-loop μ-loop
 code-offset-requires-2 c κs = let l = c .before .before .before .before in let s = start l in
     (good s, l .before .wide .ensures .0 ∙ s .pre .0 .1)
 
+-- the table
+tabled : (s : tie.Start Inv-loop μ-loop) → Served (s .args .image .now) (s .args .table .now)
+tabled s = served _ _ (s .pre .0 .0) (s .pre .0 .2)
+
 run-code-requires : tie.Need-run-code-requires Inv-loop μ-loop
 run-code-requires c κs =
     let o = c .before .before in
     let l = turn o in
     let s = start l in (
-      this o .formed,
+      rw (tabled s .counted) (this o .formed),
       omega (arith, l .loop .inv .1, s .pre .1 .1 .0),
       s .pre .1 .1 .1,
       s .pre .1 .0 (l .loop .i) (taken o),
       omega (arith, this o .short, s .pre .1 .1 .2),
+      tabled s .good,
     )
 
 add-w : tie.Need-add-w Inv-loop μ-loop
@@ -149,10 +159,12 @@ loop-again c =
     let o = r .before .before .before in
     let l = turn o in
     let a = start l .args in
-    let word : toZ w32 (ofZ w32 (r .run-code .result .word)) ≡ runCode (codeOf (a .image .now) (signal o)) (l .loop .state)
-    (a .samples .now) =
+    let word : toZ w32 (ofZ w32 (r .run-code .result .word)) ≡ runCode (rowsIn (a .image .now))
+    (codeOf (a .image .now) (signal o))
+    (l .loop .state) (a .samples .now) =
     kept (r .run-code .result .word) (c .before .struct-told .given .0 .1) ∙ r .run-code .ensures .0 ∙
-    ap (λ (x : List ℕ). runCode x (l .loop .state) (a .samples .now)) (this o .part) in (
+    ap₂ (λ (rows : List Row) (x : List ℕ). runCode rows x (l .loop .state) (a .samples .now)) (tabled (start l) .rows)
+    (this o .part) in (
       ap₂ (λ (k : ℕ) (w : ℤ). runSignals (a .image .now) (drop (l .loop .i + 1) (a .list .now)) (a .samples .now)
           (set (l .loop .state) (k + 1) w))
           (o .before .before .wide2 .ensures .0) word

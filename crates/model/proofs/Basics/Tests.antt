@@ -1,7 +1,7 @@
 -- Tests by how they come out. Assumes nothing.
 use Prim.Native.Nat.{ℕ, suc, _-_, _≤_, _<_}
 use mathlib.Core.Bool.{Bool, true, false, _&&_, not, cond}
-use mathlib.Core.Path.{_≡_, refl}
+use mathlib.Core.Path.{_≡_, refl, sym}
 use native.Mathlib.Omega.{arith}
 use lib.Dec.{T, ltb, ltb→lt, nltb→le}
 use lib.IntN.{ℤ, pos, negsuc, subℕ}
@@ -19,6 +19,14 @@ by false f g = g refl
 pub both : (a b : Bool) → (a && b) ≡ true → (a ≡ true) × (b ≡ true)
 both true b h = (refl, h)
 both false b h = never h
+
+pub first-fails : (a b : Bool) → a ≡ false → (a && b) ≡ false
+first-fails true b h = never (sym h)
+first-fails false b h = refl
+
+pub second-fails : (a b : Bool) → b ≡ false → (a && b) ≡ false
+second-fails true b h = h
+second-fails false b h = refl
 
 -- a − b of two natural numbers, by which is the larger.
 pub sub-by : (a b : ℕ) (P : ℤ → Type 0) → (a < b → P (negsuc (b - suc a))) → (b ≤ a → P (pos (a - b))) → P (subℕ a b)

@@ -1,6 +1,7 @@
 -- What an accepted pair keeps within bounds: the image's bytes and the machine's stack rest on it. Assumes nothing.
 use Prim.Native.Nat.{ℕ, _≤_, _<_}
 use native.Mathlib.Omega.{arith}
+use lib.ListN.{length}
 use mir.Syntax.{w32}
 use mir.Val.{SFits}
 pub use Rattle.model.specs.Says.Grammar.{depth}
@@ -18,9 +19,13 @@ use Rattle.model.specs.Rules.Program.{
   choose,
   count,
   signalAt,
+  bodyLookups,
 }
 use Rattle.model.specs.Rules.Schedule.{Schedule}
 use Rattle.model.specs.Rules.Report.{exprHeight}
+use Rattle.model.specs.Rules.Table.{rowAt}
+use Rattle.model.specs.Says.Rows.{AllUpright, Covers}
+use Rattle.model.specs.Says.Words.{IsWord}
 
 pub depth-some : (e : Expr) → 1 ≤ depth e
 depth-some (constant w) = omega arith
@@ -58,5 +63,11 @@ pub record Bounded (p : Program) (s : Schedule) (h : ℕ) : Type 0 where
   pub initials : (x : ℕ) → x < count p → SFits w32 (signalAt p x .initial)
   pub depths : (x : ℕ) → x < count p → bodyDepth (signalAt p x .body) ≤ 16
   pub constants : (x : ℕ) → x < count p → BodyWords (signalAt p x .body)
-  -- Head and records, offsets, lists, and code no longer than the program: 4 + 64 × 6 + 241 × 2 + 240 × 64 + 8192.
-  pub size : lengthOf p s h ≤ 24422
+  pub few-rows : length (p .rows) ≤ 32
+  pub upright : AllUpright (p .rows)
+  pub results : (n : ℕ) → n < length (p .rows) → IsWord (rowAt (p .rows) n .result)
+  pub covers : 0 < length (p .rows) → Covers (p .rows)
+  pub served : (x : ℕ) → x < count p → 0 < bodyLookups (signalAt p x .body) → 0 < length (p .rows)
+  -- Head and records, offsets, lists, a count byte, and rows and code no longer than the program: 4 + 64 × 6 + 241 × 2 +
+  -- 240 × 64 + 1 + 8192.
+  pub size : lengthOf p s h ≤ 24423

@@ -18,7 +18,7 @@ use Rattle.model.specs.Rules.Word.{fourBytes, wordBytes}
 use Rattle.model.specs.declared.Binary.{Binary}
 use Rattle.model.specs.declared.Binary.the-variants.{Add, Sub, Mul, Less, Same, Min, Max}
 use Rattle.model.specs.declared.Unary.{Unary}
-use Rattle.model.specs.declared.Unary.the-variants.{Negate}
+use Rattle.model.specs.declared.Unary.the-variants.{Negate, Table}
 use Rattle.model.specs.declared.Code.{Code}
 use Rattle.model.specs.declared.Code.the-variants as Code
 use Rattle.model.proofs.Images.Stretches.{Stands, front, behind, inside, byte-here, word-at}
@@ -65,6 +65,7 @@ module _ {code : List ℕ} {at : ℕ} where
   pub unary-at : (operator : Unary) → Stands code at (unaryByte operator ∷ []) → codeAt code at ≡ Code.Unary operator
   unfolding operatorCode
   unary-at Negate h = operator-at 0x38 h refl refl refl refl
+  unary-at Table h = operator-at 0x3B h refl refl refl refl
 
   pub if-at : Stands code at (0x3A ∷ []) → codeAt code at ≡ Code.If
   unfolding operatorCode

@@ -23,6 +23,7 @@ use Rattle.model.specs.Rules.Image.{
   offsets,
   records,
   listsAt,
+  rowsAt,
   codesAt,
   lengthOf,
   head,
@@ -32,6 +33,7 @@ use Rattle.model.specs.Rules.Machine.{stretch, hyperOf, countOf, listOff
 use Rattle.model.specs.Rules.Program.{Program, Signal, count, signalAt, noSignal}
 use Rattle.model.specs.Rules.Schedule.{Schedule}
 use Rattle.model.specs.Rules.Search.{joinFrom}
+use Rattle.model.specs.Rules.Table.{byLow, tableBytes}
 use Rattle.model.specs.Rules.Word.{bitsOf, wordOf, byteAt, twoAt, fourAt, wordAt, twoBytes, fourBytes, wordBytes}
 use Rattle.model.proofs.Basics.Outcomes.{table-length, table-at}
 use Rattle.model.proofs.Images.Bounds.{Bounded}
@@ -300,12 +302,15 @@ module _ (p : Program) (s : Schedule) (h : ℕ) where
   listsPart : List ℕ
   listsPart = joined (runLists p s h)
 
+  tablePart : List ℕ
+  tablePart = tableBytes (byLow (p .rows))
+
   codesPart : List ℕ
   codesPart = joined (codes p)
 
   image-is : imageOf p s h ≡
-      (h ∷ count p ∷ twoBytes (lengthOf p s h)) ++ (recordsPart ++ (offsetsPart ++ (listsPart ++ codesPart)))
-  unfolding imageOf head recordsPart offsetsPart listsPart codesPart
+      (h ∷ count p ∷ twoBytes (lengthOf p s h)) ++ (recordsPart ++ (offsetsPart ++ (listsPart ++ (tablePart ++ codesPart))))
+  unfolding imageOf head recordsPart offsetsPart listsPart tablePart codesPart
   image-is = refl
 
   records-part-length : length recordsPart ≡ 6 * count p
@@ -319,33 +324,42 @@ module _ (p : Program) (s : Schedule) (h : ℕ) where
       omega (arith, offsets-length (listsAt (count p) h) (runLists p s h), lists-length)
 
   head-on : Stands (imageOf p s h) 0
-      ((h ∷ count p ∷ twoBytes (lengthOf p s h)) ++ (recordsPart ++ (offsetsPart ++ (listsPart ++ codesPart))))
+      ((h ∷ count p ∷ twoBytes (lengthOf p s h)) ++ (recordsPart ++ (offsetsPart ++ (listsPart ++ (tablePart ++ codesPart)))))
   head-on = subst (Stands (imageOf p s h) 0) image-is (all-of (imageOf p s h))
 
-  records-on : Stands (imageOf p s h) 4 (recordsPart ++ (offsetsPart ++ (listsPart ++ codesPart)))
+  records-on : Stands (imageOf p s h) 4 (recordsPart ++ (offsetsPart ++ (listsPart ++ (tablePart ++ codesPart))))
   unfolding twoBytes
   records-on = behind (h ∷ count p ∷ twoBytes (lengthOf p s h)) _ head-on
 
-  offsets-on : Stands (imageOf p s h) (4 + 6 * count p) (offsetsPart ++ (listsPart ++ codesPart))
+  offsets-on : Stands (imageOf p s h) (4 + 6 * count p) (offsetsPart ++ (listsPart ++ (tablePart ++ codesPart)))
   offsets-on = rw records-part-length at (behind recordsPart _ records-on)
 
-  lists-on : Stands (imageOf p s h) (listsAt (count p) h) (listsPart ++ codesPart)
+  lists-on : Stands (imageOf p s h) (listsAt (count p) h) (listsPart ++ (tablePart ++ codesPart))
   lists-on = rw offsets-part-length at (behind offsetsPart _ offsets-on)
 
   lists-stand : Stands (imageOf p s h) (listsAt (count p) h) (joined (runLists p s h))
   unfolding listsPart
-  lists-stand = front listsPart codesPart lists-on
+  lists-stand = front listsPart (tablePart ++ codesPart) lists-on
+
+  table-on : Stands (imageOf p s h) (rowsAt p s h) (tablePart ++ codesPart)
+  unfolding rowsAt listsPart
+  table-on = behind listsPart (tablePart ++ codesPart) lists-on
+
+  -- The table stands after the lists, the codes after the table.
+  pub table-stands : Stands (imageOf p s h) (rowsAt p s h) (tableBytes (byLow (p .rows)))
+  unfolding tablePart
+  table-stands = front tablePart codesPart table-on
 
   codes-stand : Stands (imageOf p s h) (codesAt p s h) (joined (codes p))
-  unfolding codesAt listsPart codesPart
-  codes-stand = behind listsPart codesPart lists-on
+  unfolding codesAt tablePart codesPart
+  codes-stand = behind tablePart codesPart table-on
 
   pub lists-byte : (i : ℕ) → i < length (joined (runLists p s h)) →
       byteAt (imageOf p s h) (listsAt (count p) h + i) ≡ byteAt (joined (runLists p s h)) i
   lists-byte i lt = byte-from i lt lists-stand
 
   pub image-length : length (imageOf p s h) ≡ lengthOf p s h
-  unfolding lengthOf codesAt twoBytes listsPart codesPart
+  unfolding lengthOf codesAt rowsAt twoBytes listsPart tablePart codesPart
   image-length =
       ap length image-is ∙
       simp length-append (omega (arith, records-part-length, offsets-part-length))
@@ -379,7 +393,7 @@ module _ (p : Program) (s : Schedule) (h : ℕ) where
 
     -- The offsets that the image gives.
     pub list-offset : (c : ℕ) → c ≤ h → listOffset (imageOf p s h) c ≡ listStart c
-    unfolding listOffset offsetsPart lengthOf codesAt
+    unfolding listOffset offsetsPart lengthOf codesAt rowsAt
     list-offset c le =
         let os = offsets (listsAt (count p) h) (runLists p s h) in
         let n = lists-length in

@@ -19,6 +19,7 @@ use Rattle.model.specs.Rules.Machine.{
   lentOk,
   headOk,
   listsOk,
+  tableOk,
   entriesOk,
   codesOk,
 }
@@ -41,8 +42,14 @@ unfolding wellFormed headOk
 headed image h = go (headOk image) refl h
   where
     go : (b : Bool) → headOk image ≡ b →
-        elim b [ true ↦ elim (listsOk image) [ true ↦ entriesOk image && codesOk image | false ↦ false ] | false ↦ false ] ≡
-        true →
+        elim b [
+          | true ↦
+              elim (listsOk image) [
+                | true ↦ elim (tableOk image) [ true ↦ entriesOk image && codesOk image | false ↦ false ]
+                | false ↦ false
+              ]
+          | false ↦ false
+        ] ≡ true →
         Headed image
     go true e t =
         let a = both (leb 4 (length image) && eqb (statedLength image) (length image)) _
@@ -51,24 +58,30 @@ headed image h = go (headOk image) refl h
         record { four = leb-true _ _ (b .0); stated = eqb-true _ _ (b .1) }
     go false e t = never t
 
+-- L bytes that state L, in what bears them.
+module _ {image tail lent : List ℕ} (head : Headed image) (bears : Bears image tail lent) where
+  pub first-bytes : (i : ℕ) → i < 4 → byteAt lent i ≡ byteAt image i
+  first-bytes i lt =
+      ap (λ (l : List ℕ). byteAt l i) (bears .whole) ∙ List·getD-append image tail 0 i (omega (arith, head .four))
+
+  pub stated-here : statedLength lent ≡ length image
+  unfolding twoAt
+  stated-here = ap₂ (λ (a b : ℕ). a + 256 * b) (first-bytes 2 (omega arith)) (first-bytes 3 (omega arith)) ∙ head .stated
+
+  pub part-here : imagePart lent ≡ image
+  unfolding imagePart
+  part-here = ap₂ (λ (n : ℕ) (l : List ℕ). take n l) stated-here (bears .whole) ∙ take-append-seam image tail
+
 -- A well-formed image in what bears it.
 module _ {image tail lent : List ℕ} (formed : wellFormed image ≡ true) (bears : Bears image tail lent) where
-  first-bytes : (i : ℕ) → i < 4 → byteAt lent i ≡ byteAt image i
-  first-bytes i lt =
-      ap (λ (l : List ℕ). byteAt l i) (bears .whole) ∙
-      List·getD-append image tail 0 i (omega (arith, headed image formed .four))
-
   pub stated-length : statedLength lent ≡ length image
-  unfolding twoAt
-  stated-length =
-      ap₂ (λ (a b : ℕ). a + 256 * b) (first-bytes 2 (omega arith)) (first-bytes 3 (omega arith)) ∙ headed image formed .stated
+  stated-length = stated-here (headed image formed) bears
 
   lent-length : length lent ≡ length image + length tail
   lent-length = ap length (bears .whole) ∙ length-append image tail
 
   pub part-is : imagePart lent ≡ image
-  unfolding imagePart
-  part-is = ap₂ (λ (n : ℕ) (l : List ℕ). take n l) stated-length (bears .whole) ∙ take-append-seam image tail
+  part-is = part-here (headed image formed) bears
 
   pub tail-is : drop (statedLength lent) lent ≡ tail
   tail-is = ap₂ (λ (n : ℕ) (l : List ℕ). drop n l) stated-length (bears .whole) ∙ drop-append-seam image tail
@@ -88,7 +101,7 @@ module _ {image tail lent : List ℕ} (formed : wellFormed image ≡ true) (bear
       (λ (e : length tail ≡ 0). inl (eq-eqb (length lent) (statedLength lent) (omega (arith, lent-length, stated-length))))
       (λ (e : length tail ≡ 4 * countOf image).
       inr (eq-eqb (length lent) (withTail (statedLength lent) (countOf lent))
-      (omega (arith, lent-length, stated-length, first-bytes 1 (omega arith)))))
+      (omega (arith, lent-length, stated-length, first-bytes (headed image formed) bears 1 (omega arith)))))
       (bears .size))))
 
 -- An image bears itself, without a tail.

@@ -1,6 +1,6 @@
 -- The tests decide the statements: line, period rule, shared cycles and order of a read, and the searches. Assumes nothing.
 use Prim.Native.Nat.{ℕ, zero, suc, _+_, _*_, _/_, _%_, _≤_, _<_, min}
-use mathlib.Core.Bool.{Bool, true, false, cond, not, _||_, Bool·beq, false≢true, and-eq-true-iff}
+use mathlib.Core.Bool.{Bool, true, false, cond, not, _&&_, _||_, Bool·beq, true≢false, false≢true, and-eq-true-iff}
 use mathlib.Core.List.{List, [], _∷_}
 use mathlib.Core.Logic.{_↔_, _⊎_, inl, inr}
 use mathlib.Core.Path.{_≡_, refl, sym, ap, _∙_}
@@ -14,6 +14,7 @@ use native.Mathlib.Nat.{
   min-eq-left,
   min-eq-right,
 }
+use native.Mathlib.Numerals.{add-one}
 use native.Mathlib.Omega.{arith}
 use borrow.Author.Tests.{leb-true, ltb-true, ltb-false, eqb-true, eq-eqb, le-leb, lt-ltb, le-ltb}
 use lib.Dec.{leb, ltb, eqb}
@@ -224,7 +225,26 @@ from-first i (suc n) test = go (test i) refl (firstFrom (suc i) n test) (from-fi
     go true e f h = (omega arith, omega arith, e, λ m low high. absurd (omega arith))
     go false e f h = shift e f h
 
+-- There is one first.
+pub first-is : (i n : ℕ) (test : ℕ → Bool) (f : Found) → IsFirst i n test f → f ≡ firstFrom i n test
+first-is i n test f h = same f (firstFrom i n test) h (from-first i n test)
+  where
+    least : (j k : ℕ) → IsFirst i n test (At j) → IsFirst i n test (At k) → Dec (j < k) → Dec (k < j) → j ≡ k
+    least j k a b (yes l) r = absurd (true≢false (sym (a .2) ∙ b .3 j (a .0) l))
+    least j k a b (no g) (yes l) = absurd (true≢false (sym (b .2) ∙ a .3 k (b .0) l))
+    least j k a b (no g) (no u) = omega arith
+
+    same : (f g : Found) → IsFirst i n test f → IsFirst i n test g → f ≡ g
+    same (At j) (At k) a b = ap At (least j k a b (decLt j k) (decLt k j))
+    same (At j) Nowhere a b = absurd (true≢false (sym (a .2) ∙ b j (a .0) (a .1)))
+    same Nowhere (At k) a b = absurd (true≢false (sym (b .2) ∙ a k (b .0) (b .1)))
+    same Nowhere Nowhere a b = refl
+
 module _ (n : ℕ) (test : ℕ → Bool) where
+  pub first-below : (f : Found) → IsFirst 0 n test f → firstBelow n test ≡ f
+  unfolding firstBelow
+  first-below f h = sym (first-is 0 n test f h)
+
   pub is-first : (f : Found) → firstBelow n test ≡ f → IsFirst 0 n test f
   unfolding firstBelow
   is-first f e = rw e at (from-first 0 n test)
@@ -262,6 +282,25 @@ unfolding allBelow
 true-all zero test h = refl
 true-all (suc n) test h =
     and-eq-true-iff (allBelow n test) (test n) .1 (true-all n test (λ i lt. h i (omega arith)), h n (omega arith))
+
+-- As a loop decides it: none yet, one more, one that fails.
+pub all-none : (test : ℕ → Bool) → allBelow 0 test ≡ true
+unfolding allBelow
+all-none test = refl
+
+pub all-one : (n : ℕ) (test : ℕ → Bool) → allBelow (n + 1) test ≡ (allBelow n test && test n)
+unfolding allBelow
+all-one n test = rw (add-one n)
+
+pub all-more : (n : ℕ) (test : ℕ → Bool) → allBelow n test ≡ true → test n ≡ true → allBelow (n + 1) test ≡ true
+all-more n test h k = all-one n test ∙ rw (h, k)
+
+pub all-fails : (n : ℕ) (test : ℕ → Bool) (i : ℕ) → i < n → test i ≡ false → allBelow n test ≡ false
+all-fails n test i lt h = go (allBelow n test) refl
+  where
+    go : (t : Bool) → allBelow n test ≡ t → t ≡ false
+    go true e = absurd (true≢false (sym (all-true n test e i lt) ∙ h))
+    go false e = refl
 
 -- The search for an index settles the one that meets the line.
 pub settle-line : (kind : Kind) (w r : Rate) (n i : ℕ) → settle kind w r n ≡ At i → (i < n) × Line kind w r i

@@ -1,20 +1,32 @@
 -- What the verdict says of a pair that it accepts: the statements over all runs, and the bounds of the image. Assumes nothing.
-use Prim.Native.Nat.{ℕ, _+_, _*_, _≤_, _<_}
+use Prim.Native.Nat.{ℕ, zero, suc, _+_, _*_, _≤_, _<_}
 use mathlib.Core.Bool.{Bool, true, false, cond, and-eq-true-iff}
 use mathlib.Core.List.{List, [], _∷_}
 use mathlib.Core.Path.{_≡_, refl, ap}
 use native.Mathlib.Nat.{zero-add, mul-le-mul}
 use native.Mathlib.Omega.{arith}
-use borrow.Author.Tests.{leb-true, ltb-true}
+use borrow.Author.Tests.{leb-true, ltb-true, lt-ltb}
 use lib.Dec.{leb, ltb}
-use lib.ListN.{length}
+use lib.ListN.{length, getD}
 use Rattle.model.specs.Says.Feasible.{All, PeriodRule, Met, Feasible, Multiple, Ordered}
 use Rattle.model.specs.Rules.Compile.{shortEnough, Pair, pairOf}
-use Rattle.model.specs.Rules.Image.{runList, runLists, joined, codesAt, lengthOf}
+use Rattle.model.specs.Rules.Cover.{meetsEarlier, meetingOf, noGap, covering, hasTable, tabled}
+use Rattle.model.specs.Rules.Image.{runList, runLists, joined, rowsAt, codesAt, lengthOf}
 use Rattle.model.specs.Rules.Latency.{timely}
 use Rattle.model.specs.Rules.Load.{loaded}
 use Rattle.model.specs.Rules.Outcome.{Outcome, accepted, fault, _▷_, Parsed}
-use Rattle.model.specs.Rules.Program.{Program, Read, parseProgram, noSignal, count, signalAt, bodyReads}
+use Rattle.model.specs.Rules.Program.{
+  Program,
+  Read,
+  parseProgram,
+  Signal,
+  noSignal,
+  count,
+  signalAt,
+  bodyReads,
+  bodyLookups,
+  lookups,
+}
 use Rattle.model.specs.Rules.Rates.{periodRule, readFaults, linkFaults, declaredAndRated, hypercycle, isLinked, linked}
 use Rattle.model.specs.Rules.Reads.{isMet, met}
 use Rattle.model.specs.Rules.Schedule.{Put, parseSchedule, Schedule, placed}
@@ -33,7 +45,12 @@ use Rattle.model.proofs.Texts.Legal.{
   signal-depth,
   signal-words,
   signal-reads,
+  row-upright,
+  row-result,
 }
+use Rattle.model.proofs.Rows.Area.{sorted-bytes}
+use Rattle.model.proofs.Rows.Decided.{judged-covers, covered-some}
+use Rattle.model.specs.Says.Rows.{AllUpright, Covers}
 use Rattle.model.proofs.Basics.Outcomes.{
   Holds,
   holds-value,
@@ -56,6 +73,7 @@ pub record Passed (program schedule : List ℕ) (q : Pair) : Type 0 where
   pub rated : declaredAndRated (q .program) ≡ accepted tt
   pub hyper : hypercycle (q .program) ≡ accepted (q .hypercycle)
   pub links : linked (q .program) ≡ accepted tt
+  pub tables : tabled (q .program) ≡ accepted tt
   pub puts : Parsed (List Put)
   pub reads : parseSchedule schedule ≡ accepted puts
   pub places : placed (q .program) puts ≡ accepted (q .schedule)
@@ -77,6 +95,7 @@ pair-passed program schedule q e =
     step R (declaredAndRated p) _ (λ u rated.
     step R (hypercycle p) _ (λ h hyper.
     step R (linked p) _ (λ u links.
+    step R (tabled p) _ (λ u tables.
     step R (parseSchedule schedule) _ (λ puts reads.
     step R (placed p puts) _ (λ s places.
     step R (met p s) _ (λ u meets.
@@ -88,13 +107,14 @@ pair-passed program schedule q e =
       rated = rated;
       hyper = hyper;
       links = links;
+      tables = tables;
       puts = puts;
       reads = reads;
       places = places;
       meets = meets;
       loads = loads;
       times = times;
-    }))))))))))) e
+    })))))))))))) e
 
 -- A read is of a declared signal, and keeps its period rule.
 abbrev pub Rated : Program → ℕ → Read → Type 0
@@ -161,6 +181,13 @@ module _ (p : Program) where
       (joinFrom-none (λ r y. joinFrom 0 (λ i ρ. cond (isMet p s r ρ) [] (fault 14 (ρ .place) ∷ [])) (bodyReads (y .body)))
       0 (p .signals) noSignal (lowest-none _ e) x lt))
 
+-- A signal has no more TABLEs than all of them.
+lookups-at : (xs : List Signal) (x : ℕ) → x < length xs → bodyLookups (getD xs x noSignal .body) ≤ lookups xs
+unfolding lookups
+lookups-at [] x lt = absurd (omega arith)
+lookups-at (y ∷ ys) zero lt = omega arith
+lookups-at (y ∷ ys) (suc x) lt = omega (arith, lookups-at ys x (omega arith))
+
 lists-length : (p : Program) (s : Schedule) (h : ℕ) → length (joined (runLists p s h)) ≤ h * length (s .order)
 unfolding runLists runList
 lists-length p s h =
@@ -187,6 +214,19 @@ steps-accepted text p s parses rated ordered meets =
         (signal-reads (legal text p parses .1) x lt)
         (all-both (Rated p x) (λ ρ. isMet p s x ρ ≡ true) ρs (reads-rated p rated x lt) (reads-met p s meets x lt)))
 
+-- What passed 29 and 30: rows cover, and where a TABLE stands there are rows.
+module _ (p : Program) (e : tabled p ≡ accepted tt) where
+  pub tabled-covering : 0 < length (p .rows) + lookups (p .signals) → covering (p .rows) ≡ accepted tt
+  unfolding tabled
+  tabled-covering some = rw (lt-ltb 0 (length (p .rows) + lookups (p .signals)) some) at e
+
+  tabled-covers : AllUpright (p .rows) → 0 < length (p .rows) → Covers (p .rows)
+  tabled-covers up some = judged-covers (p .rows) up (tabled-covering (omega arith))
+
+  tabled-served : (x : ℕ) → x < count p → 0 < bodyLookups (signalAt p x .body) → 0 < length (p .rows)
+  tabled-served x lt some =
+      covered-some (p .rows) (tabled-covering (omega (arith, lookups-at (p .signals) x lt)))
+
 -- An accepted pair.
 module _ (program schedule : List ℕ) (q : Pair) (e : pairOf program schedule ≡ accepted q) where
   passed : Passed program schedule q
@@ -206,7 +246,7 @@ module _ (program schedule : List ℕ) (q : Pair) (e : pairOf program schedule �
       steps-accepted program (q .program) (q .schedule) (passed .parses) (passed .rated) (ordered .0) (passed .meets)
 
   pub pair-bounded : AreBytes program → Bounded (q .program) (q .schedule) (q .hypercycle)
-  unfolding shortEnough lengthOf codesAt
+  unfolding shortEnough lengthOf codesAt rowsAt
   pair-bounded bytes =
       let h = hypercycle-least (q .program) (q .hypercycle) .0 (passed .hyper) .bound in
       let l = lawful .1 in
@@ -223,5 +263,10 @@ module _ (program schedule : List ℕ) (q : Pair) (e : pairOf program schedule �
         initials = λ x lt. signal-initial l x lt bytes;
         depths = signal-depth l;
         constants = λ x lt. signal-words l x lt bytes;
-        size = omega (arith, l .fewSignals, l .code, lawful .2);
+        few-rows = l .fewRows;
+        upright = λ n lt. row-upright l n lt;
+        results = λ n lt. row-result l n lt;
+        covers = λ some. tabled-covers (q .program) (passed .tables) (λ n lt. row-upright l n lt) some;
+        served = tabled-served (q .program) (passed .tables);
+        size = omega (arith, l .fewSignals, l .code, lawful .2, sorted-bytes (q .program .rows));
       }

@@ -1,16 +1,18 @@
 -- What a command that is read says of the text: that its bytes are there, and the ranges of its operands. Assumes nothing.
-use Prim.Native.Nat.{ℕ, _+_, _≤_, _<_}
+use Prim.Native.Nat.{ℕ, suc, _+_, _-_, _^_, _≤_, _<_}
 use mathlib.Core.Bool.{Bool, true, false, cond}
 use mathlib.Core.List.{List}
 use mathlib.Core.Logic.{inl, inr}
 use mathlib.Core.Path.{_≡_, refl, subst}
 use native.Mathlib.Omega.{arith}
-use borrow.Author.Tests.{eqb-false}
-use lib.Dec.{eqb}
+use borrow.Author.Needs.{sfits-of}
+use borrow.Author.Tests.{ltb-true, ltb-false, eqb-false}
+use lib.Dec.{ltb, eqb}
+use lib.IntN.{pos, negsuc}
 use lib.ListN.{length}
-use mir.Facts.{sfits-toZ}
 use mir.Syntax.{w32}
-use mir.Val.{SFits}
+use mir.Val.{SFits, sel}
+use lib.Signed.{_≤ℤ_}
 use Rattle.model.specs.Rules.Command.{indexOf, declarationAt, operatorAt}
 use Rattle.model.specs.Rules.Width.{inProgram, inExpression, readWidth}
 use Rattle.model.specs.Rules.Word.{byteAt, twoAt, fourAt, wordOf, wordAt, AreBytes}
@@ -28,10 +30,18 @@ use Rattle.model.proofs.Pairs.Decide.{InRange}
 use Rattle.model.proofs.Pairs.Lines.{Indexed}
 use Rattle.model.proofs.Texts.Written.{DeclarationDecodes, declaration-decodes, OperatorDecodes, operator-decodes, decoded}
 
-pub word-fits : (text : List ℕ) (at : ℕ) → AreBytes text → SFits w32 (wordAt text at)
-unfolding wordAt fourAt wordOf
-word-fits text at b =
-    sfits-toZ {w = w32} {n = fourAt text at} (record { fits = omega (arith, b at, b (at + 1), b (at + 2), b (at + 3)) })
+-- Four numbers of a text are read as a word, whatever they are.
+word-of : (n : ℕ) → SFits w32 (wordOf n)
+unfolding wordOf
+word-of n = go (ltb n (2 ^ 31)) refl
+  where
+    go : (b : Bool) → ltb n (2 ^ 31) ≡ b → SFits w32 (sel b (pos n) (negsuc (2 ^ 32 - suc n)))
+    go true e = sfits-of {w = w32} (omega (arith, ltb-true n (2 ^ 31) e))
+    go false e = sfits-of {w = w32} (omega (arith, ltb-false n (2 ^ 31) e))
+
+pub word-fits : (text : List ℕ) (at : ℕ) → SFits w32 (wordAt text at)
+unfolding wordAt
+word-fits text at = word-of (fourAt text at)
 
 pub two-fits : (text : List ℕ) (at : ℕ) → AreBytes text → twoAt text at < 65536
 unfolding twoAt
@@ -63,6 +73,7 @@ byteOf (Declaration.Latency mode bound) = 0x12
 byteOf (Declaration.Link signal) = 0x13
 byteOf (Declaration.Cap n) = 0x14
 byteOf (Declaration.Tag label) = 0x15
+byteOf (Declaration.Row low high result) = 0x16
 
 -- A declaration that is read lies within the text, and its operands are in range.
 module _ (text : List ℕ) (at : ℕ) where
@@ -79,6 +90,9 @@ module _ (text : List ℕ) (at : ℕ) where
   DeclarationSound (Declaration.Link signal) = at + inProgram 0x13 ≤ length text
   DeclarationSound (Declaration.Cap n) = at + inProgram 0x14 ≤ length text
   DeclarationSound (Declaration.Tag label) = (label ≡ twoAt text (at + 1)) × (at + inProgram 0x15 ≤ length text)
+  DeclarationSound (Declaration.Row low high result) =
+      (low ≡ wordAt text (at + 1)) × (high ≡ wordAt text (at + 5)) × (result ≡ wordAt text (at + 9)) × (low ≤ℤ high) ×
+      (at + inProgram 0x16 ≤ length text)
 
   written-sound : {c : Declaration} → DeclarationWritten text at c → DeclarationSound c
   written-sound (DeclarationWritten.end h b) = h
@@ -88,6 +102,7 @@ module _ (text : List ℕ) (at : ℕ) where
   written-sound (DeclarationWritten.link h b) = h
   written-sound (DeclarationWritten.cap h b) = h
   written-sound (DeclarationWritten.tag h b) = (refl, h)
+  written-sound (DeclarationWritten.row h b r) = (refl, refl, refl, r, h)
 
   decodes-sound : {c : Declaration} → DeclarationDecodes text at c → DeclarationSound c
   decodes-sound (DeclarationDecodes.early le) = tt
@@ -113,6 +128,7 @@ module _ (text : List ℕ) (at : ℕ) where
   written-byte (DeclarationWritten.link h b) = b
   written-byte (DeclarationWritten.cap h b) = b
   written-byte (DeclarationWritten.tag h b) = b
+  written-byte (DeclarationWritten.row h b r) = b
 
   pub written-inside : {c : Declaration} → DeclarationWritten text at c → at < length text
   written-inside (DeclarationWritten.end h b) = omega arith
@@ -122,6 +138,7 @@ module _ (text : List ℕ) (at : ℕ) where
   written-inside (DeclarationWritten.link h b) = omega arith
   written-inside (DeclarationWritten.cap h b) = omega arith
   written-inside (DeclarationWritten.tag h b) = omega arith
+  written-inside (DeclarationWritten.row h b r) = omega arith
 
   -- The same of an operator.
   abbrev pub OperatorSound : Operator → Type 0

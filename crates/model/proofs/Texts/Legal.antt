@@ -7,6 +7,8 @@ use lib.ListN.{length, getD, length-append}
 use mir.Syntax.{w32}
 use mir.Val.{SFits}
 use Rattle.model.specs.Says.Feasible.{All}
+use Rattle.model.specs.Says.Rows.{Upright}
+use Rattle.model.specs.Says.Words.{IsWord}
 use Rattle.model.specs.Rules.Command.{declarationAt, operatorAt}
 use Rattle.model.specs.Rules.Image.{exprCode, signalCode, codes, joined}
 use Rattle.model.specs.Rules.Outcome.{accepted}
@@ -25,6 +27,7 @@ use Rattle.model.specs.Rules.Program.{
   withSignal,
   withChain,
   withCap,
+  withRow,
   noSignal,
   count,
   signalAt,
@@ -33,6 +36,7 @@ use Rattle.model.specs.Rules.Program.{
   bodyReads,
 }
 use Rattle.model.specs.Rules.Search.{joinFrom}
+use Rattle.model.specs.Rules.Table.{Row, noRow, rowAt}
 use Rattle.model.specs.Rules.Width.{inProgram, readWidth}
 use Rattle.model.specs.Rules.Word.{wordBytes, fourBytes, AreBytes}
 use Rattle.model.specs.declared.Declaration.the-variants as Declaration
@@ -68,13 +72,19 @@ pub record SpellsChain (text : List ℕ) (c : Chain) : Type 0 where
 abbrev pub SpellsRead : List ℕ → Read → Type 0
 SpellsRead text ρ = operatorAt text (ρ .place) ≡ Operator.Read (ρ .kind) (ρ .operands)
 
--- What the text up to `at` has declared. Its code takes no more bytes than the text.
+-- A row's command.
+abbrev pub SpellsRow : List ℕ → Row → Type 0
+SpellsRow text r = declarationAt text (r .place) ≡ Declaration.Row (r .low) (r .high) (r .result)
+
+-- What the text up to `at` has declared. Its code and its rows take no more bytes than the text.
 pub record Legal (text : List ℕ) (at : ℕ) (p : Program) : Type 0 where
   pub signals : All (SpellsSignal text) (p .signals)
   pub chains : All (SpellsChain text) (p .chains)
   pub fewSignals : count p ≤ 64
   pub fewChains : length (p .chains) ≤ 16
-  pub code : length (joined (codes p)) ≤ at
+  pub rows : All (SpellsRow text) (p .rows)
+  pub fewRows : length (p .rows) ≤ 32
+  pub code : length (joined (codes p)) + 12 * length (p .rows) ≤ at
 
 -- Code is no longer than what spells it.
 pub read-width : (kind : Kind) → 2 ≤ readWidth kind
@@ -107,7 +117,7 @@ module _ {text : List ℕ} where
 
   -- Constants are words.
   expr-words : AreBytes text → {at n : ℕ} {e : Expr} → Spells leastFactor text at e n → Words e
-  expr-words b (Spells.constants {at = at} e) = rw (operator-sound text at _ (operator-decoded e) .0) (word-fits text (at + 1) b)
+  expr-words b (Spells.constants {at = at} e) = rw (operator-sound text at _ (operator-decoded e) .0) (word-fits text (at + 1))
   expr-words b (Spells.reads e t) = tt
   expr-words b (Spells.two e u v) = (expr-words b u, expr-words b v)
   expr-words b (Spells.one e u) = expr-words b u
@@ -129,6 +139,8 @@ module _ {text : List ℕ} where
         chains = l .chains;
         fewSignals = rw length-append (omega arith);
         fewChains = l .fewChains;
+        rows = l .rows;
+        fewRows = l .fewRows;
         code = omega (arith, code-more p x, l .code);
       }
 
@@ -141,6 +153,8 @@ module _ {text : List ℕ} where
         chains = all-append (SpellsChain text) (p .chains) (c ∷ []) (l .chains) (e, tt);
         fewSignals = l .fewSignals;
         fewChains = rw length-append (omega arith);
+        rows = l .rows;
+        fewRows = l .fewRows;
         code = omega (arith, l .code);
       }
 
@@ -152,7 +166,23 @@ module _ {text : List ℕ} where
         chains = l .chains;
         fewSignals = l .fewSignals;
         fewChains = l .fewChains;
+        rows = l .rows;
+        fewRows = l .fewRows;
         code = omega (arith, l .code);
+      }
+
+  more-rows : {at : ℕ} {p : Program} (r : Row) → Legal text at p → length (p .rows) < 32 → SpellsRow text r →
+      Legal text (at + 13) (withRow p r)
+  unfolding codes
+  more-rows {p = p} r l room e =
+      record {
+        signals = l .signals;
+        chains = l .chains;
+        fewSignals = l .fewSignals;
+        fewChains = l .fewChains;
+        rows = all-append (SpellsRow text) (p .rows) (r ∷ []) (l .rows) (e, tt);
+        fewRows = rw length-append (omega arith);
+        code = rw length-append (omega (arith, l .code));
       }
 
   links-after : {at n : ℕ} {ls : List Link} → SpellsLinks text at ls n → at ≤ n
@@ -174,8 +204,11 @@ module _ {text : List ℕ} where
         chains = l .chains;
         fewSignals = l .fewSignals;
         fewChains = l .fewChains;
+        rows = l .rows;
+        fewRows = l .fewRows;
         code = omega (arith, l .code);
       }
+  one-legal (DeclaresOne.rows room e) l = more-rows _ l room (decoded e)
 
   declares-legal : {at label end : ℕ} {p q : Program} → Declares leastFactor text at label p end q → Legal text at p →
       Legal text end q × (length text ≡ end + 1)
@@ -190,6 +223,8 @@ module _ {text : List ℕ} where
         chains = tt;
         fewSignals = omega arith;
         fewChains = omega arith;
+        rows = tt;
+        fewRows = omega arith;
         code = omega arith;
       }
 
@@ -215,6 +250,7 @@ module _ {text : List ℕ} (bytes : AreBytes text) where
   one-labelled (DeclaresOne.caps room e) lt l = (omega arith, l)
   one-labelled (DeclaresOne.tags {at = at} e more s) lt l =
       (rw (declaration-sound text at _ (decoded e) .0) (two-fits text (at + 1) bytes), l)
+  one-labelled (DeclaresOne.rows room e) lt l = (omega arith, l)
 
   declares-labelled : {at label end : ℕ} {p q : Program} → Declares leastFactor text at label p end q → label < 65536 →
       All Labelled (p .signals) → All Labelled (q .signals)
@@ -253,9 +289,9 @@ module _ (text : List ℕ) where
   body-period x (equation weight e) h = let g = declaration-sound text (x .place) _ (h .0) in (g .0, g .1)
 
   body-initial : AreBytes text → (x : Signal) (b : Body) → SpellsBody text x b → SFits w32 (x .initial)
-  body-initial bytes x input h = rw (declaration-sound text (x .place) _ h .2) (word-fits text (x .place + 2) bytes)
+  body-initial bytes x input h = rw (declaration-sound text (x .place) _ h .2) (word-fits text (x .place + 2))
   body-initial bytes x (equation weight e) h =
-      rw (declaration-sound text (x .place) _ (h .0) .2) (word-fits text (x .place + 2) bytes)
+      rw (declaration-sound text (x .place) _ (h .0) .2) (word-fits text (x .place + 2))
 
   body-depth : (x : Signal) (b : Body) → SpellsBody text x b → bodyDepth b ≤ 16
   body-depth x input h = omega arith
@@ -288,3 +324,24 @@ module _ {text : List ℕ} {end : ℕ} {p : Program} (l : Legal text end p) (x :
 
   pub signal-reads : All (SpellsRead text) (bodyReads (signalAt p x .body))
   signal-reads = body-reads text (signalAt p x) (signalAt p x .body) signal-spelled
+
+-- A legal program's rows are rows of words, no low above its high.
+module _ {text : List ℕ} {end : ℕ} {p : Program} (l : Legal text end p) (n : ℕ) (lt : n < length (p .rows))
+  where
+    pub row-spelled : SpellsRow text (rowAt (p .rows) n)
+    row-spelled = all-at (SpellsRow text) (p .rows) noRow (l .rows) n lt
+
+    pub row-upright : Upright (rowAt (p .rows) n)
+    row-upright =
+        let at = rowAt (p .rows) n .place in
+        let h = declaration-sound text at _ row-spelled in
+        record {
+          low-word = rw (h .0) (word-fits text (at + 1));
+          high-word = rw (h .1) (word-fits text (at + 5));
+          upright = h .3;
+        }
+
+    pub row-result : IsWord (rowAt (p .rows) n .result)
+    row-result =
+        let at = rowAt (p .rows) n .place in
+        rw (declaration-sound text at _ row-spelled .2) (word-fits text (at + 9))

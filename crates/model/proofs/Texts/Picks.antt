@@ -22,7 +22,7 @@ use Rattle.model.specs.declared.Kind.the-variants.{Now, Last, When, Last
 use Rattle.model.specs.declared.Operator.{Operator}
 use Rattle.model.specs.declared.Operator.the-variants as Operator
 use Rattle.model.specs.declared.Unary.{Unary}
-use Rattle.model.specs.declared.Unary.the-variants.{Negate}
+use Rattle.model.specs.declared.Unary.the-variants.{Negate, Table}
 use Rattle.model.specs.declared.Width.{Width}
 use Rattle.model.specs.declared.Width.the-variants as Width
 
@@ -89,6 +89,7 @@ operator-inside text at (OperatorByte.constant e) = byte-inside text at (omega a
 operator-inside text at (OperatorByte.read kind e) = byte-inside text at (omega (arith, read-some kind))
 operator-inside text at (OperatorByte.binary operator e) = byte-inside text at (omega (arith, binary-some operator))
 operator-inside text at (OperatorByte.unary Negate e) = byte-inside text at (omega arith)
+operator-inside text at (OperatorByte.unary Table e) = byte-inside text at (omega arith)
 operator-inside text at (OperatorByte.choose e) = byte-inside text at (omega arith)
 
 pub no-read : {b : ℕ} → ¬ (b ≡ 0x21) → ¬ (b ≡ 0x22) → ¬ (b ≡ 0x23) → ¬ (b ≡ 0x24) → ¬ (b ≡ 0x25) → (kind : Kind) →
@@ -109,14 +110,16 @@ no-binary a s m l q i x Same e = q e
 no-binary a s m l q i x Min e = i e
 no-binary a s m l q i x Max e = x e
 
--- A byte that is none of the fifteen is no operator's.
+-- A byte that is none of the sixteen is no operator's.
 pub no-operator : {b : ℕ} → ¬ (b ≡ 0x20) → ((kind : Kind) → ¬ (b ≡ readByte kind)) →
-    ((operator : Binary) → ¬ (b ≡ binaryByte operator)) → ¬ (b ≡ 0x38) → ¬ (b ≡ 0x3A) → ¬ OperatorByte b
-no-operator c r two one i (OperatorByte.constant e) = c e
-no-operator c r two one i (OperatorByte.read kind e) = r kind e
-no-operator c r two one i (OperatorByte.binary operator e) = two operator e
-no-operator c r two one i (OperatorByte.unary Negate e) = one e
-no-operator c r two one i (OperatorByte.choose e) = i e
+    ((operator : Binary) → ¬ (b ≡ binaryByte operator)) → ¬ (b ≡ 0x38) → ¬ (b ≡ 0x3A) → ¬ (b ≡ 0x3B) →
+    ¬ OperatorByte b
+no-operator c r two one i t (OperatorByte.constant e) = c e
+no-operator c r two one i t (OperatorByte.read kind e) = r kind e
+no-operator c r two one i t (OperatorByte.binary operator e) = two operator e
+no-operator c r two one i t (OperatorByte.unary Negate e) = one e
+no-operator c r two one i t (OperatorByte.unary Table e) = t e
+no-operator c r two one i t (OperatorByte.choose e) = i e
 
 -- What an operator of a byte is.
 module _ {b : ℕ} (text : List ℕ) (at : ℕ) where
@@ -151,6 +154,7 @@ module _ {b : ℕ} (text : List ℕ) (at : ℕ) where
   pub unary-picked : (operator : Unary) → b ≡ unaryByte operator → operatorOf b text at ≡ Operator.Unary operator
   unfolding operatorOf
   unary-picked Negate e = rw e
+  unary-picked Table e = rw e
 
 -- The test of an operator's byte decides it.
 plain-byte : (b : ℕ) → within 0x21 0x22 b ≡ true → OperatorByte b
@@ -209,7 +213,8 @@ operator-byte b = (forth, back)
         chosen-all (Listed b) (within 0x23 0x25 b) _ _ (λ u t. sampled-byte b u) (λ s.
         chosen-all (Listed b) (within 0x30 0x36 b) _ _ (λ u t. binary-byte b u) (λ m.
         picked (Listed b) b 0x38 _ _ (λ e t. OperatorByte.unary Negate e) (λ n.
-        picked (Listed b) b 0x3A _ _ (λ e t. OperatorByte.choose e) (λ i t. absurd (false≢true t)))))))
+        picked (Listed b) b 0x3A _ _ (λ e t. OperatorByte.choose e) (λ i.
+        picked (Listed b) b 0x3B _ _ (λ e t. OperatorByte.unary Table e) (λ o t. absurd (false≢true t))))))))
 
     read-known : (kind : Kind) → b ≡ readByte kind → isOperator b ≡ true
     read-known Now e = rw e
@@ -232,4 +237,5 @@ operator-byte b = (forth, back)
     back (OperatorByte.read kind e) = read-known kind e
     back (OperatorByte.binary operator e) = binary-known operator e
     back (OperatorByte.unary Negate e) = rw e
+    back (OperatorByte.unary Table e) = rw e
     back (OperatorByte.choose e) = rw e

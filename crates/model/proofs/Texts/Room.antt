@@ -72,7 +72,9 @@ module _ (p : Program) where
       (λ t e. HasRoom.signal (signal-is b .0 t) (ltb-true _ _ (provided-true _ 4 at e))) (λ s.
       picked (GivesRoom b) b 0x12 _ _ (λ h e. HasRoom.latency h (ltb-true _ _ (provided-true _ 4 at e))) (λ l.
       picked (GivesRoom b) b 0x14 _ _ (λ h e. HasRoom.cap h (no-limit (p .cap) (provided-true _ 5 at e))) (λ c.
-      picked (GivesRoom b) b 0x15 _ _ (λ h e. HasRoom.tag h) (λ t e. absurd (accepted≢refused _ tt _ e refl))))))
+      picked (GivesRoom b) b 0x15 _ _ (λ h e. HasRoom.tag h) (λ t.
+      picked (GivesRoom b) b 0x16 _ _ (λ h e. HasRoom.row h (ltb-true _ _ (provided-true _ 4 at e)))
+      (λ r e. absurd (accepted≢refused _ tt _ e refl)))))))
 
   has-room : (at b : ℕ) → HasRoom p b → roomFor at p b ≡ accepted tt
   unfolding roomFor
@@ -82,6 +84,7 @@ module _ (p : Program) where
   has-room at b (HasRoom.latency e h) = rw e (true-provided _ 4 at (lt-ltb _ _ h))
   has-room at b (HasRoom.cap e h) = rw (e, h) (true-provided true 5 at refl)
   has-room at b (HasRoom.tag e) = rw e
+  has-room at b (HasRoom.row e h) = rw e (true-provided _ 4 at (lt-ltb _ _ h))
 
   -- It is judged fit exactly if its byte is there and has room.
   pub declaration-fit : (text : List ℕ) (at : ℕ) → at < length text → HasRoom p (byteAt text at) →
@@ -108,6 +111,8 @@ module _ (p : Program) where
   signal-room (HasRoom.cap e h) (inr i) = absurd (omega arith)
   signal-room (HasRoom.tag e) (inl i) = absurd (omega arith)
   signal-room (HasRoom.tag e) (inr i) = absurd (omega arith)
+  signal-room (HasRoom.row e h) (inl i) = absurd (omega arith)
+  signal-room (HasRoom.row e h) (inr i) = absurd (omega arith)
 
   pub chain-room : {b : ℕ} → HasRoom p b → b ≡ 0x12 → length (p .chains) < 16
   chain-room (HasRoom.latency e h) i = h
@@ -116,6 +121,7 @@ module _ (p : Program) where
   chain-room (HasRoom.signal (inr e) h) i = absurd (omega arith)
   chain-room (HasRoom.cap e h) i = absurd (omega arith)
   chain-room (HasRoom.tag e) i = absurd (omega arith)
+  chain-room (HasRoom.row e h) i = absurd (omega arith)
 
   pub cap-room : {b : ℕ} → HasRoom p b → b ≡ 0x14 → p .cap ≡ unlimited
   cap-room (HasRoom.cap e h) i = h
@@ -124,6 +130,16 @@ module _ (p : Program) where
   cap-room (HasRoom.signal (inr e) h) i = absurd (omega arith)
   cap-room (HasRoom.latency e h) i = absurd (omega arith)
   cap-room (HasRoom.tag e) i = absurd (omega arith)
+  cap-room (HasRoom.row e h) i = absurd (omega arith)
+
+  pub row-room : {b : ℕ} → HasRoom p b → b ≡ 0x16 → length (p .rows) < 32
+  row-room (HasRoom.row e h) i = h
+  row-room (HasRoom.end e) i = absurd (omega arith)
+  row-room (HasRoom.signal (inl e) h) i = absurd (omega arith)
+  row-room (HasRoom.signal (inr e) h) i = absurd (omega arith)
+  row-room (HasRoom.latency e h) i = absurd (omega arith)
+  row-room (HasRoom.cap e h) i = absurd (omega arith)
+  row-room (HasRoom.tag e) i = absurd (omega arith)
 
   pub no-link-room : {b : ℕ} → HasRoom p b → b ≡ 0x13 → ⊥
   no-link-room (HasRoom.end e) i = omega arith
@@ -132,3 +148,4 @@ module _ (p : Program) where
   no-link-room (HasRoom.latency e h) i = omega arith
   no-link-room (HasRoom.cap e h) i = omega arith
   no-link-room (HasRoom.tag e) i = omega arith
+  no-link-room (HasRoom.row e h) i = omega arith

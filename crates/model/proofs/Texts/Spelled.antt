@@ -37,7 +37,7 @@ use Rattle.model.specs.declared.Operator.the-variants as Operator
 use Rattle.model.proofs.Images.Bounds.{depth}
 use Rattle.model.proofs.Texts.Commands.{written-byte}
 use Rattle.model.proofs.Basics.Outcomes.{Holds, holds-value, value-holds, holds-then, holds-map, holds-provided}
-use Rattle.model.proofs.Texts.Room.{signal-is, fit-declaration, signal-room, chain-room, cap-room}
+use Rattle.model.proofs.Texts.Room.{signal-is, fit-declaration, signal-room, chain-room, cap-room, row-room}
 use Rattle.model.proofs.Texts.Written.{as-written, operator-as-written}
 
 module _ (least : ℕ) (text : List ℕ) where
@@ -178,6 +178,9 @@ module _ (least : ℕ) (text : List ℕ) where
           holds-provided (Ended at label p) (ltb next (length text)) _ _ _ (λ t.
           holds-provided (Ended at label p) (isSignal (byteAt text next)) _ _ _ (λ u.
           onward (DeclaresOne.tags (as-written _ tt e) (ltb-true next (length text) t) (signal-is (byteAt text next) .0 u))))
+      declares (Declaration.Row low high result) e room =
+          let w = as-written _ tt e in
+          onward (DeclaresOne.rows (row-room p room (written-byte text at w)) w)
 
   declares-commands : (left at label : ℕ) (p : Program) → Holds (Ended at label p) (parseCommands least left text at label p)
   unfolding parseCommands

@@ -21,7 +21,9 @@ use borrow.Author.Tests.{
   ne-eqb,
 }
 use lib.Dec.{leb, ltb, eqb}
+use lib.IntN.{ℤ}
 use lib.ListN.{length}
+use lib.Signed.{leZ}
 use Rattle.model.specs.Rules.Command.{
   whole,
   firstJudged,
@@ -40,7 +42,7 @@ use Rattle.model.specs.Rules.Image.{binaryByte}
 use Rattle.model.specs.Rules.Width.{inProgram, inExpression, inSchedule, inCode, readWidth}
 use Rattle.model.specs.Rules.Machine.{operatorCode, wholeCode, codeAt}
 use Rattle.model.specs.Rules.Schedule.{scheduleCommandAt}
-use Rattle.model.specs.Rules.Word.{byteAt, twoAt}
+use Rattle.model.specs.Rules.Word.{byteAt, twoAt, wordAt}
 use Rattle.model.specs.Says.Written.{
   InPeriods,
   InIndices,
@@ -74,7 +76,8 @@ use Rattle.model.specs.declared.Operator.{Operator}
 use Rattle.model.specs.declared.Operator.the-variants as Operator
 use Rattle.model.specs.declared.ScheduleCommand.{ScheduleCommand}
 use Rattle.model.specs.declared.ScheduleCommand.the-variants as ScheduleCommand
-use Rattle.model.specs.declared.Unary.the-variants.{Negate}
+use Rattle.model.specs.declared.Unary.the-variants.{Negate, Table}
+use Rattle.model.proofs.Basics.Order.{le-decided, not-le, lt-not-le}
 use Rattle.model.proofs.Basics.Outcomes.{not-true-false}
 use Rattle.model.proofs.Texts.Picks.{
   chosen-all,
@@ -155,15 +158,16 @@ data PutDecodes (text : List ℕ) (at : ℕ) : ScheduleCommand → Type 0 where
   unknown : at < length text → NoPutByte (byteAt text at) → PutDecodes text at ScheduleCommand.Unknown
   written : {c : ScheduleCommand} → PutWritten text at c → PutDecodes text at c
 
--- A byte that is none of the six, and no LINK's, is no declaration's.
+-- A byte that is none of the seven, and no LINK's, is no declaration's.
 no-declaration : {b : ℕ} → ¬ (b ≡ 0x00) → ¬ (b ≡ 0x10) → ¬ (b ≡ 0x11) → ¬ (b ≡ 0x12) → ¬ (b ≡ 0x14) → ¬ (b ≡ 0x15) →
-    ¬ DeclarationByte b
-no-declaration e i q l c t (DeclarationByte.end h) = e h
-no-declaration e i q l c t (DeclarationByte.input h) = i h
-no-declaration e i q l c t (DeclarationByte.equation h) = q h
-no-declaration e i q l c t (DeclarationByte.latency h) = l h
-no-declaration e i q l c t (DeclarationByte.cap h) = c h
-no-declaration e i q l c t (DeclarationByte.tag h) = t h
+    ¬ (b ≡ 0x16) → ¬ DeclarationByte b
+no-declaration e i q l c t r (DeclarationByte.end h) = e h
+no-declaration e i q l c t r (DeclarationByte.input h) = i h
+no-declaration e i q l c t r (DeclarationByte.equation h) = q h
+no-declaration e i q l c t r (DeclarationByte.latency h) = l h
+no-declaration e i q l c t r (DeclarationByte.cap h) = c h
+no-declaration e i q l c t r (DeclarationByte.tag h) = t h
+no-declaration e i q l c t r (DeclarationByte.row h) = r h
 
 -- Declarations.
 module _ (text : List ℕ) (at : ℕ) where
@@ -173,17 +177,24 @@ module _ (text : List ℕ) (at : ℕ) where
   abbrev byte : ℕ
   byte = byteAt text at
 
+  -- The low of a ROW is not above its high.
+  abbrev low : ℤ
+  low = wordAt text (at + 1)
+
+  abbrev high : ℤ
+  high = wordAt text (at + 5)
+
   declaration-whole : (n : ℕ) (c : Declaration) → (length text < at + n → DeclarationCut text at) →
       (at + n ≤ length text → D c) → D (whole Declaration.EndsEarly text at n c)
   declaration-whole n c f h = whole-all D Declaration.EndsEarly text at n c (λ g. DeclarationDecodes.cut (f g)) h
 
-  -- IN, EQ and LAT: the byte after the command is judged before the rest is looked for.
-  judged-decodes : {Q : Type 0} (n : ℕ) (t : Bool) (c : Declaration) → 2 ≤ n → (t ≡ true) ↔ Q →
-      (length text < at + n → (at + 2 ≤ length text → Q) → DeclarationCut text at) →
-      (at + 2 ≤ length text → ¬ Q → DeclarationOutside text at) →
-      (at + n ≤ length text → Q → DeclarationWritten text at c) → D (firstJudged text at n t c)
-  judged-decodes n t c two i short out all =
-      declaration-whole 2 _ (λ g. short (omega arith) (λ h. absurd (omega arith))) (λ h.
+  -- IN, EQ, LAT and ROW: the first operands are judged before the rest is looked for.
+  judged-decodes : {Q : Type 0} (m n : ℕ) (t : Bool) (c : Declaration) → m ≤ n → (t ≡ true) ↔ Q →
+      (length text < at + n → (at + m ≤ length text → Q) → DeclarationCut text at) →
+      (at + m ≤ length text → ¬ Q → DeclarationOutside text at) →
+      (at + n ≤ length text → Q → DeclarationWritten text at c) → D (firstJudged text at m n t c)
+  judged-decodes m n t c two i short out all =
+      declaration-whole m _ (λ g. short (omega arith) (λ h. absurd (omega arith))) (λ h.
       chosen-all D t _ _ (λ r. declaration-whole n c (λ g. short g (λ _. i .0 r))
       (λ g. DeclarationDecodes.written (all g (i .0 r))))
       (λ f. DeclarationDecodes.outside (out h (fails i f))))
@@ -194,14 +205,14 @@ module _ (text : List ℕ) (at : ℕ) where
       let mode = byteAt text (at + 1) in
       picked D byte 0x00 _ _ (λ b. DeclarationDecodes.written (DeclarationWritten.end (omega arith) b)) (λ e.
       picked D byte 0x10 _ _ (λ b.
-      judged-decodes (inProgram 0x10) _ _ (omega arith) (in-periods (byteAt text (at + 1)))
+      judged-decodes 2 (inProgram 0x10) _ _ (omega arith) (in-periods (byteAt text (at + 1)))
       (λ g h. DeclarationCut.input b g h) (λ g u. DeclarationOutside.input b g u) (λ g r. DeclarationWritten.input g b r)) (λ i.
       picked D byte 0x11 _ _ (λ b.
-      judged-decodes (inProgram 0x11) _ _ (omega arith) (in-periods (byteAt text (at + 1)))
+      judged-decodes 2 (inProgram 0x11) _ _ (omega arith) (in-periods (byteAt text (at + 1)))
       (λ g h. DeclarationCut.equation b g h) (λ g u. DeclarationOutside.equation b g u)
       (λ g r. DeclarationWritten.equation g b r)) (λ q.
       picked D byte 0x12 _ _ (λ b.
-      judged-decodes (inProgram 0x12) (leb mode 1) (Declaration.Latency (modeOf mode) (twoAt text (at + 2))) (omega arith)
+      judged-decodes 2 (inProgram 0x12) (leb mode 1) (Declaration.Latency (modeOf mode) (twoAt text (at + 2))) (omega arith)
       (leb-true mode 1, le-leb mode 1)
       (λ g h. DeclarationCut.latency b g h) (λ g u. DeclarationOutside.latency b g (omega (arith, u)))
       (λ g r. DeclarationWritten.latency g b r)) (λ l.
@@ -214,7 +225,13 @@ module _ (text : List ℕ) (at : ℕ) where
       (λ c.
       picked D byte 0x15 _ _ (λ b.
       declaration-whole (inProgram 0x15) _ (DeclarationCut.tag b) (λ h. DeclarationDecodes.written (DeclarationWritten.tag h b)))
-      (λ t. DeclarationDecodes.unknown lt (no-declaration e i q l c t) k)))))))
+      (λ t.
+      picked D byte 0x16 _ _ (λ b.
+      judged-decodes 9 (inProgram 0x16) (leZ low high) (Declaration.Row low high (wordAt text (at + 9)))
+      (omega arith) (le-decided low high)
+      (λ g h. DeclarationCut.row b g h) (λ g u. DeclarationOutside.row b g (not-le low high u))
+      (λ g r. DeclarationWritten.row g b r))
+      (λ r. DeclarationDecodes.unknown lt (no-declaration e i q l c t r) k))))))))
 
   pub declaration-decodes : D (declarationAt text at)
   unfolding declarationAt
@@ -226,32 +243,32 @@ module _ (text : List ℕ) (at : ℕ) where
   unfolding declarationAt
   declaration-here lt e = rw (lt-ltb at (length text) lt, e)
 
-  judged-written : {Q : Type 0} (n : ℕ) (t : Bool) (c : Declaration) → 2 ≤ n → (t ≡ true) ↔ Q → at + n ≤ length text → Q →
-      firstJudged text at n t c ≡ c
-  judged-written n t c two i h q =
-      there Declaration.EndsEarly text at 2 _ (omega arith) ∙ rw (i .1 q) (there Declaration.EndsEarly text at n c h)
+  judged-written : {Q : Type 0} (m n : ℕ) (t : Bool) (c : Declaration) → m ≤ n → (t ≡ true) ↔ Q → at + n ≤ length text → Q →
+      firstJudged text at m n t c ≡ c
+  judged-written m n t c two i h q =
+      there Declaration.EndsEarly text at m _ (omega arith) ∙ rw (i .1 q) (there Declaration.EndsEarly text at n c h)
 
-  judged-cut : {Q : Type 0} (n : ℕ) (t : Bool) (c : Declaration) → (t ≡ true) ↔ Q → length text < at + n →
-      (at + 2 ≤ length text → Q) → firstJudged text at n t c ≡ Declaration.EndsEarly
-  judged-cut n t c i g h =
-      whole-all (λ d. d ≡ Declaration.EndsEarly) Declaration.EndsEarly text at 2 _ (λ _. refl) (λ two.
+  judged-cut : {Q : Type 0} (m n : ℕ) (t : Bool) (c : Declaration) → (t ≡ true) ↔ Q → length text < at + n →
+      (at + m ≤ length text → Q) → firstJudged text at m n t c ≡ Declaration.EndsEarly
+  judged-cut m n t c i g h =
+      whole-all (λ d. d ≡ Declaration.EndsEarly) Declaration.EndsEarly text at m _ (λ _. refl) (λ two.
       rw (i .1 (h two)) (missing Declaration.EndsEarly text at n c g))
 
-  judged-outside : {Q : Type 0} (n : ℕ) (t : Bool) (c : Declaration) → (t ≡ true) ↔ Q → at + 2 ≤ length text → ¬ Q →
-      firstJudged text at n t c ≡ Declaration.OutOfRange
-  judged-outside n t c i g u = there Declaration.EndsEarly text at 2 _ g ∙ rw (failing i u)
+  judged-outside : {Q : Type 0} (m n : ℕ) (t : Bool) (c : Declaration) → (t ≡ true) ↔ Q → at + m ≤ length text → ¬ Q →
+      firstJudged text at m n t c ≡ Declaration.OutOfRange
+  judged-outside m n t c i g u = there Declaration.EndsEarly text at m _ g ∙ rw (failing i u)
 
   written-declaration : (c : Declaration) → DeclarationWritten text at c → (declarationAt text at ≡ c) × DeclarationWhole c
   unfolding declarationOf
   written-declaration c (DeclarationWritten.end h b) = (declaration-here (omega arith) (rw b), tt)
   written-declaration c (DeclarationWritten.input h b r) =
-      (declaration-here (omega arith) (rw b (judged-written (inProgram 0x10) _ _ (omega arith) (in-periods _) h r)), tt)
+      (declaration-here (omega arith) (rw b (judged-written 2 (inProgram 0x10) _ _ (omega arith) (in-periods _) h r)), tt)
   written-declaration c (DeclarationWritten.equation h b r) =
-      (declaration-here (omega arith) (rw b (judged-written (inProgram 0x11) _ _ (omega arith) (in-periods _) h r)), tt)
+      (declaration-here (omega arith) (rw b (judged-written 2 (inProgram 0x11) _ _ (omega arith) (in-periods _) h r)), tt)
   written-declaration c (DeclarationWritten.latency h b r) = let mode = byteAt text (at + 1) in (
     declaration-here (omega arith)
         (rw b
-        (judged-written (inProgram 0x12) (leb mode 1) (Declaration.Latency (modeOf mode) (twoAt text (at + 2))) (omega arith)
+        (judged-written 2 (inProgram 0x12) (leb mode 1) (Declaration.Latency (modeOf mode) (twoAt text (at + 2))) (omega arith)
         (leb-true mode 1, le-leb mode 1) h r)),
     tt,
   )
@@ -261,6 +278,11 @@ module _ (text : List ℕ) (at : ℕ) where
       (declaration-here (omega arith) (rw b (there Declaration.EndsEarly text at (inProgram 0x14) _ h)), tt)
   written-declaration c (DeclarationWritten.tag h b) =
       (declaration-here (omega arith) (rw b (there Declaration.EndsEarly text at (inProgram 0x15) _ h)), tt)
+  written-declaration c (DeclarationWritten.row h b r) = (
+    declaration-here (omega arith)
+        (rw b (judged-written 9 (inProgram 0x16) (leZ low high) _ (omega arith) (le-decided low high) h r)),
+    tt,
+  )
 
   pub declaration-cut-inside : DeclarationCut text at → at < length text
   declaration-cut-inside (DeclarationCut.input b g h) = byte-inside text at (omega arith)
@@ -269,34 +291,39 @@ module _ (text : List ℕ) (at : ℕ) where
   declaration-cut-inside (DeclarationCut.link b g) = byte-inside text at (omega arith)
   declaration-cut-inside (DeclarationCut.cap b g) = byte-inside text at (omega arith)
   declaration-cut-inside (DeclarationCut.tag b g) = byte-inside text at (omega arith)
+  declaration-cut-inside (DeclarationCut.row b g h) = byte-inside text at (omega arith)
 
   cut-declaration : (c : DeclarationCut text at) → declarationOf byte text at ≡ Declaration.EndsEarly
   unfolding declarationOf
-  cut-declaration (DeclarationCut.input b g h) = rw b (judged-cut (inProgram 0x10) _ _ (in-periods _) g h)
-  cut-declaration (DeclarationCut.equation b g h) = rw b (judged-cut (inProgram 0x11) _ _ (in-periods _) g h)
+  cut-declaration (DeclarationCut.input b g h) = rw b (judged-cut 2 (inProgram 0x10) _ _ (in-periods _) g h)
+  cut-declaration (DeclarationCut.equation b g h) = rw b (judged-cut 2 (inProgram 0x11) _ _ (in-periods _) g h)
   cut-declaration (DeclarationCut.latency b g h) =
       let mode = byteAt text (at + 1) in
       rw b
-      (judged-cut (inProgram 0x12) (leb mode 1) (Declaration.Latency (modeOf mode) (twoAt text (at + 2)))
+      (judged-cut 2 (inProgram 0x12) (leb mode 1) (Declaration.Latency (modeOf mode) (twoAt text (at + 2)))
       (leb-true mode 1, le-leb mode 1) g h)
   cut-declaration (DeclarationCut.link b g) = rw b (missing Declaration.EndsEarly text at (inProgram 0x13) _ g)
   cut-declaration (DeclarationCut.cap b g) = rw b (missing Declaration.EndsEarly text at (inProgram 0x14) _ g)
   cut-declaration (DeclarationCut.tag b g) = rw b (missing Declaration.EndsEarly text at (inProgram 0x15) _ g)
+  cut-declaration (DeclarationCut.row b g h) = rw b (judged-cut 9 (inProgram 0x16) (leZ low high) _ (le-decided low high) g h)
 
   pub declaration-outside-inside : DeclarationOutside text at → at < length text
   declaration-outside-inside (DeclarationOutside.input b g u) = omega arith
   declaration-outside-inside (DeclarationOutside.equation b g u) = omega arith
   declaration-outside-inside (DeclarationOutside.latency b g u) = omega arith
+  declaration-outside-inside (DeclarationOutside.row b g u) = omega arith
 
   outside-declaration : DeclarationOutside text at → declarationOf byte text at ≡ Declaration.OutOfRange
   unfolding declarationOf
-  outside-declaration (DeclarationOutside.input b g u) = rw b (judged-outside (inProgram 0x10) _ _ (in-periods _) g u)
-  outside-declaration (DeclarationOutside.equation b g u) = rw b (judged-outside (inProgram 0x11) _ _ (in-periods _) g u)
+  outside-declaration (DeclarationOutside.input b g u) = rw b (judged-outside 2 (inProgram 0x10) _ _ (in-periods _) g u)
+  outside-declaration (DeclarationOutside.equation b g u) = rw b (judged-outside 2 (inProgram 0x11) _ _ (in-periods _) g u)
   outside-declaration (DeclarationOutside.latency b g u) =
       let mode = byteAt text (at + 1) in
       rw b
-      (judged-outside (inProgram 0x12) (leb mode 1) (Declaration.Latency (modeOf mode) (twoAt text (at + 2)))
+      (judged-outside 2 (inProgram 0x12) (leb mode 1) (Declaration.Latency (modeOf mode) (twoAt text (at + 2)))
       (leb-true mode 1, le-leb mode 1) g (λ le. omega arith))
+  outside-declaration (DeclarationOutside.row b g u) =
+      rw b (judged-outside 9 (inProgram 0x16) (leZ low high) _ (le-decided low high) g (lt-not-le u))
 
   unknown-declaration : ¬ DeclarationByte byte → ¬ (byte ≡ 0x13) → declarationOf byte text at ≡ Declaration.Unknown
   unfolding declarationOf
@@ -309,6 +336,7 @@ module _ (text : List ℕ) (at : ℕ) where
         ne-eqb byte 0x13 k,
         ne-eqb byte 0x14 (λ b. u (DeclarationByte.cap b)),
         ne-eqb byte 0x15 (λ b. u (DeclarationByte.tag b)),
+        ne-eqb byte 0x16 (λ b. u (DeclarationByte.row b)),
       )
 
   early-declaration : length text ≤ at → declarationAt text at ≡ Declaration.EndsEarly
@@ -405,8 +433,9 @@ module _ (text : List ℕ) (at : ℕ) where
       picked O y 0x36 _ _ (binary-decodes lt Max) (λ b6.
       picked O y 0x38 _ _ (λ b. OperatorDecodes.written (OperatorWritten.unary Negate (omega arith) b)) (λ u.
       picked O y 0x3A _ _ (λ b. OperatorDecodes.written (OperatorWritten.choose (omega arith) b)) (λ i.
+      picked O y 0x3B _ _ (λ b. OperatorDecodes.written (OperatorWritten.unary Table (omega arith) b)) (λ t.
       OperatorDecodes.unknown lt
-      (no-operator c (no-read r1 r2 r3 r4 r5) (no-binary b0 b1 b2 b3 b4 b5 b6) u i))))))))))))))))
+      (no-operator c (no-read r1 r2 r3 r4 r5) (no-binary b0 b1 b2 b3 b4 b5 b6) u i t)))))))))))))))))
 
   pub operator-decodes : O (operatorAt text at)
   unfolding operatorAt
@@ -494,6 +523,7 @@ module _ (text : List ℕ) (at : ℕ) where
         ne-eqb y 0x35 (λ b. u (OperatorByte.binary Min b)),
         ne-eqb y 0x36 (λ b. u (OperatorByte.binary Max b)),
         ne-eqb y 0x38 (λ b. u (OperatorByte.unary Negate b)),
+        ne-eqb y 0x3B (λ b. u (OperatorByte.unary Table b)),
         ne-eqb y 0x3A (λ b. u (OperatorByte.choose b)),
       )
 
@@ -663,7 +693,8 @@ module _ (code : List ℕ) (at : ℕ) where
       (code-pick 0x35 _ _ (λ e w. CodeWritten.binary Min (omega arith) e)
       (code-pick 0x36 _ _ (λ e w. CodeWritten.binary Max (omega arith) e)
       (code-pick 0x38 _ _ (λ e w. CodeWritten.unary Negate (omega arith) e)
-      (code-pick 0x3A _ _ (λ e w. CodeWritten.choose (omega arith) e) (λ w. absurd w)))))))))
+      (code-pick 0x3A _ _ (λ e w. CodeWritten.choose (omega arith) e)
+      (code-pick 0x3B _ _ (λ e w. CodeWritten.unary Table (omega arith) e) (λ w. absurd w))))))))))
 
   code-reads : CodeReads (codeAt code at)
   unfolding codeAt
@@ -701,6 +732,7 @@ module _ (code : List ℕ) (at : ℕ) where
       (rw (lt-ltb at (length code) (omega arith), b) (operand-there (inCode 0x5F) _ h), tt)
   written-code c (CodeWritten.binary operator h b) = (written-binary operator (omega arith) b, tt)
   written-code c (CodeWritten.unary Negate h b) = (rw (lt-ltb at (length code) (omega arith), b), tt)
+  written-code c (CodeWritten.unary Table h b) = (rw (lt-ltb at (length code) (omega arith), b), tt)
   written-code c (CodeWritten.choose h b) = (rw (lt-ltb at (length code) (omega arith), b), tt)
 
   pub code-written : (c : Code) → ((codeAt code at ≡ c) × CodeWhole c) ↔ CodeWritten code at c

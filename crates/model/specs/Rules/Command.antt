@@ -4,6 +4,7 @@ use mathlib.Core.Bool.{Bool, cond, _&&_, _||_}
 use mathlib.Core.List.{List}
 use lib.Dec.{leb, ltb, eqb}
 use lib.ListN.{length}
+use lib.Signed.{leZ}
 use Rattle.model.specs.Rules.Width.{isListed, expressionWidth, inProgram, inExpression}
 use Rattle.model.specs.Rules.Word.{byteAt, twoAt, fourAt, wordAt}
 use Rattle.model.specs.declared.Binary.the-variants as Binary
@@ -17,7 +18,7 @@ use Rattle.model.specs.declared.Mode.{Mode}
 use Rattle.model.specs.declared.Mode.the-variants.{Exists, Backward}
 use Rattle.model.specs.declared.Operator.{Operator}
 use Rattle.model.specs.declared.Operator.the-variants as Operator
-use Rattle.model.specs.declared.Unary.the-variants.{Negate}
+use Rattle.model.specs.declared.Unary.the-variants.{Negate, Table}
 
 -- A command of n bytes: it ends early where fewer are left.
 abbrev pub whole : {C : Type 0} → C → List ℕ → ℕ → ℕ → C → C
@@ -40,10 +41,10 @@ indexOf i = cond (eqb i 255) Open (Fixed i)
 abbrev pub modeOf : ℕ → Mode
 modeOf b = cond (eqb b 0) Exists Backward
 
--- A declaration of n bytes whose first operand is a byte that is judged before the rest is looked for. The 2 is no width.
-abbrev pub firstJudged : List ℕ → ℕ → ℕ → Bool → Declaration → Declaration
-firstJudged text at n inRange command =
-    whole Declaration.EndsEarly text at 2
+-- A declaration of n bytes whose first m, its byte and what is judged, are judged before the rest is looked for. m is no width.
+abbrev pub firstJudged : List ℕ → ℕ → ℕ → ℕ → Bool → Declaration → Declaration
+firstJudged text at m n inRange command =
+    whole Declaration.EndsEarly text at m
     (cond inRange (whole Declaration.EndsEarly text at n command) Declaration.OutOfRange)
 
 -- The declaration of a byte, with the operands that stand after it.
@@ -51,18 +52,21 @@ unfoldable pub declarationOf : ℕ → List ℕ → ℕ → Declaration
 declarationOf b text at =
     cond (eqb b 0x00) Declaration.End
     (cond (eqb b 0x10)
-    (firstJudged text at (inProgram 0x10) (isPeriod (byteAt text (at + 1)))
+    (firstJudged text at 2 (inProgram 0x10) (isPeriod (byteAt text (at + 1)))
     (Declaration.Input (byteAt text (at + 1)) (wordAt text (at + 2))))
     (cond (eqb b 0x11)
-    (firstJudged text at (inProgram 0x11) (isPeriod (byteAt text (at + 1)))
+    (firstJudged text at 2 (inProgram 0x11) (isPeriod (byteAt text (at + 1)))
     (Declaration.Equation (byteAt text (at + 1)) (wordAt text (at + 2)) (twoAt text (at + 6))))
     (cond (eqb b 0x12)
-    (firstJudged text at (inProgram 0x12) (leb (byteAt text (at + 1)) 1)
+    (firstJudged text at 2 (inProgram 0x12) (leb (byteAt text (at + 1)) 1)
     (Declaration.Latency (modeOf (byteAt text (at + 1))) (twoAt text (at + 2))))
     (cond (eqb b 0x13) (whole Declaration.EndsEarly text at (inProgram 0x13) (Declaration.Link (byteAt text (at + 1))))
     (cond (eqb b 0x14) (whole Declaration.EndsEarly text at (inProgram 0x14) (Declaration.Cap (fourAt text (at + 1))))
     (cond (eqb b 0x15) (whole Declaration.EndsEarly text at (inProgram 0x15) (Declaration.Tag (twoAt text (at + 1))))
-    Declaration.Unknown))))))
+    (cond (eqb b 0x16)
+    (firstJudged text at 9 (inProgram 0x16) (leZ (wordAt text (at + 1)) (wordAt text (at + 5)))
+    (Declaration.Row (wordAt text (at + 1)) (wordAt text (at + 5)) (wordAt text (at + 9))))
+    Declaration.Unknown)))))))
 
 -- The declaration at an offset of the program text.
 unfoldable pub declarationAt : List ℕ → ℕ → Declaration
@@ -100,7 +104,8 @@ operatorOf b text at =
     (cond (eqb b 0x35) (Operator.Binary Binary.Min)
     (cond (eqb b 0x36) (Operator.Binary Binary.Max)
     (cond (eqb b 0x38) (Operator.Unary Negate)
-    (cond (eqb b 0x3A) Operator.If Operator.Unknown))))))))))))))
+    (cond (eqb b 0x3A) Operator.If
+    (cond (eqb b 0x3B) (Operator.Unary Table) Operator.Unknown)))))))))))))))
 
 -- The operator at an offset of an expression.
 unfoldable pub operatorAt : List ℕ → ℕ → Operator

@@ -4,6 +4,7 @@ use mathlib.Core.Bool.{_&&_}
 use mathlib.Core.List.{List, _++_}
 use lib.Dec.{leb}
 use lib.ListN.{length, drop}
+use Rattle.model.specs.Rules.Cover.{tabled}
 use Rattle.model.specs.Rules.Image.{writtenOf}
 use Rattle.model.specs.Rules.Latency.{timely}
 use Rattle.model.specs.Rules.Load.{loaded}
@@ -34,6 +35,7 @@ pairOf program schedule =
     declaredAndRated p ▷ λ _.  -- 7, 8
     hypercycle p ▷ λ h.  -- 9
     linked p ▷ λ _.  -- 10
+    tabled p ▷ λ _.  -- 29, 30
     parseSchedule schedule ▷ λ puts.  -- 11
     placed p puts ▷ λ s.  -- 12, 13
     met p s ▷ λ _.  -- 14

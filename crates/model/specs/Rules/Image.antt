@@ -20,11 +20,12 @@ use Rattle.model.specs.Rules.Program.{
 use Rattle.model.specs.Rules.Reads.{rateOf, due}
 use Rattle.model.specs.Rules.Schedule.{Schedule, phaseOf}
 use Rattle.model.specs.Rules.Search.{chosen, table, joinFrom}
+use Rattle.model.specs.Rules.Table.{byLow, tableBytes}
 use Rattle.model.specs.Rules.Word.{twoBytes, wordBytes}
 use Rattle.model.specs.declared.Binary.{Binary}
 use Rattle.model.specs.declared.Binary.the-variants.{Add, Sub, Mul, Less, Same, Min, Max}
 use Rattle.model.specs.declared.Unary.{Unary}
-use Rattle.model.specs.declared.Unary.the-variants.{Negate}
+use Rattle.model.specs.declared.Unary.the-variants.{Negate, Table}
 
 -- Operators as in the text.
 abbrev pub binaryByte : Binary → ℕ
@@ -38,6 +39,7 @@ binaryByte Max = 0x36
 
 abbrev pub unaryByte : Unary → ℕ
 unaryByte Negate = 0x38
+unaryByte Table = 0x3B
 
 -- The code of an expression: operands first, operator after. 50 PUSH word, 51 LOAD s for every read.
 unfoldable pub exprCode : Expr → List ℕ
@@ -77,7 +79,8 @@ records [] os = []
 records (x ∷ xs) [] = []
 records (x ∷ xs) (o ∷ os) = wordBytes (x .initial) ++ (twoBytes o ++ records xs os)
 
--- Where the record of signal x stands, and where the areas start: head, records, H + 1 offsets of run lists, lists, code.
+-- Where the record of signal x stands, and where the areas start: head, records, H + 1 offsets of run lists, lists, table,
+-- code.
 abbrev pub recordAt : ℕ → ℕ
 recordAt x = 4 + 6 * x
 
@@ -87,8 +90,11 @@ offsetsAt n = 4 + 6 * n
 abbrev pub listsAt : ℕ → ℕ → ℕ
 listsAt n h = 4 + 6 * n + 2 * (h + 1)
 
+unfoldable pub rowsAt : Program → Schedule → ℕ → ℕ
+rowsAt p s h = listsAt (count p) h + length (joined (runLists p s h))
+
 unfoldable pub codesAt : Program → Schedule → ℕ → ℕ
-codesAt p s h = listsAt (count p) h + length (joined (runLists p s h))
+codesAt p s h = rowsAt p s h + length (tableBytes (byLow (p .rows)))
 
 -- L, the length of the image.
 unfoldable pub lengthOf : Program → Schedule → ℕ → ℕ
@@ -107,7 +113,7 @@ imageOf p s h =
     head p s h ++
     (records (p .signals) (offsets (codesAt p s h) (codes p)) ++
     (joinFrom 0 (λ i o. twoBytes o) (offsets (listsAt (count p) h) (runLists p s h)) ++
-    (joined (runLists p s h) ++ joined (codes p))))
+    (joined (runLists p s h) ++ (tableBytes (byLow (p .rows)) ++ joined (codes p)))))
 
 -- The tail, after the L bytes: per signal its label, period and phase (2, 1, 1 bytes).
 abbrev pub tailEntry : ℕ → ℕ → ℕ → List ℕ

@@ -6,11 +6,13 @@ use mathlib.Core.List.{List, [], _∷_, _++_}
 use lib.Dec.{leb, ltb, eqb}
 use lib.IntN.{ℤ, pos, negsuc}
 use lib.ListN.{length, getD, take, drop, set}
+use Rattle.model.specs.Rules.Cover.{areaOk}
 use Rattle.model.specs.Rules.Image.{recordAt, offsetsAt, listsAt, withTail}
 use Rattle.model.specs.Rules.Outcome.{Outcome, accepted, refused, _▷_, provided}
 use Rattle.model.specs.Rules.Search.{allBelow, table}
+use Rattle.model.specs.Rules.Table.{Row, areaRows, unaryWord}
 use Rattle.model.specs.Rules.Width.{inCode}
-use Rattle.model.specs.Rules.Word.{byteAt, twoAt, wordAt, binaryWord, unaryWord, ifWord}
+use Rattle.model.specs.Rules.Word.{byteAt, twoAt, wordAt, binaryWord, ifWord}
 use Rattle.model.specs.declared.Binary.the-variants as Binary
 use Rattle.model.specs.declared.Code.{Code}
 use Rattle.model.specs.declared.Code.the-variants as Code
@@ -18,7 +20,8 @@ use Rattle.model.specs.declared.Cycled.{Cycled}
 use Rattle.model.specs.declared.Cycled.the-variants as Cycled
 use Rattle.model.specs.declared.Ran.{Ran}
 use Rattle.model.specs.declared.Ran.the-variants as Ran
-use Rattle.model.specs.declared.Unary.the-variants.{Negate}
+use Rattle.model.specs.declared.Unary.{Unary}
+use Rattle.model.specs.declared.Unary.the-variants.{Negate, Table}
 
 -- The operators, by their bytes.
 unfoldable pub operatorCode : ℕ → Code
@@ -31,7 +34,8 @@ operatorCode b =
     (cond (eqb b 0x35) (Code.Binary Binary.Min)
     (cond (eqb b 0x36) (Code.Binary Binary.Max)
     (cond (eqb b 0x38) (Code.Unary Negate)
-    (cond (eqb b 0x3A) Code.If Code.Unknown))))))))
+    (cond (eqb b 0x3A) Code.If
+    (cond (eqb b 0x3B) (Code.Unary Table) Code.Unknown)))))))))
 
 abbrev pub wholeCode : List ℕ → ℕ → ℕ → Code → Code
 wholeCode code at n command = cond (leb (at + n) (length code)) command Code.EndsEarly
@@ -64,6 +68,16 @@ statedLength image = twoAt image 2
 unfoldable pub listOffset : List ℕ → ℕ → ℕ
 listOffset image c = twoAt image (offsetsAt (countOf image) + 2 * c)
 
+-- The table stands where the last list ends: a count byte, then the rows; the code after it.
+unfoldable pub tableOffset : List ℕ → ℕ
+tableOffset image = listOffset image (hyperOf image)
+
+abbrev pub rowCount : List ℕ → ℕ
+rowCount image = byteAt image (tableOffset image)
+
+abbrev pub rowsIn : List ℕ → List Row
+rowsIn image = areaRows image (tableOffset image)
+
 -- The code of signal x ends where the next one starts, the last at the image's end.
 unfoldable pub codeOffset : List ℕ → ℕ → ℕ
 codeOffset image x = cond (ltb x (countOf image)) (twoAt image (8 + 6 * x)) (length image)
@@ -75,28 +89,35 @@ listOf image c = stretch image (listOffset image c) (listOffset image (c + 1))
 unfoldable pub codeOf : List ℕ → ℕ → List ℕ
 codeOf image x = stretch image (codeOffset image x) (codeOffset image (x + 1))
 
--- One command of the code of signal `own` in an image of n signals, where the stack holds `height` words; `next` judges on.
+-- TABLE needs rows.
+abbrev pub isServed : Bool → Unary → Bool
+isServed hasRows Negate = true
+isServed hasRows Table = hasRows
+
+-- One command of the code of signal `own` in an image of n signals, with rows or without, where the stack holds `height` words;
+-- `next` judges on.
 -- Only the codes named; loads below N; it ends with STORE and has no other; FETCH and STORE only of its own signal; the
 -- stack is never short or over 32 and holds one word at STORE.
-unfoldable pub commandOk : (ℕ → ℕ → Bool) → ℕ → ℕ → ℕ → ℕ → ℕ → Code → Bool
-commandOk next size n own at height Code.EndsEarly = false
-commandOk next size n own at height Code.Unknown = false
-commandOk next size n own at height (Code.Push w) = ltb height 32 && next (at + inCode 0x50) (height + 1)
-commandOk next size n own at height (Code.Load x) = ltb x n && ltb height 32 && next (at + inCode 0x51) (height + 1)
-commandOk next size n own at height (Code.Fetch x) = eqb x own && ltb height 32 && next (at + inCode 0x52) (height + 1)
-commandOk next size n own at height (Code.Store x) = eqb x own && eqb height 1 && eqb (at + inCode 0x5F) size
-commandOk next size n own at height (Code.Binary operator) = leb 2 height && next (at + inCode 0x30) (height - 1)
-commandOk next size n own at height (Code.Unary operator) = leb 1 height && next (at + inCode 0x38) height
-commandOk next size n own at height Code.If = leb 3 height && next (at + inCode 0x3A) (height - 2)
+unfoldable pub commandOk : (ℕ → ℕ → Bool) → Bool → ℕ → ℕ → ℕ → ℕ → ℕ → Code → Bool
+commandOk next hasRows size n own at height Code.EndsEarly = false
+commandOk next hasRows size n own at height Code.Unknown = false
+commandOk next hasRows size n own at height (Code.Push w) = ltb height 32 && next (at + inCode 0x50) (height + 1)
+commandOk next hasRows size n own at height (Code.Load x) = ltb x n && ltb height 32 && next (at + inCode 0x51) (height + 1)
+commandOk next hasRows size n own at height (Code.Fetch x) = eqb x own && ltb height 32 && next (at + inCode 0x52) (height + 1)
+commandOk next hasRows size n own at height (Code.Store x) = eqb x own && eqb height 1 && eqb (at + inCode 0x5F) size
+commandOk next hasRows size n own at height (Code.Binary operator) = leb 2 height && next (at + inCode 0x30) (height - 1)
+commandOk next hasRows size n own at height (Code.Unary operator) =
+    isServed hasRows operator && leb 1 height && next (at + inCode 0x38) height
+commandOk next hasRows size n own at height Code.If = leb 3 height && next (at + inCode 0x3A) (height - 2)
 
 -- The code from `at` on: `left` bytes hold no more than `left` commands.
-unfoldable pub codeOkFrom : ℕ → List ℕ → ℕ → ℕ → ℕ → ℕ → Bool
-codeOkFrom zero code n own at height = false
-codeOkFrom (suc left) code n own at height =
-    commandOk (λ a h. codeOkFrom left code n own a h) (length code) n own at height (codeAt code at)
+unfoldable pub codeOkFrom : ℕ → Bool → List ℕ → ℕ → ℕ → ℕ → ℕ → Bool
+codeOkFrom zero hasRows code n own at height = false
+codeOkFrom (suc left) hasRows code n own at height =
+    commandOk (λ a h. codeOkFrom left hasRows code n own a h) hasRows (length code) n own at height (codeAt code at)
 
-unfoldable pub codeOk : List ℕ → ℕ → ℕ → Bool
-codeOk code n own = codeOkFrom (length code) code n own 0 0
+unfoldable pub codeOk : Bool → List ℕ → ℕ → ℕ → Bool
+codeOk hasRows code n own = codeOkFrom (length code) hasRows code n own 0 0
 
 -- The image is L bytes; H 1 to 240; N up to 64; the fixed areas are there.
 unfoldable pub headOk : List ℕ → Bool
@@ -104,31 +125,39 @@ headOk image =
     leb 4 (length image) && eqb (statedLength image) (length image) && leb 1 (hyperOf image) && leb (hyperOf image) 240 &&
     leb (countOf image) 64 && leb (listsAt (countOf image) (hyperOf image)) (length image)
 
--- Every list starts where the one before ended: the first after the offsets, and the code after the last.
+-- Every list starts where the one before ended, the first after the offsets; the last ends within the image.
 unfoldable pub listsOk : List ℕ → Bool
 listsOk image =
     eqb (listOffset image 0) (listsAt (countOf image) (hyperOf image)) &&
     allBelow (hyperOf image) (λ c. leb (listOffset image c) (listOffset image (c + 1))) &&
-    eqb (listOffset image (hyperOf image)) (codeOffset image 0) && leb (codeOffset image 0) (length image)
+    leb (tableOffset image) (length image)
+
+-- The table after the lists is well formed, and the code starts where it ends.
+unfoldable pub tableOk : List ℕ → Bool
+tableOk image = areaOk image (tableOffset image) && eqb (codeOffset image 0) (tableOffset image + 1 + 12 * rowCount image)
 
 -- List entries are below N.
 unfoldable pub entriesOk : List ℕ → Bool
 entriesOk image =
     let start = listsAt (countOf image) (hyperOf image) in
-    allBelow (codeOffset image 0 - start) (λ i. ltb (byteAt image (start + i)) (countOf image))
+    allBelow (tableOffset image - start) (λ i. ltb (byteAt image (start + i)) (countOf image))
 
 -- Every code starts where the one before ended, the last ending at L, and is well formed.
 unfoldable pub codesOk : List ℕ → Bool
 codesOk image =
     allBelow (countOf image)
     (λ x. leb (codeOffset image x) (codeOffset image (x + 1)) && leb (codeOffset image (x + 1)) (length image) &&
-    codeOk (codeOf image x) (countOf image) x)
+    codeOk (ltb 0 (rowCount image)) (codeOf image x) (countOf image) x)
 
 -- Well formed.
 unfoldable pub wellFormed : List ℕ → Bool
 wellFormed image =
     elim (headOk image) [
-      | true ↦ elim (listsOk image) [ true ↦ entriesOk image && codesOk image | false ↦ false ]
+      | true ↦
+          elim (listsOk image) [
+            | true ↦ elim (tableOk image) [ true ↦ entriesOk image && codesOk image | false ↦ false ]
+            | false ↦ false
+          ]
       | false ↦ false
     ]
 
@@ -161,25 +190,26 @@ onThree f (b ∷ (a ∷ [])) = []
 onThree f (b ∷ (a ∷ (c ∷ stack))) = f c a b ∷ stack
 
 -- One command; `next` runs on. At STORE the word on top is the one stored.
-unfoldable pub runCommand : (ℕ → List ℤ → ℤ) → List ℤ → List ℤ → ℕ → List ℤ → Code → ℤ
-runCommand next state samples at stack Code.EndsEarly = pos 0
-runCommand next state samples at stack Code.Unknown = pos 0
-runCommand next state samples at stack (Code.Push w) = next (at + inCode 0x50) (w ∷ stack)
-runCommand next state samples at stack (Code.Load x) = next (at + inCode 0x51) (getD state (x + 1) (pos 0) ∷ stack)
-runCommand next state samples at stack (Code.Fetch x) = next (at + inCode 0x52) (getD samples x (pos 0) ∷ stack)
-runCommand next state samples at stack (Code.Store x) = getD stack 0 (pos 0)
-runCommand next state samples at stack (Code.Binary operator) = next (at + inCode 0x30) (onTwo (binaryWord operator) stack)
-runCommand next state samples at stack (Code.Unary operator) = next (at + inCode 0x38) (onOne (unaryWord operator) stack)
-runCommand next state samples at stack Code.If = next (at + inCode 0x3A) (onThree ifWord stack)
+unfoldable pub runCommand : (ℕ → List ℤ → ℤ) → List Row → List ℤ → List ℤ → ℕ → List ℤ → Code → ℤ
+runCommand next rows state samples at stack Code.EndsEarly = pos 0
+runCommand next rows state samples at stack Code.Unknown = pos 0
+runCommand next rows state samples at stack (Code.Push w) = next (at + inCode 0x50) (w ∷ stack)
+runCommand next rows state samples at stack (Code.Load x) = next (at + inCode 0x51) (getD state (x + 1) (pos 0) ∷ stack)
+runCommand next rows state samples at stack (Code.Fetch x) = next (at + inCode 0x52) (getD samples x (pos 0) ∷ stack)
+runCommand next rows state samples at stack (Code.Store x) = getD stack 0 (pos 0)
+runCommand next rows state samples at stack (Code.Binary operator) = next (at + inCode 0x30) (onTwo (binaryWord operator) stack)
+runCommand next rows state samples at stack (Code.Unary operator) = next (at + inCode 0x38)
+    (onOne (unaryWord rows operator) stack)
+runCommand next rows state samples at stack Code.If = next (at + inCode 0x3A) (onThree ifWord stack)
 
-unfoldable pub runFrom : ℕ → List ℕ → List ℤ → List ℤ → ℕ → List ℤ → ℤ
-runFrom zero code state samples at stack = pos 0
-runFrom (suc left) code state samples at stack =
-    runCommand (λ a k. runFrom left code state samples a k) state samples at stack (codeAt code at)
+unfoldable pub runFrom : ℕ → List Row → List ℕ → List ℤ → List ℤ → ℕ → List ℤ → ℤ
+runFrom zero rows code state samples at stack = pos 0
+runFrom (suc left) rows code state samples at stack =
+    runCommand (λ a k. runFrom left rows code state samples a k) rows state samples at stack (codeAt code at)
 
--- The word that a code stores.
-unfoldable pub runCode : List ℕ → List ℤ → List ℤ → ℤ
-runCode code state samples = runFrom (length code) code state samples 0 []
+-- The word that a code stores, in an image with these rows.
+unfoldable pub runCode : List Row → List ℕ → List ℤ → List ℤ → ℤ
+runCode rows code state samples = runFrom (length code) rows code state samples 0 []
 
 -- How many commands a code runs: one for each, up to and with its STORE; `next` counts on.
 unfoldable pub countCommand : (ℕ → ℕ) → ℕ → Code → ℕ
@@ -204,7 +234,7 @@ countCode code = countFrom (length code) code 0
 unfoldable pub runSignals : List ℕ → List ℕ → List ℤ → List ℤ → List ℤ
 runSignals image [] samples state = state
 runSignals image (x ∷ xs) samples state =
-    runSignals image xs samples (set state (x + 1) (runCode (codeOf image x) state samples))
+    runSignals image xs samples (set state (x + 1) (runCode (rowsIn image) (codeOf image x) state samples))
 
 -- How many commands the signals of a list run: a signal that stands twice in it counts twice.
 unfoldable pub countSignals : List ℕ → List ℕ → ℕ

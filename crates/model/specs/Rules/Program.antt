@@ -7,6 +7,7 @@ use lib.IntN.{ℤ, pos}
 use lib.ListN.{length, getD}
 use Rattle.model.specs.Rules.Outcome.{Outcome, accepted, refuse, _▷_, provided, Parsed, parsed}
 use Rattle.model.specs.Rules.Command.{declarationAt, operatorAt, isOperator, isSignal}
+use Rattle.model.specs.Rules.Table.{Row}
 use Rattle.model.specs.Rules.Width.{inProgram, inExpression, readWidth}
 use Rattle.model.specs.Rules.Word.{byteAt}
 use Rattle.model.specs.declared.Binary.{Binary}
@@ -19,6 +20,7 @@ use Rattle.model.specs.declared.Operator.{Operator}
 use Rattle.model.specs.declared.Operator.the-variants as Operator
 use Rattle.model.specs.declared.Sampled.{Sampled}
 use Rattle.model.specs.declared.Unary.{Unary}
+use Rattle.model.specs.declared.Unary.the-variants.{Negate, Table}
 
 -- A read, with the offset at which it stands.
 pub record Read : Type 0 where
@@ -65,18 +67,22 @@ pub record Program : Type 0 where
   pub signals : List Signal
   pub chains : List Chain
   pub cap : Limit
+  pub rows : List Row
 
 abbrev pub empty : Program
-empty = record { signals = []; chains = []; cap = unlimited }
+empty = record { signals = []; chains = []; cap = unlimited; rows = [] }
 
 abbrev pub withSignal : Program → Signal → Program
-withSignal p s = record { signals = p .signals ++ (s ∷ []); chains = p .chains; cap = p .cap }
+withSignal p s = record { signals = p .signals ++ (s ∷ []); chains = p .chains; cap = p .cap; rows = p .rows }
 
 abbrev pub withChain : Program → Chain → Program
-withChain p c = record { signals = p .signals; chains = p .chains ++ (c ∷ []); cap = p .cap }
+withChain p c = record { signals = p .signals; chains = p .chains ++ (c ∷ []); cap = p .cap; rows = p .rows }
 
 abbrev pub withCap : Program → ℕ → Program
-withCap p n = record { signals = p .signals; chains = p .chains; cap = limit n }
+withCap p n = record { signals = p .signals; chains = p .chains; cap = limit n; rows = p .rows }
+
+abbrev pub withRow : Program → Row → Program
+withRow p r = record { signals = p .signals; chains = p .chains; cap = p .cap; rows = p .rows ++ (r ∷ []) }
 
 -- The number N of signals, and signal s, numbered from 0 as declared.
 abbrev pub count : Program → ℕ
@@ -170,6 +176,8 @@ declare least next text at label p (Declaration.Tag given) =
     provided (ltb (at + inProgram 0x15) (length text)) 2 (length text) ▷ λ _.
     provided (isSignal (byteAt text (at + inProgram 0x15))) 3 at ▷ λ _.
     next (at + inProgram 0x15) given p
+declare least next text at label p (Declaration.Row low high result) =
+    next (at + inProgram 0x16) 0 (withRow p (record { place = at; low = low; high = high; result = result }))
 
 abbrev pub isUnlimited : Limit → Bool
 isUnlimited unlimited = true
@@ -182,7 +190,8 @@ roomFor at p b =
     (cond (isSignal b) (provided (ltb (count p) 64) 4 at)
     (cond (eqb b 0x12) (provided (ltb (length (p .chains)) 16) 4 at)
     (cond (eqb b 0x14) (provided (isUnlimited (p .cap)) 5 at)
-    (cond (eqb b 0x15) (accepted tt) (refuse 3 at)))))
+    (cond (eqb b 0x15) (accepted tt)
+    (cond (eqb b 0x16) (provided (ltb (length (p .rows)) 32) 4 at) (refuse 3 at))))))
 
 -- 2, 3, then counts and second CAP, judged at each declaration before its operands.
 unfoldable pub declarationHere : List ℕ → ℕ → Program → Outcome (Unit {0})
@@ -219,3 +228,23 @@ bodyReads (equation weight e) = readsOf e
 abbrev pub weightOf : Body → ℕ
 weightOf input = 0
 weightOf (equation weight e) = weight
+
+-- How many TABLEs an expression and some signals have.
+abbrev pub unaryLookups : Unary → ℕ
+unaryLookups Negate = 0
+unaryLookups Table = 1
+
+abbrev pub exprLookups : Expr → ℕ
+exprLookups (constant w) = 0
+exprLookups (read ρ) = 0
+exprLookups (binary operator x y) = exprLookups x + exprLookups y
+exprLookups (unary operator x) = unaryLookups operator + exprLookups x
+exprLookups (choose x y z) = exprLookups x + (exprLookups y + exprLookups z)
+
+abbrev pub bodyLookups : Body → ℕ
+bodyLookups input = 0
+bodyLookups (equation weight e) = exprLookups e
+
+unfoldable pub lookups : List Signal → ℕ
+lookups [] = 0
+lookups (x ∷ xs) = bodyLookups (x .body) + lookups xs

@@ -43,6 +43,7 @@ declarationWidth (Declaration.Latency mode bound) = inProgram 0x12
 declarationWidth (Declaration.Link signal) = inProgram 0x13
 declarationWidth (Declaration.Cap n) = inProgram 0x14
 declarationWidth (Declaration.Tag label) = inProgram 0x15
+declarationWidth (Declaration.Row low high result) = inProgram 0x16
 
 abbrev pub operatorWidth : Operator → ℕ
 operatorWidth Operator.EndsEarly = 0

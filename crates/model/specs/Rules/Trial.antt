@@ -28,7 +28,7 @@ startOf image = resetOf image (replicate 65 (pos 0)) .left
 -- The lines that a trial prints, or the refusal whose number it prints.
 unfoldable pub trialOf : List ℕ → List ℕ → List ℕ → Outcome (List (List ℕ))
 trialOf program schedule text =
-    pairOf program schedule ▷ λ q.  -- 1 to 16
+    pairOf program schedule ▷ λ q.  -- 1 to 16, 29, 30
     checkOf (isInputOf (q .program)) text ▷ λ _.  -- 24, 25
     let image = imageOf (q .program) (q .schedule) (q .hypercycle) in
     accepted (linesFrom image 0 (startOf image) (callsOf text))

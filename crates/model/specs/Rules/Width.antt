@@ -29,7 +29,9 @@ programWidth b =
     -- CAP limit
     (cond (eqb b 0x14) (Bytes 5)
     -- TAG label
-    (cond (eqb b 0x15) (Bytes 3) Unlisted))))))
+    (cond (eqb b 0x15) (Bytes 3)
+    -- ROW low, high, result
+    (cond (eqb b 0x16) (Bytes 13) Unlisted)))))))
 
 -- Expression.
 abbrev pub expressionWidth : ℕ → Width
@@ -45,7 +47,9 @@ expressionWidth b =
     -- NEG
     (cond (eqb b 0x38) (Bytes 1)
     -- IF
-    (cond (eqb b 0x3A) (Bytes 1) Unlisted)))))
+    (cond (eqb b 0x3A) (Bytes 1)
+    -- TABLE
+    (cond (eqb b 0x3B) (Bytes 1) Unlisted))))))
 
 -- Schedule.
 abbrev pub scheduleWidth : ℕ → Width
@@ -64,12 +68,14 @@ codeWidth b =
     (cond (eqb b 0x38) (Bytes 1)
     -- IF
     (cond (eqb b 0x3A) (Bytes 1)
+    -- TABLE
+    (cond (eqb b 0x3B) (Bytes 1)
     -- PUSH word
     (cond (eqb b 0x50) (Bytes 5)
     -- LOAD, FETCH signal
     (cond (within 0x51 0x52 b) (Bytes 2)
     -- STORE signal
-    (cond (eqb b 0x5F) (Bytes 2) Unlisted)))))
+    (cond (eqb b 0x5F) (Bytes 2) Unlisted))))))
 
 -- Script of a bench trial (request e).
 abbrev pub scriptWidth : ℕ → Width

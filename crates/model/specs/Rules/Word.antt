@@ -10,8 +10,6 @@ use mir.Syntax.{w32}
 use mir.Val.{toZ}
 use Rattle.model.specs.declared.Binary.{Binary}
 use Rattle.model.specs.declared.Binary.the-variants.{Add, Sub, Mul, Less, Same, Min, Max}
-use Rattle.model.specs.declared.Unary.{Unary}
-use Rattle.model.specs.declared.Unary.the-variants.{Negate}
 
 -- The remainder of z by 2^32, from 0 to 2^32 − 1: also of a negative z.
 unfoldable pub bitsOf : ℤ → ℕ
@@ -75,10 +73,6 @@ binaryWord Less a b = lessWord a b
 binaryWord Same a b = sameWord a b
 binaryWord Min a b = minWord a b
 binaryWord Max a b = maxWord a b
-
--- The operators with one operand.
-abbrev pub unaryWord : Unary → ℤ → ℤ
-unaryWord Negate a = negWord a
 
 -- Values wider than a byte have the low byte first: two bytes, four bytes, a word.
 abbrev pub byteAt : List ℕ → ℕ → ℕ

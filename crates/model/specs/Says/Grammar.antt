@@ -24,6 +24,7 @@ use Rattle.model.specs.Rules.Program.{
   withSignal,
   withChain,
   withCap,
+  withRow,
   unlimited,
   count,
   leastFactor,
@@ -100,6 +101,10 @@ pub data DeclaresOne (least : ℕ) (text : List ℕ) : ℕ → ℕ → Program �
   tags : {at label given : ℕ} {p : Program} → DeclarationWritten text at (Declaration.Tag given) →
       at + inProgram 0x15 < length text → IsSignal (byteAt text (at + inProgram 0x15)) →
       DeclaresOne least text at label p (at + inProgram 0x15) given p
+  rows : {at label : ℕ} {low high result : ℤ} {p : Program} → length (p .rows) < 32 →
+      DeclarationWritten text at (Declaration.Row low high result) →
+      DeclaresOne least text at label p (at + inProgram 0x16) 0
+      (withRow p (record { place = at; low = low; high = high; result = result }))
 
 -- The commands from `at` up to END at `end`, the last byte, make q of p.
 pub data Declares (least : ℕ) (text : List ℕ) : ℕ → ℕ → Program → ℕ → Program → Type 0 where
@@ -134,3 +139,4 @@ pub data HasRoom (p : Program) (b : ℕ) : Type 0 where
   latency : b ≡ 0x12 → length (p .chains) < 16 → HasRoom p b
   cap : b ≡ 0x14 → p .cap ≡ unlimited → HasRoom p b
   tag : b ≡ 0x15 → HasRoom p b
+  row : b ≡ 0x16 → length (p .rows) < 32 → HasRoom p b

@@ -5,6 +5,7 @@ use mathlib.Core.List.{List}
 use mathlib.Core.Logic.{_⊎_}
 use mathlib.Core.Path.{_≡_}
 use lib.ListN.{length}
+use lib.Signed.{_≤ℤ_, _<ℤ_}
 use Rattle.model.specs.Rules.Command.{indexOf, modeOf}
 use Rattle.model.specs.Rules.Image.{binaryByte, unaryByte}
 use Rattle.model.specs.Rules.Width.{inProgram, inExpression, inSchedule, inCode, readWidth}
@@ -54,6 +55,9 @@ pub data DeclarationWritten (text : List ℕ) (at : ℕ) : Declaration → Type 
       DeclarationWritten text at (Declaration.Cap (fourAt text (at + 1)))
   tag : at + inProgram 0x15 ≤ length text → byteAt text at ≡ 0x15 →
       DeclarationWritten text at (Declaration.Tag (twoAt text (at + 1)))
+  row : at + inProgram 0x16 ≤ length text → byteAt text at ≡ 0x16 →
+      wordAt text (at + 1) ≤ℤ wordAt text (at + 5) →
+      DeclarationWritten text at (Declaration.Row (wordAt text (at + 1)) (wordAt text (at + 5)) (wordAt text (at + 9)))
 
 -- It is cut: its byte stands there, the text ends before its last operand, and the operand that is judged before the others are
 -- looked for is in its range, if it is there. Past its end a text reads 0.
@@ -69,6 +73,9 @@ pub data DeclarationCut (text : List ℕ) (at : ℕ) : Type 0 where
   link : byteAt text at ≡ 0x13 → length text < at + inProgram 0x13 → DeclarationCut text at
   cap : byteAt text at ≡ 0x14 → length text < at + inProgram 0x14 → DeclarationCut text at
   tag : byteAt text at ≡ 0x15 → length text < at + inProgram 0x15 → DeclarationCut text at
+  -- ROW: low and high come first.
+  row : byteAt text at ≡ 0x16 → length text < at + inProgram 0x16 →
+      (at + 9 ≤ length text → wordAt text (at + 1) ≤ℤ wordAt text (at + 5)) → DeclarationCut text at
 
 -- It has an operand outside its range, whatever stands after that operand.
 pub data DeclarationOutside (text : List ℕ) (at : ℕ) : Type 0 where
@@ -77,6 +84,9 @@ pub data DeclarationOutside (text : List ℕ) (at : ℕ) : Type 0 where
   equation : byteAt text at ≡ 0x11 → at + 2 ≤ length text → ¬ InPeriods (byteAt text (at + 1)) → DeclarationOutside text at
   -- LAT: the mode.
   latency : byteAt text at ≡ 0x12 → at + 2 ≤ length text → 1 < byteAt text (at + 1) → DeclarationOutside text at
+  -- ROW: low above high.
+  row : byteAt text at ≡ 0x16 → at + 9 ≤ length text → wordAt text (at + 5) <ℤ wordAt text (at + 1) →
+      DeclarationOutside text at
 
 -- The bytes of declarations; LINK, which stands after LAT only, is none of them here.
 pub data DeclarationByte (b : ℕ) : Type 0 where
@@ -86,6 +96,7 @@ pub data DeclarationByte (b : ℕ) : Type 0 where
   latency : b ≡ 0x12 → DeclarationByte b
   cap : b ≡ 0x14 → DeclarationByte b
   tag : b ≡ 0x15 → DeclarationByte b
+  row : b ≡ 0x16 → DeclarationByte b
 
 -- The operator at an offset of an expression.
 pub data OperatorWritten (text : List ℕ) (at : ℕ) : Operator → Type 0 where
@@ -101,7 +112,7 @@ pub data OperatorWritten (text : List ℕ) (at : ℕ) : Operator → Type 0 wher
       InIndices (byteAt text (at + 2)) (byteAt text (at + 3)) →
       OperatorWritten text at (Operator.Read kind
       (record { signal = byteAt text (at + 1); factor = byteAt text (at + 3); index = indexOf (byteAt text (at + 2)) }))
-  -- 30 ADD to 36 MAX, 38 NEG, 3A IF.
+  -- 30 ADD to 36 MAX, 38 NEG, 3B TABLE, 3A IF.
   binary : (operator : Binary) → at + inExpression 0x30 ≤ length text → byteAt text at ≡ binaryByte operator →
       OperatorWritten text at (Operator.Binary operator)
   unary : (operator : Unary) → at + inExpression 0x38 ≤ length text → byteAt text at ≡ unaryByte operator →
@@ -119,7 +130,7 @@ pub data OperatorOutside (text : List ℕ) (at : ℕ) : Type 0 where
       byteAt text at ≡ readByte kind →
       ¬ (InPeriods (byteAt text (at + 3)) × InIndices (byteAt text (at + 2)) (byteAt text (at + 3))) → OperatorOutside text at
 
--- The bytes of expressions: 20 CONST, 21 NOW to 25 CURRENT, 30 ADD to 36 MAX, 38 NEG, 3A IF.
+-- The bytes of expressions: 20 CONST, 21 NOW to 25 CURRENT, 30 ADD to 36 MAX, 38 NEG, 3B TABLE, 3A IF.
 pub data OperatorByte (b : ℕ) : Type 0 where
   constant : b ≡ 0x20 → OperatorByte b
   read : (kind : Kind) → b ≡ readByte kind → OperatorByte b
@@ -164,6 +175,7 @@ DeclarationWhole (Declaration.Latency mode bound) = Unit {0}
 DeclarationWhole (Declaration.Link signal) = Unit {0}
 DeclarationWhole (Declaration.Cap n) = Unit {0}
 DeclarationWhole (Declaration.Tag label) = Unit {0}
+DeclarationWhole (Declaration.Row low high result) = Unit {0}
 
 abbrev pub OperatorWhole : Operator → Type 0
 OperatorWhole Operator.EndsEarly = ⊥

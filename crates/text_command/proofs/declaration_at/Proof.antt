@@ -54,25 +54,30 @@ returns-8 : tie.Need-returns-8
 returns-8 c = c .tag-at .ensures ∙ sym (inside (c .before .before .before) ∙ rw (c .before .match .keys7))
 
 returns-9 : tie.Need-returns-9
+returns-9 c = c .row-at .ensures ∙ sym (inside (c .before .before .before) ∙ rw (c .before .match .keys8))
+
+returns-10 : tie.Need-returns-10
 unfolding declarationOf
-returns-9 c =
+returns-10 c =
     let e = c .before .before in
     let b = byteAt (text e) (e .before .before .args .at) in
     let no = c .match .rest in
     sym (inside e ∙
     simp (
-      ne-eqb b 0 (no .0 .0 .0 .0 .0 .0 .1),
-      ne-eqb b 16 (no .0 .0 .0 .0 .0 .1),
-      ne-eqb b 17 (no .0 .0 .0 .0 .1),
-      ne-eqb b 18 (no .0 .0 .0 .1),
-      ne-eqb b 19 (no .0 .0 .1),
-      ne-eqb b 20 (no .0 .1),
-      ne-eqb b 21 (no .1),
+      ne-eqb b 0x00 (no .0 .0 .0 .0 .0 .0 .0 .1),
+      ne-eqb b 0x10 (no .0 .0 .0 .0 .0 .0 .1),
+      ne-eqb b 0x11 (no .0 .0 .0 .0 .0 .1),
+      ne-eqb b 0x12 (no .0 .0 .0 .0 .1),
+      ne-eqb b 0x13 (no .0 .0 .0 .1),
+      ne-eqb b 0x14 (no .0 .0 .1),
+      ne-eqb b 0x15 (no .0 .1),
+      ne-eqb b 0x16 (no .1),
     ))
 
 pub declaration-at-spec : {M : Type 1} → statement M
 declaration-at-spec =
     tie.close
     (tie.spec returns (λ c. search needs) (λ c κs. search needs) (λ c κs. search needs) (λ c κs. search needs)
-    (λ c κs. search needs) (λ c κs. search needs) (λ c κs. search needs) returns-2 returns-3 returns-4 returns-5 returns-6
-    returns-7 returns-8 returns-9)
+    (λ c κs. search needs) (λ c κs. search needs) (λ c κs. search needs) (λ c κs. search needs) returns-2 returns-3 returns-4
+    returns-5 returns-6
+    returns-7 returns-8 returns-9 returns-10)

@@ -30,6 +30,7 @@ use Rattle.text_program.proofs.read_expressions.Kinds as kinds
 use Rattle.text_program.proofs.+read_expressions.Lts-read_expressions as lts
 use Rattle.text_command.proofs.operator_from.Reads as operator-from-reads
 use Rattle.text_command.proofs.operands_of.Reads as operands-of-reads
+use Rattle.text_command.proofs.lookups_of.Reads as lookups-of-reads
 use Rattle.text_program.proofs.read_leaf.Reads as read-leaf-reads
 use Rattle.text_program.proofs.too_deep.Reads as too-deep-reads
 use Rattle.width.proofs.in_code.Reads as in-code-reads
@@ -38,7 +39,7 @@ use Rattle.text_program.proofs.+read_expressions.{statement}
 use Rattle.text_program.proofs.+read_expressions.Tie.{close}
 
 abbrev μ : Measures 3 kinds.ps ℕ
-μ κs a = a .1 .1 .1 .1 .1 .1 .0
+μ κs a = a .1 .1 .1 .1 .1 .1 .1 .0
 
 abbrev given : ℕ → In 3 kinds.ps
 given t = and 3 kinds.ps (is 3 kinds.ps μ t) own.Pre
@@ -60,20 +61,23 @@ known t = (
   in-expression-reads.Learnt,
   in-code-reads.Asked,
   in-code-reads.Learnt,
+  lookups-of-reads.Asked,
+  lookups-of-reads.Learnt,
   below t,
   own.Post,
 )
 
 -- What is left to read decides the answer.
 abbrev Inv-loop : lts.InvT-loop
-Inv-loop least text number at count to depth reads₀ walk₀ left₀ reads walk left =
-    WalkRoom (length (now text)) (walk .at) (walk .reads) (walk .code) (length reads) × (length reads ≡ length reads₀) ×
+Inv-loop least text number at count to looks depth reads₀ walk₀ left₀ reads walk left =
+    WalkRoom (length (now text)) (walk .at) (walk .reads) (walk .code) (walk .lookups) (length reads) ×
+    (length reads ≡ length reads₀) ×
     ((l′ : List ℕ) (r : Walked) →
-    Walks (outlines (parseExpr least depth (now text)) left (walk .at)) reads (walk .reads) (walk .code) l′ r →
-    Walks (outlines (parseExpr least depth (now text)) number at) reads₀ count to l′ r)
+    Walks (outlines (parseExpr least depth (now text)) left (walk .at)) reads (walk .reads) (walk .code) (walk .lookups) l′ r →
+    Walks (outlines (parseExpr least depth (now text)) number at) reads₀ count to looks l′ r)
 
 abbrev μ-loop : lts.MeasureT-loop
-μ-loop least text number at count to depth reads₀ walk₀ left₀ reads walk left = left
+μ-loop least text number at count to looks depth reads₀ walk₀ left₀ reads walk left = left
 
 -- in a turn
 module _ (t : ℕ) (b : lts.In-loop (known t) (given t) own.Post Inv-loop μ-loop) where
@@ -98,17 +102,19 @@ module _ (t : ℕ) (b : lts.In-loop (known t) (given t) own.Post Inv-loop μ-loo
   abbrev table : List ℕ
   table = b .before .loop .reads
 
-  room : WalkRoom (length text) (walk .at) (walk .reads) (walk .code) (length table)
+  room : WalkRoom (length text) (walk .at) (walk .reads) (walk .code) (walk .lookups) (length table)
   room = b .before .loop .inv .0
 
   answers : (l′ : List ℕ) (r : Walked) →
-      Walks (outlines (parseExpr least depth text) (suc (left - 1)) (walk .at)) table (walk .reads) (walk .code) l′ r →
+      Walks (outlines (parseExpr least depth text) (suc (left - 1)) (walk .at)) table (walk .reads) (walk .code) (walk .lookups)
+      l′ r →
       Walks (outlines (parseExpr least depth text) (start .args .number) (start .args .at)) (now (start .args .reads))
-      (start .args .count) (start .args .to) l′ r
+      (start .args .count) (start .args .to) (start .args .looks) l′ r
   answers l′ r w =
       let z : suc (left - 1) ≡ left = omega (arith, b .loop-test .taken) in
       b .before .loop .inv .2 l′ r
-      (subst (λ n. Walks (outlines (parseExpr least depth text) n (walk .at)) table (walk .reads) (walk .code) l′ r) z w)
+      (subst (λ n. Walks (outlines (parseExpr least depth text) n (walk .at)) table (walk .reads) (walk .code) (walk .lookups)
+      l′ r) z w)
 
 -- where the operator is known, and the depth is not 0
 module _ (t : ℕ) (o : lts.After-operands-of (known t) (given t) own.Post Inv-loop μ-loop) where
@@ -158,7 +164,7 @@ Joined t = lts.Joined2 (known t) (given t) own.Post Inv-loop μ-loop
 one : (t : ℕ) (j : Joined t) →
     let b = turn t (j .before) in
     Walks (outlineOf (parseExpr (least t b) (depth t b) (text t b) (walk t b .at))) (table t b) (walk t b .reads) (walk t b .code)
-    (j .if2 .reads) (j .if2 .step)
+    (walk t b .lookups) (j .if2 .reads) (j .if2 .step)
 one t j =
     let o = j .before in
     let b = turn t o in
@@ -170,8 +176,9 @@ one t j =
       | inr y ↦
           let e = ap outlineOf (step t o) ∙ operator-outline (sub t o) (least t b) (text t b) (at t o) (operator t o)
           (λ z. y .0 .left (o .operands-of .ensures ∙ z)) in
-          rw (y .9, y .10, e)
-          (walks-operated _ (rw (o .operands-of .ensures, y .1 .ensures, y .3 .ensures) at (y .6 .ensures)))
+          rw (y .11, y .12, e)
+          (walks-operated _ _
+          (rw (o .operands-of .ensures, y .1 .ensures, y .3 .ensures, y .5 .ensures .0) at (y .8 .ensures)))
     ]
 
 -- the table keeps its length
@@ -180,7 +187,7 @@ same t j =
     let l = turn t (j .before) .before .loop in
     elim (j .if2 .came) [
       | inl x ↦ rw (x .5) (x .3 .given ∙ l .inv .1)
-      | inr y ↦ rw (y .9) (y .7 .given ∙ l .inv .1)
+      | inr y ↦ rw (y .11) (y .9 .given ∙ l .inv .1)
     ]
 
 loop-holds : (t : ℕ) → lts.Need-loop-holds (known t) (given t) own.Post Inv-loop μ-loop
@@ -210,16 +217,23 @@ add-read-expressions-2 t c =
     let h = room t (turn t (e .before)) in
     omega (arith, inside t (e .before) (e .if2 .left), h .short, h .small, c .before .in-code .ensures)
 
+add-read-expressions-3 : (t : ℕ) → lts.Need-add-read-expressions-3 (known t) (given t) own.Post Inv-loop μ-loop
+add-read-expressions-3 t c =
+    let e = c .before .before .before .before .before .before in
+    let h = room t (turn t (e .before)) in
+    omega (arith, inside t (e .before) (e .if2 .left), h .short, h .rare, c .before .lookups-of .ensures .1)
+
 sub-read-expressions : (t : ℕ) → lts.Need-sub-read-expressions (known t) (given t) own.Post Inv-loop μ-loop
 sub-read-expressions t c =
-    let o = c .before .before .before .before .before in
+    let o = c .before .before .before .before .before .before .before in
     omega (arith, o .before .before .before .if1 .left)
 
 read-expressions-requires : (t : ℕ) → lts.Need-read-expressions-requires (known t) (given t) own.Post Inv-loop μ-loop
 read-expressions-requires t c κs =
-    let code = c .before .before .in-code in
-    let wide = c .before .before .before .before .in-expression in
-    let o = c .before .before .before .before .before .before in
+    let looks = c .before .before .lookups-of in
+    let code = c .before .before .before .before .in-code in
+    let wide = c .before .before .before .before .before .before .in-expression in
+    let o = c .before .before .before .before .before .before .before .before in
     let h = room t (turn t o) in (
       omega (arith, o .before .before .before .if1 .left, start t (turn t o) .pre .0),
       record {
@@ -227,6 +241,7 @@ read-expressions-requires t c κs =
         table = h .table;
         few = omega (arith, h .few);
         small = omega (arith, h .small, wide .ensures, code .ensures);
+        rare = omega (arith, h .rare, wide .ensures, looks .ensures .1);
       },
     )
 
@@ -268,5 +283,6 @@ pub +read-expressions-spec : {M : Type 1} → statement M
     close μ (λ t. lts.spec (known t) (given t) own.Post Inv-loop μ-loop
     (loop-holds t) (λ c κs. search needs) (same-length t) (returns t) (λ c κs. search needs) (λ c κs. search needs)
     (read-leaf-requires t) (λ c κs. search needs) (add-read-expressions t) (λ c κs. search needs) (add-read-expressions-2 t)
-    (sub-read-expressions t) (read-expressions-requires t) (λ c. search needs) (λ c. search needs) (same-length-2 t) (returns-2 t)
+    (λ c κs. search needs) (add-read-expressions-3 t) (sub-read-expressions t) (read-expressions-requires t) (λ c. search needs)
+    (λ c. search needs) (same-length-2 t) (returns-2 t)
     (sub-left t) (loop-less t) (loop-again t) (same-length-3 t) (returns-3 t))

@@ -21,18 +21,18 @@ module _ (c : tie.After-read-links) where
 returns : tie.Need-returns
 returns c =
     let told = c .before .enum-told .given in
-    c .step-of-links .ensures _ (told .1) ∙ chain-refused _ _ _ _ (links (c .before .before .before)) (told .1)
+    c .step-of-links .ensures _ (told .1) ∙ chain-refused _ _ _ _ _ (links (c .before .before .before)) (told .1)
 
 returns-2 : tie.Need-returns-2
 returns-2 c =
     c .refuse-step .ensures ∙
-    chain-short _ _ _ _ (links (c .before .before .before .before .before)) (c .before .before .before .read .given .1)
+    chain-short _ _ _ _ _ (links (c .before .before .before .before .before)) (c .before .before .before .read .given .1)
     (c .before .if1 .taken)
 
 returns-3 : tie.Need-returns-3
 returns-3 c =
     c .adds .ensures ∙
-    chain-next _ _ _ _ (links (c .before .before .before .before .before)) (c .before .before .before .read .given .1)
+    chain-next _ _ _ _ _ (links (c .before .before .before .before .before)) (c .before .before .before .read .given .1)
     (c .before .if1 .left)
 
 pub chain-step-spec : {M : Type 1} → statement M

@@ -61,25 +61,31 @@ unfolding hereOf roomFor
 returns-7 c = λ p k. sym (inside (c .before .before) p ∙ rw (c .match .keys6))
 
 returns-8 : tie.Need-returns-8
-unfolding hereOf roomFor
+unfolding roomFor
 returns-8 c = λ p k.
+    (rw (← k .rows-are) at (c .judge5 .ensures)) ∙ sym (inside (c .before .before .before) p ∙ rw (c .before .match .keys7))
+
+returns-9 : tie.Need-returns-9
+unfolding hereOf roomFor
+returns-9 c = λ p k.
     let e = c .before .before .before in
     let b = byteAt (text e) (at e) in
     let no = c .before .match .rest in
     c .refuse2 .ensures ∙
     sym (inside e p ∙
     simp (
-      ne-eqb b 0x00 (no .0 .0 .0 .0 .0 .1),
-      ne-eqb b 0x10 (no .0 .0 .0 .0 .1),
-      ne-eqb b 0x11 (no .0 .0 .0 .1),
-      ne-eqb b 0x12 (no .0 .0 .1),
-      ne-eqb b 0x14 (no .0 .1),
-      ne-eqb b 0x15 (no .1),
+      ne-eqb b 0x00 (no .0 .0 .0 .0 .0 .0 .1),
+      ne-eqb b 0x10 (no .0 .0 .0 .0 .0 .1),
+      ne-eqb b 0x11 (no .0 .0 .0 .0 .1),
+      ne-eqb b 0x12 (no .0 .0 .0 .1),
+      ne-eqb b 0x14 (no .0 .0 .1),
+      ne-eqb b 0x15 (no .0 .1),
+      ne-eqb b 0x16 (no .1),
     ))
 
 pub declaration-here-spec : {M : Type 1} → statement M
 declaration-here-spec =
     tie.close
     (tie.spec (λ c κs. search needs) returns (λ c. search needs) (λ c κs. search needs) (λ c κs. search needs)
-    (λ c κs. search needs) (λ c κs. search needs) (λ c κs. search needs) returns-2 returns-3 returns-4 returns-5 returns-6
-    returns-7 returns-8)
+    (λ c κs. search needs) (λ c κs. search needs) (λ c κs. search needs) (λ c κs. search needs) returns-2 returns-3 returns-4
+    returns-5 returns-6 returns-7 returns-8 returns-9)

@@ -12,9 +12,9 @@ use Rattle.text_program.proofs.equation_step.Statement.{statement}
 use Rattle.text_program.proofs.equation_step.Tie as tie
 
 -- one expression behind the operands of EQ
-one-walk : (least : ℕ) (text : List ℕ) (at k : ℕ) {l l′ : List ℕ} {count to : ℕ} {r : Walked} → k ≡ 8 →
-    Walks (outlines (parseExpr least 16 text) 1 (at + k)) l count to l′ r →
-    Walks (outlineOf (parseExpr least 16 text (at + 8))) l count to l′ r
+one-walk : (least : ℕ) (text : List ℕ) (at k : ℕ) {l l′ : List ℕ} {count to looks : ℕ} {r : Walked} → k ≡ 8 →
+    Walks (outlines (parseExpr least 16 text) 1 (at + k)) l count to looks l′ r →
+    Walks (outlineOf (parseExpr least 16 text (at + 8))) l count to looks l′ r
 one-walk least text at k e w = rw (sym (one-outline (parseExpr least 16 text) (at + 8)), sym e) w
 
 read-expressions-requires : tie.Need-read-expressions-requires

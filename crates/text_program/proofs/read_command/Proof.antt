@@ -24,6 +24,7 @@ use Rattle.text_program.proofs.Steps.{
   step-chain,
   step-cap,
   step-tag,
+  step-row,
 }
 use borrow.Author.Needs.{needs}
 use Rattle.text_program.proofs.read_command.Statement.{statement}
@@ -44,12 +45,13 @@ module _ (c : tie.After-declaration-at) where
   at = start .args .at
 
   abbrev HasSoFar : Program → Type 0
-  HasSoFar p = Counts p (start .args .signals) (start .args .chains) (start .args .capped)
+  HasSoFar p = Counts p (start .args .signals) (start .args .chains) (start .args .rows) (start .args .capped)
 
   abbrev Steps : List ℕ → Step → Type 0
   Steps l r =
       (p : Program) (label : ℕ) → HasSoFar p →
-      Stepped least text at label p (now (start .args .reads)) (start .args .count) (start .args .to) l r
+      Stepped least text at label p (now (start .args .reads)) (start .args .count) (start .args .to)
+      (start .args .looks) l r
 
   stands : (p : Program) → HasSoFar p → declarationHere text at p ≡ accepted tt
   stands p k = here-next _ _ _ (sym (c .before .enum-told .given .1) ∙ c .before .before .before .declaration-here .ensures p k)
@@ -66,14 +68,14 @@ module _ (c : tie.After-declaration-at) where
         declare least next text at label p k ≡ refused f) →
         Steps (now (start .args .reads)) r
     refuses q h = λ p label n.
-        subst (Stepped least text at label p _ _ _ _) (sym q)
-        (step-refused least text at label p _ _ _ (stands p n) k _ is (λ next. h next label p))
+        subst (Stepped least text at label p _ _ _ _ _) (sym q)
+        (step-refused least text at label p _ _ _ _ (stands p n) k _ is (λ next. h next label p))
 
 returns : tie.Need-returns
 returns c = λ p label k.
     let told = c .before .enum-told2 .given .1 in
-    subst (Stepped _ _ _ label p _ _ _ _) (sym (c .step-of-reached .ensures _ told))
-    (step-stopped _ _ _ label p _ _ _
+    subst (Stepped _ _ _ label p _ _ _ _ _) (sym (c .step-of-reached .ensures _ told))
+    (step-stopped _ _ _ label p _ _ _ _
     (here-refused _ _ (sym told ∙ c .before .before .before .declaration-here .ensures p k)))
 
 end-step-requires : tie.Need-end-step-requires
@@ -101,10 +103,16 @@ equation-step-requires c κs =
 chain-step-requires : tie.Need-chain-step-requires
 chain-step-requires c κs = inside (c .before .before) (c .enum-told7 .given .1) (λ e. let z : _≡_ {A = ℕ} 0 1 = cc in omega arith)
 
-add-adds : tie.Need-add-adds
-add-adds c =
+add-next-2 : tie.Need-add-next-2
+add-next-2 c =
     let b = c .before .before .before .before in
     let i = inside b (c .before .before .declaration3 .given .1) (λ e. let z : _≡_ {A = ℕ} 0 1 = cc in omega arith) in
+    omega (arith, i, start b .pre .short, start b .pre .small)
+
+add-next-3 : tie.Need-add-next-3
+add-next-3 c =
+    let b = c .before .before .before in
+    let i = inside b (c .before .enum-told9 .given .1) (λ e. let z : _≡_ {A = ℕ} 0 1 = cc in omega arith) in
     omega (arith, i, start b .pre .short, start b .pre .small)
 
 tag-step-requires : tie.Need-tag-step-requires
@@ -129,8 +137,8 @@ returns-4 c =
 returns-5 : tie.Need-returns-5
 returns-5 c = λ p label k.
     let b = c .before .before .before in
-    subst (Stepped _ _ _ label p _ _ _ _) (sym (c .end-step .ensures))
-    (step-end _ _ _ label p _ _ _ (stands b p k) (is b (c .before .enum-told6 .given .1)))
+    subst (Stepped _ _ _ label p _ _ _ _ _) (sym (c .end-step .ensures))
+    (step-end _ _ _ label p _ _ _ _ (stands b p k) (is b (c .before .enum-told6 .given .1)))
 
 returns-6 : tie.Need-returns-6
 returns-6 c =
@@ -139,9 +147,9 @@ returns-6 c =
     let c7 = c5 .before .before in
     λ p label k.
     let b = c7 in
-    subst (Stepped _ _ _ label p _ _ _ _) (sym
+    subst (Stepped _ _ _ label p _ _ _ _ _) (sym
     (rw (c3 .in-program .ensures, c .before .before .in-code .ensures, c .before .in-code2 .ensures) at
-    (c .adds .ensures))) (step-input _ _ _ label p _ _ _ (stands b p k) _ _ (is b (c5 .declaration .given .1)))
+    (c .adds .ensures))) (step-input _ _ _ label p _ _ _ _ (stands b p k) _ _ (is b (c5 .declaration .given .1)))
 
 returns-7 : tie.Need-returns-7
 returns-7 c =
@@ -149,14 +157,14 @@ returns-7 c =
     let c7 = c5 .before .before in
     λ p label k.
     let b = c7 in
-    step-equation _ _ _ label p _ _ _ (stands b p k) _ _ _ (is b (c5 .declaration2 .given .1))
+    step-equation _ _ _ label p _ _ _ _ (stands b p k) _ _ _ (is b (c5 .declaration2 .given .1))
     (c .before .before .equation-step .ensures)
 
 returns-8 : tie.Need-returns-8
 returns-8 c = λ p label k.
     let b = c .before .before .before in
-    subst (Stepped _ _ _ label p _ _ _ _) (sym (c .chain-step .ensures))
-    (step-chain _ _ _ label p _ _ _ (stands b p k) _ _ (is b (c .before .enum-told7 .given .1)))
+    subst (Stepped _ _ _ label p _ _ _ _ _) (sym (c .chain-step .ensures))
+    (step-chain _ _ _ label p _ _ _ _ (stands b p k) _ _ (is b (c .before .enum-told7 .given .1)))
 
 returns-9 : tie.Need-returns-9
 unfolding declare
@@ -166,14 +174,20 @@ returns-9 c =
 returns-10 : tie.Need-returns-10
 returns-10 c = λ p label k.
     let b = c .before .before .before .before .before in
-    subst (Stepped _ _ _ label p _ _ _ _) (sym (rw (c .before .in-program2 .ensures) at (c .adds2 .ensures)))
-    (step-cap _ _ _ label p _ _ _ (stands b p k) _ (is b (c .before .before .before .declaration3 .given .1)))
+    subst (Stepped _ _ _ label p _ _ _ _ _) (sym (rw (c .before .in-program2 .ensures) at (c .adds2 .ensures)))
+    (step-cap _ _ _ label p _ _ _ _ (stands b p k) _ (is b (c .before .before .before .declaration3 .given .1)))
 
 returns-11 : tie.Need-returns-11
 returns-11 c = λ p label k.
     let b = c .before .before .before .before in
-    subst (Stepped _ _ _ label p _ _ _ _) (sym (c .tag-step .ensures))
-    (step-tag _ _ _ label p _ _ _ (stands b p k) _ (is b (c .before .before .declaration4 .given .1)))
+    subst (Stepped _ _ _ label p _ _ _ _ _) (sym (c .tag-step .ensures))
+    (step-tag _ _ _ label p _ _ _ _ (stands b p k) _ (is b (c .before .before .declaration4 .given .1)))
+
+returns-12 : tie.Need-returns-12
+returns-12 c = λ p label k.
+    let b = c .before .before .before .before in
+    subst (Stepped _ _ _ label p _ _ _ _ _) (sym (rw (c .before .in-program3 .ensures) at (c .adds3 .ensures)))
+    (step-row _ _ _ label p _ _ _ _ (stands b p k) _ _ _ (is b (c .before .before .enum-told9 .given .1)))
 
 pub read-command-spec : {M : Type 1} → statement M
 read-command-spec =
@@ -183,6 +197,7 @@ read-command-spec =
     (λ c. search needs) (λ c κs. search needs) (λ c. search needs) end-step-requires (λ c. search needs) (λ c κs. search needs)
     add-next (λ c κs. search needs) (λ c κs. search needs) (λ c. search needs) add-end-2 (λ c κs. search needs)
     (λ c. search needs) equation-step-requires (λ c. search needs) chain-step-requires (λ c. search needs)
-    (λ c κs. search needs) (λ c. search needs) (λ c κs. search needs) add-adds (λ c κs. search needs) (λ c. search needs)
-    tag-step-requires returns-2 returns-3 returns-4 returns-5 returns-6 (λ c. search needs) returns-7 returns-8 returns-9
-    returns-10 returns-11)
+    (λ c κs. search needs) (λ c. search needs) (λ c κs. search needs) add-next-2 (λ c κs. search needs) (λ c. search needs)
+    tag-step-requires (λ c. search needs) (λ c κs. search needs) add-next-3 (λ c κs. search needs) returns-2 returns-3 returns-4
+    returns-5 returns-6 (λ c. search needs) returns-7 returns-8 returns-9
+    returns-10 returns-11 returns-12)

@@ -83,12 +83,14 @@ returns-2 c = walks-refused _ (rw (c .before .enum-told2 .given .1)) (c .refuse-
 returns-3 : tie.Need-returns-3
 unfolding leafOf
 returns-3 c =
-    let x : Outline = record { places = []; code = 5; next = c .before .before .before .before .before .before .args .at + 5 } in
+    let x : Outline =
+    record { places = []; code = 5; lookups = 0; next = c .before .before .before .before .before .before .args .at + 5 } in
     walks-over _ x (rw (c .before .before .before .enum-told3 .given .1) refl) (c .moved-on .ensures)
     (record {
       goes = omega (arith, c .before .before .in-expression .ensures);
       counts = omega arith;
       codes = omega (arith, c .before .in-code .ensures);
+      looked = omega arith;
       holds = refl;
     })
 
@@ -97,12 +99,13 @@ unfolding leafOf
 returns-4 c =
     let at = c .before .before .before .before .before .before .before .args .at in
     let told = c .before .before .before .before .operator .given in
-    let x : Outline = record { places = at ∷ []; code = 2; next = at + readWidth (told .0 .0) } in
+    let x : Outline = record { places = at ∷ []; code = 2; lookups = 0; next = at + readWidth (told .0 .0) } in
     walks-over _ x (rw (told .1) refl) (c .moved-on2 .ensures)
     (record {
       goes = omega (arith, c .before .before .of-read .ensures);
       counts = refl;
       codes = omega (arith, c .before .in-code2 .ensures);
+      looked = omega arith;
       holds = refl;
     })
 

@@ -21,6 +21,8 @@ use Rattle.text_program.proofs.Tabled.{
   chain-fits,
   cap-next,
   tag-next,
+  row-next,
+  row-fits,
   program-stops,
   program-ends,
   starts-empty,
@@ -60,7 +62,7 @@ module _ (c : tie.After-known-told Inv-loop μ-loop) where
   inside = b .before .before .loop-test .taken
 
   abbrev kept : List ℕ
-  kept = b .read-command .last .1 .1 .1 .1 .1 .1 .1 .1 .0
+  kept = b .read-command .last .1 .1 .1 .1 .1 .1 .1 .1 .1 .1 .0
 
   abbrev entry : Entry
   entry = c .before .step .given .0 .0
@@ -70,12 +72,12 @@ module _ (c : tie.After-known-told Inv-loop μ-loop) where
 
   added :
       Added least text (top .loop .at) (top .loop .label) (reading .program) entry (top .loop .reads) (top .loop .count)
-      (top .loop .to) kept walk
+      (top .loop .to) (top .loop .tables .lookups) kept walk
   unfolding Stepped
   added =
       subst
       (Stepped least text (top .loop .at) (top .loop .label) (reading .program) (top .loop .reads) (top .loop .count)
-      (top .loop .to)
+      (top .loop .to) (top .loop .tables .lookups)
       kept)
       (c .before .step .given .1) (b .read-command .ensures (reading .program) (top .loop .label) (reading .tables .counts))
 
@@ -99,6 +101,9 @@ module _ (c : tie.After-known-told2 Inv-loop μ-loop) where
 chains-below : (c : tie.After-known-told3 Inv-loop μ-loop) → top (c .before .before .before) .loop .tables .chains < 16
 chains-below c =
     let k = c .before .before .before in chain-fits (reading k) (inside k) (added k) (c .before .entry2 .given .1)
+
+rows-below : (c : tie.After-enum-told Inv-loop μ-loop) → top (c .before .before) .loop .tables .rows < 32
+rows-below c = let k = c .before .before in row-fits (reading k) (inside k) (added k) (c .enum-told .given .1)
 
 loop-holds : tie.Need-loop-holds Inv-loop μ-loop
 loop-holds c =
@@ -136,6 +141,12 @@ loop-again-4 c = let k = c .before .before .before in (
   tag-next (reading k) (inside k) (added k) (c .before .entry4 .given .1),
 )
 
+loop-again-5 : tie.Need-loop-again-5 Inv-loop μ-loop
+loop-again-5 c = let k = c .before .before in (
+  kept-size k ∙ top k .loop .inv .0,
+  row-next (reading k) (inside k) (added k) (c .enum-told .given .1),
+)
+
 returns-2 : tie.Need-returns-2 Inv-loop μ-loop
 returns-2 c =
     program-ends (c .before .before .before .before .loop .inv .1) (c .before .before .before .loop-test .left) _ _ _
@@ -155,5 +166,7 @@ read-program-spec =
     (λ c. search needs) (λ c. omega (arith, chains-below c)) (λ c. omega (arith, chains-below c))
     (λ c. omega (arith, chains-below c)) (λ c. omega (arith, chains-below c)) (λ c. omega (arith, chains-below c))
     (λ c. forward (c .before .before .before)) loop-again-2 (λ c. search needs) (λ c. forward (c .before .before .before))
-    loop-again-3 (λ c. search needs) (λ c. forward (c .before .before .before)) loop-again-4 (λ c κs. search needs)
+    loop-again-3 (λ c. search needs) (λ c. forward (c .before .before .before)) loop-again-4 (λ c. search needs)
+    (λ c. omega (arith, place-small (c .before .before))) (λ c. omega (arith, rows-below c)) (λ c. omega (arith, rows-below c))
+    (λ c. omega (arith, rows-below c)) (λ c. forward (c .before .before)) loop-again-5 (λ c κs. search needs)
     (λ c κs. search needs) (λ c κs. search needs) (λ c. search needs) returns-2)

@@ -28,19 +28,19 @@ module _ (c : tie.After-is-signal) where
   told = rw width at (c .is-signal .ensures)
 
 returns : tie.Need-returns
-returns c = c .refuse-step .ensures ∙ tag-ends _ _ _ _ _ (omega arith)
+returns c = c .refuse-step .ensures ∙ tag-ends _ _ _ _ _ _ (omega arith)
 
 returns-2 : tie.Need-returns-2
 returns-2 c =
     let k = c .before .before in
     c .refuse-step2 .ensures ∙
-    tag-by (text k) (at k) _ _ _ false (omega arith) (sym (told k) ∙ not-true _ (c .before .if2 .taken))
+    tag-by (text k) (at k) _ _ _ _ false (omega arith) (sym (told k) ∙ not-true _ (c .before .if2 .taken))
 
 returns-3 : tie.Need-returns-3
 returns-3 c =
     let k = c .before .before in
     rw (width k) at (c .adds .ensures) ∙
-    tag-by (text k) (at k) _ _ _ true (omega arith) (sym (told k) ∙ not-false _ (c .before .if2 .left))
+    tag-by (text k) (at k) _ _ _ _ true (omega arith) (sym (told k) ∙ not-false _ (c .before .if2 .left))
 
 pub tag-step-spec : {M : Type 1} → statement M
 tag-step-spec =

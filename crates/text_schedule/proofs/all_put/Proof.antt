@@ -8,8 +8,7 @@ use native.Mathlib.Decide.{decLt}
 use lib.Dec.{eqb}
 use lib.ListN.{getD}
 use borrow.Author.Tests.{eq-eqb, ne-eqb}
-use Rattle.model.proofs.Pairs.Decide.{true-all}
-use Rattle.text_schedule.proofs.Puts.{not-all}
+use Rattle.model.proofs.Pairs.Decide.{true-all, all-fails}
 use Rattle.text_schedule.proofs.all_put.Statement.{statement}
 use Rattle.text_schedule.proofs.all_put.Tie as tie
 
@@ -29,7 +28,7 @@ below {P} y x (no q) h f g = subst P (omega arith) g
 
 returns : tie.Need-returns Inv-loop μ-loop
 unfolding allRanked
-returns c = sym (not-all _ _ (c .before .before .before .loop .x) (c .before .before .loop-test .taken)
+returns c = sym (all-fails _ _ (c .before .before .before .loop .x) (c .before .before .loop-test .taken)
     (rw (eq-eqb _ 64 (c .if1 .taken))))
 
 loop-again : tie.Need-loop-again Inv-loop μ-loop

@@ -152,7 +152,7 @@ module _ (program schedule buffer : List ℕ) where
       accepted-then _ _ _ (pair-judged program schedule .accepts q .1 legal) ∙
       refused-then _ _ _ (space-judged q .refuses (fault 17 (sizeOf q)) .1 (Only.only lt))
 
-  -- Compile does its job, or is refused by 1 to 17, exactly under its condition.
+  -- Compile does its job, or is refused by 1 to 17, 29 or 30, exactly under its condition.
   pub compile-exactly : Exactly buffer compileDone compileRefused (compileOf program schedule buffer)
   unfolding compileOf verdictOf _▷_
   compile-exactly =

@@ -16,7 +16,7 @@ use Rattle.model.specs.Rules.Tail.{Bears}
 use Rattle.model.specs.Rules.Word.{AreBytes}
 use Rattle.theorems.specs.Conversion.{ConvertsTo, ConvertRefusedAt}
 use Rattle.theorems.specs.Exactness.{sizeOf, CompileRefusedAt, ResetRefusedAt, CycleRefusedAt}
-use Rattle.theorems.specs.Refusals.{RateFault, ChainFault, PutFault, MetFault, LoadFault, RefusedAt}
+use Rattle.theorems.specs.Refusals.{TableFault, RateFault, ChainFault, PutFault, MetFault, LoadFault, RefusedAt}
 use Rattle.theorems.specs.Stops.{StopsExpr, StopsLinks, Stops, StopsPuts}
 use Rattle.theorems.specs.WellFormed.{WellFormed}
 use Rattle.model.specs.declared.Fault.{Fault}
@@ -48,6 +48,7 @@ module _ {least : ℕ} {text : List ℕ} where
   stops-number (Stops.unknown lt u) = omega arith
   stops-number (Stops.signals i le) = omega arith
   stops-number (Stops.chains e le) = omega arith
+  stops-number (Stops.rows e le) = omega arith
   stops-number (Stops.second e u) = omega arith
   stops-number (Stops.cut r e) = omega arith
   stops-number (Stops.outside r e) = omega arith
@@ -66,7 +67,7 @@ puts-number (StopsPuts.cut c) = omega arith
 puts-number (StopsPuts.unknown lt u) = omega arith
 puts-number (StopsPuts.trailing e lt) = omega arith
 
--- 7 to 10, 12 to 16.
+-- 7 to 10, 29 and 30, 12 to 16.
 rate-number : {p : Program} {f : Fault} → RateFault p f → 1 ≤ f .number
 rate-number (RateFault.undeclaredRead r ρ i u) = omega arith
 rate-number (RateFault.undeclaredLink l i u) = omega arith
@@ -80,6 +81,10 @@ put-number (PutFault.undeclared j lt u) = omega arith
 put-number (PutFault.twice i j lt below e) = omega arith
 put-number (PutFault.late j lt d f u) = omega arith
 
+table-number : {p : Program} {f : Fault} → TableFault p f → 1 ≤ f .number
+table-number (TableFault.meets n h) = omega arith
+table-number (TableFault.gap some u g) = omega arith
+
 met-number : {p : Program} {s : Schedule} {f : Fault} → MetFault p s f → 1 ≤ f .number
 met-number (MetFault.unmet r ρ i u) = omega arith
 
@@ -92,6 +97,7 @@ pair-number (RefusedAt.stopped short f) = stops-number f
 pair-number (RefusedAt.unrated short l f) = rate-number (f .fault)
 pair-number (RefusedAt.unbounded short l r f) = omega arith
 pair-number (RefusedAt.unlinked short l r h f) = chain-number (omega arith) (f .fault)
+pair-number (RefusedAt.uncovered short l r h c f) = table-number f
 pair-number (RefusedAt.unread r f) = puts-number f
 pair-number (RefusedAt.misplaced r l f) = put-number (f .fault)
 pair-number (RefusedAt.missing r l c x lt u) = omega arith
@@ -113,16 +119,16 @@ cycle-number (CycleRefusedAt.unready r) = reset-number r
 cycle-number (CycleRefusedAt.outside usable none) = omega arith
 cycle-number (CycleRefusedAt.unsampled usable positioned lt) = omega arith
 
--- 24,678 bytes hold the image of every accepted pair, with its tail.
+-- 24,679 bytes hold the image of every accepted pair, with its tail.
 pub size-most : (program schedule : List ℕ) → AreBytes program → (q : Pair) → pairOf program schedule ≡ accepted q →
-    sizeOf q ≤ 24678
+    sizeOf q ≤ 24679
 size-most program schedule bytes q e =
     let b = pair-bounded program schedule q e bytes in
     omega (arith, b .size, b .signals)
 
 -- So what compile yields is small.
 pub length-most : (program schedule buffer : List ℕ) → AreBytes program → (n : ℕ) →
-    compileOf program schedule buffer .answer ≡ accepted n → n ≤ 24678
+    compileOf program schedule buffer .answer ≡ accepted n → n ≤ 24679
 length-most program schedule buffer bytes n e =
     let d = compile-exactly program schedule buffer .done n _ .0 (e, refl) in
     omega (

@@ -18,7 +18,8 @@ use Rattle.model.specs.Rules.Program.{Program, Read, Chain}
 use Rattle.model.specs.Rules.Schedule.{Schedule, Put}
 use Rattle.model.specs.Rules.Word.{AreBytes}
 use Rattle.theorems.specs.Conditions.{ReadIn, putAt}
-use Rattle.theorems.specs.Refusals.{RateFault, ChainFault, PutFault, MetFault, LoadFault, RefusedAt}
+use Rattle.model.specs.Rules.Table.{rowAt}
+use Rattle.theorems.specs.Refusals.{TableFault, RateFault, ChainFault, PutFault, MetFault, LoadFault, RefusedAt}
 use Rattle.theorems.specs.Stops.{StopsExpr, StopsLinks, Stops, StopsPuts}
 use Rattle.model.specs.declared.Fault.{Fault}
 use Rattle.model.proofs.Texts.Commands.{declaration-sound, operator-sound}
@@ -30,6 +31,7 @@ use Rattle.model.proofs.Pairs.Verdict.{pair-bounded}
 use Rattle.model.proofs.Texts.Written.{declaration-outside-inside, operator-outside-byte, decoded, operator-decoded, put-decoded}
 use Rattle.theorems.proofs.Pairs.Exact.{refused-exactly}
 use Rattle.theorems.proofs.Pairs.Judged.{read-spelled, chain-spelled, link-spelled}
+use Rattle.theorems.proofs.Pairs.JudgedRows.{row-written}
 use Rattle.theorems.proofs.Pairs.JudgedRuns.{load-repeats}
 use Rattle.theorems.proofs.Texts.Stopped.{Refuses, refuses-fault, refuses-then, refuses-provided}
 
@@ -55,6 +57,7 @@ module _ (text : List ℕ) where
   commands-inside (Stops.unknown lt u) = omega arith
   commands-inside (Stops.signals {at = at} s many) = omega (arith, signal-inside text at s)
   commands-inside (Stops.chains {at = at} b many) = omega (arith, byte-inside text at (omega arith))
+  commands-inside (Stops.rows {at = at} b many) = omega (arith, byte-inside text at (omega arith))
   commands-inside (Stops.second {at = at} b u) = omega (arith, byte-inside text at (omega arith))
   commands-inside (Stops.cut r e) = omega arith
   commands-inside (Stops.outside {at = at} r o) = omega (arith, declaration-outside-inside text at o)
@@ -85,7 +88,7 @@ module _ (text : List ℕ) where
   put-fault-inside l (PutFault.twice i j lt below e) = put-inside l j below
   put-fault-inside l (PutFault.late j lt d f u) = put-inside l j lt
 
-  -- 7, 8, 10, 14, 16: and so do the reads, LINKs and LATs.
+  -- 7, 8, 10, 14, 16, 29: and so do the reads, LINKs, LATs and ROWs.
   module _ (p : Program) (l : LegalProgram text p) where
     read-inside : (r : ℕ) (ρ : Read) → ReadIn p r ρ → ρ .place ≤ length text
     read-inside r ρ i = omega (arith, operator-sound text (ρ .place) _ (read-spelled text p l r ρ i) .1)
@@ -98,6 +101,11 @@ module _ (text : List ℕ) where
     chain-inside : {Q : Chain → Type 0} {number : ℕ} {f : Fault} → ChainFault p Q number f → f .place ≤ length text
     chain-inside (ChainFault.broken c i u) =
         omega (arith, declaration-sound text (c .place) _ (chain-spelled text p l c i .command))
+
+    table-inside : {f : Fault} → TableFault p f → f .place ≤ length text
+    table-inside (TableFault.meets n h) =
+        omega (arith, declaration-sound text (rowAt (p .rows) n .place) _ (row-written text p l n (h .inside)) .4)
+    table-inside (TableFault.gap some u g) = omega arith
 
     met-inside : {s : Schedule} {f : Fault} → MetFault p s f → f .place ≤ length text
     met-inside (MetFault.unmet r ρ i u) = read-inside r ρ i
@@ -120,6 +128,7 @@ refusal-small {program} (RefusedAt.unrated {p = p} short l f) = omega (arith, sh
 refusal-small (RefusedAt.unbounded short l r f) = omega arith
 refusal-small {program} (RefusedAt.unlinked {p = p} short l r h f) =
     omega (arith, short .0, chain-inside program p l (f .fault))
+refusal-small {program} (RefusedAt.uncovered {p = p} short l r h c f) = omega (arith, short .0, table-inside program p l f)
 refusal-small {schedule = schedule} (RefusedAt.unread r f) = omega (arith, r .short .1, puts-inside schedule f)
 refusal-small {schedule = schedule} (RefusedAt.misplaced r l f) =
     omega (arith, r .short .1, put-fault-inside schedule l (f .fault))

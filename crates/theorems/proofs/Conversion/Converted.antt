@@ -1,6 +1,6 @@
 -- A program and its conversion keep the same conditions with every schedule, have the same streams and the same image.
 -- Assumes nothing.
-use Prim.Native.Nat.{ℕ, zero, suc, _≤_, _<_}
+use Prim.Native.Nat.{ℕ, zero, suc, _+_, _≤_, _<_}
 use mathlib.Core.Bool.{Bool, true, false, cond, and-eq-true-iff}
 use mathlib.Core.List.{List, [], _∷_, _++_, map, map-map, map-append}
 use mathlib.Core.Logic.{_↔_}
@@ -10,6 +10,7 @@ use borrow.Author.Tests.{eqb-true, eqb-false}
 use lib.Dec.{eqb}
 use lib.IntN.{ℤ}
 use lib.ListN.{length, length-map, List·getD-map}
+use lib.Signed.{leZ}
 use Rattle.model.specs.Says.Feasible.{PeriodRule, LineHolds, PutFor, Met, Multiple, Least}
 use Rattle.model.specs.Says.Grammar.{LegalProgram}
 use Rattle.model.specs.Rules.Compile.{Pair}
@@ -22,6 +23,7 @@ use Rattle.model.specs.Rules.Image.{
   joined,
   runLists,
   records,
+  rowsAt,
   codesAt,
   lengthOf,
   head,
@@ -64,11 +66,28 @@ use Rattle.model.specs.Rules.Program.{
   readsOf,
   bodyReads,
   weightOf,
+  lookups,
+  exprLookups,
+  bodyLookups,
 }
 use Rattle.model.specs.Rules.Rates.{countReads}
 use Rattle.model.specs.Rules.Reads.{Rate, rateOf, due, uses, settle, settledIndex, settled}
 use Rattle.model.specs.Rules.Search.{firstBelow, firstFrom, foundOr, sum, table, chosen, joinFrom}
+use Rattle.model.specs.Rules.Table.{
+  Row,
+  contains,
+  tableWord,
+  unaryWord,
+  noRow,
+  rowAt,
+  insert,
+  byLow,
+  rowBytes,
+  tableBytes,
+}
+use Rattle.model.specs.Says.Rows.{Lies, Covers}
 use Rattle.model.specs.Rules.Schedule.{Schedule, Put, phaseOf, putPhase, scheduleOf}
+use Rattle.theorems.proofs.Pairs.Lookups.{has-table}
 use Rattle.theorems.specs.Conditions.{
   _among_,
   ReadIn,
@@ -77,6 +96,7 @@ use Rattle.theorems.specs.Conditions.{
   DeclaredAndRated,
   linkSignals,
   Linked,
+  Tabled,
   putAt,
   IsPut,
   Placed,
@@ -95,6 +115,7 @@ use Rattle.theorems.specs.Convert.{
   mapSignal,
   mapLink,
   mapChain,
+  mapRow,
   bareRead,
   bare,
   Renamed,
@@ -110,6 +131,8 @@ use Rattle.model.specs.declared.Kind.{Kind}
 use Rattle.model.specs.declared.Kind.the-variants.{Now, Last, When, LastWhen, Current}
 use Rattle.model.specs.declared.Mode.{Mode}
 use Rattle.model.specs.declared.Mode.the-variants.{Exists, Backward}
+use Rattle.model.specs.declared.Unary.{Unary}
+use Rattle.model.specs.declared.Unary.the-variants.{Negate, Table}
 use Rattle.model.proofs.Pairs.Decide.{line-settled, settled-line}
 use Rattle.model.proofs.Basics.Outcomes.{table-at}
 use Rattle.model.proofs.Pairs.Lines.{once, single-uses, single-rule, single-line, single-first}
@@ -193,20 +216,23 @@ map-body-reads : (f : Read → Read) (b : Body) → bodyReads (mapBody f b) ≡ 
 map-body-reads f input = refl
 map-body-reads f (equation weight e) = map-reads f e
 
-map-value : (f : Read → Read) (word word′ : Read → ℤ) → ((ρ : Read) → word′ (f ρ) ≡ word ρ) → (e : Expr) →
-    value word′ (mapExpr f e) ≡ value word e
-unfolding value mapExpr
-map-value f word word′ same (constant w) = refl
-map-value f word word′ same (read ρ) = same ρ
-map-value f word word′ same (binary operator x y) = rw (map-value f word word′ same x, map-value f word word′ same y)
-map-value f word word′ same (unary operator x) = rw (map-value f word word′ same x)
-map-value f word word′ same (choose x y z) =
-    rw (map-value f word word′ same x, map-value f word word′ same y, map-value f word word′ same z)
+-- Rows that TABLE does not tell apart.
+abbrev SameTable : List Row → List Row → Type 0
+SameTable rows′ rows = (operator : Unary) (w : ℤ) → unaryWord rows′ operator w ≡ unaryWord rows operator w
 
-map-next : (f : Read → Read) (word word′ : Read → ℤ) → ((ρ : Read) → word′ (f ρ) ≡ word ρ) → (given : ℤ) (b : Body) →
-    next word′ given (mapBody f b) ≡ next word given b
-map-next f word word′ same given input = refl
-map-next f word word′ same given (equation weight e) = map-value f word word′ same e
+module _ (rows rows′ : List Row) (alike : SameTable rows′ rows) (f : Read → Read) (word word′ : Read → ℤ)
+    (same : (ρ : Read) → word′ (f ρ) ≡ word ρ) where
+  map-value : (e : Expr) → value rows′ word′ (mapExpr f e) ≡ value rows word e
+  unfolding value mapExpr
+  map-value (constant w) = refl
+  map-value (read ρ) = same ρ
+  map-value (binary operator x y) = rw (map-value x, map-value y)
+  map-value (unary operator x) = ap (unaryWord rows′ operator) (map-value x) ∙ alike operator (value rows word x)
+  map-value (choose x y z) = rw (map-value x, map-value y, map-value z)
+
+  map-next : (given : ℤ) (b : Body) → next rows′ word′ given (mapBody f b) ≡ next rows word given b
+  map-next given input = refl
+  map-next given (equation weight e) = map-value e
 
 map-weight : (f : Read → Read) (b : Body) → weightOf (mapBody f b) ≡ weightOf b
 map-weight f input = refl
@@ -271,6 +297,92 @@ module _ {A B : Type 0} (f : A → B) (Q : A → Type 0) (R : B → Type 0) wher
     λ q b m. let h = map-among b xs m in rw (h .2) (g (h .0) (h .1) .0 (q (h .0) (h .1))),
     λ r a m. g a m .1 (r (f a) (among-map a xs m)),
   )
+
+-- The rows, and how often a program looks one up.
+abbrev bareRow : Row → Row
+bareRow = mapRow bareRead (λ at. 0)
+
+row-bare : (rows : List Row) (n : ℕ) → rowAt (map bareRow rows) n ≡ bareRow (rowAt rows n)
+row-bare rows n = List·getD-map bareRow rows n noRow
+
+lies-bare : (rows : List Row) (w : ℤ) (n : ℕ) → Lies rows w n ↔ Lies (map bareRow rows) w n
+lies-bare rows w n = (
+  λ l. record {
+    inside = rw (length-map rows bareRow) (l .inside);
+    from-low = rw (row-bare rows n) (l .from-low);
+    to-high = rw (row-bare rows n) (l .to-high);
+  },
+  λ l. record {
+    inside = rw (length-map rows bareRow) at (l .inside);
+    from-low = rw (row-bare rows n) at (l .from-low);
+    to-high = rw (row-bare rows n) at (l .to-high);
+  },
+)
+
+covers-bare : (rows : List Row) → Covers rows ↔ Covers (map bareRow rows)
+covers-bare rows = (
+  λ c w f. let o = c w f in (o .0, lies-bare rows w (o .0) .0 (o .1), λ m l. o .2 m (lies-bare rows w m .1 l)),
+  λ c w f. let o = c w f in (o .0, lies-bare rows w (o .0) .1 (o .1), λ m l. o .2 m (lies-bare rows w m .0 l)),
+)
+
+table-bare : (rows : List Row) (w : ℤ) → tableWord (map bareRow rows) w ≡ tableWord rows w
+unfolding tableWord contains
+table-bare [] w = refl
+table-bare (row ∷ rows) w = rw (table-bare rows w)
+
+alike-bare : (rows : List Row) → SameTable (map bareRow rows) rows
+alike-bare rows Negate w = refl
+alike-bare rows Table w = table-bare rows w
+
+insert-bare : (row : Row) (rows : List Row) → insert (bareRow row) (map bareRow rows) ≡ map bareRow (insert row rows)
+unfolding insert
+insert-bare row [] = refl
+insert-bare row (other ∷ rows) = go (leZ (row .low) (other .low)) (insert-bare row rows)
+  where
+    go : (b : Bool) → insert (bareRow row) (map bareRow rows) ≡ map bareRow (insert row rows) →
+        cond b (bareRow row ∷ bareRow other ∷ map bareRow rows) (bareRow other ∷ insert (bareRow row) (map bareRow rows)) ≡
+        map bareRow (cond b (row ∷ other ∷ rows) (other ∷ insert row rows))
+    go true ih = refl
+    go false ih = ap (bareRow other ∷_) ih
+
+sorted-bare : (rows : List Row) → byLow (map bareRow rows) ≡ map bareRow (byLow rows)
+unfolding byLow
+sorted-bare [] = refl
+sorted-bare (row ∷ rows) = rw (sorted-bare rows) (insert-bare row (byLow rows))
+
+rows-bare : (rows : List Row) → tableBytes (byLow (map bareRow rows)) ≡ tableBytes (byLow rows)
+unfolding tableBytes rowBytes
+rows-bare rows =
+    ap tableBytes (sorted-bare rows) ∙
+    ap₂ (λ (n : ℕ) (l : List ℕ). n ∷ l) (length-map (byLow rows) bareRow)
+    (join-map bareRow (λ n row. rowBytes row) (λ n row. rowBytes row) (λ n row. refl) 0 (byLow rows))
+
+map-lookups : (f : Read → Read) (e : Expr) → exprLookups (mapExpr f e) ≡ exprLookups e
+unfolding mapExpr
+map-lookups f (constant w) = refl
+map-lookups f (read ρ) = refl
+map-lookups f (binary operator x y) = rw (map-lookups f x, map-lookups f y)
+map-lookups f (unary operator x) = rw (map-lookups f x)
+map-lookups f (choose x y z) = rw (map-lookups f x, map-lookups f y, map-lookups f z)
+
+map-body-lookups : (f : Read → Read) (b : Body) → bodyLookups (mapBody f b) ≡ bodyLookups b
+map-body-lookups f input = refl
+map-body-lookups f (equation weight e) = map-lookups f e
+
+lookups-bare : (xs : List Signal) → lookups (map (mapSignal bareRead (λ at. 0)) xs) ≡ lookups xs
+unfolding lookups
+lookups-bare [] = refl
+lookups-bare (x ∷ xs) = rw (map-body-lookups bareRead (x .body), lookups-bare xs)
+
+-- 29, 30.
+has-bare : (p : Program) → length (bare p .rows) + lookups (bare p .signals) ≡ length (p .rows) + lookups (p .signals)
+has-bare p = rw (length-map (p .rows) bareRow, lookups-bare (p .signals))
+
+tabled-bare : (p : Program) → Tabled p ↔ Tabled (bare p)
+tabled-bare p = (
+  λ c some. covers-bare (p .rows) .0 (c (has-table p .1 (omega (arith, has-bare p, has-table (bare p) .0 some)))),
+  λ c some. covers-bare (p .rows) .1 (c (has-table (bare p) .1 (omega (arith, has-bare p, has-table p .0 some)))),
+)
 
 -- The programs.
 signal-bare : (p : Program) (x : ℕ) → signalAt (bare p) x ≡ mapSignal bareRead (λ at. 0) (signalAt p x)
@@ -575,8 +687,9 @@ module _ (p : Program) (s : Schedule) where
       entry (bare p) (settled (bare p) s) inputs X x j ≡ entry p (settled p s) inputs X x j
   entry-bare inputs X x zero = ap (λ z. z .initial) (signal-bare p x)
   entry-bare inputs X x (suc k) =
-      ap (λ z. next (word (bare p)) (inputs x k) (z .body)) (signal-bare p x) ∙
-      map-next bareRead (word p) (word (bare p)) same (inputs x k) (signalAt p x .body)
+      ap (λ z. next (bare p .rows) (word (bare p)) (inputs x k) (z .body)) (signal-bare p x) ∙
+      map-next (p .rows) (bare p .rows) (alike-bare (p .rows)) bareRead (word p) (word (bare p)) same (inputs x k)
+      (signalAt p x .body)
     where
       word : Program → Read → ℤ
       word q ρ = X (ρ .operands .signal) (uses (ρ .kind) (ρ .operands .factor) (settled q s x ρ) k)
@@ -604,8 +717,8 @@ module _ (p : Program) (s : Schedule) where
       (λ x z. rw (map-signal-code bareRead (λ ρ. refl) x (z .body))) 0 (p .signals)
 
   image-bare : (h : ℕ) → imageOf (bare p) s h ≡ imageOf p s h
-  unfolding imageOf head lengthOf codesAt
-  image-bare h = rw (lists-bare h, codes-bare, count-bare p, records-bare (p .signals))
+  unfolding imageOf head lengthOf codesAt rowsAt
+  image-bare h = rw (lists-bare h, codes-bare, count-bare p, rows-bare (p .rows), records-bare (p .signals))
 
   tail-bare : tailOf (bare p) s ≡ tailOf p s
   unfolding tailOf
@@ -626,6 +739,7 @@ module _ (p : Program) (s : Schedule) where
           rated = rated-bare p .0 (c .rated);
           hypercycle = least-bare p h .0 (c .hypercycle);
           linked = linked .0 (c .linked);
+          tabled = tabled-bare p .0 (c .tabled);
           placed = placed-bare p puts s .0 (c .placed);
           met = met (c .placed) .0 (c .met);
           loads = λ n. rw (load-bare n) (c .loads n);
@@ -637,6 +751,7 @@ module _ (p : Program) (s : Schedule) where
           rated = rated-bare p .1 (c .rated);
           hypercycle = least-bare p h .1 (c .hypercycle);
           linked = linked .1 (c .linked);
+          tabled = tabled-bare p .1 (c .tabled);
           placed = places;
           met = met places .1 (c .met);
           loads = λ n. rw (load-bare n) at (c .loads n);
@@ -665,7 +780,7 @@ single-twice When = refl
 single-twice LastWhen = refl
 single-twice Current = refl
 
--- What a program and its conversion have in common, with every schedule: the conditions 7 to 16 with one hypercycle, the streams,
+-- What a program and its conversion have in common, with every schedule: the conditions 7 to 16, 29 and 30 with one hypercycle, the streams,
 -- and the image.
 pub record Common (p q : Program) (s : Schedule) : Type 0 where
   pub keeps : (puts : List Put) (h : ℕ) → Keeps p puts s h ↔ Keeps q puts s h
@@ -701,6 +816,7 @@ renamed-legal old new schedule u q l short legal c =
                   rated = k .rated;
                   hypercycle = k .hypercycle;
                   linked = k .linked;
+                  tabled = k .tabled;
                 };
             puts = l .places .puts;
             legal = l .places .legal;
@@ -718,6 +834,7 @@ renamed-legal old new schedule u q l short legal c =
           rated = l .places .rates .rated;
           hypercycle = l .places .rates .hypercycle;
           linked = l .places .rates .linked;
+          tabled = l .places .rates .tabled;
           placed = l .places .placed;
           met = l .met;
           loads = l .loads;

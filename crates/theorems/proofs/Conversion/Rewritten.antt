@@ -12,7 +12,7 @@ use lib.ListN.{length, getD, take, drop, length-append, length-drop, length-map,
 use lib.Seq.{drop-drop, drop-append-seam, getD-drop, getD-take, length-take-le}
 use Rattle.model.specs.Says.Feasible.{All}
 use Rattle.model.specs.Rules.Command.{isOperator, declarationAt}
-use Rattle.theorems.specs.Convert.{isSingle, mapExpr, mapSignal, mapLink, mapChain, bareRead, bare, Renamed}
+use Rattle.theorems.specs.Convert.{isSingle, mapExpr, mapSignal, mapLink, mapChain, mapRow, bareRead, bare, Renamed}
 use Rattle.model.specs.Rules.Rewrite.{singleKind}
 use Rattle.model.specs.Says.Grammar.{depth, Spells, SpellsLinks, IsSignal, DeclaresOne, Declares, LegalWith, LegalProgram}
 use Rattle.model.specs.Rules.Program.{
@@ -33,6 +33,7 @@ use Rattle.model.specs.Rules.Program.{
   empty,
   withSignal,
   withChain,
+  withRow,
   withCap,
   unlimited,
   count,
@@ -54,6 +55,7 @@ use Rattle.model.specs.Rules.Rewrite.{
   rewriteFrom,
   rewrite,
 }
+use Rattle.model.specs.Rules.Table.{Row}
 use Rattle.model.specs.Rules.Word.{byteAt, twoAt, fourAt, wordOf, wordAt}
 use Rattle.model.specs.Rules.Width.{readWidth}
 use Rattle.model.specs.Says.Written.{readByte, DeclarationWritten, OperatorWritten}
@@ -90,6 +92,7 @@ no-operator (DeclarationWritten.latency h b r) = rw b
 no-operator (DeclarationWritten.link h b) = rw b
 no-operator (DeclarationWritten.cap h b) = rw b
 no-operator (DeclarationWritten.tag h b) = rw b
+no-operator (DeclarationWritten.row h b r) = rw b
 
 pub command-decoded : (text : List ℕ) (at : ℕ) (c : Command) → CommandWritten text at c → commandAt text at ≡ c
 unfolding commandAt
@@ -106,6 +109,7 @@ declaration-inside (DeclarationWritten.latency h b r) = (h, omega arith)
 declaration-inside (DeclarationWritten.link h b) = (h, omega arith)
 declaration-inside (DeclarationWritten.cap h b) = (h, omega arith)
 declaration-inside (DeclarationWritten.tag h b) = (h, omega arith)
+declaration-inside (DeclarationWritten.row h b r) = (h, omega arith)
 
 -- It lies within the text, and takes a byte at least.
 operator-inside : {text : List ℕ} {at : ℕ} {o : Operator} → OperatorWritten text at o →
@@ -187,6 +191,20 @@ module _ (p p′ : Program) where
   chains-same same =
       sym (length-map (p .chains) (mapChain bareRead (λ at. 0))) ∙ ap (λ b. length (b .chains)) same ∙
       length-map (p′ .chains) (mapChain bareRead (λ at. 0))
+
+  rows-same : bare p ≡ bare p′ → length (p .rows) ≡ length (p′ .rows)
+  rows-same same =
+      sym (length-map (p .rows) (mapRow bareRead (λ at. 0))) ∙ ap (λ b. length (b .rows)) same ∙
+      length-map (p′ .rows) (mapRow bareRead (λ at. 0))
+
+  row-same : (r r′ : Row) → bare p ≡ bare p′ → mapRow bareRead (λ at. 0) r ≡ mapRow bareRead (λ at. 0) r′ →
+      bare (withRow p r) ≡ bare (withRow p′ r′)
+  row-same r r′ same e =
+      rw (
+        map-append (mapRow bareRead (λ at. 0)) (p .rows) (r ∷ []),
+        map-append (mapRow bareRead (λ at. 0)) (p′ .rows) (r′ ∷ []),
+      )
+      (ap₂ withRow same e)
 
   signal-same : (x x′ : Signal) → bare p ≡ bare p′ → mapSignal bareRead (λ at. 0) x ≡ mapSignal bareRead (λ at. 0) x′ →
       bare (withSignal p x) ≡ bare (withSignal p′ x′)
@@ -271,6 +289,11 @@ module _ (text new : List ℕ) where
       rw (← four-copied c 1 (omega arith)) (DeclarationWritten.cap (c .inside) (first-copied c (omega arith) ∙ b))
   declaration-copied (DeclarationWritten.tag h b) c =
       rw (← two-copied c 1 (omega arith)) (DeclarationWritten.tag (c .inside) (first-copied c (omega arith) ∙ b))
+  declaration-copied (DeclarationWritten.row h b r) c =
+      let low = word-copied c 1 (omega arith) in
+      let high = word-copied c 5 (omega arith) in
+      rw (← low, ← high, ← word-copied c 9 (omega arith))
+      (DeclarationWritten.row (c .inside) (first-copied c (omega arith) ∙ b) (rw (low, high) r))
 
   operator-copied : {at at′ : ℕ} {o : Operator} → OperatorWritten text at o → Copied at at′ (operatorWidth o) →
       OperatorWritten new at′ o
@@ -694,6 +717,24 @@ module _ (text new : List ℕ) where
         short = m .short;
       }
 
+  row-moves : (at label : ℕ) (low high result : ℤ) (p q : Program) → length (p .rows) < 32 →
+      DeclarationWritten text at (Declaration.Row low high result) →
+      Declaring (at + 13) 0 (withRow p (record { place = at; low = low; high = high; result = result })) q → Declaring at label
+      p q
+  row-moves at label low high result p q room e f at′ p′ same allowed s =
+      let k = kept (ofDeclaration (Declaration.Row low high result)) e (λ bytes. refl) s in
+      let fits : length (p′ .rows) < 32 = omega (arith, rows-same p p′ same) in
+      let r′ : Row = record { place = at′; low = low; high = high; result = result } in
+      let m = f (at′ + 13) (withRow p′ r′) (row-same p p′ _ r′ same refl) allowed (k .next) in
+      record {
+        program = m .program;
+        end = m .end;
+        declares = Declares.onward (DeclaresOne.rows fits (k .here)) (m .declares);
+        same = m .same;
+        allowed = m .allowed;
+        short = m .short;
+      }
+
   -- A TAG stands where it stood, and IN or EQ after it.
   tag-moves : (at label given : ℕ) (p q : Program) → DeclarationWritten text at (Declaration.Tag given) →
       IsSignal (byteAt text (at + 3)) →
@@ -721,6 +762,7 @@ module _ (text new : List ℕ) where
       kept (ofDeclaration (Declaration.Latency _ _)) e (λ bytes. refl) s .first
   one-follows (DeclaresOne.caps room e) b s = kept (ofDeclaration (Declaration.Cap _)) e (λ bytes. refl) s .first
   one-follows (DeclaresOne.tags e more signal) b s = kept (ofDeclaration (Declaration.Tag _)) e (λ bytes. refl) s .first
+  one-follows (DeclaresOne.rows room e) b s = kept (ofDeclaration (Declaration.Row _ _ _)) e (λ bytes. refl) s .first
 
   declares-follows : {at label end : ℕ} {p q : Program} → Declares 1 text at label p end q → Follows at
   declares-follows (Declares.ends e le) b s = kept (ofDeclaration Declaration.End) e (λ bytes. refl) s .first
@@ -736,6 +778,7 @@ module _ (text new : List ℕ) where
       chain-moves _ _ _ _ _ _ p q room e (links-move l follows) low high r
   declared-moves q (DeclaresOne.caps {p = p} room e) follows r = cap-moves _ _ _ p q room e r
   declared-moves q (DeclaresOne.tags {p = p} e more signal) follows r = tag-moves _ _ _ p q e signal follows r
+  declared-moves q (DeclaresOne.rows {p = p} room e) follows r = row-moves _ _ _ _ _ p q room e r
 
   declares-moves : {at label end : ℕ} {p q : Program} → Declares 1 text at label p end q → Declaring at label p q
   declares-moves (Declares.ends e le) = end-moves _ _ _ e le

@@ -138,6 +138,7 @@ module _ (text : List ℕ) where
       kept-same (ofDeclaration (Declaration.Latency _ _)) e (λ bytes. refl) (links-same u f)
   one-same (DeclaresOne.caps room e) f = kept-same (ofDeclaration (Declaration.Cap _)) e (λ bytes. refl) f
   one-same (DeclaresOne.tags e more s) f = kept-same (ofDeclaration (Declaration.Tag _)) e (λ bytes. refl) f
+  one-same (DeclaresOne.rows room e) f = kept-same (ofDeclaration (Declaration.Row _ _ _)) e (λ bytes. refl) f
 
   -- Nothing stands after END.
   end-same : {at : ℕ} → length text ≤ at → Same at

@@ -1,8 +1,8 @@
 -- The test of an image decides the paper's sentence on well-formed images. Assumes nothing.
-use Prim.Native.Nat.{ℕ, zero, suc, _+_, _-_, _≤_, _<_}
+use Prim.Native.Nat.{ℕ, zero, suc, _+_, _-_, _*_, _≤_, _<_}
 use mathlib.Core.Bool.{Bool, true, false, _&&_, false≢true, and-eq-true-iff}
 use mathlib.Core.List.{List}
-use mathlib.Core.Logic.{_↔_}
+use mathlib.Core.Logic.{_↔_, _⊎_, inl, inr}
 use mathlib.Core.Path.{_≡_, refl, sym, ap, subst}
 use native.Mathlib.Decide.{decLt}
 use native.Mathlib.Omega.{arith}
@@ -16,6 +16,10 @@ use Rattle.model.specs.Rules.Machine.{
   hyperOf,
   countOf,
   listOffset,
+  tableOffset,
+  rowCount,
+  rowsIn,
+  isServed,
   codeOffset,
   codeOf,
   commandOk,
@@ -23,34 +27,50 @@ use Rattle.model.specs.Rules.Machine.{
   codeOk,
   headOk,
   listsOk,
+  tableOk,
   entriesOk,
   codesOk,
   wellFormed,
 }
+use Rattle.model.specs.Rules.Table.{areaRows}
 use Rattle.model.specs.Rules.Search.{allBelow}
-use Rattle.theorems.specs.WellFormed.{BeforeStore, FormedFrom, WellFormed}
+use Rattle.theorems.specs.WellFormed.{Served, BeforeStore, FormedFrom, WellFormed}
 use Rattle.model.specs.Rules.Word.{byteAt}
+use Rattle.model.specs.Says.Rows.{AllUpright, Rising, Covers}
 use Rattle.model.specs.Says.Written.{CodeWritten, CodeWhole}
 use Rattle.model.specs.declared.Code.{Code}
 use Rattle.model.specs.declared.Code.the-variants as Code
+use Rattle.model.specs.declared.Unary.{Unary}
+use Rattle.model.specs.declared.Unary.the-variants.{Negate, Table}
 use Rattle.model.proofs.Pairs.Decide.{all-true, true-all}
 use Rattle.model.proofs.Texts.Written.{code-written}
+use Rattle.model.proofs.Rows.Area.{rows-length, area-true, true-area}
+use Rattle.model.proofs.Rows.Sorted.{InOrder}
 
 -- A test at another height, which is the same.
 at-height : (next : ℕ → ℕ → Bool) {at height after : ℕ} → height ≡ after → next at height ≡ true → next at after ≡ true
 at-height next {at} e t = subst (λ (k : ℕ). next at k ≡ true) e t
 
+-- TABLE needs a row.
+served-true : (rows : ℕ) (operator : Unary) → isServed (ltb 0 rows) operator ≡ true → Served rows operator
+served-true rows Negate h = tt
+served-true rows Table h = ltb-true 0 rows h
+
+true-served : (rows : ℕ) (operator : Unary) → Served rows operator → isServed (ltb 0 rows) operator ≡ true
+true-served rows Negate h = refl
+true-served rows Table h = lt-ltb 0 rows h
+
 -- One code.
-module _ (n own : ℕ) (code : List ℕ) where
+module _ (rows n own : ℕ) (code : List ℕ) where
   abbrev From : ℕ → ℕ → Type 0
-  From at height = FormedFrom n own code at height
+  From at height = FormedFrom rows n own code at height
 
   written : {at : ℕ} {c : Code} → codeAt code at ≡ c → CodeWhole c → CodeWritten code at c
   written {at} {c} e whole = code-written code at c .0 (e, whole)
 
   -- A command that passes, where what follows is formed.
   command-formed : (next : ℕ → ℕ → Bool) → ((a h : ℕ) → h ≤ 32 → next a h ≡ true → From a h) → (at height : ℕ) → height ≤ 32 →
-      (c : Code) → codeAt code at ≡ c → commandOk next (length code) n own at height c ≡ true → From at height
+      (c : Code) → codeAt code at ≡ c → commandOk next (ltb 0 rows) (length code) n own at height c ≡ true → From at height
   unfolding commandOk
   command-formed next go at height le Code.EndsEarly e h = absurd (false≢true h)
   command-formed next go at height le Code.Unknown e h = absurd (false≢true h)
@@ -81,9 +101,13 @@ module _ (n own : ℕ) (code : List ℕ) where
       FormedFrom.onward (written e tt) tt (Changes.binary {height = k}) (omega arith)
       (go _ _ (omega arith) (at-height next {height = suc (suc k) - 1} (omega arith)
       (and-eq-true-iff (leb 2 (suc (suc k))) _ .0 h .1)))
-  command-formed next go at zero le (Code.Unary operator) e h = absurd (false≢true h)
+  command-formed next go at zero le (Code.Unary operator) e h =
+      absurd (false≢true (and-eq-true-iff (isServed (ltb 0 rows) operator) false .0
+      (and-eq-true-iff (isServed (ltb 0 rows) operator && false) (next (at + 1) zero) .0 h .0) .1))
   command-formed next go at (suc k) le (Code.Unary operator) e h =
-      FormedFrom.onward (written e tt) tt Changes.unary le (go _ _ le (and-eq-true-iff (leb 1 (suc k)) _ .0 h .1))
+      let t = and-eq-true-iff (isServed (ltb 0 rows) operator && leb 1 (suc k)) (next (at + 1) (suc k)) .0 h in
+      let u = and-eq-true-iff (isServed (ltb 0 rows) operator) (leb 1 (suc k)) .0 (t .0) in
+      FormedFrom.onward (written e tt) (served-true rows operator (u .0)) Changes.unary le (go _ _ le (t .1))
   command-formed next go at zero le Code.If e h = absurd (false≢true h)
   command-formed next go at (suc zero) le Code.If e h = absurd (false≢true h)
   command-formed next go at (suc (suc zero)) le Code.If e h = absurd (false≢true h)
@@ -92,16 +116,18 @@ module _ (n own : ℕ) (code : List ℕ) where
       (go _ _ (omega arith) (at-height next {height = suc (suc (suc k)) - 2} (omega arith)
       (and-eq-true-iff (leb 3 (suc (suc (suc k)))) _ .0 h .1)))
 
-  from-formed : (left at height : ℕ) → height ≤ 32 → codeOkFrom left code n own at height ≡ true → From at height
+  from-formed : (left at height : ℕ) → height ≤ 32 → codeOkFrom left (ltb 0 rows) code n own at height ≡ true → From at height
   unfolding codeOkFrom
   from-formed zero at height le h = absurd (false≢true h)
   from-formed (suc left) at height le h =
-      command-formed (λ a k. codeOkFrom left code n own a k) (λ a k l t. from-formed left a k l t) at height le (codeAt code at)
+      command-formed (λ a k. codeOkFrom left (ltb 0 rows) code n own a k) (λ a k l t. from-formed left a k l t) at height le
+      (codeAt code at)
       refl h
 
   -- And the other way round.
   change-ok : {c : Code} {width height after : ℕ} (next : ℕ → ℕ → Bool) (at : ℕ) → Changes c width height after →
-      BeforeStore n own c → after ≤ 32 → next (at + width) after ≡ true → commandOk next (length code) n own at height c ≡ true
+      BeforeStore rows n own c → after ≤ 32 → next (at + width) after ≡ true →
+      commandOk next (ltb 0 rows) (length code) n own at height c ≡ true
   unfolding commandOk
   change-ok next at (Changes.push {height}) a le t = rw (lt-ltb height 32 (omega arith)) (at-height next (omega arith) t)
   change-ok next at (Changes.load {height} {x}) a le t =
@@ -110,7 +136,8 @@ module _ (n own : ℕ) (code : List ℕ) where
       rw (eq-eqb x own a, lt-ltb height 32 (omega arith)) (at-height next (omega arith) t)
   change-ok next at (Changes.binary {height}) a le t =
       rw (le-leb 2 (suc (suc height)) (omega arith)) (at-height next (omega arith) t)
-  change-ok next at (Changes.unary {height}) a le t = rw (le-leb 1 (suc height) (omega arith)) t
+  change-ok next at (Changes.unary {height} {operator}) a le t =
+      rw (true-served rows operator a, le-leb 1 (suc height) (omega arith)) t
   change-ok next at (Changes.choose {height}) a le t =
       rw (le-leb 3 (suc (suc (suc height))) (omega arith)) (at-height next (omega arith) t)
 
@@ -132,7 +159,7 @@ module _ (n own : ℕ) (code : List ℕ) where
   inside (CodeWritten.choose le e) = omega arith
 
   formed-from : {at height : ℕ} → From at height → (left : ℕ) → length code ≤ at + left →
-      codeOkFrom left code n own at height ≡ true
+      codeOkFrom left (ltb 0 rows) code n own at height ≡ true
   unfolding codeOkFrom commandOk
   formed-from (FormedFrom.store w ends) zero le = absurd (omega (arith, inside w))
   formed-from (FormedFrom.store {at = at} w ends) (suc left) le =
@@ -140,9 +167,10 @@ module _ (n own : ℕ) (code : List ℕ) where
   formed-from (FormedFrom.onward w a ch room rest) zero le = absurd (omega (arith, inside w))
   formed-from (FormedFrom.onward {at = at} {c = c} w a ch room rest) (suc left) le =
       rw (code-written code at c .1 w .0)
-      (change-ok (λ a k. codeOkFrom left code n own a k) at ch a room (formed-from rest left (omega (arith, width-some ch))))
+      (change-ok (λ a k. codeOkFrom left (ltb 0 rows) code n own a k) at ch a room
+      (formed-from rest left (omega (arith, width-some ch))))
 
-  code-exactly : (codeOk code n own ≡ true) ↔ From 0 0
+  code-exactly : (codeOk (ltb 0 rows) code n own ≡ true) ↔ From 0 0
   unfolding codeOk
   code-exactly = (λ h. from-formed (length code) 0 0 (omega arith) h, λ f. formed-from f (length code) (omega arith))
 
@@ -170,21 +198,54 @@ module _ (image : List ℕ) where
   unfolding codeOffset
   last-code = rw (le-ltb n n (omega arith))
 
-  -- The four parts of the test.
+  -- The table: none, or rows in order.
+  Ordered : ℕ → Type 0
+  Ordered at = (byteAt image at ≡ 0) ⊎ InOrder (areaRows image at)
+
+  area-length : (at : ℕ) → length (areaRows image at) ≡ byteAt image at
+  unfolding areaRows
+  area-length at = rows-length image (at + 1) (byteAt image at)
+
+  order-upright : (at : ℕ) → Ordered at → AllUpright (areaRows image at)
+  unfolding Ordered
+  order-upright at (inl e) m l = absurd (omega (arith, area-length at))
+  order-upright at (inr o) m l = o .0 m l
+
+  order-rising : (at : ℕ) → Ordered at → Rising (areaRows image at)
+  unfolding Ordered
+  order-rising at (inl e) m l = absurd (omega (arith, area-length at))
+  order-rising at (inr o) m l = o .1 m l
+
+  order-covers : (at : ℕ) → Ordered at → 0 < byteAt image at → Covers (areaRows image at)
+  unfolding Ordered
+  order-covers at (inl e) l = absurd (omega arith)
+  order-covers at (inr o) l = o .2
+
+  -- The five parts of the test.
   parts : wellFormed image ≡ true →
-      (headOk image ≡ true) × (listsOk image ≡ true) × (entriesOk image ≡ true) × (codesOk image ≡ true)
+      (headOk image ≡ true) × (listsOk image ≡ true) × (entriesOk image ≡ true) × (codesOk image ≡ true) ×
+      (tableOk image ≡ true)
   unfolding wellFormed
-  parts t = go (headOk image) (listsOk image) refl refl t
+  parts t = go (headOk image) (listsOk image) (tableOk image) refl refl refl t
     where
-      go : (a b : Bool) → headOk image ≡ a → listsOk image ≡ b →
-          elim a [ true ↦ elim b [ true ↦ entriesOk image && codesOk image | false ↦ false ] | false ↦ false ] ≡ true →
-          (headOk image ≡ true) × (listsOk image ≡ true) × (entriesOk image ≡ true) × (codesOk image ≡ true)
-      go true true e f t = let both = and-eq-true-iff _ _ .0 t in (e, f, both .0, both .1)
-      go true false e f t = absurd (false≢true t)
-      go false b e f t = absurd (false≢true t)
+      go : (a b c : Bool) → headOk image ≡ a → listsOk image ≡ b → tableOk image ≡ c →
+          elim a [
+            | true ↦
+                elim b [
+                  | true ↦ elim c [ true ↦ entriesOk image && codesOk image | false ↦ false ]
+                  | false ↦ false
+                ]
+            | false ↦ false
+          ] ≡ true →
+          (headOk image ≡ true) × (listsOk image ≡ true) × (entriesOk image ≡ true) × (codesOk image ≡ true) ×
+          (tableOk image ≡ true)
+      go true true true e f g t = let both = and-eq-true-iff _ _ .0 t in (e, f, both .0, both .1, g)
+      go true true false e f g t = absurd (false≢true t)
+      go true false c e f g t = absurd (false≢true t)
+      go false b c e f g t = absurd (false≢true t)
 
   test-formed : wellFormed image ≡ true → WellFormed image
-  unfolding headOk listsOk entriesOk codesOk
+  unfolding headOk listsOk tableOk entriesOk codesOk Ordered
   test-formed t =
       let p = parts t in
       let a = and-eq-true-iff _ (leb (listsAt n h) (length image)) .0 (p .0) in
@@ -193,10 +254,10 @@ module _ (image : List ℕ) where
       let d = and-eq-true-iff _ _ .0 (c .0) in
       let e = and-eq-true-iff (leb 4 (length image)) _ .0 (d .0) in
       let k = and-eq-true-iff _ _ .0 (p .1) in
-      let l = and-eq-true-iff _ _ .0 (k .0) in
-      let m = and-eq-true-iff _ _ .0 (l .0) in
+      let m = and-eq-true-iff _ _ .0 (k .0) in
       let start = eqb-true _ _ (m .0) in
-      let codes-at = eqb-true _ _ (l .1) in
+      let area = and-eq-true-iff _ _ .0 (p .4) in
+      let rows = area-true image (tableOffset image) (area .0) in
       record {
         stated = eqb-true _ _ (e .1);
         hyper-some = leb-true _ _ (d .1);
@@ -204,23 +265,26 @@ module _ (image : List ℕ) where
         signals = leb-true _ _ (b .1);
         lists-start = start;
         lists-rise = λ c lt. leb-true _ _ (all-true h _ (m .1) c lt);
-        codes-start = codes-at;
+        codes-start = eqb-true _ _ (area .1);
         codes-rise = λ x lt. leb-true _ _ (and-eq-true-iff _ _ .0 (code x (p .3) lt .0) .0);
         codes-end = last-code;
-        entries = λ i from to. entry i (p .2) start codes-at from to;
-        codes = λ x lt. code-exactly n x (codeOf image x) .0 (code x (p .3) lt .1);
+        entries = λ i from to. entry i (p .2) start from to;
+        rows = rows .0;
+        upright = order-upright (tableOffset image) (rows .2);
+        rising = order-rising (tableOffset image) (rows .2);
+        covers = order-covers (tableOffset image) (rows .2);
+        codes = λ x lt. code-exactly (rowCount image) n x (codeOf image x) .0 (code x (p .3) lt .1);
       }
     where
       code : (x : ℕ) → codesOk image ≡ true → x < n →
           ((leb (codeOffset image x) (codeOffset image (x + 1)) && leb (codeOffset image (x + 1)) (length image)) ≡ true) ×
-          (codeOk (codeOf image x) n x ≡ true)
+          (codeOk (ltb 0 (rowCount image)) (codeOf image x) n x ≡ true)
       code x t lt = and-eq-true-iff _ _ .0 (all-true n _ t x lt)
 
       entry : (i : ℕ) →
-          allBelow (codeOffset image 0 - listsAt n h) (λ j. ltb (byteAt image (listsAt n h + j)) n) ≡ true →
-          listOffset image 0 ≡ listsAt n h → listOffset image h ≡ codeOffset image 0 → listOffset image 0 ≤ i →
-          i < listOffset image h → byteAt image i < n
-      entry i t start codes-at from to =
+          allBelow (tableOffset image - listsAt n h) (λ j. ltb (byteAt image (listsAt n h + j)) n) ≡ true →
+          listOffset image 0 ≡ listsAt n h → listOffset image 0 ≤ i → i < tableOffset image → byteAt image i < n
+      entry i t start from to =
           let j = i - listsAt n h in
           let same : listsAt n h + j ≡ i = omega arith in
           subst (λ (k : ℕ). byteAt image k < n) same
@@ -230,18 +294,40 @@ module _ (image : List ℕ) where
     code-within : (x : ℕ) → x ≤ n → codeOffset image x ≤ length image
     code-within x le = omega (arith, rises (codeOffset image) n (w .codes-rise) x le, w .codes-end)
 
+    table-at : tableOffset image ≡ listOffset image h
+    unfolding tableOffset
+    table-at = refl
+
     pub lists-within : listsAt n h ≤ length image
     lists-within =
         omega (
           arith,
           w .lists-start,
           rises (listOffset image) h (w .lists-rise) 0 (omega arith),
+          table-at,
           w .codes-start,
           code-within 0 (omega arith),
         )
 
-    entry-below : (i : ℕ) → i < codeOffset image 0 - listsAt n h → byteAt image (listsAt n h + i) < n
-    entry-below i lt = w .entries (listsAt n h + i) (omega (arith, w .lists-start)) (omega (arith, w .codes-start))
+    entry-below : (i : ℕ) → i < tableOffset image - listsAt n h → byteAt image (listsAt n h + i) < n
+    entry-below i lt = w .entries (listsAt n h + i) (omega (arith, w .lists-start)) (omega arith)
+
+    table-within : tableOffset image + 1 + 12 * rowCount image ≤ length image
+    table-within = omega (arith, w .codes-start, code-within 0 (omega arith))
+
+    ordered : Ordered (tableOffset image)
+    unfolding Ordered
+    ordered = go (decLt 0 (rowCount image))
+      where
+        go : Dec (0 < rowCount image) → (rowCount image ≡ 0) ⊎ InOrder (rowsIn image)
+        go (yes l) = inr (w .upright, w .rising, w .covers l)
+        go (no l) = inl (omega arith)
+
+    table-ok : tableOk image ≡ true
+    unfolding tableOk Ordered
+    table-ok =
+        rw (true-area image (tableOffset image) (omega (arith, table-within)) (w .rows) table-within ordered)
+        (eq-eqb _ _ (w .codes-start))
 
     head-ok : headOk image ≡ true
     unfolding headOk
@@ -260,23 +346,22 @@ module _ (image : List ℕ) where
         rw (
           eq-eqb _ _ (w .lists-start),
           true-all h _ (λ c lt. le-leb _ _ (w .lists-rise c lt)),
-          eq-eqb _ _ (w .codes-start),
-        ) (le-leb _ _ (code-within 0 (omega arith)))
+        ) (le-leb (tableOffset image) (length image) (omega (arith, table-within)))
 
     entries-ok : entriesOk image ≡ true
     unfolding entriesOk
-    entries-ok = true-all (codeOffset image 0 - listsAt n h) _ (λ i lt. lt-ltb _ _ (entry-below i lt))
+    entries-ok = true-all (tableOffset image - listsAt n h) _ (λ i lt. lt-ltb _ _ (entry-below i lt))
 
     codes-ok : codesOk image ≡ true
     unfolding codesOk
     codes-ok =
         true-all n _ (λ x lt.
         rw (le-leb _ _ (w .codes-rise x lt), le-leb _ _ (code-within (x + 1) (omega arith)))
-        (code-exactly n x (codeOf image x) .1 (w .codes x lt)))
+        (code-exactly (rowCount image) n x (codeOf image x) .1 (w .codes x lt)))
 
     formed-test : wellFormed image ≡ true
     unfolding wellFormed
-    formed-test = rw (head-ok, wellFormed) (rw lists-ok (rw (entries-ok, codes-ok)))
+    formed-test = rw (head-ok, wellFormed) (rw lists-ok (rw table-ok (rw (entries-ok, codes-ok))))
 
   -- The test passes exactly the images that are well formed by the paper.
   pub well-formed-exactly : (wellFormed image ≡ true) ↔ WellFormed image

@@ -2,7 +2,7 @@
 use Prim.Native.Nat.{ℕ, _≤_}
 use mathlib.Core.Path.{_≡_, sym, _∙_}
 use native.Mathlib.Omega.{arith}
-use Rattle.model.specs.Rules.Image.{codes, runLists, listsAt, codesAt, lengthOf, imageOf}
+use Rattle.model.specs.Rules.Image.{codes, runLists, listsAt, codesAt, rowsAt, lengthOf, imageOf}
 use Rattle.model.specs.Rules.Program.{Program, count}
 use Rattle.model.specs.Rules.Schedule.{Schedule}
 use Rattle.theorems.specs.Images.{OffsetFits, OffsetsFit}
@@ -28,7 +28,7 @@ module _ (p : Program) (s : Schedule) (h : ℕ) (bounded : Bounded p s h) where
       }
 
   pub offsets-fit : OffsetsFit p s h
-  unfolding lengthOf codesAt
+  unfolding lengthOf codesAt rowsAt
   offsets-fit =
       record {
         codeOffsets = λ x lt.

@@ -7,6 +7,7 @@ use mathlib.Core.Path.{_≡_, _∙_}
 use Rattle.model.specs.Says.Feasible.{Multiple}
 use Rattle.model.specs.Rules.Compile.{shortEnough, Pair, pairOf}
 use Rattle.model.specs.Says.Grammar.{LegalWith, LegalProgram, LegalSchedule}
+use Rattle.model.specs.Rules.Cover.{tabled}
 use Rattle.model.specs.Rules.Latency.{timely}
 use Rattle.model.specs.Rules.Load.{loaded}
 use Rattle.model.specs.Rules.Outcome.{Outcome, accepted, refused, fault, _▷_, Parsed}
@@ -32,6 +33,7 @@ use Rattle.theorems.proofs.Pairs.Judged.{
   linked-judged,
 }
 use Rattle.theorems.proofs.Pairs.JudgedPuts.{PlacedFault, placed-judged}
+use Rattle.theorems.proofs.Pairs.JudgedRows.{tabled-judged}
 use Rattle.theorems.proofs.Pairs.JudgedRuns.{met-judged, loaded-judged, timely-judged}
 use Rattle.theorems.proofs.Texts.Parses.{with-legal, schedule-legal}
 use Rattle.theorems.proofs.Texts.Stopped.{with-stops, schedule-stops}
@@ -49,7 +51,7 @@ schedule-judged : (text : List ℕ) →
     Judged (LegalSchedule text) (StopsPuts text 0) (parseSchedule text)
 schedule-judged text = record { accepts = schedule-legal text; refuses = schedule-stops text }
 
--- The checks after 13, and those after 10.
+-- The checks after 13, and those after 30.
 abbrev afterPlaces : Program → ℕ → Schedule → Outcome Pair
 afterPlaces p h s =
     met p s ▷ λ _. loaded p s h ▷ λ _. timely p s h ▷ λ _.
@@ -97,8 +99,10 @@ module _ (program schedule : List ℕ) where
       (λ v rated.
       answers-then Q R (hypercycle p) _ (hypercycle-judged p) (λ g f. unbounded short legal rated f) (λ h least.
       answers-then Q R (linked p) _ (linked-judged p) (λ g f. RefusedAt.unlinked short legal rated least f) (λ w links.
+      answers-then Q R (tabled p) _ (tabled-judged program p legal)
+      (λ g f. RefusedAt.uncovered short legal rated least links f) (λ x table.
       answers-schedule p h
-      (record { short = short; legal = legal; rated = rated; hypercycle = least; linked = links }))))))
+      (record { short = short; legal = legal; rated = rated; hypercycle = least; linked = links; tabled = table })))))))
     where
       long : {f : Fault} → Only 1 0 (¬ ShortEnough program schedule) f → RefusedAt program schedule f
       long (Only.only h) = RefusedAt.long h
@@ -118,7 +122,8 @@ module _ (program schedule : List ℕ) where
       accepted-then _ _ _ (program-judged program .accepts p .1 (r .legal)) ∙
       accepted-then _ _ _ (rated-judged program p (r .legal) .accepts tt .1 (r .rated)) ∙
       accepted-then _ _ _ (hypercycle-judged p .accepts h .1 (r .hypercycle)) ∙
-      accepted-then _ _ _ (linked-judged p .accepts tt .1 (r .linked))
+      accepted-then _ _ _ (linked-judged p .accepts tt .1 (r .linked)) ∙
+      accepted-then _ _ _ (tabled-judged program p (r .legal) .accepts tt .1 (r .tabled))
 
   places-passed : {p : Program} {h : ℕ} {s : Schedule} → LegalPlaces program schedule p h s →
       pairOf program schedule ≡ afterPlaces p h s
@@ -156,6 +161,13 @@ module _ (program schedule : List ℕ) where
       accepted-then _ _ _ (rated-judged program p legal .accepts tt .1 rated) ∙
       accepted-then _ _ _ (hypercycle-judged p .accepts h .1 least) ∙
       refused-then _ _ _ (linked-judged p .refuses _ .1 f)
+  refused-back (RefusedAt.uncovered {h = h} {p = p} short legal rated least links f) =
+      accepted-then _ _ _ (short-passed short) ∙
+      accepted-then _ _ _ (program-judged program .accepts p .1 legal) ∙
+      accepted-then _ _ _ (rated-judged program p legal .accepts tt .1 rated) ∙
+      accepted-then _ _ _ (hypercycle-judged p .accepts h .1 least) ∙
+      accepted-then _ _ _ (linked-judged p .accepts tt .1 links) ∙
+      refused-then _ _ _ (tabled-judged program p legal .refuses _ .1 f)
   refused-back (RefusedAt.unread r f) =
       rates-passed r ∙ refused-then _ _ _ (schedule-judged schedule .refuses _ .1 f)
   refused-back (RefusedAt.misplaced {p = p} {puts = puts} r legal f) =

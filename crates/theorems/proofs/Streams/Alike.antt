@@ -52,7 +52,7 @@ module _ (p : Program) (s s′ : Schedule) where
   alike-satisfy alike inputs X sat x zero lt = sat x zero lt
   alike-satisfy alike inputs X sat x (suc k) lt =
       sat x (suc k) lt ∙
-      next-same (λ ρ. settled p s x ρ ≡ settled p s′ x ρ) (λ ρ. X (ρ .operands .signal) (used p s x k ρ))
+      next-same (p .rows) (λ ρ. settled p s x ρ ≡ settled p s′ x ρ) (λ ρ. X (ρ .operands .signal) (used p s x k ρ))
       (λ ρ. X (ρ .operands .signal) (used p s′ x k ρ))
       (λ ρ e. rw e) (inputs x k) (signalAt p x .body) (alike x lt)
 

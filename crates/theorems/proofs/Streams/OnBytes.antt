@@ -15,6 +15,7 @@ use Rattle.model.specs.Says.Feasible.{Feasible, Multiple}
 use Rattle.model.specs.Says.Calls.{Call, reset, cycle, callOf, logged, after, logAfter}
 use Rattle.model.specs.Rules.Image.{runList, imageOf}
 use Rattle.model.specs.Rules.Machine.{
+  rowsIn,
   codeOf,
   runCode,
   runSignals,
@@ -48,6 +49,7 @@ use Rattle.model.proofs.Images.Cycles.{position-is, next-inside, run-length, cy
 use Rattle.theorems.proofs.Images.Counted.{cycle-count}
 use Rattle.theorems.proofs.Streams.Lists.{sampleOf, logOf, stateAfter, position-next, After, machine-holds}
 use Rattle.theorems.proofs.Streams.Computes.{run-signal}
+use Rattle.theorems.proofs.Streams.Looked.{unary-alike}
 use Rattle.theorems.proofs.Streams.Turns
 use Rattle.theorems.proofs.Streams.Turns.{State, store, turns}
 
@@ -126,11 +128,12 @@ pub record Shown (p : Program) (h n : ℕ) (state : List ℤ) (st : State) (log 
 module _ (p : Program) (s : Schedule) (h : ℕ) (acc : Feasible p s) (whole : Multiple p h) (bounded : Bounded p s h) where
   -- A run of the image's lists and codes.
   run-word : (samples state : List ℤ) (x : ℕ) → x < count p →
-      runCode (codeOf (imageOf p s h) x) state samples ≡
-      next (λ ρ. wordsOf state (ρ .operands .signal)) (sampleOf samples x) (signalAt p x .body)
+      runCode (rowsIn (imageOf p s h)) (codeOf (imageOf p s h) x) state samples ≡
+      next (p .rows) (λ ρ. wordsOf state (ρ .operands .signal)) (sampleOf samples x) (signalAt p x .body)
   run-word samples state x lt =
-      ap (λ (code : List ℕ). runCode code state samples) (code-stretch p s h bounded x lt) ∙
-      run-signal x (signalAt p x .body) state samples (bounded .constants x lt)
+      ap (λ (code : List ℕ). runCode (rowsIn (imageOf p s h)) code state samples) (code-stretch p s h bounded x lt) ∙
+      run-signal (p .rows) (rowsIn (imageOf p s h)) (unary-alike p s h acc whole bounded) x (signalAt p x .body) state samples
+      (bounded .constants x lt)
 
   run-turns : (samples : List ℤ) (q : ℕ) (order : List ℕ) (state : List ℤ) →
       ((j : ℕ) → j < length order → getD order j 0 < count p) →
@@ -146,7 +149,7 @@ module _ (p : Program) (s : Schedule) (h : ℕ) (acc : Feasible p s) (whole : Mu
       rest = chosen (λ x. due (rateOf p s x) q) xs
 
       new : ℤ
-      new = next (λ ρ. wordsOf state (ρ .operands .signal)) (sampleOf samples x) (signalAt p x .body)
+      new = next (p .rows) (λ ρ. wordsOf state (ρ .operands .signal)) (sampleOf samples x) (signalAt p x .body)
 
       go : (d : Bool) →
           ((st : List ℤ) → length st ≡ length state →

@@ -36,7 +36,7 @@ module _ (p : Program) (s : Schedule) where
   -- Signal x in a cycle at position q: it runs if it is due. Every read takes the word that the signal read holds.
   abbrev pub turn : (ℕ → ℤ) → ℕ → (ℕ → ℤ) → ℕ → ℕ → ℤ
   turn samples q σ x =
-      cond (due (rateOf p s x) q) (store σ x (next (λ ρ. σ (ρ .operands .signal)) (samples x) (signalAt p x .body))) σ
+      cond (due (rateOf p s x) q) (store σ x (next (p .rows) (λ ρ. σ (ρ .operands .signal)) (samples x) (signalAt p x .body))) σ
 
   abbrev pub turns : (ℕ → ℤ) → ℕ → List ℕ → (ℕ → ℤ) → ℕ → ℤ
   turns samples q [] σ = σ
@@ -55,7 +55,7 @@ module _ (p : Program) (s : Schedule) where
   turn-other samples q σ x v lt = go (due (rateOf p s x) q)
     where
       go : (d : Bool) →
-          cond d (store σ x (next (λ ρ. σ (ρ .operands .signal)) (samples x) (signalAt p x .body))) σ v ≡ σ v
+          cond d (store σ x (next (p .rows) (λ ρ. σ (ρ .operands .signal)) (samples x) (signalAt p x .body))) σ v ≡ σ v
       go true = rw (ne-eqb v x (λ e. omega arith))
       go false = refl
 
@@ -96,11 +96,11 @@ module _ (p : Program) (s : Schedule) (acc : Feasible p s) (inputs X : ℕ → �
       samples x ≡ inputs x k) where
     -- What a run stores is the next element.
     run-word : (x k : ℕ) (σ : ℕ → ℤ) → x < count p → runCycle (rateOf p s x) k ≡ t → Midway t (rank (s .order) x) σ →
-        next (λ ρ. σ (ρ .operands .signal)) (samples x) (signalAt p x .body) ≡ X x (suc k)
+        next (p .rows) (λ ρ. σ (ρ .operands .signal)) (samples x) (signalAt p x .body) ≡ X x (suc k)
     unfolding used
     run-word x k σ lt e mid =
-        next-given (λ ρ. σ (ρ .operands .signal)) (samples x) (inputs x k) (signalAt p x .body) (λ i. lent x k lt i e) ∙
-        next-same (Met p s x) (λ ρ. σ (ρ .operands .signal)) (λ ρ. X (ρ .operands .signal) (used p s x k ρ))
+        next-given (p .rows) (λ ρ. σ (ρ .operands .signal)) (samples x) (inputs x k) (signalAt p x .body) (λ i. lent x k lt i e) ∙
+        next-same (p .rows) (Met p s x) (λ ρ. σ (ρ .operands .signal)) (λ ρ. X (ρ .operands .signal) (used p s x k ρ))
         (λ ρ m. mid (ρ .operands .signal) (m .declared) ∙ ap (X (ρ .operands .signal)) ((rw e) ∙ used-is p s acc x ρ k lt m))
         (inputs x k) (signalAt p x .body) (acc .met x lt) ∙
         sym (sat x (suc k) lt)
@@ -120,7 +120,7 @@ module _ (p : Program) (s : Schedule) (acc : Feasible p s) (inputs X : ℕ → �
     turn-mid x σ lt mid v lv = go (due (rateOf p s x) q) (sym (here x lt))
       where
         new : ℤ
-        new = next (λ ρ. σ (ρ .operands .signal)) (samples x) (signalAt p x .body)
+        new = next (p .rows) (λ ρ. σ (ρ .operands .signal)) (samples x) (signalAt p x .body)
 
         Goal : ℤ → Type 0
         Goal w = w ≡ X v (stored (rateOf p s v) (t + bit (ltb (rank (s .order) v) (suc (rank (s .order) x)))))

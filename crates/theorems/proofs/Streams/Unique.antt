@@ -44,13 +44,13 @@ earlier t u x y l h lt = go (ltb x y) refl lt
 
 module _ (p : Program) (s : Schedule) where
   -- The number of a history entry in the order in which the entries are computed; 0 for initial words.
-  number : ℕ → ℕ → ℕ
+  pub number : ℕ → ℕ → ℕ
   number x zero = zero
   number x (suc k) = suc (runCycle (rateOf p s x) k * suc (length (s .order)) + rank (s .order) x)
 
   module _ (acc : Feasible p s) where
     -- What it uses was computed before.
-    used-lower : (r : ℕ) (ρ : Read) (k : ℕ) → r < count p → Met p s r ρ →
+    pub used-lower : (r : ℕ) (ρ : Read) (k : ℕ) → r < count p → Met p s r ρ →
         number (ρ .operands .signal) (used p s r k ρ) < number r (suc k)
     unfolding number
     used-lower r ρ k lt m = go (used p s r k ρ) (used-is p s acc r ρ k lt m)
@@ -72,13 +72,14 @@ module _ (p : Program) (s : Schedule) where
             omega arith
 
     -- A history entry depends on entries of lower number only.
-    entry-same : (inputs X Y : ℕ → ℕ → ℤ) (x j : ℕ) → x < count p →
+    pub entry-same : (inputs X Y : ℕ → ℕ → ℤ) (x j : ℕ) → x < count p →
         ((w i : ℕ) → w < count p → number w i < number x j → X w i ≡ Y w i) →
         entry p (settled p s) inputs X x j ≡ entry p (settled p s) inputs Y x j
     unfolding used
     entry-same inputs X Y x zero lt h = refl
     entry-same inputs X Y x (suc k) lt h =
-        next-same (Met p s x) (λ ρ. X (ρ .operands .signal) (used p s x k ρ)) (λ ρ. Y (ρ .operands .signal) (used p s x k ρ))
+        next-same (p .rows) (Met p s x) (λ ρ. X (ρ .operands .signal) (used p s x k ρ))
+        (λ ρ. Y (ρ .operands .signal) (used p s x k ρ))
         (λ ρ m. h (ρ .operands .signal) (used p s x k ρ) (m .declared) (used-lower x ρ k lt m))
         (inputs x k) (signalAt p x .body) (acc .met x lt)
 

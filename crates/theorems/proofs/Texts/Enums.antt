@@ -6,8 +6,6 @@ use mathlib.Core.Logic.{inl, inr}
 use mathlib.Core.Path.{_≡_, refl, sym, ap, subst, _∙_}
 use native.Mathlib.Omega.{arith}
 use borrow.Author.Tests.{ne-eqb}
-use mir.Syntax.{w32}
-use mir.Val.{SFits}
 use lib.IntN.{ℤ, pos, negsuc}
 use lib.ListN.{length, drop, take-append-drop}
 use Rattle.model.specs.Rules.Command.{indexOf, modeOf}
@@ -27,7 +25,7 @@ use Rattle.theorems.specs.Enums.{
   BytesAt,
 }
 use Rattle.model.specs.Rules.Width.{readWidth}
-use Rattle.theorems.specs.Nearest.{IsWord}
+use Rattle.model.specs.Says.Words.{IsWord}
 use Rattle.model.specs.Rules.Word.{byteAt, twoBytes, fourBytes, wordBytes}
 use Rattle.model.specs.Says.Written.{
   InPeriods,
@@ -63,10 +61,6 @@ stands {text} {bytes} {at} b =
       is = sym (take-append-drop (length bytes) (drop at text)) ∙ ap (λ l. l ++ drop (length bytes) (drop at text)) (b .stand);
     }
 
-fits : (w : ℤ) → IsWord w → SFits w32 w
-fits (pos n) h = record { sfits = omega arith }
-fits (negsuc n) h = record { sfits = omega arith }
-
 mode-back : (mode : Mode) → modeOf (modeByte mode) ≡ mode
 mode-back Exists = refl
 mode-back Backward = refl
@@ -90,7 +84,7 @@ module _ {text : List ℕ} {at : ℕ} where
   unfolding wordBytes fourBytes
   input-written period initial r h =
       let p = byte-from 1 (omega arith) h in
-      let w = word-at initial (fits initial (r .1)) (behind (0x10 ∷ period ∷ []) (wordBytes initial) h) in
+      let w = word-at initial (r .1) (behind (0x10 ∷ period ∷ []) (wordBytes initial) h) in
       rw (← p, ← w) (DeclarationWritten.input (inside (omega arith) h) (byte-here h) (rw p (r .0)))
 
   equation-written : (period : ℕ) (initial : ℤ) (weight : ℕ) → DeclarationRanged (Declaration.Equation period initial weight) →
@@ -100,11 +94,11 @@ module _ {text : List ℕ} {at : ℕ} where
   equation-written period initial weight r h =
       let p = byte-from 1 (omega arith) h in
       let rest = behind (0x11 ∷ period ∷ []) (wordBytes initial ++ twoBytes weight) h in
-      let w = word-at initial (fits initial (r .1)) (front (wordBytes initial) (twoBytes weight) rest) in
+      let w = word-at initial (r .1) (front (wordBytes initial) (twoBytes weight) rest) in
       let g = two-at weight (r .2) (behind (0x11 ∷ period ∷ wordBytes initial) (twoBytes weight) h) in
       rw (← p, ← w, ← g) (DeclarationWritten.equation (inside (omega arith) h) (byte-here h) (rw p (r .0)))
 
-  -- LAT, LINK, CAP, TAG.
+  -- LAT, LINK, CAP, TAG, ROW.
   latency-written : (mode : Mode) (bound : ℕ) → bound ≤ 65535 → Stands text at (0x12 ∷ modeByte mode ∷ twoBytes bound) →
       DeclarationWritten text at (Declaration.Latency mode bound)
   unfolding twoBytes
@@ -129,11 +123,23 @@ module _ {text : List ℕ} {at : ℕ} where
       rw (← two-at label le (behind (0x15 ∷ []) (twoBytes label) h))
       (DeclarationWritten.tag (inside (omega arith) h) (byte-here h))
 
+  row-written : (low high result : ℤ) → DeclarationRanged (Declaration.Row low high result) →
+      Stands text at (0x16 ∷ (wordBytes low ++ wordBytes high ++ wordBytes result)) →
+      DeclarationWritten text at (Declaration.Row low high result)
+  unfolding wordBytes fourBytes
+  row-written low high result r h =
+      let a = behind (0x16 ∷ []) (wordBytes low ++ wordBytes high ++ wordBytes result) h in
+      let b = behind (0x16 ∷ wordBytes low) (wordBytes high ++ wordBytes result) h in
+      let l = word-at low (r .0) (front (wordBytes low) (wordBytes high ++ wordBytes result) a) in
+      let t = word-at high (r .1) (front (wordBytes high) (wordBytes result) b) in
+      let e = word-at result (r .2) (behind (0x16 ∷ (wordBytes low ++ wordBytes high)) (wordBytes result) h) in
+      rw (← l, ← t, ← e) (DeclarationWritten.row (inside (omega arith) h) (byte-here h) (rw (l, t) (r .3)))
+
   -- CONST, and the reads.
   constant-written : (w : ℤ) → IsWord w → Stands text at (0x20 ∷ wordBytes w) → OperatorWritten text at (Operator.Constant w)
   unfolding wordBytes fourBytes
   constant-written w f h =
-      rw (← word-at w (fits w f) (behind (0x20 ∷ []) (wordBytes w) h))
+      rw (← word-at w f (behind (0x20 ∷ []) (wordBytes w) h))
       (OperatorWritten.constant (inside (omega arith) h) (byte-here h))
 
   plain-written : (kind : Kind) (x : Sampled) → readWidth kind ≡ 2 → x .factor ≡ 1 → x .index ≡ Fixed 0 →
@@ -184,6 +190,7 @@ module _ {text : List ℕ} {at : ℕ} where
   declaration-stands (Declaration.Link signal) r h = link-written signal h
   declaration-stands (Declaration.Cap n) r h = cap-written n r h
   declaration-stands (Declaration.Tag label) r h = tag-written label r h
+  declaration-stands (Declaration.Row low high result) r h = row-written low high result r h
 
   pub operator-stands : (c : Operator) → OperatorRanged c → Stands text at (operatorBytes c) → OperatorWritten text at c
   operator-stands Operator.EndsEarly r h = absurd r
@@ -206,7 +213,7 @@ push-written : {code : List ℕ} {at : ℕ} (w : ℤ) → IsWord w → Stands co
     CodeWritten code at (Code.Push w)
 unfolding wordBytes fourBytes
 push-written w f h =
-    rw (← word-at w (fits w f) (behind (0x50 ∷ []) (wordBytes w) h)) (CodeWritten.push (inside (omega arith) h) (byte-here h))
+    rw (← word-at w f (behind (0x50 ∷ []) (wordBytes w) h)) (CodeWritten.push (inside (omega arith) h) (byte-here h))
 
 pub code-stands : {code : List ℕ} {at : ℕ} (c : Code) → CodeRanged c → Stands code at (codeBytes c) → CodeWritten code at c
 code-stands Code.EndsEarly r h = absurd r

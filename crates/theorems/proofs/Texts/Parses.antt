@@ -174,6 +174,11 @@ module _ {least : ℕ} {text : List ℕ} where
         accepted-then _ _ tt (true-provided _ _ _ (lt-ltb _ _ more)) ∙
         accepted-then _ _ tt (true-provided _ _ _ (signal-is _ .1 s)),
   )
+  command-onward (DeclaresOne.rows {at = at} {label = label} {p = p} room e) left = (
+    omega (arith, written-inside text at e),
+    omega arith,
+    command-step least text left at label p _ (decoded e) (fit at p e (HasRoom.row (written-byte text at e) room)),
+  )
 
   pub parse-onward : {at label next given : ℕ} {p q : Program} (o : Outcome Program) →
       DeclaresOne least text at label p next given q →

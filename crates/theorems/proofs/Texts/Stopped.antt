@@ -67,6 +67,7 @@ use Rattle.model.proofs.Texts.Room.{
   signal-room,
   chain-room,
   cap-room,
+  row-room,
   no-link-room,
 }
 use Rattle.model.proofs.Texts.Spelled.{spelled, links-spelled}
@@ -310,13 +311,15 @@ no-signal b u = go (isSignal b) refl
     go false e = e
 
 -- A byte that asks for no room is no declaration's.
-no-byte : {b : ℕ} → ¬ (b ≡ 0x00) → ¬ IsSignal b → ¬ (b ≡ 0x12) → ¬ (b ≡ 0x14) → ¬ (b ≡ 0x15) → ¬ DeclarationByte b
-no-byte e s l c t (DeclarationByte.end h) = e h
-no-byte e s l c t (DeclarationByte.input h) = s (inl h)
-no-byte e s l c t (DeclarationByte.equation h) = s (inr h)
-no-byte e s l c t (DeclarationByte.latency h) = l h
-no-byte e s l c t (DeclarationByte.cap h) = c h
-no-byte e s l c t (DeclarationByte.tag h) = t h
+no-byte : {b : ℕ} → ¬ (b ≡ 0x00) → ¬ IsSignal b → ¬ (b ≡ 0x12) → ¬ (b ≡ 0x14) → ¬ (b ≡ 0x15) → ¬ (b ≡ 0x16) →
+    ¬ DeclarationByte b
+no-byte e s l c t r (DeclarationByte.end h) = e h
+no-byte e s l c t r (DeclarationByte.input h) = s (inl h)
+no-byte e s l c t r (DeclarationByte.equation h) = s (inr h)
+no-byte e s l c t r (DeclarationByte.latency h) = l h
+no-byte e s l c t r (DeclarationByte.cap h) = c h
+no-byte e s l c t r (DeclarationByte.tag h) = t h
+no-byte e s l c t r (DeclarationByte.row h) = r h
 
 module _ (least : ℕ) (text : List ℕ) where
   module _ (at label : ℕ) (p : Program) where
@@ -333,7 +336,9 @@ module _ (least : ℕ) (text : List ℕ) where
         (λ t. refuses-provided S _ 4 at (λ u. Stops.signals (signal-is b .0 t) (ltb-false _ _ u))) (λ s.
         picked (Refuses S) b 0x12 _ _ (λ h. refuses-provided S _ 4 at (λ u. Stops.chains h (ltb-false _ _ u))) (λ l.
         picked (Refuses S) b 0x14 _ _ (λ h. refuses-provided S _ 5 at (λ u. Stops.second h (capped (p .cap) u))) (λ c.
-        picked (Refuses S) b 0x15 _ _ (λ h. tt) (λ t. Stops.unknown lt (no-byte e (not-signal b s) l c t))))))
+        picked (Refuses S) b 0x15 _ _ (λ h. tt) (λ t.
+        picked (Refuses S) b 0x16 _ _ (λ h. refuses-provided S _ 4 at (λ u. Stops.rows h (ltb-false _ _ u))) (λ r.
+        Stops.unknown lt (no-byte e (not-signal b s) l c t r)))))))
 
     here-stop : Refuses S (declarationHere text at p)
     unfolding declarationHere
@@ -392,6 +397,8 @@ module _ (least : ℕ) (text : List ℕ) where
         declare-stops (Declaration.Link signal) e r lt = absurd (no-link-room p r (written-byte text at (as-written _ tt e)))
         declare-stops (Declaration.Cap n) e r lt =
             onward (omega arith) (DeclaresOne.caps (cap-room p r (written-byte text at (as-written _ tt e))) (as-written _ tt e))
+        declare-stops (Declaration.Row low high result) e r lt =
+            onward (omega arith) (DeclaresOne.rows (row-room p r (written-byte text at (as-written _ tt e))) (as-written _ tt e))
         declare-stops (Declaration.Tag given) e r lt =
             let after = at + inProgram 0x15 in
             refuses-then (Stops least text at label p) (provided (ltb after (length text)) 2 (length text)) _
@@ -431,6 +438,7 @@ module _ (least : ℕ) (text : List ℕ) where
         ne-eqb b 0x12 (λ e. u (DeclarationByte.latency e)),
         ne-eqb b 0x14 (λ e. u (DeclarationByte.cap e)),
         ne-eqb b 0x15 (λ e. u (DeclarationByte.tag e)),
+        ne-eqb b 0x16 (λ e. u (DeclarationByte.row e)),
       )
 
   many-here : (at : ℕ) (p : Program) → IsSignal (byteAt text at) → 64 ≤ count p → roomFor at p (byteAt text at) ≡ refuse 4 at
@@ -442,6 +450,11 @@ module _ (least : ℕ) (text : List ℕ) where
       roomFor at p (byteAt text at) ≡ refuse 4 at
   unfolding roomFor
   chains-here at p b many = rw b (false-provided _ 4 at (le-ltb _ _ many))
+
+  rows-here : (at : ℕ) (p : Program) → byteAt text at ≡ 0x16 → 32 ≤ length (p .rows) →
+      roomFor at p (byteAt text at) ≡ refuse 4 at
+  unfolding roomFor
+  rows-here at p b many = rw b (false-provided _ 4 at (le-ltb _ _ many))
 
   second-here : (at : ℕ) (p : Program) → byteAt text at ≡ 0x14 → ¬ (p .cap ≡ unlimited) →
       roomFor at p (byteAt text at) ≡ refuse 5 at
@@ -480,6 +493,10 @@ module _ (least : ℕ) (text : List ℕ) where
       let lt = byte-inside text at (omega arith) in
       judged-refused left at label p _ lt enough
       (chains-here at p b many)
+  commands-refused (Stops.rows {at = at} {label = label} {p = p} b many) left enough =
+      let lt = byte-inside text at (omega arith) in
+      judged-refused left at label p _ lt enough
+      (rows-here at p b many)
   commands-refused (Stops.second {at = at} {label = label} {p = p} b u) left enough =
       let lt = byte-inside text at (omega arith) in
       judged-refused left at label p _ lt enough

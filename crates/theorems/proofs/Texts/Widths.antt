@@ -49,7 +49,7 @@ use Rattle.model.specs.declared.Kind.the-variants.{Now, Last, When, LastWhen, C
 use Rattle.model.specs.declared.Operator.{Operator}
 use Rattle.model.specs.declared.ScheduleCommand.{ScheduleCommand}
 use Rattle.model.specs.declared.Unary.{Unary}
-use Rattle.model.specs.declared.Unary.the-variants.{Negate}
+use Rattle.model.specs.declared.Unary.the-variants.{Negate, Table}
 use Rattle.model.specs.declared.Width.{Width}
 use Rattle.model.specs.declared.Width.the-variants.{Bytes, Unlisted}
 use Rattle.model.proofs.Pairs.Decide.{beq-true, all-true}
@@ -181,6 +181,12 @@ module _ (text : List ℕ) (at : ℕ) where
       spans (inProgram 0x15) (omega arith) h (rw b) (λ m g.
       rw (← two text m (at + 1) (omega arith))
       (DeclarationWritten.tag (long text m _ g h) (byte text m at (omega arith) ∙ b)))
+  declaration-span c (DeclarationWritten.row h b r) =
+      spans (inProgram 0x16) (omega arith) h (rw b) (λ m g.
+      let low = word text m (at + 1) (omega arith) in
+      let high = word text m (at + 5) (omega arith) in
+      rw (← low, ← high, ← word text m (at + 9) (omega arith))
+      (DeclarationWritten.row (long text m _ g h) (byte text m at (omega arith) ∙ b) (rw (low, high) r)))
 
 -- The operators of an expression; those of a code.
 abbrev expression-lists : ℕ → ℕ → Bool
@@ -210,6 +216,7 @@ binary-list Max = (refl, refl)
 unary-list : (operator : Unary) → (expression-lists (unaryByte operator) (inExpression 0x38) ≡ true) ×
     (code-lists (unaryByte operator) (inCode 0x38) ≡ true)
 unary-list Negate = (refl, refl)
+unary-list Table = (refl, refl)
 
 module _ (text : List ℕ) (at : ℕ) where
   abbrev OperatorSpans : Operator → Type 0

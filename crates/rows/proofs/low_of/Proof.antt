@@ -1,0 +1,26 @@
+-- `rows::low_of` meets its contract. Assumes nothing.
+use mathlib.Core.Path.{ap, _∙_}
+use Prim.Native.Nat.{ℕ, _+_}
+use borrow.Author.Needs.{needs}
+use Rattle.model.specs.Rules.Word.{wordAt}
+use Rattle.word.proofs.Locals.{kept}
+use Rattle.rows.proofs.low_of.Statement.{statement}
+use Rattle.rows.proofs.low_of.Tie as tie
+
+offset-of-requires : tie.Need-offset-of-requires
+offset-of-requires c κs = search needs
+
+add-from : tie.Need-add-from
+add-from c = search needs
+
+word-at-requires : tie.Need-word-at-requires
+word-at-requires c κs = search needs
+
+returns : tie.Need-returns
+returns c =
+    kept _ (c .word-at .ok) ∙ c .word-at .ensures
+    ∙ ap (λ (o : ℕ). wordAt (c .before .before .before .args .text .now) (o + 1)) (c .before .offset-of .ensures)
+
+pub low-of-spec : {M : Type 1} → statement M
+low-of-spec =
+    tie.close (tie.spec offset-of-requires add-from word-at-requires returns)
