@@ -8,6 +8,17 @@ extern "C" {
         image: *mut u8,
         image_length: usize,
     ) -> u64;
+    fn larderlate_join_numbers(
+        texts: *const u8,
+        texts_length: usize,
+        numbers: *const usize,
+        numbers_count: usize,
+        links: *const u8,
+        links_length: usize,
+        image: *mut u8,
+        image_length: usize,
+        part: *mut usize,
+    ) -> u64;
     fn larderlate_report(
         program: *const u8,
         program_length: usize,
@@ -57,6 +68,13 @@ extern "C" {
 pub fn compile(program: &[u8], schedule: &[u8], image: &mut [u8]) -> u64 {
     let (length, image) = (image.len(), image.as_mut_ptr());
     unsafe { larderlate_compile(program.as_ptr(), program.len(), schedule.as_ptr(), schedule.len(), image, length) }
+}
+
+/// Four numbers a part: start and length of its program and of its schedule.
+pub fn join(texts: &[u8], numbers: &[usize], links: &[u8], image: &mut [u8], part: &mut usize) -> u64 {
+    let (length, image) = (image.len(), image.as_mut_ptr());
+    let (numbers, count) = (numbers.as_ptr(), numbers.len());
+    unsafe { larderlate_join_numbers(texts.as_ptr(), texts.len(), numbers, count, links.as_ptr(), links.len(), image, length, part) }
 }
 
 /// Of the sizes, the first is the length with the tail and the second the stack use.

@@ -1,6 +1,7 @@
 /* The calls of Larderlate's static library for C and C++.
  *
  *     larderlate_compile   reads a program and a schedule, checks both, writes a step image
+ *     larderlate_join      the same of up to 8 parts, each a program with its schedule, and links between them
  *     larderlate_report    checks both and tells what they need, with no image
  *     larderlate_reset     puts a state to its start
  *     larderlate_cycle     runs one cycle on a state
@@ -11,24 +12,26 @@
  *
  * Every call takes any bytes and words, ends, and does its job or refuses. A refused call changes nothing that was lent to it.
  * The calls keep nothing between them and need no memory but their stack, so any number may run at once on different state. Of the
- * stack, measured on x86-64 with 64 signals, 16 chains, 32 rows and expressions 16 deep (bench/stack), a compile or a report takes 23 KB, a
- * conversion 15 KB, each other call less than 1 KB.
+ * stack, measured on x86-64 with 64 signals, 16 chains, 32 rows and expressions 16 deep (bench/stack), a join takes 27 KB, a
+ * compile or a report 23 KB, a conversion 15 KB, each other call less than 1 KB.
  *
  * AN IMAGE has L bytes, and bytes 2-3 hold L, low byte first. After them stands its tail, four bytes for each of its N signals: label
- * (2 bytes, low byte first), period, phase. Compile always writes both. Reset, cycle and tail take an image at exactly L
+ * (2 bytes, low byte first), period, phase. Compile and join always write both. Reset, cycle and tail take an image at exactly L
  * bytes, without its tail, or at exactly L + 4N, with a tail of any bytes, and run both alike.
  *
- * THE ANSWER is one number of 64 bits: number x 2^32 + value. Number 0 says done; the value is then L + 4N for a compile, L for a
- * report, 0 for a reset, the number of commands run for a cycle, the tail's length for a tail, and the new text's for a conversion.
- * Any other number is that of the refusal, and the value is its place. The board's calls yield 0, or a refusal with place 0.
+ * THE ANSWER is one number of 64 bits: number x 2^32 + value. Number 0 says done; the value is then L + 4N for a compile or a join, L
+ * for a report, 0 for a reset, the number of commands run for a cycle, the tail's
+ * length for a tail, and the new text's for a conversion. Any other number is that of the refusal, and the value is its place. The
+ * board's calls yield 0, or a refusal with place 0.
  *
- * WHAT IS LENT is a pointer and a length: bytes for uint8_t, words (not bytes) for int32_t. The caller keeps these rules, which no
- * call can test:
- *   - the pointer is to that many bytes or words, all of them set, and is not null, also where the length is 0;
- *   - int32_t and uint32_t pointers are aligned to 4 bytes, a size_t pointer to 8; uint8_t pointers need no alignment;
- *   - what a call may change (the image of a compile, the counts and sizes of a report, the state of a reset or cycle, the start of
- *     a tail, the result of a conversion, the record, the state and the outcome of the board's calls) overlaps nothing else that is
- *     lent to the same call; what it only reads may overlap;
+ * WHAT IS LENT is a pointer and a length: bytes for uint8_t, words (not bytes) for int32_t, parts for larderlate_part. The caller
+ * keeps these rules, which no call can test:
+ *   - the pointer is to that many bytes, words or parts, all of them set, and is not null, also where the length is 0;
+ *   - int32_t and uint32_t pointers are aligned to 4 bytes, those to size_t and larderlate_part to 8; uint8_t pointers need no
+ *     alignment;
+ *   - what a call may change (the image of a compile, the image and the part of a join, the counts and sizes of a report,
+ *     the state of a reset or cycle, the start of a tail, the result of a conversion, the record, the state and the outcome
+ *     of the board's calls) overlaps nothing else that is lent to the same call; what it only reads may overlap;
  *   - until the call returns nobody else writes what is lent, nor reads what the call may change;
  *   - nothing lent spans more than PTRDIFF_MAX bytes.
  */
@@ -53,14 +56,16 @@ enum {
     LARDERLATE_BOARD_STATE_WORDS = 260,
     LARDERLATE_BOARD_SAMPLES = 256,
     LARDERLATE_BOARD_RECORD = 17,
-    /* 4 + 64 x 6 + 241 x 2 + 240 x 64 + 1 bytes beside rows and code, which are no longer than the program, and 64 x 4 of tail: proved
-     * (`image-bytes`). */
+    LARDERLATE_PARTS = 8,
+    LARDERLATE_LINK_BYTES = 4,
+    /* Of a compile as of a join: 4 + 64 x 6 + 241 x 2 + 240 x 64 + 1 bytes beside rows and code, which are no longer than the programs,
+     * and 64 x 4 of tail: proved (`image-bytes`, `join-bytes`). */
     LARDERLATE_IMAGE_BYTES = 24679
 };
 
 /* The numbers of an answer, with the place of each in parentheses, in the order in which a call judges (29 and 30 between 10 and 11):
  * 1; then 2 to 6 together, command after command; then the others, of each the lowest, 7 and 8 together in order of offset, and so
- * 12 and 13. */
+ * 12 and 13. A join judges each part alone as a compile does; larderlate_join says what it judges before and after that. */
 enum {
     LARDERLATE_DONE = 0,
 
@@ -93,7 +98,7 @@ enum {
     LARDERLATE_OVER_CAP = 15,   /* (the cycle) */
     LARDERLATE_LATENCY = 16,    /* a chain that does not keep its bound (the LAT) */
 
-    /* Compile: all else is accepted, but the image buffer is shorter than L + 4N. Convert: than the result. */
+    /* Compile, join: all else is accepted, but the image buffer is shorter than L + 4N. Convert: than the result. */
     LARDERLATE_IMAGE_BUFFER_SHORT = 17, /* (L + 4N; the result's length) */
 
     /* Tail gives 20, reset 20 and 21, cycle all four. */
@@ -105,8 +110,12 @@ enum {
 
     /* The board. A load gives 26, 21, 27 and 20 in this order, a mark 26 and 28, a turn 21 and 23. */
     LARDERLATE_NO_SUCH_PLACE = 26,    /* a place above 3 (0) */
-    LARDERLATE_STRETCH_OUTSIDE = 27,  /* the image stretch lies outside its buffer (0) */
-    LARDERLATE_NEVER_LOADED = 28      /* a mark of a place that was never loaded (0) */
+    LARDERLATE_STRETCH_OUTSIDE = 27,  /* the image stretch, or a text of a join, lies outside its buffer (0) */
+    LARDERLATE_NEVER_LOADED = 28,     /* a mark of a place that was never loaded (0) */
+
+    /* Join: a link that is cut, names no IN or no signal of another part, has the IN of an earlier link, or names two signals of
+     * unequal periods (the lowest such link's number); then rows in two parts (0). */
+    LARDERLATE_WRONG_LINK = 31
 };
 
 /* What a turn that is not refused has done: the first number of its outcome. */
@@ -132,6 +141,40 @@ static inline uint32_t larderlate_value(uint64_t answer)
 uint64_t larderlate_compile(const uint8_t *program, size_t program_length,
                             const uint8_t *schedule, size_t schedule_length,
                             uint8_t *image, size_t image_length);
+
+/* A part: where its program and its schedule stand in the buffer of all texts, each by start and length. */
+struct larderlate_part {
+    size_t program;
+    size_t program_length;
+    size_t schedule;
+    size_t schedule_length;
+};
+
+/* What larderlate_join calls, with the parts as numbers, four a part in the order of larderlate_part; one to three numbers after the
+ * last whole part are not looked at. */
+uint64_t larderlate_join_numbers(const uint8_t *texts, size_t texts_length,
+                                 const size_t *numbers, size_t numbers_count,
+                                 const uint8_t *links, size_t links_length,
+                                 uint8_t *image, size_t image_length, size_t *part);
+
+/* Joins up to 8 parts whose texts lie in the buffer `texts`, and writes the joined image and its tail to the start of the buffer
+ * `image`. The answer's value is how many bytes these are, L + 4N; bytes of the buffer past that stay. Texts may share bytes. A link is
+ * four bytes: part, IN, part, signal. Parts are numbered from 0 as lent, the IN and the signal as in their own part. The IN then reads
+ * the signal by NOW. Joined, signals are numbered part after part, PUTs follow in part order, and the smallest CAP stands for all.
+ *
+ * Gives, in this order: 1 (all programs together over 8,192 bytes), 4 (a ninth part) and 27 (a text that leaves its buffer), with
+ * place 0; then of each part, in order, what a compile of it alone gives, 1 to 16, 29 and 30, and its number in `part`; then 31; then
+ * of all parts joined 4 (over 64 signals or 16 chains: 0), 9 (0), 14 (the number of the lowest link whose read is not met), 15 (the
+ * cycle) and 17. `part` stays where the answer is no refusal inside a part. A buffer `image` of length 0 is a way to ask for L + 4N, as
+ * with larderlate_compile. */
+static inline uint64_t larderlate_join(const uint8_t *texts, size_t texts_length,
+                                       const struct larderlate_part *parts, size_t parts_count,
+                                       const uint8_t *links, size_t links_length,
+                                       uint8_t *image, size_t image_length, size_t *part)
+{
+    return larderlate_join_numbers(texts, texts_length, (const size_t *)parts, 4 * parts_count, links, links_length,
+                                   image, image_length, part);
+}
 
 /* Checks the program and the schedule and tells what they need, without an image. The answer's value is the image's length L;
  * `counts` gets the commands of each cycle of the hypercycle H, those from H on being 0, `written` the length with the tail, L + 4N,

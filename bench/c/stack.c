@@ -11,10 +11,12 @@ enum { STACK_BYTES = 1 << 20, EQUATIONS = 63, DEPTH = 16, ROWS = 32, CHAINS = 16
 
 static uint8_t program[LARDERLATE_PROGRAM_BYTES], schedule[LARDERLATE_SCHEDULE_BYTES], result[LARDERLATE_PROGRAM_BYTES];
 static uint8_t image[LARDERLATE_IMAGE_BYTES];
+static uint8_t texts[LARDERLATE_PROGRAM_BYTES + LARDERLATE_SCHEDULE_BYTES + 1];
+static struct larderlate_part parts[LARDERLATE_PARTS];
 static size_t program_length, schedule_length, image_length;
 static int32_t state[LARDERLATE_BOARD_STATE_WORDS], samples[LARDERLATE_BOARD_SAMPLES];
 static uint32_t counts[LARDERLATE_COUNTS], outcome[3];
-static size_t record[LARDERLATE_BOARD_RECORD], written, stack_words, start;
+static size_t record[LARDERLATE_BOARD_RECORD], written, stack_words, start, part;
 static uint64_t answer;
 
 static void put(uint8_t byte)
@@ -110,6 +112,21 @@ static void write_schedule(void)
 static void compile(void)
 {
     answer = larderlate_compile(program, program_length, schedule, schedule_length, image, sizeof image);
+}
+
+/* The program with its schedule is the last part; the others are of END alone. */
+static void write_parts(void)
+{
+    memcpy(texts, program, program_length);
+    memcpy(texts + program_length, schedule, schedule_length);
+    for (int number = 0; number < LARDERLATE_PARTS - 1; number++)
+        parts[number] = (struct larderlate_part){program_length - 1, 1, program_length - 1, 1};
+    parts[LARDERLATE_PARTS - 1] = (struct larderlate_part){0, program_length, program_length, schedule_length};
+}
+
+static void join(void)
+{
+    answer = larderlate_join(texts, sizeof texts, parts, LARDERLATE_PARTS, texts, 0, image, sizeof image, &part);
 }
 
 static void report(void)
@@ -209,6 +226,8 @@ int main(int count, char **arguments)
     printf("%zu bytes of program, %d rows\n", program_length, rows ? ROWS : 0);
     print_use("compile", compile);
     image_length = larderlate_value(answer);
+    write_parts();
+    print_use("join", join);
     print_use("report", report);
     print_use("reset", reset);
     print_use("cycle", cycle);

@@ -187,6 +187,12 @@ fn signals(random: &mut Random, shape: &Shape) -> Vec<Signal> {
     ranks.into_iter().map(signal).collect()
 }
 
+/// So many inputs of a period and phase 0.
+pub fn inputs(count: usize, period: i64) -> Vec<Signal> {
+    let input = |rank| Signal { input: true, period, phase: 0, rank, weight: 0, reads: vec![] };
+    (0..count).map(input).collect()
+}
+
 fn declaration(random: &mut Random, shape: &Shape, signals: &[Signal], own: usize, room: usize) -> (Vec<u8>, Vec<Read>) {
     let signal = &signals[own];
     let mut text = if shape.tagged && random.one_in(2) { tag(random) } else { vec![] };

@@ -2,10 +2,11 @@
 //!
 //!     differential [COUNT [SEED]]
 //!
-//! Each of COUNT rounds lends one pair to compile and to report, a program text of the earlier rule
+//! Each of COUNT rounds lends one pair to compile and to report, parts and links to join, a program text of the earlier rule
 //! to convert, and then images, states and samples to reset, cycle and tail, and makes calls of a board. After each call the answers and
 //! all that was lent must be equal. It stops at the first difference with the bytes lent. Round r depends on the seed and on r alone. At
-//! the end it prints how often each call gave each number, how often rows or the table were the reason where a number has others too.
+//! the end it prints how often each call gave each number, how often rows or the table were the reason where a number has others too,
+//! and how often a join was refused for each fault put in.
 mod board;
 #[path = "../cases/generate.rs"]
 mod generate;
@@ -15,6 +16,8 @@ mod generate;
 mod images;
 #[path = "../library.rs"]
 mod library;
+#[path = "../cases/parts.rs"]
+mod parts;
 #[path = "../cases/random.rs"]
 mod random;
 #[path = "../cases/tables.rs"]
@@ -25,6 +28,7 @@ mod tables;
 mod reference;
 
 use generate::{Pair, Shape, Twist};
+use parts::{Fault, Join, FAULTS};
 use random::Random;
 use reference::{Board, Outcome};
 use std::process::exit;
@@ -34,15 +38,21 @@ const SEED: u64 = 20_260_101;
 /// Every image fits, with its tail.
 const IMAGE_BYTES: usize = 24_679;
 /// The refusals of the paper.
-const NUMBERS: [usize; 26] = [1, 2, 3, 4, 5, 6, 7, 8, 9, 10, 29, 30, 11, 12, 13, 14, 15, 16, 17, 20, 21, 22, 23, 26, 27, 28];
+const NUMBERS: [usize; 27] = [1, 2, 3, 4, 5, 6, 7, 8, 9, 10, 29, 30, 11, 12, 13, 14, 15, 16, 31, 17, 20, 21, 22, 23, 26, 27, 28];
 /// One more than the highest.
-const TOP: usize = 31;
+const TOP: usize = 32;
+/// Those of a join, of the whole and inside a part.
+const JOINED: [usize; 8] = [1, 4, 27, 31, 9, 14, 15, 17];
+const INSIDE: [usize; 18] = [1, 2, 3, 4, 5, 6, 7, 8, 9, 10, 29, 30, 11, 12, 13, 14, 15, 16];
 const ROW: u8 = 0x16;
 
 /// How many answers of each number a call gave.
 #[derive(Default)]
 struct Seen {
     compile: [u64; TOP],
+    /// Joins that are refused inside a part count in the second.
+    join: [u64; TOP],
+    part: [u64; TOP],
     report: [u64; TOP],
     reset: [u64; TOP],
     cycle: [u64; TOP],
@@ -60,13 +70,20 @@ struct Seen {
     tables: u64,
     /// Well-formed images as they were before there were tables.
     older: u64,
+    /// Joins refused for each fault put in.
+    faults: [u64; FAULTS.len()],
+    /// Joins done that have links, and those whose hypercycle is not 1.
+    linked: u64,
+    mixed: u64,
 }
 
 impl Seen {
     /// With the name of each.
-    fn calls(&self) -> [(&'static str, &[u64; TOP]); 10] {
+    fn calls(&self) -> [(&'static str, &[u64; TOP]); 12] {
         [
             ("compile", &self.compile),
+            ("join", &self.join),
+            ("in a part", &self.part),
             ("report", &self.report),
             ("reset", &self.reset),
             ("cycle", &self.cycle),
@@ -120,6 +137,19 @@ struct Lent {
 /// L, by bytes 2-3.
 fn stated(image: &[u8]) -> usize {
     u16::from_le_bytes([image[2], image[3]]).into()
+}
+
+fn lent_to_join(join: &Join) -> [String; 3] {
+    let [texts, links] = [&join.texts, &join.links].map(|bytes| hexadecimal(bytes));
+    [format!("texts: {texts}"), format!("parts: {:?}", join.parts), format!("links: {links}")]
+}
+
+fn parts_of(join: &Join) -> Vec<reference::Part> {
+    let part = |&[program, size, schedule, schedule_size]: &[usize; 4]| reference::Part {
+        program: (program, size),
+        schedule: (schedule, schedule_size),
+    };
+    join.parts.iter().map(part).collect()
 }
 
 struct Round<'a> {
@@ -222,6 +252,79 @@ impl Round<'_> {
             differ(self.number, "report", &[program, schedule, format!("counts of {fill}, sizes {old:?}")], library, reference, kept);
         }
         count(&mut self.seen.report, library);
+    }
+
+    /// Parts and links, half of them with a fault put in, one in four damaged besides.
+    fn parts(&mut self) -> Join {
+        let fault = Fault::any(&mut self.random);
+        let mut join = parts::join(&mut self.random, fault);
+        let answer = reference::join(&join.texts, &parts_of(&join), &join.links, &mut self.buffers[0]);
+        let number = answer.map_or_else(|((number, _), _)| number, |_| 0);
+        if number != join.expected {
+            println!("round {}: the reference gives {number}, but {} ({:?}) was put in", self.number, join.expected, join.fault);
+            lent_to_join(&join).iter().for_each(|line| println!("  {line}"));
+            exit(1);
+        }
+        if let Some(fault) = FAULTS.iter().position(|&fault| fault == join.fault) {
+            self.seen.faults[fault] += 1;
+        }
+        if self.random.one_in(4) {
+            self.spoil_join(&mut join);
+        }
+        join
+    }
+
+    fn spoil_join(&mut self, join: &mut Join) {
+        let random = &mut self.random;
+        match random.below(6) {
+            0 => random.damage(&mut join.texts),
+            1 | 2 => generate::mistake(random, &mut join.texts),
+            3 => random.damage(&mut join.links),
+            4 => join.parts.reverse(),
+            _ if join.parts.is_empty() => join.parts.push([0; 4]),
+            _ => {
+                let (part, number) = (random.below(join.parts.len()), random.below(4));
+                let by = random.pick(&[1, 2, usize::MAX]);
+                join.parts[part][number] = join.parts[part][number].wrapping_add(by);
+            }
+        }
+    }
+
+    /// Joins parts by both into equal buffers. Yields the image of an accepted join.
+    fn join(&mut self) -> Option<Vec<u8>> {
+        let join = self.parts();
+        let parts = parts_of(&join);
+        let [ours, other] = &mut *self.buffers;
+        let result = reference::join(&join.texts, &parts, &join.links, other);
+        let image = result.ok().map(|length| other[..length].to_vec());
+        let length = match &image {
+            None => self.random.below(100),
+            Some(image) if self.random.one_in(8) => self.random.pick(&[image.len() - 1, 0, image.len() / 2]),
+            Some(image) => image.len() + self.random.below(64),
+        };
+        let (fill, old) = (self.random.next() as u8, self.random.next() as usize);
+        ours[..length].fill(fill);
+        other[..length].fill(fill);
+        // Numbers that are no whole part are not looked at.
+        let mut numbers = join.parts.concat();
+        numbers.extend((0..self.random.below(4)).map(|_| self.random.next() as usize));
+        let mut part = old;
+        let library = library::join(&join.texts, &numbers, &join.links, &mut ours[..length], &mut part);
+        let result = reference::join(&join.texts, &parts, &join.links, &mut other[..length]);
+        let named = result.err().and_then(|(_, part)| part);
+        let reference = reference::answer(result.map_err(|(refusal, _)| refusal));
+        let kept = ours[..length] == other[..length] && part == named.unwrap_or(old);
+        if library != reference || !kept {
+            let mut lent = lent_to_join(&join).to_vec();
+            lent.push(format!("image buffer: {length} bytes of {fill:02X}; part {old} before, {part} after; {named:?} by the reference"));
+            differ(self.number, "join", &lent, library, reference, kept);
+        }
+        count(if named.is_some() { &mut self.seen.part } else { &mut self.seen.join }, library);
+        if result.is_ok() {
+            self.seen.linked += u64::from(!join.links.is_empty());
+            self.seen.mixed += u64::from(other[0] > 1);
+        }
+        image
     }
 
     /// Converts a text of the earlier rule by both into equal buffers, and compiles what comes of an accepted one.
@@ -489,6 +592,9 @@ impl Round<'_> {
         let pair = self.pair();
         let own = self.compile(&pair);
         self.report(&pair);
+        if let Some(image) = self.join() {
+            self.calls(&image);
+        }
         self.convert();
         let mut image = own.unwrap_or_else(|| images::foreign_image(&mut self.random));
         self.retail(&mut image);
@@ -523,8 +629,17 @@ fn print_seen(seen: &Seen) -> bool {
     let [counts, ranges, tables, older] = by_rows;
     println!("compiles refused at a ROW: {counts} by 4, {ranges} by 5");
     println!("images refused by 20 for their table alone: {tables}, as from before there were tables: {older}");
-    all &= by_rows.iter().all(|&count| count > 0);
-    all && calls.iter().zip(totals).all(|((_, counts), total)| counts[0] * 4 >= total)
+    all &= by_rows.iter().all(|&count| count > 0) && print_joins(seen);
+    // A join that did its job is no refusal inside a part.
+    all && calls.iter().zip(totals).all(|((name, counts), total)| *name == "in a part" || counts[0] * 4 >= total)
+}
+
+fn print_joins(seen: &Seen) -> bool {
+    let faults = FAULTS.iter().zip(seen.faults).map(|(fault, count)| format!("{fault:?} {count}"));
+    println!("joins refused for a fault put in: {}", faults.collect::<Vec<_>>().join(", "));
+    println!("joins done with links: {}, with a hypercycle over 1: {}", seen.linked, seen.mixed);
+    let of_joins = JOINED.iter().all(|&number| seen.join[number] > 0) && INSIDE.iter().all(|&number| seen.part[number] > 0);
+    of_joins && seen.faults.iter().all(|&count| count > 0) && [seen.linked, seen.mixed].iter().all(|&count| count > 0)
 }
 
 fn main() {

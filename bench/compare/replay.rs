@@ -3,7 +3,7 @@
 mod reference;
 mod widths;
 
-use reference::{Board, Outcome, Place};
+use reference::{Board, Outcome, Part, Place};
 use std::process::exit;
 
 /// The bytes of the cases, taken from the front.
@@ -65,6 +65,26 @@ fn convert(cases: &mut Cases) -> String {
     let mut buffer = vec![cases.number(1) as u8; buffer];
     let result = reference::convert(cases.take(program), &mut buffer);
     line(reference::answer(result), hash(buffer.into_iter()))
+}
+
+fn join(cases: &mut Cases) -> String {
+    let length = cases.number(4);
+    let texts = cases.take(length);
+    let count = cases.number(1);
+    let parts: Vec<Part> = (0..count).map(|_| part(cases)).collect();
+    let length = cases.number(2);
+    let links = cases.take(length);
+    let length = cases.number(4);
+    let mut buffer = vec![cases.number(1) as u8; length];
+    let result = reference::join(texts, &parts, links, &mut buffer);
+    let named = result.err().and_then(|(_, part)| part).unwrap_or(255);
+    let answer = reference::answer(result.map_err(|(refusal, _)| refusal));
+    format!("{} {} {named} {}", answer >> 32, answer as u32, hash(buffer.into_iter()))
+}
+
+fn part(cases: &mut Cases) -> Part {
+    let [program, schedule] = [0; 2].map(|_| (cases.number(4), cases.number(4)));
+    Part { program, schedule }
 }
 
 fn listed(cases: &mut Cases) -> String {
@@ -164,6 +184,10 @@ fn replay(cases: &[u8]) -> Vec<String> {
             }
             call @ 11..=14 => {
                 lines.push(board_call(call, &mut cases, &mut board, image, &mut state));
+                continue;
+            }
+            15 => {
+                lines.push(join(&mut cases));
                 continue;
             }
             17 => {

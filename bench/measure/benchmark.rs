@@ -10,6 +10,9 @@ mod images;
 #[path = "../library.rs"]
 mod library;
 #[allow(dead_code)]
+#[path = "../cases/parts.rs"]
+mod parts;
+#[allow(dead_code)]
 #[path = "../cases/random.rs"]
 mod random;
 #[allow(dead_code)]
@@ -21,8 +24,10 @@ mod rows;
 mod tables;
 
 use generate::Pair;
+use parts::Join;
 use rows::{
-    image_of, images_of, long_chains, look_ups, measure, open_reads, print, program_a, program_of, row, Row, ROUNDS,
+    image_of, images_of, long_chains, look_ups, measure, open_reads, parts_of_a, print, program_a, program_of, random_parts, row, Row,
+    ROUNDS,
 };
 use std::hint::black_box;
 
@@ -42,6 +47,29 @@ fn compile_row(name: &str, pair: &Pair) -> Row {
     };
     let reference = move || {
         let answer = reference::compile(black_box(&other_program), black_box(&other_schedule), &mut other);
+        assert_eq!(answer, Ok(length));
+    };
+    row(name, length, [Box::new(library), Box::new(reference)])
+}
+
+fn join_row(name: &str, join: &Join) -> Row {
+    let Join { texts, parts, links, .. } = join;
+    let part = |&[a, b, c, d]: &[usize; 4]| reference::Part { program: (a, b), schedule: (c, d) };
+    let other_parts: Vec<reference::Part> = parts.iter().map(part).collect();
+    let (mut ours, mut other, mut named) = (vec![0; 24_679], vec![0; 24_679], 9);
+    let length = reference::join(texts, &other_parts, links, &mut other).expect("a legal join");
+    let numbers = parts.concat();
+    assert_eq!(library::join(texts, &numbers, links, &mut ours, &mut named), length as u64);
+    assert_eq!((&ours, named), (&other, 9));
+    let bytes: usize = parts.iter().map(|part| part[1]).sum();
+    let name = format!("join {name}, {} links, {bytes} bytes", links.len() / 4);
+    let [(texts, links), (other_texts, other_links)] = [0; 2].map(|_| (texts.clone(), links.clone()));
+    let library = move || {
+        let answer = library::join(black_box(&texts), black_box(&numbers), black_box(&links), &mut ours, &mut named);
+        assert_eq!(answer, length as u64);
+    };
+    let reference = move || {
+        let answer = reference::join(black_box(&other_texts), black_box(&other_parts), black_box(&other_links), &mut other);
         assert_eq!(answer, Ok(length));
     };
     row(name, length, [Box::new(library), Box::new(reference)])
@@ -122,6 +150,7 @@ fn main() {
     let (small, large, look_ups) = (program_a(), program_of(64, &[1, 2, 8, 24, 240], 240), look_ups());
     let pairs = [("program A", &small), ("64 signals", &large), (LOOK_UPS, &look_ups)];
     let mut rows: Vec<Row> = pairs.iter().map(|(name, pair)| compile_row(name, pair)).collect();
+    rows.extend([join_row("8 parts of program A", &parts_of_a()), join_row("8 random parts", &random_parts(4000, 12))]);
     rows.extend(pairs.iter().map(|(name, pair)| report_row(name, pair)));
     let mut images = images_of(&small, &large).to_vec();
     images.push((LOOK_UPS, image_of(&look_ups)));

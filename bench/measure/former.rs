@@ -12,6 +12,9 @@ mod images;
 #[path = "../library.rs"]
 mod library;
 #[allow(dead_code)]
+#[path = "../cases/parts.rs"]
+mod parts;
+#[allow(dead_code)]
 #[path = "../cases/random.rs"]
 mod random;
 #[allow(dead_code, unused_imports)]

@@ -4,6 +4,7 @@
 //! and states are used again and not cleared first.
 use crate::generate::{self, Pair, Shape, Twist};
 use crate::images;
+use crate::parts::{self, Fault, Join};
 use crate::random::Random;
 use crate::reference;
 use std::time::Instant;
@@ -133,6 +134,27 @@ pub fn look_ups() -> Pair {
     let mut schedule: Vec<u8> = (0..64).flat_map(|signal| [0x40, signal, 0]).collect();
     schedule.push(0);
     pair_of(&commands, &schedule)
+}
+
+/// Eight parts, each program A, the input of each but the first linked to signal 2 of the one before.
+pub fn parts_of_a() -> Join {
+    let pair = program_a();
+    let texts = [&pair.program[..], &pair.schedule].concat();
+    let part = [0, pair.program.len(), pair.program.len(), pair.schedule.len()];
+    let links = (1..8).flat_map(|part| [part, 0, part - 1, 2]).collect();
+    Join { texts, parts: vec![part; 8], links, fault: Fault::None, expected: 0 }
+}
+
+/// Eight random parts with at least so many bytes of program and so many links.
+pub fn random_parts(bytes: usize, links: usize) -> Join {
+    let mut random = Random(SEED);
+    loop {
+        let join = parts::join(&mut random, Fault::None);
+        let long = join.parts.iter().map(|part| part[1]).sum::<usize>() >= bytes;
+        if join.expected == 0 && join.parts.len() == 8 && long && join.links.len() >= 4 * links {
+            return join;
+        }
+    }
 }
 
 /// The images that reset and cycle are measured on: of the two programs, and two that no program was compiled to.

@@ -1,4 +1,4 @@
-//! The papers in plain Rust: compile, report, reset, cycle, tail, trial, convert and a board of four programs.
+//! The papers in plain Rust: compile, join, report, reset, cycle, tail, trial, convert and a board of four programs.
 //!
 //! Written from the paper alone and sharing nothing with the crates, so that a misreading on one side shows as a difference.
 //! It is also the baseline of the benchmark: what one would write without a prover, with the same checks.
@@ -6,6 +6,7 @@ mod board;
 mod checks;
 mod convert;
 mod image;
+mod join;
 mod latency;
 mod machine;
 mod program;
@@ -19,6 +20,7 @@ mod trial;
 pub use {
     board::{Board, Outcome, Place},
     convert::convert,
+    join::{join, Part},
     machine::{cycle, reset, tail},
     report::report,
     trial::trial,

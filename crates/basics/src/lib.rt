@@ -2,7 +2,8 @@
 use model::Fault;
 ghost use mathlib.Core.Bool.{cond};
 ghost use mathlib.Core.Path.{_≡_};
-ghost use Prim.Native.Nat.{_<_};
+ghost use Prim.Native.Nat.{_+_, _<_};
+ghost use lib.Dec.{leb};
 ghost use Rattle.model.specs.declared.Fault.{Fault};
 
 // What a check answers.
@@ -35,9 +36,27 @@ pub fn wider(entry: u16) -> usize
     entry as usize
 }
 
+// A number that fits a byte.
+pub fn narrow(x: usize) -> u8
+    requires { ⌜ x < 256 ⌝ }
+    ensures { λ r. ⌜ r ≡ x ⌝ }
+{
+    x as u8
+}
+
 // One of two bytes: a choice that takes no branch.
 pub fn select(first: bool, a: u8, b: u8) -> u8
     ensures { λ r. ⌜ r ≡ cond first a b ⌝ }
 {
     if first { a } else { b }
+}
+
+// Whether a stretch lies in a buffer of this length.
+pub fn is_inside(start: usize, size: usize, buffer: usize) -> bool
+    ensures { λ r. ⌜ r ≡ leb (start + size) buffer ⌝ }
+{
+    if buffer < start {
+        return false;
+    }
+    size <= buffer - start
 }

@@ -86,22 +86,12 @@ pub fn count_up(n: u32) -> u32
     if n < COUNT_MAX { n + 1 } else { n }
 }
 
-// Whether a stretch lies in a buffer of this length.
-fn is_inside(start: usize, size: usize, buffer: usize) -> bool
-    ensures { λ r. ⌜ r ≡ leb (start + size) buffer ⌝ }
-{
-    if buffer < start {
-        return false;
-    }
-    size <= buffer - start
-}
-
 // Resets a place's words by the image in its stretch.
 fn reset_place(images: &[u8], start: usize, size: usize, words: &mut [i32]) -> Ran
     ensures answer { λ r. ⌜ ranOf r ≡ resetIn (now (images .entry)) start size (now (words .entry)) .answer ⌝ }
     ensures left { λ _. ⌜ now (words .exit) ≡ resetIn (now (images .entry)) start size (now (words .entry)) .left ⌝ }
 {
-    if !is_inside(start, size, images.len()) {
+    if !basics::is_inside(start, size, images.len()) {
         return refused(OUTSIDE);
     }
     let end = start + size;
@@ -120,7 +110,7 @@ fn cycle_place(
     ensures answer { λ r. ⌜ cycledOf r ≡ cycleIn (now (images .entry)) start size (now (words .entry)) (now (samples .entry)) .answer ⌝ }
     ensures left { λ _. ⌜ now (words .exit) ≡ cycleIn (now (images .entry)) start size (now (words .entry)) (now (samples .entry)) .left ⌝ }
 {
-    if !is_inside(start, size, images.len()) {
+    if !basics::is_inside(start, size, images.len()) {
         return stopped(OUTSIDE);
     }
     let end = start + size;

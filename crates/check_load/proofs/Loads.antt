@@ -15,19 +15,12 @@ use Rattle.model.specs.Rules.Schedule.{Schedule}
 use Rattle.model.specs.Rules.Search.{sum, table, tableFrom, firstBelow, firstFrom}
 use Rattle.model.specs.declared.Found.{Found}
 use Rattle.model.specs.declared.Found.the-variants.{At, Nowhere}
+use Rattle.model.proofs.Basics.Outcomes.{sum-from}
 use Rattle.text_program.specs.Tables.{PeriodsOf, WeightsOf, capOf}
 use Rattle.basics.specs.declared.Judged.{Judged}
 use Rattle.basics.specs.declared.Judged.the-variants as Judged
 use Rattle.basics.specs.Judgement.{judgementOf}
 use Rattle.check_load.specs.Load.{addedIn, loadIn, LoadsOf, Raised, PhasesOf}
-
--- A sum over a table with one entry more.
-sum-from : (i n : ℕ) (f : ℕ → ℕ) → sum (tableFrom i (suc n) f) ≡ sum (tableFrom i n f) + f (i + n)
-unfolding sum tableFrom
-sum-from i zero f = add-zero (f i) ∙ sym (zero-add (f i)) ∙ ap (λ k. 0 + f k) (sym (add-zero i))
-sum-from i (suc n) f =
-    ap (f i +_) (sum-from (suc i) n f) ∙ sym (add-assoc (f i) (sum (tableFrom (suc i) n f)) (f (suc i + n))) ∙
-    ap (λ k. f i + sum (tableFrom (suc i) n f) + f k) (omega arith)
 
 module _ (periods phases weights : List ℕ) (c : ℕ) where
   pub load-none : loadIn periods phases weights 0 c ≡ 0

@@ -68,7 +68,7 @@ fn first_over(loads: &[u32; 240], limit: u32, hypercycle: usize) -> Found
 }
 
 // 15 at the lowest cycle of the hypercycle whose load is over CAP. Its cost is a step for each run and each cycle.
-fn judge_load(
+pub fn judge_load(
     signals: usize,
     periods: &[u8; 64],
     phases: &[u8; 64],

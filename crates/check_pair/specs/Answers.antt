@@ -23,6 +23,7 @@ RatedAs o r = Answers (λ h. r .hypercycle ≡ h) o (r .judged)
 -- The tables are those of the accepted pair q, as the emitter wants them.
 pub record Checks (text : List ℕ) (t : PairTables) (q : Pair) : Type 0 where
   pub prepared : Prepared text (t .tables) (t .tables .periods) (t .slots .order) (t .slots .phases) (q .program) (q .schedule)
+  pub ranks-are : prepared .ranks ≡ t .slots .ranks
   pub hyper : t .hypercycle ≡ q .hypercycle
   pub bound : t .hypercycle ≤ 240
 

@@ -59,7 +59,7 @@ fn put_push(out: &mut [u8], to: usize, w: i32, next: usize) -> Emitted
 }
 
 // Writes a LOAD, FETCH or STORE of a signal; FETCH and STORE are as wide as LOAD.
-fn put_access(out: &mut [u8], to: usize, code: u8, signal: u8, next: usize) -> Emitted
+pub fn put_access(out: &mut [u8], to: usize, code: u8, signal: u8, next: usize) -> Emitted
     requires { ⌜ to + inCode 0x51 ≤ length (now out) ⌝ }
     ensures { λ r. ⌜ Puts (now (out .entry)) to (code ∷ signal ∷ []) next (now (out .exit)) (r .next) (r .end) ⌝ }
 {

@@ -3,6 +3,7 @@ pub mod Coded
 pub mod Counted
 pub mod Cursors
 pub mod Imaged
-pub mod Tailed
+pub mod Timed
+pub mod Written
 pub mod Joined
 pub mod Listed

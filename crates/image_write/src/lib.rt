@@ -16,7 +16,7 @@ ghost use Rattle.image_write.specs.Codes.{declaredBy, codesFrom, Declare
 ghost use Rattle.image_write.specs.Cursors.{StartsOf, Open, WritesRuns};
 ghost use Rattle.image_write.specs.Lists.{listBy, listsBy, pairs, HasPeriods, Phased, RunsCounted};
 ghost use Rattle.text_program.specs.Prepared.{Prepared};
-ghost use Rattle.image_write.specs.Prepared.{LaidOut, Tabled, Fits};
+ghost use Rattle.image_write.specs.Prepared.{LaidOut, LaidOutBy, Tabled, Fits};
 ghost use Rattle.image_write.specs.Rows.{tableBy, TableStands};
 ghost use Rattle.image_write.specs.Tail.{tailBy};
 ghost use Rattle.model.specs.Rules.Writing.{Wrote};
@@ -25,13 +25,6 @@ fn widest(x: u32) -> usize
     ensures { λ r. ⌜ r ≡ x ⌝ }
 {
     x as usize
-}
-
-fn narrow(x: usize) -> u8
-    requires { ⌜ x < 256 ⌝ }
-    ensures { λ r. ⌜ r ≡ x ⌝ }
-{
-    x as u8
 }
 
 // How many signals run in each of h cycles: a step for each run of each signal.
@@ -111,7 +104,7 @@ fn emit_runs(
 }
 
 // Writes the run lists of h cycles, which start where `nexts` says: the signals in PUT order, each at its runs.
-fn emit_lists(
+pub fn emit_lists(
     periods: &[u8; 64],
     order: &[u8; 64],
     phases: &[u8; 64],
@@ -146,7 +139,7 @@ fn put_offset(out: &mut [u8], to: usize, offset: usize) -> usize
 
 // Writes where the run lists start, the first at `start`, and last where they end. `starts` gets the same, counted from the first
 // list on.
-fn emit_offsets(
+pub fn emit_offsets(
     periods: &[u8; 64],
     order: &[u8; 64],
     phases: &[u8; 64],
@@ -192,7 +185,7 @@ fn emit_codes(text: &[u8], places: &[u16; 64], n: usize, out: &mut [u8], to: usi
     let mut end = to;
     let mut x: usize = 0;
     while x < n {
-        let signal = narrow(x);
+        let signal = basics::narrow(x);
         let place = basics::wider(places[x]);
         end = image_code::emit_signal(text, place, signal, out, end);
         x = x + 1;
@@ -201,7 +194,7 @@ fn emit_codes(text: &[u8], places: &[u16; 64], n: usize, out: &mut [u8], to: usi
 }
 
 // Writes the record of the signal declared at `place`, whose code starts at `offset`.
-fn put_record(text: &[u8], place: usize, offset: usize, out: &mut [u8], to: usize) -> usize
+pub fn put_record(text: &[u8], place: usize, offset: usize, out: &mut [u8], to: usize) -> usize
     requires { ⌜ (place + inProgram 0x10 ≤ length (now text)) × (to + 6 ≤ length (now out)) ⌝ }
     ensures { λ r. ⌜ Wrote (now (out .entry)) to (wordBytes (wordAt (now (text .entry)) (place + 2)) ++ twoBytes offset) (now (out .exit)) r ⌝ }
 {
@@ -236,12 +229,12 @@ fn emit_records(
 }
 
 // Writes H, N and L.
-fn put_head(h: usize, n: usize, size: usize, out: &mut [u8]) -> usize
+pub fn put_head(h: usize, n: usize, size: usize, out: &mut [u8]) -> usize
     requires { ⌜ (h < 256) × (n < 256) × (4 ≤ length (now out)) ⌝ }
     ensures { λ r. ⌜ Wrote (now (out .entry)) 0 (h ∷ n ∷ twoBytes size) (now (out .exit)) r ⌝ }
 {
-    out[0] = narrow(h);
-    out[1] = narrow(n);
+    out[0] = basics::narrow(h);
+    out[1] = basics::narrow(n);
     put_offset(out, 2, size)
 }
 
@@ -251,6 +244,33 @@ pub struct Layout {
     pub code: usize,
     pub end: usize,
     pub written: usize,
+}
+
+// Lays the image of n signals out, whose code has so many bytes, with so many rows.
+pub fn lay_out_code(
+    size: usize,
+    rows: usize,
+    periods: &[u8; 64],
+    order: &[u8; 64],
+    phases: &[u8; 64],
+    n: usize,
+    h: usize,
+) -> Layout
+    requires { ⌜ HasPeriods (now periods) (now order) n × Phased (now periods) (now order) (now phases) n × (h ≤ 240) × (size < 65536) × (rows ≤ 32) ⌝ }
+    ensures { λ r. ⌜ LaidOutBy (now (periods .entry)) (now (order .entry)) (now (phases .entry)) n h size rows r ⌝ }
+{
+    let lists = image_layout::lists_at(n, h);
+    let runs = lists_length(periods, order, phases, n, h);
+    let table = 1 + 12 * rows;
+    let code = lists + runs + table;
+    let end = code + size;
+    let written = end + 4 * n;
+    Layout {
+        lists: lists,
+        code: code,
+        end: end,
+        written: written,
+    }
 }
 
 // Lays the image out. The text is not read again: the tables have the length of the code.
@@ -266,19 +286,8 @@ pub fn lay_out(
 {
     let n = tables.signals;
     let codes = tables.codes;
-    let lists = image_layout::lists_at(n, h);
-    let runs = lists_length(periods, order, phases, n, h);
-    let table = 1 + 12 * tables.rows;
-    let code = lists + runs + table;
     let size = basics::wider(codes[n]);
-    let end = code + size;
-    let written = end + 4 * n;
-    Layout {
-        lists: lists,
-        code: code,
-        end: end,
-        written: written,
-    }
+    lay_out_code(size, tables.rows, periods, order, phases, n, h)
 }
 
 // Writes the image, laid out as `layout` says, into the first L bytes.

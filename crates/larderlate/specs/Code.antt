@@ -4,6 +4,8 @@ use mathlib.Core.List.{List}
 use lib.ListN.{length}
 use Rattle.model.specs.Rules.Machine.{statedLength}
 use Rattle.model.specs.Rules.Outcome.{Outcome, accepted, refused}
+use Rattle.model.specs.declared.Found.{Found}
+use Rattle.model.specs.declared.Found.the-variants.{At, Nowhere}
 use Rattle.model.specs.declared.Sizes.{Sizes}
 
 -- What the call yields; or the refusal's number × 2^32 + its place, which is always below 2^32 (`compile-codable` and its
@@ -11,6 +13,11 @@ use Rattle.model.specs.declared.Sizes.{Sizes}
 abbrev pub codeNumber : Outcome ℕ → ℕ
 codeNumber (accepted n) = n
 codeNumber (refused f) = f .number * 4294967296 + f .place % 4294967296
+
+-- The part that a refusal names, or what was there before.
+abbrev pub partNumber : ℕ → Found → ℕ
+partNumber old (At k) = k
+partNumber old Nowhere = old
 
 -- Of what a report answers: L, and L + 4N and the stack use, or what was there before.
 abbrev pub lengthIn : Outcome Sizes → Outcome ℕ

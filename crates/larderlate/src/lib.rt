@@ -1,14 +1,16 @@
-// Larderlate: compile, report, reset, cycle, tail and convert; for C the calls of a board too. Each call takes any
+// Larderlate: compile, join, report, reset, cycle, tail and convert; for C the calls of a board too. Each call takes any
 // bytes and words, and its answer and what it leaves are the definition's. What they promise together is in crates `promises` and
 // `board`.
 use board::Turned;
 use model::Compiled;
 use model::Cycled;
 use model::Fault;
+use model::Joined;
 use model::Ran;
 use model::Reported;
 ghost use mathlib.Core.Path.{_≡_};
 ghost use Rattle.model.specs.Rules.Compile.{compiledOf, compileOf};
+ghost use Rattle.model.specs.Rules.Join.{joinedOf, partIn, joinOf, partNamed};
 ghost use Rattle.model.specs.Rules.Machine.{ranOf, cycledOf, resetOf, cycleOf};
 ghost use Rattle.model.specs.Rules.Outcome.{refused};
 ghost use Rattle.model.specs.Rules.Report.{reportedOf, reportOf};
@@ -16,7 +18,7 @@ ghost use Rattle.model.specs.Rules.Rewrite.{convertOf};
 ghost use Rattle.model.specs.Rules.Tail.{tailIn, ReadsTail};
 ghost use Rattle.board.specs.Board.{loadOf, markPlaceOf, turnOf, turnedOf};
 ghost use Rattle.board_words.specs.Record.{boardOf, newWords, loadRecord, markRecord, turnRecord, turnDone, outcomeIn};
-ghost use Rattle.larderlate.specs.Code.{codeNumber, lengthIn, writtenIn, stackIn, lengthOfTail, startIn};
+ghost use Rattle.larderlate.specs.Code.{codeNumber, partNumber, lengthIn, writtenIn, stackIn, lengthOfTail, startIn};
 
 // Writes the image of an accepted program and schedule and its tail to the start of `image`, and yields how many bytes these are.
 pub fn compile(program: &[u8], schedule: &[u8], image: &mut [u8]) -> Compiled
@@ -24,6 +26,19 @@ pub fn compile(program: &[u8], schedule: &[u8], image: &mut [u8]) -> Compiled
     ensures left { λ _. ⌜ now (image .exit) ≡ compileOf (now (program .entry)) (now (schedule .entry)) (now (image .entry)) .left ⌝ }
 {
     compiler::compile(program, schedule, &mut image[..])
+}
+
+// Joins parts, whose texts lie in one lent buffer, and links between them: writes their image and its tail to the start of `image`,
+// and yields how many bytes these are. A part is four numbers: start and length of its program and of its schedule; one to three
+// numbers after the last whole part are not looked at. A link is four bytes: part, IN, part, signal.
+pub fn join(texts: &[u8], numbers: &[usize], links: &[u8], image: &mut [u8]) -> Joined
+    ensures answer { λ r. ⌜ joinedOf r ≡
+        joinOf (now (texts .entry)) (now (numbers .entry)) (now (links .entry)) (now (image .entry)) .answer ⌝ }
+    ensures left { λ _. ⌜ now (image .exit) ≡
+        joinOf (now (texts .entry)) (now (numbers .entry)) (now (links .entry)) (now (image .entry)) .left ⌝ }
+    ensures part { λ r. ⌜ partIn r ≡ partNamed (now (texts .entry)) (now (numbers .entry)) ⌝ }
+{
+    join::join(texts, numbers, links, &mut image[..])
 }
 
 // Tells what an accepted program and schedule need: the length of their image, that with its tail, the highest stack use of any
@@ -79,6 +94,27 @@ fn code_of_compiled(compiled: Compiled) -> u64
     match compiled {
         Compiled::Length(n) => n as u64,
         Compiled::Refused(fault) => code_of_fault(fault),
+    }
+}
+
+fn code_of_joined(joined: Joined) -> u64
+    ensures { λ r. ⌜ r ≡ codeNumber (joinedOf joined) ⌝ }
+{
+    match joined {
+        Joined::Length(n) => n as u64,
+        Joined::Refused(fault) => code_of_fault(fault),
+        Joined::RefusedIn(_, fault) => code_of_fault(fault),
+    }
+}
+
+// The part that a refusal names, or what is there where it names none.
+fn part_of_joined(joined: Joined, old: usize) -> usize
+    ensures { λ r. ⌜ r ≡ partNumber old (partIn joined) ⌝ }
+{
+    match joined {
+        Joined::Length(_) => old,
+        Joined::Refused(_) => old,
+        Joined::RefusedIn(part, _) => part,
     }
 }
 
@@ -147,6 +183,27 @@ pub extern "C" fn larderlate_compile(program: &[u8], schedule: &[u8], image: &mu
 {
     let compiled = compile(program, schedule, &mut image[..]);
     code_of_compiled(compiled)
+}
+
+// The part that a refusal names stands behind a pointer. The header's larderlate_join lends it whole parts.
+#[no_mangle]
+pub extern "C" fn larderlate_join_numbers(
+    texts: &[u8],
+    numbers: &[usize],
+    links: &[u8],
+    image: &mut [u8],
+    part: &mut usize,
+) -> u64
+    ensures answer { λ r. ⌜ r ≡ codeNumber
+        (joinOf (now (texts .entry)) (now (numbers .entry)) (now (links .entry)) (now (image .entry)) .answer) ⌝ }
+    ensures left { λ _. ⌜ now (image .exit) ≡
+        joinOf (now (texts .entry)) (now (numbers .entry)) (now (links .entry)) (now (image .entry)) .left ⌝ }
+    ensures named { λ _. ⌜ now (part .exit) ≡
+        partNumber (now (part .entry)) (partNamed (now (texts .entry)) (now (numbers .entry))) ⌝ }
+{
+    let joined = join(texts, numbers, links, &mut image[..]);
+    *part = part_of_joined(joined, *part);
+    code_of_joined(joined)
 }
 
 #[no_mangle]

@@ -3,5 +3,6 @@ pub mod Basics
 pub mod Texts
 pub mod Pairs
 pub mod Rows
+pub mod Joining
 pub mod Images
 pub mod Bench

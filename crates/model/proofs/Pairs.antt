@@ -5,3 +5,4 @@ pub mod Decide
 pub mod Hypercycle
 pub mod Links
 pub mod Verdict
+pub mod Pigeons

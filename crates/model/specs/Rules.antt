@@ -22,3 +22,5 @@ pub mod Rewrite
 pub mod Decimal
 pub mod Script
 pub mod Trial
+pub mod Parts
+pub mod Join

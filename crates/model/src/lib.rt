@@ -150,6 +150,13 @@ pub enum Compiled {
     Refused(Fault),
 }
 
+// What `join` answers: the length of the image with its tail, or the refusal, with its part where it is one inside a part.
+pub enum Joined {
+    Length(usize),
+    Refused(Fault),
+    RefusedIn(usize, Fault),
+}
+
 // What `reset` answers.
 pub enum Ran {
     Done,

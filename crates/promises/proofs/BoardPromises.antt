@@ -9,8 +9,9 @@ use borrow.Author.Tests.{le-leb, lt-ltb}
 use lib.IntN.{ℤ}
 use lib.ListN.{length}
 use lib.Dec.{leb, ltb}
-use Rattle.model.specs.Rules.Compile.{pairOf}
+use Rattle.model.specs.Rules.Compile.{Pair, pairOf}
 use Rattle.model.specs.Rules.Image.{imageOf}
+use Rattle.model.specs.Rules.Join.{linksOf}
 use Rattle.model.specs.Rules.Machine.{stretch, resetOf}
 use Rattle.model.specs.Rules.Outcome.{accepted, Outcome, refused, refuse, fault}
 use Rattle.model.specs.Rules.Program.{Program}
@@ -20,6 +21,7 @@ use Rattle.model.specs.Rules.Tail.{Bears}
 use Rattle.model.specs.Rules.Word.{AreBytes}
 use Rattle.model.specs.Says.Calls.{Call, callOf}
 use Rattle.theorems.specs.Held.{stateBy, logBy, Supplied, Holds}
+use Rattle.theorems.specs.Join.{LinkedSatisfies, JoinLegal}
 use Rattle.theorems.specs.Streams.{Satisfies}
 use Rattle.theorems.specs.Tables.{WithoutTable}
 use Rattle.board.specs.Board.{placeWords, placeAt, nextDue, onStretch, resetIn, cycleIn, BoardEffect, Yield, loadOf, markPlaceOf, turnOf}
@@ -28,6 +30,7 @@ use Rattle.board_words.specs.Record.{turnDone}
 use Rattle.promises.specs.Codable.{Codable}
 use Rattle.board.specs.declared.Board.{Board}
 use Rattle.board.proofs.Promises.{place-alone, place-cycles}
+use Rattle.promises.proofs.JoinPromises.{join-calls-hold}
 use Rattle.promises.proofs.Promises.{calls-hold, reset-codable, former-refused}
 use Rattle.board.proofs.Answers.{
   load-place,
@@ -77,6 +80,24 @@ module _ (program schedule : List ℕ) (bytes : AreBytes program) (p : Program) 
       (calls-hold program schedule bytes p q h e tail (stretch (s .images) start (start + size)) bears (placeWords k (s .state))
       (place-cycles s k start size n four a es free .0) (ownCycles k (afterEvent s (load k start size)) es)
       .holds inputs X supplied satisfied)
+
+-- The same of the image of an accepted join, with the equations of all parts and links together.
+module _ (texts numbers links : List ℕ) (bytes : AreBytes texts) (q : Pair) (l : JoinLegal texts numbers links q) where
+  pub join-place-streams : (s : Scene) (k start size n : ℕ) → length (s .board .places) ≡ 4 →
+      loadBy s k start size .answer ≡ accepted n → (tail : List ℕ) →
+      Bears (imageOf (q .program) (q .schedule) (q .hypercycle)) tail (stretch (s .images) start (start + size)) →
+      (es : List Event) → Throughout (Untouched k) (afterEvent s (load k start size)) es → (inputs X : ℕ → ℕ → ℤ) →
+      let image = stretch (s .images) start (start + size) in
+      let cycles = ownCycles k (afterEvent s (load k start size)) es in
+      let old = placeWords k (s .state) in
+      Supplied (q .program) (q .schedule) (logBy image old cycles) inputs → LinkedSatisfies (l .parts) (linksOf links) inputs X →
+      Holds (q .program) (q .schedule) (q .hypercycle) X old (length cycles)
+      (placeWords k (afterEvents s (load k start size ∷ es) .state))
+  join-place-streams s k start size n four a tail bears es free inputs X supplied satisfied =
+      place-holds (q .program) (q .schedule) (q .hypercycle) s k start size n four a es free X
+      (join-calls-hold texts numbers links q l bytes tail (stretch (s .images) start (start + size)) bears
+      (placeWords k (s .state)) (place-cycles s k start size n four a es free .0)
+      (ownCycles k (afterEvent s (load k start size)) es) .holds inputs X supplied satisfied)
 
 -- One number tells the answers of a board's calls too: they yield 0, or refuse with a number above 0 at place 0.
 -- A call that has come to an effect.

@@ -6,7 +6,7 @@ use Prim.Native.Nat.{ℕ, suc, _+_, _*_, _^_, _≤_, _<_}
 use mathlib.Core.Bool.{Bool, true, false}
 use mathlib.Core.List.{List, [], _∷_}
 use mathlib.Core.Logic.{_↔_, _⊎_}
-use mathlib.Core.Path.{_≡_, refl, sym, ap, ap₂, subst, subst₂, _∙_}
+use mathlib.Core.Path.{_≡_, refl, sym, ap, ap₂, subst, _∙_}
 use native.Mathlib.Nat.{mod-eq-of-lt}
 use native.Mathlib.Omega.{arith}
 use borrow.Author.Tests.{le-leb, lt-leb}
@@ -71,7 +71,6 @@ use Rattle.model.specs.Says.Written.{
   CodeWhole,
 }
 use Rattle.theorems.specs.Conditions.{_among_, ReadIn, LegalPairWith, LegalPair}
-use Rattle.theorems.specs.Held.{stateBy, logBy}
 use Rattle.theorems.specs.Conversion.{earlierFactor, Converts, ConversionKeeps}
 use Rattle.theorems.specs.Decimals.{SaysNumber, SaysWord}
 use Rattle.theorems.specs.Enums.{
@@ -100,8 +99,7 @@ use Rattle.theorems.specs.Lists.{
   OthersRefused,
   AsWithout,
   SettleAlike,
-  Agree,
-  EndsWith,
+  SameWords,
 }
 use Rattle.theorems.specs.Reach.{WidthsListed}
 use Rattle.theorems.specs.Refusals.{RefusedAt}
@@ -146,7 +144,7 @@ use Rattle.theorems.proofs.Conversion.Unchanged as Unchanged
 use Rattle.theorems.proofs.Texts.Parses as Parses
 use Rattle.theorems.proofs.Bench.Decimals as Decimals
 use Rattle.theorems.proofs.Streams.Alike.{open-alike, alike-satisfy}
-use Rattle.theorems.proofs.Streams.AlikeBytes.{entry-alike}
+use Rattle.theorems.proofs.Streams.AlikeLent.{words-alike}
 use Rattle.theorems.proofs.Streams.Demand as Demand
 use Rattle.theorems.proofs.Streams.Looked.{table-of-image, rows-stored}
 use Rattle.theorems.proofs.Streams.Worded.{elements-words, table-yields}
@@ -210,7 +208,7 @@ pub no-zero-bound : (program schedule : List ℕ) (q : Pair) → pairOf program 
     c among q .program .chains → 0 < c .bound
 no-zero-bound = Latency.no-zero-bound
 
-small-code : (f : Fault) → f .place ≤ 65791 → codeNumber (refused f) ≡ f .number * 4294967296 + f .place
+pub small-code : (f : Fault) → f .place ≤ 65791 → codeNumber (refused f) ≡ f .number * 4294967296 + f .place
 small-code f le = ap (λ n. f .number * 4294967296 + n) (mod-eq-of-lt (omega arith))
 
 -- Every refusal has a place below 2^32, so that number × 2^32 + place, the answer of a C call, tells both.
@@ -477,7 +475,7 @@ module _ (program schedule : List ℕ) (bytes : AreBytes program) (p : Program) 
   calls-hold tail lent bears = Demand.calls-hold program schedule bytes p s h e bears
 
   -- The same with calls in between that are lent something else and are refused: any image with any stretch of the state, or a
-  -- compile or conversion with any stretch of the image's own buffer, whose first `size` bytes the calls of the list are lent.
+  -- compile, conversion or join with any stretch of the image's own buffer, whose first `size` bytes the calls of the list are lent.
   pub calls-among : (size : ℕ) (buffer tail : List ℕ) → Bears (imageOf p s h) tail (take size buffer) → (old : List ℤ) →
       resetOf (take size buffer) old .answer ≡ accepted 0 → (ls : List Lent) →
       let m = afterReset size buffer old in
@@ -498,24 +496,11 @@ module _ (program schedule schedule′ : List ℕ) (bytes : AreBytes program) (p
 
   -- A list of calls on the image of each, lent with a tail or without, with input elements that agree wherever both lists supply
   -- them: if both end holding one element of signal x, element −1 included, it is the same word.
-  pub alike-words : (tail tail′ lent lent′ : List ℕ) → Bears (imageOf p s h) tail lent → Bears (imageOf p s′ h) tail′ lent′ →
-      (old old′ : List ℤ) → resetOf lent old .answer ≡ accepted 0 → resetOf lent′ old′ .answer ≡ accepted 0 →
-      (cs cs′ : List Call) → Agree p s s′ (logBy lent old cs) (logBy lent′ old′ cs′) → (x j : ℕ) → x < count p →
-      EndsWith p s (length (logBy lent old cs)) x j → EndsWith p s′ (length (logBy lent′ old′ cs′)) x j →
-      getD (stateBy lent old cs) (suc x) (pos 0) ≡ getD (stateBy lent′ old′ cs′) (suc x) (pos 0)
-  alike-words tail tail′ lent lent′ b b′ old old′ r r′ cs cs′ agree x j lt ends ends′ =
-      let log = Demand.log-alike program schedule bytes p s h e b old cs in
-      let log′ = Demand.log-alike program schedule′ bytes p s′ h e′ b′ old′ cs′ in
-      rw (
-        Demand.state-alike program schedule bytes p s h e b old cs,
-        Demand.state-alike program schedule′ bytes p s′ h e′ b′ old′ cs′,
-      )
-      (entry-alike p s s′ h (pair-accepted program schedule _ e) (pair-accepted program schedule′ _ e′)
+  pub alike-words : SameWords p s s′ (imageOf p s h) (imageOf p s′ h)
+  alike-words =
+      words-alike p s s′ h (pair-accepted program schedule _ e) (pair-accepted program schedule′ _ e′)
       (pair-multiple program schedule _ e) (pair-bounded program schedule _ e bytes) (pair-bounded program schedule′ _ e′ bytes)
-      (open-alike p s s′ alike) old old′ (Demand.lent-long program schedule bytes p s h e b old r)
-      (Demand.lent-long program schedule′ bytes p s′ h e′ b′ old′ r′) cs cs′ (subst₂ (Agree p s s′) log log′ agree) x j lt
-      (subst (λ (l : List (List ℤ)). EndsWith p s (length l) x j) log ends)
-      (subst (λ (l : List (List ℤ)). EndsWith p s′ (length l) x j) log′ ends′))
+      alike
 
 -- Two pairs of one program text are of one program, and have one hypercycle.
 pub same-program : (program schedule schedule′ : List ℕ) (q q′ : Pair) → pairOf program schedule ≡ accepted q →

@@ -1,1 +1,2 @@
-// No code: what the calls of crate `larderlate` promise together (proofs/Promises.antt), and those of a board (proofs/BoardPromises.antt).
+// No code: what the calls of crate `larderlate` promise together (proofs/Promises.antt), a join (proofs/JoinPromises.antt), and those
+// of a board (proofs/BoardPromises.antt).

@@ -4,6 +4,7 @@ use basics::Judged;
 use libc::STDIN_FILENO;
 use libc::STDOUT_FILENO;
 use model::Width;
+ghost use mathlib.Core.Path.{_≡_};
 ghost use Prim.Native.Nat.{_≤_};
 ghost use lib.ListN.{length};
 ghost use Rattle.io.specs.Counts.{Counts};
@@ -464,6 +465,53 @@ fn put_record(record: &mut [usize; 17]) -> bool {
     words[14] <= 4294967295
 }
 
+fn join(texts: &[u8], numbers: &[usize], links: &[u8], buffer: &mut [u8]) {
+    let mut part: usize = 255;
+    let code = larderlate::larderlate_join_numbers(texts, numbers, links, buffer, &mut part);
+    print_part(code / 4294967296);
+    print_part(code % 4294967296);
+    print_part(part as u64);
+    print_last(hash_bytes(buffer) as u64);
+}
+
+// Reads a count of parts and their numbers, four a part, and yields how many numbers these are, too large where they are over 80.
+fn fill_parts(numbers: &mut [usize; 80]) -> usize
+    requires { ⌜ length (now numbers) ≡ 80 ⌝ }
+    ensures { λ _. ⌜ length (now (numbers .exit)) ≡ 80 ⌝ }
+{
+    let parts = number(1);
+    if 20 < parts {
+        return 4294967296;
+    }
+    let n = 4 * parts;
+    let mut i: usize = 0;
+    while i < n {
+        numbers[i] = number(4);
+        i = i + 1;
+    }
+    n
+}
+
+// 0F: a join.
+fn call_join() -> bool {
+    let mut texts = [0u8; 20000];
+    let mut numbers = [0usize; 80];
+    let mut links = [0u8; 2400];
+    let texts_size = number(4);
+    let t = fill(&mut texts, texts_size);
+    let n = fill_parts(&mut numbers);
+    let links_size = number(2);
+    let l = fill(&mut links, links_size);
+    let b = number(4);
+    let byte = number(1);
+    if t < texts_size || 80 < n || l < links_size || 26000 < b || 255 < byte {
+        return false;
+    }
+    let mut buffer = buffer_of((byte % 256) as u8);
+    join(&texts[..t], &numbers[..n], &links[..l], &mut buffer[..b]);
+    true
+}
+
 // A call on just what is lent; false where the stream ends.
 fn call(kind: usize, image: &[u8], state: &mut [i32], record: &mut [usize; 17]) -> bool {
     match kind {
@@ -479,6 +527,7 @@ fn call(kind: usize, image: &[u8], state: &mut [i32], record: &mut [usize; 17]) 
         12 => call_load(image, state, record),
         13 => call_mark(state, record),
         14 => call_turn(image, state, record),
+        15 => call_join(),
         17 => put_record(record),
         _ => false,
     }

@@ -1,5 +1,4 @@
 -- Laws that the proofs of several functions cite.
-pub mod Pigeons
 pub mod Puts
 pub mod Endings
 pub mod Arranged

@@ -41,7 +41,7 @@ use Rattle.text_program.proofs.Filled.{filled}
 use Rattle.text_schedule.specs.Slots.{signalsPut, SlotsAfter, putAdded, judgedBy, PutJudged, allRanked, ScheduledAs}
 use Rattle.text_schedule.specs.declared.Placing.{Placing}
 use Rattle.text_schedule.specs.declared.Slots.{Slots}
-use Rattle.text_schedule.proofs.Pigeons.{order-length}
+use Rattle.model.proofs.Pairs.Pigeons.{order-length}
 
 or-false : (b : Bool) → b || false ≡ b
 or-false true = refl

@@ -6,5 +6,6 @@ pub mod Images
 pub mod Streams
 pub mod Calls
 pub mod Conversion
+pub mod Joining
 pub mod Bench
 pub mod Examples

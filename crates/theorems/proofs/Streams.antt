@@ -10,4 +10,6 @@ pub mod Looked
 pub mod OnBytes
 pub mod Alike
 pub mod AlikeBytes
+pub mod Lending
 pub mod Demand
+pub mod AlikeLent

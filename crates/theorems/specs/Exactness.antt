@@ -7,10 +7,14 @@ use lib.IntN.{ℤ, pos}
 use lib.ListN.{length, getD, drop}
 use Rattle.model.specs.Rules.Compile.{Pair}
 use Rattle.theorems.specs.Conditions.{LegalPair}
+use Rattle.model.specs.Rules.Join.{partNamed, joinOf}
 use Rattle.model.specs.Rules.Image.{writtenOf, writtenLength}
 use Rattle.model.specs.Rules.Machine.{Effect, hyperOf, countOf, resetWords, cycleWords, cycleCount}
 use Rattle.model.specs.Rules.Outcome.{accepted, refused, fault}
 use Rattle.model.specs.declared.Fault.{Fault}
+use Rattle.model.specs.declared.Found.{Found}
+use Rattle.model.specs.declared.Found.the-variants.{Nowhere}
+use Rattle.theorems.specs.Join.{JoinLegal, JoinRefused}
 use Rattle.theorems.specs.Refusals.{RefusedAt}
 use Rattle.theorems.specs.WellFormed.{WellLent}
 
@@ -26,19 +30,45 @@ pub record Exactly {A : Type 0} (lent : List A) (Done : ℕ → List A → Type 
 abbrev pub sizeOf : Pair → ℕ
 sizeOf q = writtenLength (q .program) (q .schedule) (q .hypercycle)
 
-module _ (program schedule buffer : List ℕ) where
-  -- Compile is done: the pair is legal, n is its L + 4N, and the buffer holds that. Bytes past it stay.
-  pub record Compiles (n : ℕ) (left : List ℕ) : Type 0 where
-    pub pair : Pair
-    pub legal : LegalPair program schedule pair
-    pub is : n ≡ sizeOf pair
-    pub fits : n ≤ length buffer
-    pub leaves : left ≡ writtenOf (pair .program) (pair .schedule) (pair .hypercycle) ++ drop n buffer
+-- The image of a pair is written: the pair is legal, n is its L + 4N, and the buffer holds that. Bytes past it stay.
+pub record Writes (Legal : Pair → Type 0) (buffer : List ℕ) (n : ℕ) (left : List ℕ) : Type 0 where
+  pub pair : Pair
+  pub legal : Legal pair
+  pub is : n ≡ sizeOf pair
+  pub fits : n ≤ length buffer
+  pub leaves : left ≡ writtenOf (pair .program) (pair .schedule) (pair .hypercycle) ++ drop n buffer
 
-  -- It is refused: 1 to 16, 29 or 30, or the pair is legal and the buffer shorter than L + 4N (17).
-  pub data CompileRefusedAt : Fault → Type 0 where
-    pair : {f : Fault} → RefusedAt program schedule f → CompileRefusedAt f
-    space : {q : Pair} → LegalPair program schedule q → length buffer < sizeOf q → CompileRefusedAt (fault 17 (sizeOf q))
+-- It is not: there is no legal pair, or the buffer is shorter than its L + 4N (17).
+pub data WriteRefusedAt (Legal : Pair → Type 0) (Refused : Fault → Type 0) (buffer : List ℕ) : Fault → Type 0 where
+  pair : {f : Fault} → Refused f → WriteRefusedAt Legal Refused buffer f
+  space : {q : Pair} → Legal q → length buffer < sizeOf q → WriteRefusedAt Legal Refused buffer (fault 17 (sizeOf q))
+
+-- Compile is done, or refused by 1 to 17, 29 or 30.
+abbrev pub Compiles : List ℕ → List ℕ → List ℕ → ℕ → List ℕ → Type 0
+Compiles program schedule buffer = Writes (LegalPair program schedule) buffer
+
+abbrev pub CompileRefusedAt : List ℕ → List ℕ → List ℕ → Fault → Type 0
+CompileRefusedAt program schedule buffer = WriteRefusedAt (LegalPair program schedule) (RefusedAt program schedule) buffer
+
+module _ (buffer numbers links image : List ℕ) where
+  -- Join is done.
+  abbrev pub Joins : ℕ → List ℕ → Type 0
+  Joins = Writes (JoinLegal buffer numbers links) image
+
+  -- It is refused, naming part k or none.
+  pub data JoinRefusedAt : Found → Fault → Type 0 where
+    pair : {k : Found} {f : Fault} → JoinRefused buffer numbers links k f → JoinRefusedAt k f
+    space : {q : Pair} → JoinLegal buffer numbers links q → length image < sizeOf q → JoinRefusedAt Nowhere (fault 17 (sizeOf q))
+
+  -- Join yields n and leaves `left` exactly if `Joins` says so. It is refused with f, naming part k or none, exactly if
+  -- `JoinRefusedAt` says so, and then leaves what was lent.
+  pub record JoinExactly : Type 0 where
+    pub done : (n : ℕ) (left : List ℕ) →
+        ((joinOf buffer numbers links image .answer ≡ accepted n) × (joinOf buffer numbers links image .left ≡ left)) ↔ Joins n left
+    pub refuses : (k : Found) (f : Fault) (left : List ℕ) →
+        ((joinOf buffer numbers links image .answer ≡ refused f) × (joinOf buffer numbers links image .left ≡ left) ×
+        (partNamed buffer numbers ≡ k)) ↔
+        (JoinRefusedAt k f × (left ≡ image))
 
 module _ (lent : List ℕ) (state : List ℤ) where
   -- Neither 20 nor 21: the image lent is well formed, and the state has N + 1 words.

@@ -13,6 +13,8 @@ pub mod Images
 pub mod Streams
 pub mod Tables
 pub mod Held
+pub mod Join
+pub mod Composed
 pub mod Lists
 pub mod Exactness
 pub mod Convert

@@ -7,14 +7,18 @@ use lib.ListN.{length, getD, take, drop}
 use Rattle.model.specs.Says.Feasible.{All}
 use Rattle.model.specs.Says.Calls.{Call, callOf, logged, after, logAfter}
 use Rattle.theorems.specs.Held.{answersOf, stateBy, logBy, answersBy, Answered, lentAt, IsInput, Supplied, Holds}
-use Rattle.model.specs.Rules.Compile.{compileOf}
+use Rattle.model.specs.Rules.Compile.{Pair, compileOf}
+use Rattle.model.specs.Rules.Join.{joinOf}
 use Rattle.model.specs.Rules.Machine.{Effect, resetOf}
-use Rattle.model.specs.Rules.Outcome.{Outcome, refused}
+use Rattle.model.specs.Rules.Outcome.{Outcome, accepted, refused}
 use Rattle.model.specs.Rules.Program.{Program, count, signalAt, bodyReads}
 use Rattle.model.specs.Rules.Reads.{rateOf, runCycle, settled}
-use Rattle.model.specs.Rules.Report.{reportOf}
+use Rattle.model.specs.Rules.Parts.{Part, partAt, PartLink}
+use Rattle.model.specs.Rules.Report.{countsOf, reportOf}
 use Rattle.model.specs.Rules.Rewrite.{convertOf}
 use Rattle.model.specs.Rules.Schedule.{Schedule, phaseOf}
+use Rattle.model.specs.Rules.Tail.{Bears}
+use Rattle.theorems.specs.Join.{LinkedSatisfies}
 use Rattle.theorems.specs.Streams.{Satisfies}
 use Rattle.model.specs.declared.Fault.{Fault}
 use Rattle.model.specs.declared.Index.the-variants.{Open}
@@ -34,6 +38,19 @@ abbrev pub KeptBy : List ℕ → List ℕ → Program → Schedule → ℕ → L
 KeptBy program schedule p s h lent old cs =
     Kept program schedule p s h old cs (answersBy lent old cs) (logBy lent old cs) (stateBy lent old cs)
 
+-- The same on the image of joined parts: the state is what `Holds` says with every streams that satisfy the equations of all parts
+-- and links together, and a cycle answers the count of its position.
+pub record JoinKept (parts : List Part) (links : List PartLink) (q : Pair) (old : List ℤ) (cs : List Call)
+    (answers : List (Outcome ℕ)) (log : List (List ℤ)) (state : List ℤ) : Type 0 where
+  pub answered :
+      Answered (q .program) (q .hypercycle) (countsOf (q .program) (q .schedule) (q .hypercycle)) 0 cs answers (length log)
+  pub holds : (inputs X : ℕ → ℕ → ℤ) → Supplied (q .program) (q .schedule) log inputs → LinkedSatisfies parts links inputs X →
+      Holds (q .program) (q .schedule) (q .hypercycle) X old (length log) state
+
+abbrev pub JoinKeptBy : List Part → List PartLink → Pair → List ℕ → List ℤ → List Call → Type 0
+JoinKeptBy parts links q lent old cs =
+    JoinKept parts links q old cs (answersBy lent old cs) (logBy lent old cs) (stateBy lent old cs)
+
 -- A stretch of a list: n elements from one on, or those that are left; and what it is with other elements in that place.
 abbrev pub partOf : {A : Type 0} → ℕ → ℕ → List A → List A
 partOf from n xs = take n (drop from xs)
@@ -45,10 +62,12 @@ withPart from n part xs = take from xs ++ (part ++ drop n (drop from xs))
 pub data Writer : Type 0 where
   compiles : (program schedule : List ℕ) → Writer
   converts : (program : List ℕ) → Writer
+  joins : (texts numbers links : List ℕ) → Writer
 
 abbrev pub writerOf : List ℕ → Writer → Effect ℕ ℕ
 writerOf buffer (compiles program schedule) = compileOf program schedule buffer
 writerOf buffer (converts program) = convertOf program buffer
+writerOf buffer (joins texts numbers links) = joinOf texts numbers links buffer
 
 -- The image's buffer and the state.
 pub record Memory : Type 0 where
@@ -61,7 +80,7 @@ afterReset size buffer old = record { buffer = buffer; state = resetOf (take siz
 
 -- A call of the list, or one that is lent something else: a reset or cycle with any image, this one or another, and any stretch
 -- of
--- this state; a compile or conversion with any stretch of the image's own buffer.
+-- this state; a compile, conversion or join with any stretch of the image's own buffer.
 pub data Lent : Type 0 where
   own : Call → Lent
   words : (image : List ℕ) (from n : ℕ) → Call → Lent
@@ -128,6 +147,13 @@ SettleAlike p s s′ =
     (x : ℕ) → x < count p →
     All (λ ρ. ρ .operands .index ≡ Open → settled p s x ρ ≡ settled p s′ x ρ) (bodyReads (signalAt p x .body))
 
+-- Two lists of parts with the same programs settle alike, part by part.
+pub record PartsAlike (parts parts′ : List Part) : Type 0 where
+  pub number : length parts ≡ length parts′
+  pub programs : (k : ℕ) → k < length parts → partAt parts k .program ≡ partAt parts′ k .program
+  pub settle : (k : ℕ) → k < length parts →
+      SettleAlike (partAt parts k .program) (partAt parts k .schedule) (partAt parts′ k .schedule)
+
 -- The word that a log supplies for element k of input x.
 abbrev pub sample : Program → Schedule → List (List ℤ) → ℕ → ℕ → ℤ
 sample p s log x k = getD (lentAt log (runCycle (rateOf p s x) k)) x (pos 0)
@@ -142,3 +168,13 @@ Agree p s s′ log log′ =
 abbrev pub EndsWith : Program → Schedule → (c x j : ℕ) → Type 0
 EndsWith p s c x zero = c ≤ phaseOf s x
 EndsWith p s c x (suc k) = (phaseOf s x < c) × ((c - 1 - phaseOf s x) / signalAt p x .period ≡ k)
+
+-- A list of calls on an image of each, lent with a tail or without, with input elements that agree wherever both lists supply
+-- them: if both end holding one element of signal x, element −1 included, it is the same word.
+abbrev pub SameWords : Program → Schedule → Schedule → List ℕ → List ℕ → Type 0
+SameWords p s s′ image image′ =
+    (tail tail′ lent lent′ : List ℕ) → Bears image tail lent → Bears image′ tail′ lent′ → (old old′ : List ℤ) →
+    resetOf lent old .answer ≡ accepted 0 → resetOf lent′ old′ .answer ≡ accepted 0 → (cs cs′ : List Call) →
+    Agree p s s′ (logBy lent old cs) (logBy lent′ old′ cs′) → (x j : ℕ) → x < count p →
+    EndsWith p s (length (logBy lent old cs)) x j → EndsWith p s′ (length (logBy lent′ old′ cs′)) x j →
+    getD (stateBy lent old cs) (suc x) (pos 0) ≡ getD (stateBy lent′ old′ cs′) (suc x) (pos 0)

@@ -210,6 +210,7 @@ returns-5 c =
             ordered = ordered g;
             covered = rates-passed _ _ (rated (found d)) .3;
           };
+      ranks-are = refl;
       hyper = refl;
       bound = short-hypercycle g;
     })))))))

@@ -9,12 +9,12 @@ use Rattle.model.specs.Rules.Compile.{Pair, pairOf, compiledOf}
 use Rattle.model.specs.Rules.Image.{lengthOf, imageOf, tailOf}
 use Rattle.model.specs.Rules.Outcome.{accepted}
 use Rattle.image_write.specs.Tail.{tailBy}
-use Rattle.image_write.proofs.Imaged.{declared}
-use Rattle.image_write.proofs.Tailed.{tail-by}
 use Rattle.image_write.specs.Prepared.{LaidOut, Ready}
+use Rattle.image_write.proofs.Imaged.{declared, tail-by}
+use Rattle.image_write.proofs.Written.{tail-room, all-written}
 use Rattle.check_pair.specs.Answers.{Checks}
 use Rattle.check_pair.proofs.Verdicts.{answers-fine, answers-refused}
-use Rattle.compiler.proofs.Answers.{compile-refused, compile-short, tail-room, compile-done}
+use Rattle.compiler.proofs.Answers.{compile-refused, compile-short, compile-done}
 use Rattle.compiler.proofs.compile.Statement.{statement}
 use Rattle.compiler.proofs.compile.Tie as tie
 
@@ -96,7 +96,7 @@ emit-tail-requires c κs =
     let l = laid-out (e .before) in
     let q = pair (checked (e .before)) in (
       omega (arith, declared (q .2 .prepared) .few),
-      tail-room _ _ _ (q .0) _ _ (q .1) (q .2 .hyper) (l .tail-ends) (e .if1 .left) (image-is k) (l .ends) (tail-is k),
+      tail-room (q .0 .program) (q .0 .schedule) _ _ _ (l .tail-ends) (e .if1 .left) (image-is k) (l .ends) (tail-is k),
     )
 
 returns-3 : tie.Need-returns-3
@@ -105,8 +105,9 @@ returns-3 c =
     let e = emitted k in
     let l = e .before in
     let q = pair (checked l) in
-    compile-done _ _ _ (q .0) _ _ (q .1) (q .2 .hyper) (laid-out l .tail-ends) (e .if1 .left) (image-is k) (laid-out l .ends)
-    (tail-is k) (c .before .before .emit-tail .ensures)
+    compile-done _ _ _ (q .0) _ _ (q .1) (q .2 .hyper) (laid-out l .tail-ends) (e .if1 .left)
+    (all-written (q .0 .program) (q .0 .schedule) _ _ _ (laid-out l .tail-ends) (e .if1 .left) (image-is k) (laid-out l .ends)
+    (tail-is k) (c .before .before .emit-tail .ensures))
 
 pub compile-spec : {M : Type 1} → statement M
 compile-spec =

@@ -10,13 +10,8 @@ use Rattle.image_write.specs.Codes.{declaredBy, codesFrom}
 use Rattle.image_write.specs.Lists.{listsBy, pairs}
 use Rattle.image_write.specs.Rows.{tableBy}
 use Rattle.model.proofs.Basics.Left.{Left, starts, room, turn, done}
+use Rattle.image_write.proofs.Timed.{codesBy, lengthBy, imageBy, head-first, both, last}
 use Rattle.image_write.proofs.Imaged.{
-  codesBy,
-  lengthBy,
-  imageBy,
-  head-first,
-  both,
-  last,
   declared,
   table-stands,
   timed,

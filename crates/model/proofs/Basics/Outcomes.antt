@@ -3,13 +3,14 @@ use Prim.Native.Nat.{ℕ, zero, suc, _+_, _≤_, _<_}
 use mathlib.Core.Bool.{Bool, true, false, cond, false≢true}
 use mathlib.Core.List.{List, [], _∷_, _++_, append-assoc}
 use mathlib.Core.Path.{_≡_, refl, sym, ap, _∙_}
-use native.Mathlib.Nat.{add-zero, add-suc, suc-add}
+use native.Mathlib.Nat.{add-zero, add-suc, suc-add, add-assoc, zero-add}
+use native.Mathlib.Decide.{decLt}
 use native.Mathlib.Omega.{arith}
 use borrow.Author.Tests.{ltb-true, ltb-false, le-ltb}
 use lib.Dec.{ltb}
 use lib.ListN.{length, getD}
 use Rattle.model.specs.Rules.Outcome.{Outcome, accepted, refused, refuse, _▷_, provided, lower, lowest}
-use Rattle.model.specs.Rules.Search.{tableFrom, table, joinFrom}
+use Rattle.model.specs.Rules.Search.{tableFrom, table, joinFrom, sum}
 use Rattle.model.specs.declared.Fault.{Fault}
 
 -- Tests that fail.
@@ -239,3 +240,31 @@ table-length n f = tableFrom-length 0 n f
 pub table-at : {A : Type 0} (n : ℕ) (f : ℕ → A) (c : ℕ) (d : A) → c < n → getD (table n f) c d ≡ f c
 unfolding table
 table-at n f c d h = tableFrom-at 0 n f c d h ∙ ap f (omega arith)
+
+-- A sum with one number more.
+pub sum-from : (i n : ℕ) (f : ℕ → ℕ) → sum (tableFrom i (suc n) f) ≡ sum (tableFrom i n f) + f (i + n)
+unfolding sum tableFrom
+sum-from i zero f = add-zero (f i) ∙ sym (zero-add (f i)) ∙ ap (λ k. 0 + f k) (sym (add-zero i))
+sum-from i (suc n) f =
+    ap (f i +_) (sum-from (suc i) n f) ∙ sym (add-assoc (f i) (sum (tableFrom (suc i) n f)) (f (suc i + n))) ∙
+    ap (λ k. f i + sum (tableFrom (suc i) n f) + f k) (omega arith)
+
+-- The sum of the first numbers of a table is no more than that of all.
+pub sum-first : (k n : ℕ) (f : ℕ → ℕ) → k < n → sum (table k f) + f k ≤ sum (table n f)
+unfolding table
+sum-first k zero f lt = absurd (omega arith)
+sum-first k (suc n) f lt = go (decLt k n) (λ l. sum-first k n f l)
+  where
+    more : sum (tableFrom 0 (suc n) f) ≡ sum (tableFrom 0 n f) + f n
+    more = sum-from 0 n f ∙ ap (λ (m : ℕ). sum (tableFrom 0 n f) + f m) (zero-add n)
+
+    go : Dec (k < n) → (k < n → sum (tableFrom 0 k f) + f k ≤ sum (tableFrom 0 n f)) →
+        sum (tableFrom 0 k f) + f k ≤ sum (tableFrom 0 (suc n) f)
+    go (yes l) ih = omega (arith, more, ih l)
+    go (no l) ih = let e : k ≡ n = omega arith in rw e (omega (arith, more))
+
+pub sum-next : (k : ℕ) (f : ℕ → ℕ) → sum (table (k + 1) f) ≡ sum (table k f) + f k
+unfolding table
+sum-next k f =
+    ap (λ (n : ℕ). sum (tableFrom 0 n f)) (omega arith) ∙ sum-from 0 k f ∙
+    ap (λ (m : ℕ). sum (tableFrom 0 k f) + f m) (zero-add k)

@@ -188,7 +188,7 @@ lookups-at [] x lt = absurd (omega arith)
 lookups-at (y ∷ ys) zero lt = omega arith
 lookups-at (y ∷ ys) (suc x) lt = omega (arith, lookups-at ys x (omega arith))
 
-lists-length : (p : Program) (s : Schedule) (h : ℕ) → length (joined (runLists p s h)) ≤ h * length (s .order)
+pub lists-length : (p : Program) (s : Schedule) (h : ℕ) → length (joined (runLists p s h)) ≤ h * length (s .order)
 unfolding runLists runList
 lists-length p s h =
     let n = table-length h (runList p s) in
@@ -223,7 +223,7 @@ module _ (p : Program) (e : tabled p ≡ accepted tt) where
   tabled-covers : AllUpright (p .rows) → 0 < length (p .rows) → Covers (p .rows)
   tabled-covers up some = judged-covers (p .rows) up (tabled-covering (omega arith))
 
-  tabled-served : (x : ℕ) → x < count p → 0 < bodyLookups (signalAt p x .body) → 0 < length (p .rows)
+  pub tabled-served : (x : ℕ) → x < count p → 0 < bodyLookups (signalAt p x .body) → 0 < length (p .rows)
   tabled-served x lt some =
       covered-some (p .rows) (tabled-covering (omega (arith, lookups-at (p .signals) x lt)))
 

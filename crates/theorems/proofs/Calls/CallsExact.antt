@@ -32,6 +32,8 @@ use Rattle.theorems.specs.Conditions.{LegalPair}
 use Rattle.theorems.specs.Exactness.{
   Exactly,
   sizeOf,
+  Writes,
+  WriteRefusedAt,
   Compiles,
   CompileRefusedAt,
   Usable,
@@ -41,6 +43,7 @@ use Rattle.theorems.specs.Exactness.{
   Cycles,
   CycleRefusedAt,
 }
+use Rattle.theorems.specs.Refusals.{RefusedAt}
 use Rattle.theorems.specs.WellFormed.{WellLent}
 use Rattle.model.specs.declared.Fault.{Fault}
 use Rattle.model.proofs.Basics.Outcomes.{accepted≢refused, accepted-same, accepted-then, refused-then, then-then}
@@ -99,16 +102,16 @@ module _ {A : Type 0} (lent : List A) (Done : ℕ → List A → Type 0) (Refuse
         λ d. let e = h .refuses g .1 (d .0) in let q : f ≡ g = cc e in (ap refused q, sym (d .1)),
       )
 
--- Compile.
-module _ (program schedule buffer : List ℕ) where
+-- A verdict on a pair, and its image written.
+module _ (Legal : Pair → Type 0) (Refused : Fault → Type 0) (o : Outcome Pair) (judged : Judged Legal Refused o) (buffer : List ℕ) where
   abbrev written : Pair → List ℕ
   written q = writtenOf (q .program) (q .schedule) (q .hypercycle)
 
-  abbrev compileDone : ℕ → List ℕ → Type 0
-  compileDone = Compiles program schedule buffer
+  abbrev Done : ℕ → List ℕ → Type 0
+  Done = Writes Legal buffer
 
-  abbrev compileRefused : Fault → Type 0
-  compileRefused = CompileRefusedAt program schedule buffer
+  abbrev NotDone : Fault → Type 0
+  NotDone = WriteRefusedAt Legal Refused buffer
 
   -- What follows an accepted pair.
   abbrev writes : Pair → Outcome (Job ℕ ℕ)
@@ -127,38 +130,44 @@ module _ (program schedule buffer : List ℕ) where
       (provided-judged _ 17 (sizeOf q) (sizeOf q ≤ length buffer) (length buffer < sizeOf q) (leb-true _ _, le-leb _ _)
       (leb-false _ _) (λ l h. omega arith))
 
-  compile-answers : Answers (Does compileDone) compileRefused (pairOf program schedule ▷ writes)
-  compile-answers =
-      answers-then _ compileRefused _ _ (pair-judged program schedule) (λ g f. CompileRefusedAt.pair f) (λ q legal.
-      answers-then _ compileRefused _ _ (space-judged q) (λ g f. space legal f) (λ u fits.
+  write-answers : Answers (Does Done) NotDone (o ▷ writes)
+  write-answers =
+      answers-then _ NotDone _ _ judged (λ g f. WriteRefusedAt.pair f) (λ q legal.
+      answers-then _ NotDone _ _ (space-judged q) (λ g f. space legal f) (λ u fits.
       record { pair = q; legal = legal; is = size q; fits = omega (arith, size q); leaves = refl }))
     where
-      space : {q : Pair} {f : Fault} → LegalPair program schedule q → Only 17 (sizeOf q) (length buffer < sizeOf q) f →
-          compileRefused f
-      space legal (Only.only h) = CompileRefusedAt.space legal h
+      space : {q : Pair} {f : Fault} → Legal q → Only 17 (sizeOf q) (length buffer < sizeOf q) f → NotDone f
+      space legal (Only.only h) = WriteRefusedAt.space legal h
 
-  compile-done : (j : Job ℕ ℕ) → compileDone (j .yields) (j .leaves) → pairOf program schedule ▷ writes ≡ accepted j
-  compile-done j d =
+  write-done : (j : Job ℕ ℕ) → Done (j .yields) (j .leaves) → o ▷ writes ≡ accepted j
+  write-done j d =
       let q = d .pair in
       let same : length (written q) ≡ j .yields = size q ∙ sym (d .is) in
-      accepted-then _ _ _ (pair-judged program schedule .accepts q .1 (d .legal)) ∙
+      accepted-then _ _ _ (judged .accepts q .1 (d .legal)) ∙
       accepted-then _ _ _ (space-judged q .accepts tt .1 (omega (arith, d .is, d .fits))) ∙
       ap₂ (λ (n : ℕ) (l : List ℕ). accepted (record { yields = n; leaves = l })) same
       (ap (λ (n : ℕ). written q ++ drop n buffer) same ∙ sym (d .leaves))
 
-  compile-refused : {f : Fault} → compileRefused f → pairOf program schedule ▷ writes ≡ refused f
-  compile-refused (CompileRefusedAt.pair r) = refused-then _ _ _ (pair-judged program schedule .refuses _ .1 r)
-  compile-refused (CompileRefusedAt.space {q = q} legal lt) =
-      accepted-then _ _ _ (pair-judged program schedule .accepts q .1 legal) ∙
+  write-refused : {f : Fault} → NotDone f → o ▷ writes ≡ refused f
+  write-refused (WriteRefusedAt.pair r) = refused-then _ _ _ (judged .refuses _ .1 r)
+  write-refused (WriteRefusedAt.space {q = q} legal lt) =
+      accepted-then _ _ _ (judged .accepts q .1 legal) ∙
       refused-then _ _ _ (space-judged q .refuses (fault 17 (sizeOf q)) .1 (Only.only lt))
 
-  -- Compile does its job, or is refused by 1 to 17, 29 or 30, exactly under its condition.
-  pub compile-exactly : Exactly buffer compileDone compileRefused (compileOf program schedule buffer)
-  unfolding compileOf verdictOf _▷_
-  compile-exactly =
-      subst (λ o. Exactly buffer compileDone compileRefused (effect buffer o))
-      (sym (then-then (pairOf program schedule) (λ q. accepted (written q)) _))
-      (exactly buffer compileDone compileRefused _ (both-ways _ compile-answers compile-done (λ g r. compile-refused r)))
+  pub write-exactly : Exactly buffer Done NotDone (effect buffer (o ▷ writes))
+  write-exactly =
+      exactly buffer Done NotDone _ (both-ways _ write-answers write-done (λ g r. write-refused r))
+
+-- Compile does its job, or is refused by 1 to 17, 29 or 30, exactly under its condition.
+pub compile-exactly : (program schedule buffer : List ℕ) →
+    Exactly buffer (Compiles program schedule buffer) (CompileRefusedAt program schedule buffer) (compileOf program schedule buffer)
+unfolding compileOf verdictOf _▷_
+compile-exactly program schedule buffer =
+    subst (λ o. Exactly buffer (Compiles program schedule buffer) (CompileRefusedAt program schedule buffer) (effect buffer o))
+    (sym (then-then (pairOf program schedule)
+    (λ q. accepted (writtenOf (q .program) (q .schedule) (q .hypercycle))) _))
+    (write-exactly (LegalPair program schedule) (RefusedAt program schedule) (pairOf program schedule)
+    (pair-judged program schedule) buffer)
 
 -- Reset and cycle.
 module _ (lent : List ℕ) (state : List ℤ) where

@@ -15,7 +15,7 @@ use Rattle.model.specs.Rules.Schedule.{Schedule, Put}
 use Rattle.model.specs.Rules.Tail.{Bears}
 use Rattle.model.specs.Rules.Word.{AreBytes}
 use Rattle.theorems.specs.Conversion.{ConvertsTo, ConvertRefusedAt}
-use Rattle.theorems.specs.Exactness.{sizeOf, CompileRefusedAt, ResetRefusedAt, CycleRefusedAt}
+use Rattle.theorems.specs.Exactness.{sizeOf, WriteRefusedAt, CompileRefusedAt, ResetRefusedAt, CycleRefusedAt}
 use Rattle.theorems.specs.Refusals.{TableFault, RateFault, ChainFault, PutFault, MetFault, LoadFault, RefusedAt}
 use Rattle.theorems.specs.Stops.{StopsExpr, StopsLinks, Stops, StopsPuts}
 use Rattle.theorems.specs.WellFormed.{WellFormed}
@@ -88,7 +88,7 @@ table-number (TableFault.gap some u g) = omega arith
 met-number : {p : Program} {s : Schedule} {f : Fault} → MetFault p s f → 1 ≤ f .number
 met-number (MetFault.unmet r ρ i u) = omega arith
 
-load-number : {p : Program} {s : Schedule} {f : Fault} → LoadFault p s f → 1 ≤ f .number
+pub load-number : {p : Program} {s : Schedule} {f : Fault} → LoadFault p s f → 1 ≤ f .number
 load-number (LoadFault.over c o) = omega arith
 
 pub pair-number : {program schedule : List ℕ} {f : Fault} → RefusedAt program schedule f → 1 ≤ f .number
@@ -107,8 +107,8 @@ pair-number (RefusedAt.untimely c m o f) = chain-number (omega arith) (f .fault)
 
 -- The calls.
 pub compile-number : {program schedule buffer : List ℕ} {f : Fault} → CompileRefusedAt program schedule buffer f → 1 ≤ f .number
-compile-number (CompileRefusedAt.pair r) = pair-number r
-compile-number (CompileRefusedAt.space legal lt) = omega arith
+compile-number (WriteRefusedAt.pair r) = pair-number r
+compile-number (WriteRefusedAt.space legal lt) = omega arith
 
 pub reset-number : {lent : List ℕ} {state : List ℤ} {f : Fault} → ResetRefusedAt lent state f → 1 ≤ f .number
 reset-number (ResetRefusedAt.unformed none) = omega arith

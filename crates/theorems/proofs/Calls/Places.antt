@@ -111,7 +111,7 @@ module _ (text : List ℕ) where
     met-inside (MetFault.unmet r ρ i u) = read-inside r ρ i
 
 -- 15: the lowest cycle over CAP is one of the hypercycle, since the load repeats.
-load-below : {p : Program} {s : Schedule} {f : Fault} (h : ℕ) → Multiple p h → LoadFault p s f →
+pub load-below : {p : Program} {s : Schedule} {f : Fault} (h : ℕ) → Multiple p h → LoadFault p s f →
     ((g : Fault) → LoadFault p s g → f .place ≤ g .place) → f .place < h
 load-below {p} {s} h whole (LoadFault.over c o) least =
     omega (

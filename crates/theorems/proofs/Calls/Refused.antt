@@ -5,6 +5,7 @@ use mathlib.Core.Path.{_≡_, refl}
 use native.Mathlib.Omega.{arith}
 use lib.IntN.{ℤ}
 use Rattle.model.specs.Rules.Compile.{compileJob, compileOf}
+use Rattle.model.specs.Rules.Join.{joinJob, joinOf}
 use Rattle.model.specs.Rules.Machine.{Job, effect, resetJob, resetOf, cycleJob, cycleOf}
 use Rattle.model.specs.Rules.Outcome.{Outcome, accepted, refused}
 use Rattle.model.specs.Rules.Rewrite.{convertJob, convertOf}
@@ -28,6 +29,7 @@ cycle-keeps lent state samples f e = refused-left state (cycleJob lent state sam
 
 pub writer-keeps : (buffer : List ℕ) (w : Writer) (f : Fault) → writerOf buffer w .answer ≡ refused f →
     writerOf buffer w .left ≡ buffer
-unfolding compileOf convertOf
+unfolding compileOf convertOf joinOf
 writer-keeps buffer (Writer.compiles program schedule) f e = refused-left buffer (compileJob program schedule buffer) f e
 writer-keeps buffer (Writer.converts program) f e = refused-left buffer (convertJob program buffer) f e
+writer-keeps buffer (Writer.joins texts numbers links) f e = refused-left buffer (joinJob texts numbers links buffer) f e

@@ -248,7 +248,7 @@ module _ (p : Program) where
     puts-judged = lowest-judged (putsFaults p [] qs) (PutFault p qs) (PutsLegal p qs) sound complete single none holds
 
 -- Some number below n fails the test.
-all-false : (n : ℕ) (test : ℕ → Bool) → allBelow n test ≡ false → (x : ℕ) × (x < n) × (test x ≡ false)
+pub all-false : (n : ℕ) (test : ℕ → Bool) → allBelow n test ≡ false → (x : ℕ) × (x < n) × (test x ≡ false)
 unfolding allBelow
 all-false zero test e = absurd (false≢true (sym e))
 all-false (suc n) test e = go (allBelow n test) (test n) refl refl e (λ f. all-false n test f)

@@ -1,33 +1,26 @@
 -- Demand 3 of an accepted pair of texts, lent its image with a tail or without. Assumes nothing.
 use Prim.Native.Nat.{ℕ, _<_}
-use mathlib.Core.Bool.{Bool, true, false}
-use mathlib.Core.List.{List, []}
-use mathlib.Core.Path.{_≡_, refl, sym, ap, subst, _∙_}
-use native.Mathlib.Omega.{arith}
-use borrow.Author.Tests.{ltb-true}
-use lib.Dec.{ltb}
+use mathlib.Core.Bool.{true}
+use mathlib.Core.List.{List}
+use mathlib.Core.Path.{_≡_}
 use lib.IntN.{ℤ}
 use lib.ListN.{length}
 use Rattle.model.specs.Says.Feasible.{Feasible, Multiple}
-use Rattle.model.specs.Says.Calls.{Call, callOf, after, logAfter}
+use Rattle.model.specs.Says.Calls.{Call}
 use Rattle.model.specs.Rules.Compile.{pairOf}
 use Rattle.model.specs.Rules.Image.{imageOf}
-use Rattle.model.specs.Rules.Machine.{Effect, effect, wellFormed, resetWords, resetOf}
-use Rattle.model.specs.Rules.Outcome.{accepted, _▷_, provided}
+use Rattle.model.specs.Rules.Machine.{wellFormed, resetOf}
+use Rattle.model.specs.Rules.Outcome.{accepted, _▷_}
 use Rattle.model.specs.Rules.Program.{Program, count}
 use Rattle.model.specs.Rules.Report.{reportOf}
 use Rattle.model.specs.Rules.Schedule.{Schedule}
 use Rattle.model.specs.Rules.Tail.{Bears}
 use Rattle.model.specs.Rules.Word.{AreBytes}
-use Rattle.theorems.specs.Held.{answersOf, stateBy, logBy, answersBy, Supplied}
+use Rattle.theorems.specs.Held.{stateBy, logBy}
 use Rattle.theorems.specs.Lists.{KeptBy}
 use Rattle.model.proofs.Images.Bounds.{Bounded}
-use Rattle.model.proofs.Images.Formed.{image-well-formed}
-use Rattle.model.proofs.Images.Stretches.{image-count}
-use Rattle.model.proofs.Images.Tails as Tails
 use Rattle.model.proofs.Pairs.Verdict.{pair-accepted, pair-multiple, pair-bounded}
-use Rattle.theorems.proofs.Streams.OnBytes as OnBytes
-use Rattle.theorems.proofs.Images.Tailed
+use Rattle.theorems.proofs.Streams.Lending as Lending
 
 module _ (program schedule : List ℕ) (bytes : AreBytes program) (p : Program) (s : Schedule) (h : ℕ)
     (e : pairOf program schedule ≡ accepted (record { program = p; schedule = s; hypercycle = h })) where
@@ -41,56 +34,25 @@ module _ (program schedule : List ℕ) (bytes : AreBytes program) (p : Program) 
   bounded = pair-bounded program schedule _ e bytes
 
   pub image-formed : wellFormed (imageOf p s h) ≡ true
-  image-formed = image-well-formed p s h accepts whole bounded
-
-  reset-long : (old : List ℤ) → resetOf (imageOf p s h) old .answer ≡ accepted 0 → count p < length old
-  unfolding resetOf _▷_ provided
-  reset-long old r =
-      let own = Tails.bears-itself (imageOf p s h) in
-      go (ltb (count p) (length old)) refl
-      (rw (Tails.lent-ok image-formed own, Tails.part-is image-formed own, image-count p s h) at r)
-    where
-      go : (b : Bool) → ltb (count p) (length old) ≡ b →
-          effect {Y = ℕ} old (provided b 21 0 ▷ λ _. accepted (record { yields = 0; leaves = resetWords (imageOf p s h) old }))
-          .answer ≡
-          accepted 0 → count p < length old
-      go true q t = ltb-true (count p) (length old) q
-      go false q t = let z : _≡_ {A = ℕ} 0 1 = cc in absurd (omega arith)
+  image-formed = Lending.image-formed p s h accepts whole bounded
 
   -- What is lent bears the pair's image.
   module _ {tail lent : List ℕ} (bears : Bears (imageOf p s h) tail lent) where
-    reset-alike : (old : List ℤ) → resetOf lent old ≡ resetOf (imageOf p s h) old
-    unfolding callOf
-    reset-alike old = Tailed.call-alike image-formed bears old Call.reset
-
     pub lent-long : (old : List ℤ) → resetOf lent old .answer ≡ accepted 0 → count p < length old
-    lent-long old r = reset-long old (sym (ap (λ (x : Effect ℕ ℤ). x .answer) (reset-alike old)) ∙ r)
+    lent-long = Lending.lent-long p s h accepts whole bounded bears
 
     pub state-alike : (old : List ℤ) (cs : List Call) → stateBy lent old cs ≡ stateBy (imageOf p s h) old cs
-    state-alike old cs =
-        Tailed.list-alike image-formed bears _ cs ∙
-        ap (λ (x : Effect ℕ ℤ). after (imageOf p s h) (x .left) cs) (reset-alike old)
+    state-alike = Lending.state-alike p s h accepts whole bounded bears
 
     pub log-alike : (old : List ℤ) (cs : List Call) → logBy lent old cs ≡ logBy (imageOf p s h) old cs
-    log-alike old cs =
-        Tailed.log-alike image-formed bears _ [] cs ∙
-        ap (λ (x : Effect ℕ ℤ). logAfter (imageOf p s h) (x .left) [] cs) (reset-alike old)
-
-    answers-alike : (old : List ℤ) (cs : List Call) → answersBy lent old cs ≡ answersBy (imageOf p s h) old cs
-    answers-alike old cs =
-        Tailed.answers-alike image-formed bears _ cs ∙
-        ap (λ (x : Effect ℕ ℤ). answersOf (imageOf p s h) (x .left) cs) (reset-alike old)
+    log-alike = Lending.log-alike p s h accepts whole bounded bears
 
     pub calls-hold : (old : List ℤ) → resetOf lent old .answer ≡ accepted 0 → (cs : List Call) →
         KeptBy program schedule p s h lent old cs
     unfolding reportOf _▷_
     calls-hold old r cs =
         let long = lent-long old r in
-        let log = log-alike old cs in
         record {
-          answered = λ counts. rw (e, answers-alike old cs, log) (OnBytes.list-answered p s h accepts whole bounded old long cs);
-          holds = λ inputs X sup sat.
-              rw (log, state-alike old cs)
-              (OnBytes.calls-hold p s h accepts whole bounded old long cs inputs X
-              (subst (λ (l : List (List ℤ)). Supplied p s l inputs) log sup) sat);
+          answered = λ counts. rw e (Lending.list-answered p s h accepts whole bounded bears old long cs);
+          holds = Lending.list-holds p s h accepts whole bounded bears old long cs;
         }

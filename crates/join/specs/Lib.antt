@@ -1,0 +1,2 @@
+-- What the writer of a join is given.
+pub mod Ready

@@ -1,0 +1,2 @@
+-- The code of a part, command after command.
+pub mod Shift

@@ -1,0 +1,2 @@
+-- The signals of the parts by part and number.
+pub mod ByPart

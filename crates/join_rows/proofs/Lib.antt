@@ -1,0 +1,2 @@
+-- Laws of the rows of a join.
+pub mod Stand

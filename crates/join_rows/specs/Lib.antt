@@ -1,0 +1,2 @@
+-- The rows of a join.
+pub mod Rows

@@ -1,0 +1,2 @@
+-- What all checks of a join answer.
+pub mod Verdict

@@ -1,0 +1,2 @@
+-- What the joined checks ask and answer.
+pub mod Whole

@@ -1,0 +1,13 @@
+-- Parts joined with links.
+pub mod Rows
+pub mod Parts
+pub mod Bounds
+pub mod Timely
+pub mod Composed
+pub mod Verdict
+pub mod Exact
+pub mod Alone
+pub mod Called
+pub mod Demand
+pub mod Alike
+pub mod Places
