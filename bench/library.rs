@@ -30,6 +30,14 @@ extern "C" {
     ) -> u64;
     fn larderlate_tail(image: *const u8, image_length: usize, start: *mut usize) -> u64;
     fn larderlate_convert(program: *const u8, program_length: usize, result: *mut u8, result_length: usize) -> u64;
+    fn larderlate_moves(
+        program: *const u8,
+        program_length: usize,
+        schedule: *const u8,
+        schedule_length: usize,
+        list: *mut u8,
+        list_length: usize,
+    ) -> u64;
     fn larderlate_reset(image: *const u8, image_length: usize, state: *mut i32, state_words: usize) -> u64;
     fn larderlate_cycle(
         image: *const u8,
@@ -91,6 +99,11 @@ pub fn tail(image: &[u8], start: &mut usize) -> u64 {
 #[allow(dead_code)]
 pub fn convert(program: &[u8], result: &mut [u8]) -> u64 {
     unsafe { larderlate_convert(program.as_ptr(), program.len(), result.as_mut_ptr(), result.len()) }
+}
+
+pub fn moves(program: &[u8], schedule: &[u8], list: &mut [u8]) -> u64 {
+    let (length, list) = (list.len(), list.as_mut_ptr());
+    unsafe { larderlate_moves(program.as_ptr(), program.len(), schedule.as_ptr(), schedule.len(), list, length) }
 }
 
 pub fn reset(image: &[u8], state: &mut [i32]) -> u64 {

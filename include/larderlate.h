@@ -3,6 +3,7 @@
  *     larderlate_compile   reads a program and a schedule, checks both, writes a step image
  *     larderlate_join      the same of up to 8 parts, each a program with its schedule, and links between them
  *     larderlate_report    checks both and tells what they need, with no image
+ *     larderlate_moves     lists where one signal of an accepted pair may go
  *     larderlate_reset     puts a state to its start
  *     larderlate_cycle     runs one cycle on a state
  *     larderlate_tail      finds the labels, periods and phases that stand after an image
@@ -12,15 +13,15 @@
  *
  * Every call takes any bytes and words, ends, and does its job or refuses. A refused call changes nothing that was lent to it.
  * The calls keep nothing between them and need no memory but their stack, so any number may run at once on different state. Of the
- * stack, measured on x86-64 with 64 signals, 16 chains, 32 rows and expressions 16 deep (bench/stack), a join takes 27 KB, a
- * compile or a report 23 KB, a conversion 15 KB, each other call less than 1 KB.
+ * stack, measured on x86-64 with 64 signals, 16 chains, 32 rows and expressions 16 deep (bench/stack), a join takes 27 KB, a list
+ * of moves 26 KB, a compile or a report 23 KB, a conversion 15 KB, each other call less than 1 KB.
  *
  * AN IMAGE has L bytes, and bytes 2-3 hold L, low byte first. After them stands its tail, four bytes for each of its N signals: label
  * (2 bytes, low byte first), period, phase. Compile and join always write both. Reset, cycle and tail take an image at exactly L
  * bytes, without its tail, or at exactly L + 4N, with a tail of any bytes, and run both alike.
  *
  * THE ANSWER is one number of 64 bits: number x 2^32 + value. Number 0 says done; the value is then L + 4N for a compile or a join, L
- * for a report, 0 for a reset, the number of commands run for a cycle, the tail's
+ * for a report, the count of all entries for a list of moves, 0 for a reset, the number of commands run for a cycle, the tail's
  * length for a tail, and the new text's for a conversion. Any other number is that of the refusal, and the value is its place. The
  * board's calls yield 0, or a refusal with place 0.
  *
@@ -29,8 +30,8 @@
  *   - the pointer is to that many bytes, words or parts, all of them set, and is not null, also where the length is 0;
  *   - int32_t and uint32_t pointers are aligned to 4 bytes, those to size_t and larderlate_part to 8; uint8_t pointers need no
  *     alignment;
- *   - what a call may change (the image of a compile, the image and the part of a join, the counts and sizes of a report,
- *     the state of a reset or cycle, the start of a tail, the result of a conversion, the record, the state and the outcome
+ *   - what a call may change (the image of a compile, the image and the part of a join, the counts and sizes of a report, the list
+ *     of moves, the state of a reset or cycle, the start of a tail, the result of a conversion, the record, the state and the outcome
  *     of the board's calls) overlaps nothing else that is lent to the same call; what it only reads may overlap;
  *   - until the call returns nobody else writes what is lent, nor reads what the call may change;
  *   - nothing lent spans more than PTRDIFF_MAX bytes.
@@ -52,6 +53,7 @@ enum {
     LARDERLATE_SIGNALS = 64,
     LARDERLATE_STATE_WORDS = 65,
     LARDERLATE_COUNTS = 240,
+    LARDERLATE_MOVES_BYTES = 30720, /* of a list: 64 x 240 entries of two bytes (`moves-few`) */
     LARDERLATE_PLACES = 4,
     LARDERLATE_BOARD_STATE_WORDS = 260,
     LARDERLATE_BOARD_SAMPLES = 256,
@@ -183,6 +185,16 @@ static inline uint64_t larderlate_join(const uint8_t *texts, size_t texts_length
 uint64_t larderlate_report(const uint8_t *program, size_t program_length,
                            const uint8_t *schedule, size_t schedule_length,
                            uint32_t counts[LARDERLATE_COUNTS], size_t *written, size_t *stack);
+
+/* Lists where one signal may go: each signal and phase, from 0 to its period - 1 and the present one included, such that the pair
+ * with only that phase changed and the same PUT order is accepted and settles each open read as before. An entry is two bytes, signal
+ * and phase; they stand by signal, then by rising phase, each once. As many whole entries as the list has space for are written, the
+ * rest of it stays, an odd last byte included, and the answer's value is how many there are in all: LARDERLATE_MOVES_BYTES is space for
+ * every list, and a list of length 0 (its pointer not null) is a way to ask for the count. From the same input elements every
+ * listed pair yields the streams of the first. Gives 1 to 16, 29 and 30 as a report, and then leaves the list as it was. */
+uint64_t larderlate_moves(const uint8_t *program, size_t program_length,
+                          const uint8_t *schedule, size_t schedule_length,
+                          uint8_t *list, size_t list_length);
 
 /* Puts 0 into word 0 of the state, the position, and each signal's initial word into word 1 + its number. Words beyond the signals
  * stay. Gives 20 and 21. */

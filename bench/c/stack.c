@@ -10,7 +10,7 @@
 enum { STACK_BYTES = 1 << 20, EQUATIONS = 63, DEPTH = 16, ROWS = 32, CHAINS = 16, LINKS = 16 };
 
 static uint8_t program[LARDERLATE_PROGRAM_BYTES], schedule[LARDERLATE_SCHEDULE_BYTES], result[LARDERLATE_PROGRAM_BYTES];
-static uint8_t image[LARDERLATE_IMAGE_BYTES];
+static uint8_t image[LARDERLATE_IMAGE_BYTES], list[LARDERLATE_MOVES_BYTES];
 static uint8_t texts[LARDERLATE_PROGRAM_BYTES + LARDERLATE_SCHEDULE_BYTES + 1];
 static struct larderlate_part parts[LARDERLATE_PARTS];
 static size_t program_length, schedule_length, image_length;
@@ -129,6 +129,11 @@ static void join(void)
     answer = larderlate_join(texts, sizeof texts, parts, LARDERLATE_PARTS, texts, 0, image, sizeof image, &part);
 }
 
+static void moves(void)
+{
+    answer = larderlate_moves(program, program_length, schedule, schedule_length, list, sizeof list);
+}
+
 static void report(void)
 {
     answer = larderlate_report(program, program_length, schedule, schedule_length, counts, &written, &stack_words);
@@ -229,6 +234,7 @@ int main(int count, char **arguments)
     write_parts();
     print_use("join", join);
     print_use("report", report);
+    print_use("moves", moves);
     print_use("reset", reset);
     print_use("cycle", cycle);
     print_use("tail", tail);

@@ -2,7 +2,7 @@
 //!
 //!     differential [COUNT [SEED]]
 //!
-//! Each of COUNT rounds lends one pair to compile and to report, parts and links to join, a program text of the earlier rule
+//! Each of COUNT rounds lends one pair to compile, to report and to moves, parts and links to join, a program text of the earlier rule
 //! to convert, and then images, states and samples to reset, cycle and tail, and makes calls of a board. After each call the answers and
 //! all that was lent must be equal. It stops at the first difference with the bytes lent. Round r depends on the seed and on r alone. At
 //! the end it prints how often each call gave each number, how often rows or the table were the reason where a number has others too,
@@ -45,6 +45,8 @@ const TOP: usize = 32;
 const JOINED: [usize; 8] = [1, 4, 27, 31, 9, 14, 15, 17];
 const INSIDE: [usize; 18] = [1, 2, 3, 4, 5, 6, 7, 8, 9, 10, 29, 30, 11, 12, 13, 14, 15, 16];
 const ROW: u8 = 0x16;
+/// Every list of moves fits.
+const LIST_BYTES: usize = 30_720;
 
 /// How many answers of each number a call gave.
 #[derive(Default)]
@@ -58,6 +60,7 @@ struct Seen {
     cycle: [u64; TOP],
     tail: [u64; TOP],
     convert: [u64; TOP],
+    moves: [u64; TOP],
     load: [u64; TOP],
     mark: [u64; TOP],
     turn: [u64; TOP],
@@ -75,11 +78,14 @@ struct Seen {
     /// Joins done that have links, and those whose hypercycle is not 1.
     linked: u64,
     mixed: u64,
+    /// Lists of moves that were too short, and those with more entries than signals.
+    short: u64,
+    moved: u64,
 }
 
 impl Seen {
     /// With the name of each.
-    fn calls(&self) -> [(&'static str, &[u64; TOP]); 12] {
+    fn calls(&self) -> [(&'static str, &[u64; TOP]); 13] {
         [
             ("compile", &self.compile),
             ("join", &self.join),
@@ -89,6 +95,7 @@ impl Seen {
             ("cycle", &self.cycle),
             ("tail", &self.tail),
             ("convert", &self.convert),
+            ("moves", &self.moves),
             ("load", &self.load),
             ("mark", &self.mark),
             ("turn", &self.turn),
@@ -252,6 +259,30 @@ impl Round<'_> {
             differ(self.number, "report", &[program, schedule, format!("counts of {fill}, sizes {old:?}")], library, reference, kept);
         }
         count(&mut self.seen.report, library);
+    }
+
+    /// Lists the moves of the pair by both into equal lists, often too short.
+    fn moves(&mut self, pair: &Pair) {
+        let [ours, other] = &mut *self.buffers;
+        let length = if self.random.one_in(4) { LIST_BYTES } else { self.random.below(300) };
+        let fill = self.random.next() as u8;
+        ours[..length].fill(fill);
+        other[..length].fill(fill);
+        let library = library::moves(&pair.program, &pair.schedule, &mut ours[..length]);
+        let result = reference::moves(&pair.program, &pair.schedule, &mut other[..length]);
+        let reference = reference::answer(result);
+        let kept = ours[..length] == other[..length];
+        if library != reference || !kept {
+            let program = format!("program: {}", hexadecimal(&pair.program));
+            let schedule = format!("schedule: {}", hexadecimal(&pair.schedule));
+            let list = format!("list: {length} bytes of {fill:02X}");
+            differ(self.number, "moves", &[program, schedule, list], library, reference, kept);
+        }
+        count(&mut self.seen.moves, library);
+        if let Ok(entries) = result {
+            self.seen.short += u64::from(2 * entries > length);
+            self.seen.moved += u64::from(entries > pair.schedule.len() / 3);
+        }
     }
 
     /// Parts and links, half of them with a fault put in, one in four damaged besides.
@@ -592,6 +623,7 @@ impl Round<'_> {
         let pair = self.pair();
         let own = self.compile(&pair);
         self.report(&pair);
+        self.moves(&pair);
         if let Some(image) = self.join() {
             self.calls(&image);
         }
@@ -638,8 +670,9 @@ fn print_joins(seen: &Seen) -> bool {
     let faults = FAULTS.iter().zip(seen.faults).map(|(fault, count)| format!("{fault:?} {count}"));
     println!("joins refused for a fault put in: {}", faults.collect::<Vec<_>>().join(", "));
     println!("joins done with links: {}, with a hypercycle over 1: {}", seen.linked, seen.mixed);
+    println!("lists of moves too short: {}, with more entries than signals: {}", seen.short, seen.moved);
     let of_joins = JOINED.iter().all(|&number| seen.join[number] > 0) && INSIDE.iter().all(|&number| seen.part[number] > 0);
-    of_joins && seen.faults.iter().all(|&count| count > 0) && [seen.linked, seen.mixed].iter().all(|&count| count > 0)
+    of_joins && seen.faults.iter().all(|&count| count > 0) && [seen.linked, seen.mixed, seen.short, seen.moved].iter().all(|&count| count > 0)
 }
 
 fn main() {
@@ -648,7 +681,7 @@ fn main() {
     let seed = arguments.next().unwrap_or(SEED);
     println!("{rounds} rounds from seed {seed}");
     let mut seen = Seen::default();
-    let mut buffers = [vec![0; IMAGE_BYTES], vec![0; IMAGE_BYTES]];
+    let mut buffers = [vec![0; LIST_BYTES], vec![0; LIST_BYTES]];
     for number in 0..rounds {
         let random = Random(Random(seed ^ number << 32).next());
         Round { number, random, seen: &mut seen, buffers: &mut buffers }.run();

@@ -87,6 +87,14 @@ fn part(cases: &mut Cases) -> Part {
     Part { program, schedule }
 }
 
+fn moves(cases: &mut Cases) -> String {
+    let [program, schedule] = [0; 2].map(|_| cases.number(2));
+    let length = cases.number(4);
+    let mut list = vec![cases.number(1) as u8; length];
+    let [program, schedule] = [program, schedule].map(|length| cases.take(length));
+    line(reference::answer(reference::moves(program, schedule, &mut list)), hash(list.into_iter()))
+}
+
 fn listed(cases: &mut Cases) -> String {
     let kind = cases.number(1);
     let widths: Vec<String> = (0..=255).map(|byte| widths::width(kind, byte).unwrap_or(0).to_string()).collect();
@@ -188,6 +196,10 @@ fn replay(cases: &[u8]) -> Vec<String> {
             }
             15 => {
                 lines.push(join(&mut cases));
+                continue;
+            }
+            16 => {
+                lines.push(moves(&mut cases));
                 continue;
             }
             17 => {

@@ -18,6 +18,7 @@ mod random;
 #[allow(dead_code)]
 #[path = "../reference/mod.rs"]
 mod reference;
+mod moves;
 mod rows;
 #[allow(dead_code)]
 #[path = "../cases/tables.rs"]
@@ -168,4 +169,5 @@ fn main() {
     print("call", "L", ["ours", "Rust"], &mut rows[..calls]);
     print("a turn beside a cycle of its image", "L", ["turn", "cycle"], &mut rows[calls..turns]);
     print("compile by length and shape", "L", ["ours", "Rust"], &mut rows[turns..]);
+    moves::run(&small, &large);
 }

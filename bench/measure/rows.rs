@@ -18,7 +18,7 @@ pub type Call = Box<dyn FnMut()>;
 
 pub struct Row {
     name: String,
-    /// The length of the image.
+    /// The length of the image, or the entries of a list.
     length: usize,
     calls: [Call; 2],
     repeats: usize,
@@ -134,6 +134,27 @@ pub fn look_ups() -> Pair {
     let mut schedule: Vec<u8> = (0..64).flat_map(|signal| [0x40, signal, 0]).collect();
     schedule.push(0);
     pair_of(&commands, &schedule)
+}
+
+/// 64 equations of period 240 that nobody reads: with CAP, under which each has room in every cycle, or without.
+pub fn unread(capped: bool) -> Pair {
+    let mut commands = vec![vec![0x11, 240, 0, 0, 0, 0, 1, 0, 0x20, 0, 0, 0, 0]; 64];
+    if capped {
+        commands.push(vec![0x14, 64, 0, 0, 0]);
+    }
+    let mut schedule: Vec<u8> = (0..64).flat_map(|signal| [0x40, signal, 0]).collect();
+    schedule.push(0);
+    pair_of(&commands, &schedule)
+}
+
+/// So many legal pairs as the differential test has them.
+pub fn random_pairs(count: usize) -> Vec<Pair> {
+    let mut random = Random(SEED);
+    let mut pair = || {
+        let shape = Shape::any(&mut random);
+        generate::pair(&mut random, &shape, Twist::None)
+    };
+    std::iter::repeat_with(&mut pair).filter(|pair| pair.expected == 0).take(count).collect()
 }
 
 /// Eight parts, each program A, the input of each but the first linked to signal 2 of the one before.

@@ -1,4 +1,4 @@
-//! The papers in plain Rust: compile, join, report, reset, cycle, tail, trial, convert and a board of four programs.
+//! The papers in plain Rust: compile, join, report, reset, cycle, tail, trial, convert, moves and a board of four programs.
 //!
 //! Written from the paper alone and sharing nothing with the crates, so that a misreading on one side shows as a difference.
 //! It is also the baseline of the benchmark: what one would write without a prover, with the same checks.
@@ -9,6 +9,7 @@ mod image;
 mod join;
 mod latency;
 mod machine;
+mod moves;
 mod program;
 mod report;
 mod schedule;
@@ -22,6 +23,7 @@ pub use {
     convert::convert,
     join::{join, Part},
     machine::{cycle, reset, tail},
+    moves::moves,
     report::report,
     trial::trial,
 };

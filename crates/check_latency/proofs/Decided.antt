@@ -34,7 +34,7 @@ use Rattle.model.proofs.Pairs.Links.{ChainMet, source-count}
 use Rattle.check_rates.specs.Answers.{periodAt}
 use Rattle.text_program.specs.Tables.{noChain, chainAt}
 use Rattle.text_program.specs.declared.Tables.{Tables}
-use Rattle.check_latency.specs.Timely.{Timed, RouteOf, windowBy}
+use Rattle.check_latency.specs.Timely.{Timed, RouteOf, windowBy, withBound}
 use Rattle.check_latency.specs.declared.Route.{Route}
 use Rattle.check_latency.proofs.Following.{reads-length}
 use Rattle.check_latency.proofs.Indices.{rate-at}
@@ -51,12 +51,12 @@ pub record Decided (text : List ℕ) (tables : Tables) (periods phases : List �
   pub sound : Sound (route .hops) (route .count)
   pub small : (i : ℕ) → i < windowBy h (periodAt periods (route .last)) →
       Small (route .hops) (route .count) (route .count * windowBy h (periodAt periods (route .last)) + i)
-  pub same :
-      timelyBy (chainAt p chain .mode) (chainAt p chain .bound) (route .hops) (route .count)
+  pub same : (bound : ℕ) →
+      timelyBy (chainAt p chain .mode) bound (route .hops) (route .count)
       (rateWithin periods phases (route .last))
       (rateWithin periods phases (route .source)) (route .count * windowBy h (periodAt periods (route .last)))
       (windowBy h (periodAt periods (route .last))) ≡
-      keeps p s h (chainAt p chain)
+      keeps p s h (withBound (chainAt p chain) bound)
 
 -- Every read on the way has its index below its factor.
 sound-is : (p : Program) (s : Schedule) (hops : List Hop) (r : ℕ) (ρs : List Read) → ChainMet p s r ρs → HopsOf p s hops r ρs →
@@ -129,10 +129,10 @@ decided text tables periods phases h p s chain route t lt (ws, whole, few, along
           (along .hops-are)
           (early (route .count) h (signalAt p r .period) (phaseOf s r) i few (t .hyper) (t .accepted .ordered .phases r (d .0))
           (rw period at li))));
-      same = sym (ap (keepsFrom p s h (chainAt p chain)) whole ∙
-          timely-is p s (chainAt p chain .mode) (chainAt p chain .bound) (length ρs * (h / signalAt p r .period))
+      same = λ bound. sym (ap (keepsFrom p s h (withBound (chainAt p chain) bound)) whole ∙
+          timely-is p s (chainAt p chain .mode) bound (length ρs * (h / signalAt p r .period))
           (h / signalAt p r .period) (route .hops) r ρs (along .hops-are) ∙
           (λ i.
-          timelyBy (chainAt p chain .mode) (chainAt p chain .bound) (route .hops) (n i) (sym last i) (sym first i)
+          timelyBy (chainAt p chain .mode) bound (route .hops) (n i) (sym last i) (sym first i)
           (n i * windowBy h (sym period i)) (windowBy h (sym period i))));
     }

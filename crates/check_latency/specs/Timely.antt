@@ -2,12 +2,13 @@
 use Prim.Native.Nat.{ℕ, _/_, _≤_, _<_}
 use mathlib.Core.List.{List, _∷_}
 use mathlib.Core.Path.{_≡_}
+use lib.Dec.{leb}
 use lib.ListN.{length, getD}
 use Rattle.latency_rule.specs.Hops.{HopsOf}
 use Rattle.model.specs.Says.Feasible.{Feasible, Multiple}
-use Rattle.model.specs.Rules.Latency.{readsBack, source}
+use Rattle.model.specs.Rules.Latency.{readsBack, source, backwards, keeps}
 use Rattle.model.specs.Rules.Outcome.{accepted}
-use Rattle.model.specs.Rules.Program.{Program, count, parseProgram}
+use Rattle.model.specs.Rules.Program.{Program, Chain, count, parseProgram}
 use Rattle.model.specs.Rules.Rates.{declaredAndRated, linked}
 use Rattle.model.specs.Rules.Reads.{met}
 use Rattle.model.specs.Rules.Schedule.{Schedule, phaseOf}
@@ -17,6 +18,7 @@ use Rattle.text_program.specs.Tables.{PeriodsOf, TablesOf}
 use Rattle.text_program.specs.declared.Tables.{Tables}
 use Rattle.text_schedule.specs.Arranged.{Arranged}
 use Rattle.text_schedule.specs.declared.PairTables.{PairTables}
+use Rattle.check_latency.specs.declared.Leeway.{Leeway}
 use Rattle.check_latency.specs.declared.Route.{Route}
 
 -- An index is a byte.
@@ -67,3 +69,14 @@ RouteOf p s route back = (ws : List ℕ) × (back ≡ route .last ∷ ws) × (ro
 -- How many runs of the last link decide a chain: those of one hypercycle.
 abbrev pub windowBy : ℕ → ℕ → ℕ
 windowBy h period = h / period
+
+-- A chain with another bound.
+abbrev pub withBound : Chain → ℕ → Chain
+withBound c bound = record { place = c .place; mode = c .mode; bound = bound; links = c .links }
+
+-- The first and last link of a chain and its bound; it would keep its limit with exactly the bounds from the least on.
+pub record LeewayOf (p : Program) (s : Schedule) (h : ℕ) (c : Chain) (r : Leeway) : Type 0 where
+  pub links : (ws : List ℕ) × (backwards c ≡ r .last ∷ ws) × (source p s (r .last) (readsBack p (r .last) ws) ≡ r .source)
+  pub bound-is : r .bound ≡ c .bound
+  pub small : r .bound < 65536
+  pub least-is : (bound : ℕ) → bound < 1000000000 → keeps p s h (withBound c bound) ≡ leb (r .least) bound

@@ -26,7 +26,7 @@ ghost use Rattle.basics.specs.Judgement.{judgementOf};
 ghost use Rattle.text_program.specs.Tables.{chainAt, TabledAs};
 ghost use Rattle.text_schedule.specs.Arranged.{Arranged};
 ghost use Rattle.read_rule.specs.Reads.{rateIn};
-ghost use Rattle.check_latency.specs.Timely.{ByteFound, MetPair, Known, ChainsLinked, Joinable, Timed, Judgeable, RouteOf, windowBy};
+ghost use Rattle.check_latency.specs.Timely.{ByteFound, MetPair, Known, ChainsLinked, Joinable, Timed, Judgeable, RouteOf, windowBy, LeewayOf};
 
 // The index found, or 0.
 fn index_found(found: Found) -> u8
@@ -40,7 +40,7 @@ fn index_found(found: Found) -> u8
 }
 
 // The index of a read: its own, or the one settled.
-fn settled_index(kind: Kind, sampled: Sampled, w: Timing, r: Timing) -> u8
+pub fn settled_index(kind: Kind, sampled: Sampled, w: Timing, r: Timing) -> u8
     ensures { λ i. ⌜ i ≡ settledIndex kind (rateIn w) (rateIn r) (sampled .factor) (sampled .index) ⌝ }
 {
     let index = sampled.index;
@@ -240,4 +240,51 @@ pub fn check_latency(text: &[u8], reads: &[u16], pair: PairTables) -> Judged
     let periods = tables.periods;
     let phases = slots.phases;
     judge_chains(text, reads, tables, &periods, &phases, pair.hypercycle)
+}
+
+// A chain's first and last link, its bound, and the least bound with which it would keep its limit.
+pub struct Leeway {
+    pub source: u8,
+    pub last: u8,
+    pub bound: usize,
+    pub least: usize,
+}
+
+// The leeway of a chain. (Links × runs in the window.)
+pub fn leeway_of(
+    text: &[u8],
+    reads: &[u16],
+    tables: Tables,
+    periods: &[u8; 64],
+    phases: &[u8; 64],
+    h: usize,
+    chain: usize,
+) -> Leeway
+    requires { ⌜ Judgeable (now text) tables (now periods) (now phases) h × (chain < tables .chains) × TabledAs (now text) (now reads) tables ⌝ }
+    ensures { λ r. ⌜ ((p : Program) (s : Schedule) → Timed (now (text .entry)) tables (now (periods .entry)) (now (phases .entry)) h p s → LeewayOf p s h (chainAt p chain) r) ⌝ }
+{
+    let starts = tables.starts;
+    let declaration = text_command::declaration_at(text, starts[chain]);
+    let Declaration::Latency(mode, bound) = declaration else {
+        return Leeway {
+            source: 0,
+            last: 0,
+            bound: 0,
+            least: 0,
+        };
+    };
+    let route = follow(text, reads, tables, periods, phases, chain);
+    let last = timing_at(periods, phases, route.last as usize);
+    let source = timing_at(periods, phases, route.source as usize);
+    let hops = route.hops;
+    let count = route.count;
+    let window = window_of(h, last.period);
+    let from = first_run(count, window);
+    let least = latency_rule::least_bound(mode, hops, count, last, source, from, window);
+    Leeway {
+        source: route.source,
+        last: route.last,
+        bound: basics::wider(bound),
+        least: least,
+    }
 }

@@ -32,7 +32,7 @@ pub fn add_runs(loads: &mut [u32; 240], period: u8, phase: u8, weight: u16, hype
 }
 
 // The load of each cycle below the hypercycle. A step for each run of each signal.
-fn loads_of(
+pub fn loads_of(
     signals: usize,
     periods: &[u8; 64],
     phases: &[u8; 64],

@@ -7,6 +7,7 @@ use Rattle.model.specs.Rules.Outcome.{Outcome, accepted, refused}
 use Rattle.text_program.specs.Prepared.{Prepared}
 use Rattle.basics.specs.declared.Judged.{Judged}
 use Rattle.basics.specs.declared.Judged.the-variants as Judged
+use Rattle.text_schedule.specs.Arranged.{Arranged}
 use Rattle.text_schedule.specs.declared.PairTables.{PairTables}
 use Rattle.check_pair.specs.declared.Checked.{Checked}
 use Rattle.check_pair.specs.declared.Rated.{Rated}
@@ -20,12 +21,13 @@ Answers Q (refused f) j = j ≡ Judged.Refused f
 abbrev pub RatedAs : Outcome ℕ → Rated → Type 0
 RatedAs o r = Answers (λ h. r .hypercycle ≡ h) o (r .judged)
 
--- The tables are those of the accepted pair q, as the emitter wants them.
+-- The tables are those of the accepted pair q, as the emitter wants them; and the pair is one that has passed 2 to 13.
 pub record Checks (text : List ℕ) (t : PairTables) (q : Pair) : Type 0 where
   pub prepared : Prepared text (t .tables) (t .tables .periods) (t .slots .order) (t .slots .phases) (q .program) (q .schedule)
   pub ranks-are : prepared .ranks ≡ t .slots .ranks
   pub hyper : t .hypercycle ≡ q .hypercycle
   pub bound : t .hypercycle ≤ 240
+  pub arranged : Arranged text t (q .program) (q .schedule)
 
 abbrev pub CheckedAs : List ℕ → Outcome Pair → Checked → Type 0
 CheckedAs text o r = Answers (Checks text (r .pair)) o (r .judged)

@@ -146,10 +146,11 @@ fn refused(judged: Judged) -> Checked
 }
 
 // All checks of a program and a schedule, with a table for the offsets of the reads: an entry for each two bytes of a program that
-// passes 1.
-fn check_with(program: &[u8], schedule: &[u8], reads: &mut [u16]) -> Checked
+// passes 1. The table is of use where all is fine.
+pub fn check_with(program: &[u8], schedule: &[u8], reads: &mut [u16]) -> Checked
     requires { ⌜ Spacious (length (now program)) (length (now reads)) ⌝ }
-    ensures { λ r. ⌜ CheckedAs (now (program .entry)) (pairOf (now (program .entry)) (now (schedule .entry))) r ⌝ }
+    ensures answer { λ r. ⌜ CheckedAs (now (program .entry)) (pairOf (now (program .entry)) (now (schedule .entry))) r ⌝ }
+    ensures tabled { λ r. ⌜ (r .judged ≡ Judged.Fine → TabledAs (now (program .entry)) (now (reads .exit)) (r .pair .tables)) ⌝ }
 {
     let lengths = check_lengths(program, schedule);
     let Judged::Fine = lengths else {

@@ -10,7 +10,7 @@ use Rattle.model.specs.Says.Feasible.{All}
 use Rattle.model.specs.Rules.Outcome.{accepted, fault, lowest}
 use Rattle.model.specs.Rules.Program.{Program, Read, count, signalAt, bodyReads, parseProgram}
 use Rattle.model.specs.Rules.Rates.{declaredAndRated}
-use Rattle.model.specs.Rules.Reads.{rateOf, isMet}
+use Rattle.model.specs.Rules.Reads.{isMet}
 use Rattle.model.specs.Rules.Schedule.{Schedule}
 use Rattle.model.specs.Rules.Search.{joinFrom}
 use Rattle.model.specs.declared.Fault.{Fault}
@@ -19,11 +19,11 @@ use Rattle.model.proofs.Texts.Legal.{SpellsRead, legal, read-sound, signal-read
 use Rattle.model.proofs.Pairs.Verdict.{Rated, reads-rated}
 use Rattle.text_command.specs.Operator.{ReadTaken}
 use Rattle.text_command.specs.declared.Taken.{Taken}
-use Rattle.text_program.specs.Tables.{PeriodsOf, SlotsOf, Indexed, rateAt}
+use Rattle.text_program.specs.Tables.{PeriodsOf, SlotsOf, Indexed}
 use Rattle.basics.specs.declared.Judged.{Judged}
 use Rattle.basics.specs.declared.Judged.the-variants as Judged
 use Rattle.basics.specs.Judgement.{judgementOf}
-use Rattle.text_program.proofs.ByIndex.{noRead, readAt, counted, seen, place-is, taken-is}
+use Rattle.text_program.proofs.ByIndex.{noRead, readAt, rate-is, counted, seen, place-is, taken-is}
 use Rattle.text_program.proofs.InTurn.{AtPlaces, single-at, singles-within}
 use Rattle.text_program.proofs.Rising.{signalPlaces}
 use Rattle.read_rule.specs.Reads.{metBy}
@@ -49,15 +49,17 @@ module _ (p : Program) (s : Schedule) where
   signal-at r x a b h = singles-within (λ ρ. ρ .place) (readFault r) (fault-there r) (bodyReads (x .body)) a b h
 
   module _ (order periods phases ranks : List ℕ) (table : PeriodsOf p periods) (slots : SlotsOf p s order phases ranks) where
-    rate-is : (x : ℕ) → x < count p → rateAt periods phases x ≡ rateOf p s x
-    rate-is x lt = λ i. record { period = table x lt i; phase = slots .phases-are x lt i }
-
     -- The tables tell whether a read is met.
     met-is : (r : ℕ) (ρ : Read) → r < count p → ρ .operands .signal < count p →
         isMet p s r ρ ≡ isMetAt periods phases ranks r (ρ .kind) (ρ .operands)
     unfolding isMet metBy
     met-is r ρ lr lw =
-        rw (rate-is (ρ .operands .signal) lw, rate-is r lr, slots .ranks-are (ρ .operands .signal) lw, slots .ranks-are r lr)
+        rw (
+          rate-is periods table slots (ρ .operands .signal) lw,
+          rate-is periods table slots r lr,
+          slots .ranks-are (ρ .operands .signal) lw,
+          slots .ranks-are r lr,
+        )
 
     pub judged-met : (r : ℕ) (ρ : Read) → r < count p → ρ .operands .signal < count p →
         readMet periods phases ranks (count p) (ρ .place) r (ρ .kind) (ρ .operands) ≡ judgementOf (lowest (readFault r ρ))

@@ -1,4 +1,4 @@
-// Larderlate: compile, join, report, reset, cycle, tail and convert; for C the calls of a board too. Each call takes any
+// Larderlate: compile, join, report, reset, cycle, tail, convert and moves; for C the calls of a board too. Each call takes any
 // bytes and words, and its answer and what it leaves are the definition's. What they promise together is in crates `promises` and
 // `board`.
 use board::Turned;
@@ -6,12 +6,14 @@ use model::Compiled;
 use model::Cycled;
 use model::Fault;
 use model::Joined;
+use model::Listed;
 use model::Ran;
 use model::Reported;
 ghost use mathlib.Core.Path.{_≡_};
 ghost use Rattle.model.specs.Rules.Compile.{compiledOf, compileOf};
 ghost use Rattle.model.specs.Rules.Join.{joinedOf, partIn, joinOf, partNamed};
 ghost use Rattle.model.specs.Rules.Machine.{ranOf, cycledOf, resetOf, cycleOf};
+ghost use Rattle.model.specs.Rules.Moves.{listedOf, movesOf};
 ghost use Rattle.model.specs.Rules.Outcome.{refused};
 ghost use Rattle.model.specs.Rules.Report.{reportedOf, reportOf};
 ghost use Rattle.model.specs.Rules.Rewrite.{convertOf};
@@ -79,6 +81,16 @@ pub fn convert(program: &[u8], result: &mut [u8]) -> Compiled
     ensures left { λ _. ⌜ now (result .exit) ≡ convertOf (now (program .entry)) (now (result .entry)) .left ⌝ }
 {
     text_convert::convert(program, &mut result[..])
+}
+
+// Lists where one job may go: each signal and phase, two bytes, such that the pair with only that phase changed and the same PUT
+// order is accepted and settles every open read as before; as many whole entries as the list has space for. Yields how many there
+// are in all.
+pub fn moves(program: &[u8], schedule: &[u8], list: &mut [u8]) -> Listed
+    ensures answer { λ r. ⌜ listedOf r ≡ movesOf (now (program .entry)) (now (schedule .entry)) (now (list .entry)) .answer ⌝ }
+    ensures left { λ _. ⌜ now (list .exit) ≡ movesOf (now (program .entry)) (now (schedule .entry)) (now (list .entry)) .left ⌝ }
+{
+    moves::moves(program, schedule, &mut list[..])
 }
 
 // A refusal as one number.
@@ -152,6 +164,15 @@ fn code_of_reported(reported: Reported) -> u64
     match reported {
         Reported::Sizes(sizes) => sizes.length as u64,
         Reported::Refused(fault) => code_of_fault(fault),
+    }
+}
+
+fn code_of_listed(listed: Listed) -> u64
+    ensures { λ r. ⌜ r ≡ codeNumber (listedOf listed) ⌝ }
+{
+    match listed {
+        Listed::Moves(n) => n as u64,
+        Listed::Refused(fault) => code_of_fault(fault),
     }
 }
 
@@ -265,6 +286,15 @@ pub extern "C" fn larderlate_convert(program: &[u8], result: &mut [u8]) -> u64
 {
     let converted = convert(program, &mut result[..]);
     code_of_compiled(converted)
+}
+
+#[no_mangle]
+pub extern "C" fn larderlate_moves(program: &[u8], schedule: &[u8], list: &mut [u8]) -> u64
+    ensures answer { λ r. ⌜ r ≡ codeNumber (movesOf (now (program .entry)) (now (schedule .entry)) (now (list .entry)) .answer) ⌝ }
+    ensures left { λ _. ⌜ now (list .exit) ≡ movesOf (now (program .entry)) (now (schedule .entry)) (now (list .entry)) .left ⌝ }
+{
+    let listed = moves(program, schedule, &mut list[..]);
+    code_of_listed(listed)
 }
 
 // The board's calls. The record is an array of 17 numbers that the caller keeps (crate `board_words`); a refused call and an idle

@@ -2,3 +2,5 @@
 pub mod Alike
 pub mod Chain
 pub mod Hops
+-- Laws of the least bound.
+pub mod Bounds

@@ -1,6 +1,6 @@
 -- Going back over the reads of a chain, by a table of hops.
 use Prim.Native.Nat.{ℕ, zero, suc, _+_, _≤_, _<_}
-use mathlib.Core.Bool.{Bool, false, not}
+use mathlib.Core.Bool.{Bool, false, cond, not}
 use mathlib.Core.List.{List}
 use mathlib.Core.Path.{_≡_}
 use lib.Dec.{leb, ltb}
@@ -77,3 +77,21 @@ pub record Decide (hops : List Hop) (n : ℕ) (last source : Rate) (from window 
   pub within : runs ≤ window
   pub alike : (mode : Mode) (bound : ℕ) →
       timelyBy mode bound hops n last source from runs ≡ timelyBy mode bound hops n last source from window
+
+-- The least bound for no run, and for one run more: all runs keep it, or one does. Latencies are below a thousand million.
+abbrev pub enoughForNone : Mode → ℕ
+enoughForNone Backward = 0
+enoughForNone Exists = 1000000000
+
+abbrev pub enoughOf : Mode → ℕ → ℕ → ℕ
+enoughOf Backward m l = cond (ltb m l) l m
+enoughOf Exists m l = cond (ltb l m) l m
+
+abbrev pub enoughFor : Mode → ℕ → Found → ℕ
+enoughFor mode m (At l) = enoughOf mode m l
+enoughFor mode m Nowhere = m
+
+-- The runs of the window keep exactly the bounds from m on.
+abbrev pub LeastBound : Mode → List Hop → ℕ → Rate → Rate → ℕ → ℕ → ℕ → Type 0
+LeastBound mode hops n last source from window m =
+    (bound : ℕ) → bound < 1000000000 → timelyBy mode bound hops n last source from window ≡ leb m bound

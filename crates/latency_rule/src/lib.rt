@@ -10,7 +10,7 @@ ghost use lib.ListN.{getD};
 ghost use Rattle.model.specs.Rules.Search.{firstBelow, isFound, allBelow};
 ghost use Rattle.model.specs.Rules.Reads.{runCycle};
 ghost use Rattle.read_rule.specs.Reads.{rateIn};
-ghost use Rattle.latency_rule.specs.Back.{usedBy, backBy, Sound, Small, SmallFound, runLatencyBy, lateBy, inTimeBy, timelyBy, allPlain, Decide};
+ghost use Rattle.latency_rule.specs.Back.{usedBy, backBy, Sound, Small, SmallFound, runLatencyBy, lateBy, inTimeBy, timelyBy, allPlain, Decide, enoughForNone, enoughFor, LeastBound};
 
 // One read on the way back: its kind, its factor and its settled index.
 pub struct Hop {
@@ -215,4 +215,51 @@ pub fn is_timely(
         Mode::Exists => one_in_time(bound, hops, count, last, source, from, runs),
         Mode::Backward => all_in_time(bound, hops, count, last, source, from, runs),
     }
+}
+
+// The bound that is enough for a run beside the least so far: for all runs, or for one of them.
+fn enough_for(mode: Mode, least: usize, latency: Found) -> usize
+    ensures { λ r. ⌜ r ≡ enoughFor mode least latency ⌝ }
+{
+    let Found::At(l) = latency else {
+        return least;
+    };
+    match mode {
+        Mode::Exists => if l < least { l } else { least },
+        Mode::Backward => if least < l { l } else { least },
+    }
+}
+
+// Before any run is looked at: every bound is enough for all of none, and no bound for one of none.
+fn enough_for_none(mode: Mode) -> usize
+    ensures { λ r. ⌜ r ≡ enoughForNone mode ⌝ }
+{
+    match mode {
+        Mode::Exists => 1000000000,
+        Mode::Backward => 0,
+    }
+}
+
+// The least bound that the runs of the window from run `from` on keep. (Links × runs in the window.)
+pub fn least_bound(
+    mode: Mode,
+    hops: [Hop; 15],
+    count: usize,
+    last: Timing,
+    source: Timing,
+    from: usize,
+    window: usize,
+) -> usize
+    requires { ⌜ (count ≤ 15) × Sound hops count × ((i : ℕ) → i < window → Small hops count (from + i)) × (from + window ≤ 1000000) ⌝ }
+    ensures { λ r. ⌜ LeastBound mode hops count (rateIn last) (rateIn source) from window r ⌝ }
+{
+    let runs = deciding_runs(hops, count, last, source, from, window);
+    let mut bound = enough_for_none(mode);
+    let mut i: usize = 0;
+    while i < runs {
+        let latency = run_latency(hops, count, last, source, from + i);
+        bound = enough_for(mode, bound, latency);
+        i = i + 1;
+    }
+    bound
 }

@@ -6,3 +6,4 @@ pub mod Hypercycle
 pub mod Links
 pub mod Verdict
 pub mod Pigeons
+pub mod Moves

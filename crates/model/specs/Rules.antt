@@ -24,3 +24,4 @@ pub mod Script
 pub mod Trial
 pub mod Parts
 pub mod Join
+pub mod Moves

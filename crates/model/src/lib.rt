@@ -181,3 +181,9 @@ pub enum Reported {
     Sizes(Sizes),
     Refused(Fault),
 }
+
+// What `moves` answers: how many entries there are, or the refusal.
+pub enum Listed {
+    Moves(usize),
+    Refused(Fault),
+}

@@ -1,2 +1,3 @@
 -- What a promise says of an answer.
 pub mod Codable
+pub mod Moves

@@ -1,30 +1,26 @@
 -- The lines of the five reads in their one form. Assumes nothing.
 use Prim.Native.Nat.{ℕ, suc, _+_, _*_, _-_, _≤_, _<_}
-use mathlib.Core.Bool.{Bool, true, false, cond}
-use mathlib.Core.Path.{_≡_, refl, sym, ap}
+use mathlib.Core.Bool.{Bool, true, false, cond, not, _&&_, _||_, Bool·beq, false≢true, and-eq-true-iff}
+use mathlib.Core.Logic.{_↔_}
+use mathlib.Core.Path.{_≡_, refl, sym, ap, _∙_}
 use native.Mathlib.Decide.{decLe}
 use native.Mathlib.Nat.{mul-le-mul-right}
 use native.Mathlib.Omega.{arith}
-use borrow.Author.Tests.{leb-true, le-leb, eqb-true, eq-eqb}
+use borrow.Author.Tests.{leb-true, le-leb, eqb-true, eq-eqb, ne-eqb}
 use lib.Dec.{leb, eqb}
 use Rattle.model.specs.Says.Feasible.{Between, PeriodRule, Line}
-use Rattle.model.specs.Rules.Reads.{Rate, between, line, settle, share, runCycle}
+use Rattle.model.specs.Rules.Reads.{Rate, between, line, settle, share, ordered, runCycle, writerFirst}
 use Rattle.model.specs.Rules.Search.{firstBelow}
 use Rattle.model.specs.declared.Found.the-variants.{At, Nowhere}
 use Rattle.model.specs.declared.Index.{Index}
 use Rattle.model.specs.declared.Index.the-variants.{Fixed, Open}
 use Rattle.model.specs.declared.Kind.{Kind}
 use Rattle.model.specs.declared.Kind.the-variants.{Now, Last, When, LastWhen, Current}
+use Rattle.model.proofs.Basics.Tests.{together}
 use Rattle.model.proofs.Pairs.Decide.{between-true, true-between, line-true, settle-line, share-runs, runs-share}
-use Rattle.read_rule.specs.Lines.{lineIn, numberAt, meetsAt, foundOn}
-use Rattle.read_rule.specs.Reads.{rateIn, indexBy}
+use Rattle.read_rule.specs.Lines.{isCurrent, isBefore, lineIn, numberAt, meetsAt, foundOn}
+use Rattle.read_rule.specs.Reads.{rateIn, indexBy, metAt, movedMet}
 use Rattle.read_rule.specs.declared.Timing.{Timing}
-
--- Two tests that pass together.
-together : (a b : Bool) → (a ≡ true → b ≡ true) → (b ≡ true → a ≡ true) → a ≡ b
-together true b f g = sym (f refl)
-together false true f g = g refl
-together false false f g = refl
 
 same-between : (a x b d y e : ℕ) → (Between a x b → Between d y e) → (Between d y e → Between a x b) →
     between a x b ≡ between d y e
@@ -44,7 +40,7 @@ whole a b period d e lt = go (decLe a b)
     go (no h) = let g : suc b * period ≤ a * period = mul-le-mul-right period (omega arith) in absurd (omega arith)
 
 module _ (w r : Timing) (bw : w .phase < 256) (br : r .phase < 256) where
-  meets-line : (kind : Kind) (i : ℕ) → meetsAt (lineIn kind w r) i ≡ line kind (rateIn w) (rateIn r) i
+  pub meets-line : (kind : Kind) (i : ℕ) → meetsAt (lineIn kind w r) i ≡ line kind (rateIn w) (rateIn r) i
   unfolding lineIn meetsAt
   meets-line Now i =
       between-leb (r .phase) (w .phase + 255 + i * 0) (r .phase + 256) (w .phase) (r .phase) (λ h. omega arith) (λ h. omega arith)
@@ -111,3 +107,152 @@ module _ (w r : Timing) (vw : w .phase < w .period) (vr : r .phase < r .period) 
       (λ j k e.
       let d = i * r .period + r .phase - w .phase in
       omega (arith, whole (j * n + i) k (r .period) d (omega (arith, ap (j *_) p)) (omega arith)))
+
+-- The numbers of a line, without the one at which runs share a cycle where they are put the wrong way round (g is false).
+abbrev pub wrong : Bool → ℕ
+wrong g = cond g 0 1
+
+numbers : (c x s : ℕ) (b g : Bool) →
+    ((between c x (c + s) && (not (eqb x (c + cond b (s - 1) 0)) || g)) ≡ true) ↔
+    ((c + cond b 0 (wrong g) ≤ x) × (x + cond b (wrong g) 0 < c + s))
+numbers c x s b g = (λ e. there b g e, λ h. back b g h)
+  where
+    apart : (d : ℕ) → (not (eqb x d) || false) ≡ true → ¬ (x ≡ d)
+    apart d e q = false≢true (sym (ap (λ t. not t || false) (eq-eqb x d q)) ∙ e)
+
+    there : (b g : Bool) → (between c x (c + s) && (not (eqb x (c + cond b (s - 1) 0)) || g)) ≡ true →
+        (c + cond b 0 (wrong g) ≤ x) × (x + cond b (wrong g) 0 < c + s)
+    there true true e = let h = between-true c x (c + s) (and-eq-true-iff _ _ .0 e .0) in (
+      omega (arith, h .0),
+      omega (
+        arith,
+        h .1,
+      ),
+    )
+    there false true e = let h = between-true c x (c + s) (and-eq-true-iff _ _ .0 e .0) in (
+      omega (arith, h .0),
+      omega (
+        arith,
+        h .1,
+      ),
+    )
+    there true false e =
+        let q = and-eq-true-iff _ _ .0 e in
+        let h = between-true c x (c + s) (q .0) in
+        (omega (arith, h .0), omega (arith, h .1, apart (c + (s - 1)) (q .1)))
+    there false false e =
+        let q = and-eq-true-iff _ _ .0 e in
+        let h = between-true c x (c + s) (q .0) in
+        (omega (arith, h .0, apart (c + 0) (q .1)), omega (arith, h .1))
+
+    or-true : (t : Bool) → (t || true) ≡ true
+    or-true true = refl
+    or-true false = refl
+
+    free : (d : ℕ) → ¬ (x ≡ d) → (not (eqb x d) || false) ≡ true
+    free d h = ap (λ t. not t || false) (ne-eqb x d h)
+
+    back : (b g : Bool) → (c + cond b 0 (wrong g) ≤ x) × (x + cond b (wrong g) 0 < c + s) →
+        (between c x (c + s) && (not (eqb x (c + cond b (s - 1) 0)) || g)) ≡ true
+    back true true h =
+        and-eq-true-iff _ _ .1
+        (true-between c x (c + s) (omega (arith, h .0), omega (arith, h .1)), or-true (not (eqb x (c + (s - 1)))))
+    back false true h =
+        and-eq-true-iff _ _ .1
+        (true-between c x (c + s) (omega (arith, h .0), omega (arith, h .1)), or-true (not (eqb x (c + 0))))
+    back true false h =
+        and-eq-true-iff _ _ .1
+        (true-between c x (c + s) (omega (arith, h .0), omega (arith, h .1)), free (c + (s - 1)) (λ q. omega (arith, h .0, h .1)))
+    back false false h =
+        and-eq-true-iff _ _ .1
+        (true-between c x (c + s) (omega (arith, h .0), omega (arith, h .1)), free (c + 0) (λ q. omega (arith, h .0, h .1)))
+
+module _ (w r : Timing) (vw : w .phase < w .period) (vr : r .phase < r .period) (bw : w .phase < 256) (br : r .phase < 256) where
+  -- A read is met at index i by the number of the index.
+  met-numbers : (kind : Kind) (n i : ℕ) (before : Bool) → 0 < n → PeriodRule kind (w .period) (r .period) n →
+      let l = lineIn kind w r in
+      let g = Bool·beq before (writerFirst kind) in
+      (metAt kind (rateIn w) (rateIn r) i before ≡ true) ↔
+      ((l .cycle + cond (isBefore kind) 0 (wrong g) ≤ numberAt l i) ×
+      (numberAt l i + cond (isBefore kind) (wrong g) 0 < l .cycle + l .step))
+  unfolding lineIn meetsAt ordered
+  met-numbers kind n i before pos rule =
+      let l = lineIn kind w r in
+      let g = Bool·beq before (writerFirst kind) in
+      let both = numbers (l .cycle) (numberAt l i) (l .step) (isBefore kind) g in
+      let met = meets-line w r bw br kind i in (
+        λ e.
+            let f = and-eq-true-iff _ _ .0 e in
+            let s = share-is w r vw vr kind n i pos rule (line-true kind (rateIn w) (rateIn r) i (f .0)) in
+            both .0 (and-eq-true-iff _ _ .1 (met ∙ f .0, ap (λ t. not t || g) s ∙ f .1)),
+        λ h.
+            let f = and-eq-true-iff _ _ .0 (both .1 h) in
+            let line-here = sym met ∙ f .0 in
+            let s = share-is w r vw vr kind n i pos rule (line-true kind (rateIn w) (rateIn r) i line-here) in
+            and-eq-true-iff _ _ .1 (line-here, ap (λ t. not t || g) (sym s) ∙ f .1),
+      )
+
+-- The phases of one signal at which a read is met at index i, by the line before it moves: of the signal whose runs are
+-- counted ..
+module _ (w r : Timing) (vw : w .phase < w .period) (vr : r .phase < r .period) (bw : w .phase < 256) (br : r .phase < 256) where
+  abbrev moved : Timing → ℕ → Timing
+  moved a f = record { period = a .period; phase = f }
+
+  pub counted-moves : (reader : Bool) (kind : Kind) (n i f : ℕ) (before : Bool) → Bool·beq reader (isCurrent kind) ≡ true →
+      0 < n → PeriodRule kind (w .period) (r .period) n → f < cond reader (r .period) (w .period) → f < 256 →
+      let l = lineIn kind w r in
+      let g = Bool·beq before (writerFirst kind) in
+      Between (l .cycle + cond (isBefore kind) 0 (wrong g) - (l .ahead + i * l .stride)) f
+      (l .cycle + l .step - (l .ahead + i * l .stride + cond (isBefore kind) (wrong g) 0)) ↔
+      (movedMet reader kind (rateIn w) (rateIn r) i before f ≡ true)
+  unfolding lineIn
+  counted-moves true Now n i f before e pos rule lt b = absurd (false≢true e)
+  counted-moves true Last n i f before e pos rule lt b = absurd (false≢true e)
+  counted-moves true When n i f before e pos rule lt b = absurd (false≢true e)
+  counted-moves true LastWhen n i f before e pos rule lt b = absurd (false≢true e)
+  counted-moves true Current n i f before e pos rule lt b =
+      let m = met-numbers w (moved r f) vw lt bw b Current n i before pos rule in
+      (λ h. m .1 (omega (arith, h .0), omega (arith, h .1)), λ t. let q = m .0 t in (omega (arith, q .0), omega (arith, q .1)))
+  counted-moves false Now n i f before e pos rule lt b =
+      let m = met-numbers (moved w f) r lt vr b br Now n i before pos rule in
+      (λ h. m .1 (omega (arith, h .0), omega (arith, h .1)), λ t. let q = m .0 t in (omega (arith, q .0), omega (arith, q .1)))
+  counted-moves false Last n i f before e pos rule lt b =
+      let m = met-numbers (moved w f) r lt vr b br Last n i before pos rule in
+      (λ h. m .1 (omega (arith, h .0), omega (arith, h .1)), λ t. let q = m .0 t in (omega (arith, q .0), omega (arith, q .1)))
+  counted-moves false When n i f before e pos rule lt b =
+      let m = met-numbers (moved w f) r lt vr b br When n i before pos rule in
+      (λ h. m .1 (omega (arith, h .0), omega (arith, h .1)), λ t. let q = m .0 t in (omega (arith, q .0), omega (arith, q .1)))
+  counted-moves false LastWhen n i f before e pos rule lt b =
+      let m = met-numbers (moved w f) r lt vr b br LastWhen n i before pos rule in
+      (λ h. m .1 (omega (arith, h .0), omega (arith, h .1)), λ t. let q = m .0 t in (omega (arith, q .0), omega (arith, q .1)))
+  counted-moves false Current n i f before e pos rule lt b = absurd (false≢true e)
+
+  -- .. and of the other.
+  pub other-moves : (reader : Bool) (kind : Kind) (n i f : ℕ) (before : Bool) → Bool·beq reader (isCurrent kind) ≡ false →
+      0 < n → PeriodRule kind (w .period) (r .period) n → f < cond reader (r .period) (w .period) → f < 256 →
+      let l = lineIn kind w r in
+      let g = Bool·beq before (writerFirst kind) in
+      Between (numberAt l i + cond (isBefore kind) (wrong g) 0 + 1 - l .step) f
+      (numberAt l i + 1 - cond (isBefore kind) 0 (wrong g)) ↔
+      (movedMet reader kind (rateIn w) (rateIn r) i before f ≡ true)
+  unfolding lineIn
+  other-moves true Now n i f before e pos rule lt b =
+      let m = met-numbers w (moved r f) vw lt bw b Now n i before pos rule in
+      (λ h. m .1 (omega (arith, h .1), omega (arith, h .0)), λ t. let q = m .0 t in (omega (arith, q .1), omega (arith, q .0)))
+  other-moves true Last n i f before e pos rule lt b =
+      let m = met-numbers w (moved r f) vw lt bw b Last n i before pos rule in
+      (λ h. m .1 (omega (arith, h .1), omega (arith, h .0)), λ t. let q = m .0 t in (omega (arith, q .1), omega (arith, q .0)))
+  other-moves true When n i f before e pos rule lt b =
+      let m = met-numbers w (moved r f) vw lt bw b When n i before pos rule in
+      (λ h. m .1 (omega (arith, h .1), omega (arith, h .0)), λ t. let q = m .0 t in (omega (arith, q .1), omega (arith, q .0)))
+  other-moves true LastWhen n i f before e pos rule lt b =
+      let m = met-numbers w (moved r f) vw lt bw b LastWhen n i before pos rule in
+      (λ h. m .1 (omega (arith, h .1), omega (arith, h .0)), λ t. let q = m .0 t in (omega (arith, q .1), omega (arith, q .0)))
+  other-moves true Current n i f before e pos rule lt b = absurd (false≢true (sym e))
+  other-moves false Now n i f before e pos rule lt b = absurd (false≢true (sym e))
+  other-moves false Last n i f before e pos rule lt b = absurd (false≢true (sym e))
+  other-moves false When n i f before e pos rule lt b = absurd (false≢true (sym e))
+  other-moves false LastWhen n i f before e pos rule lt b = absurd (false≢true (sym e))
+  other-moves false Current n i f before e pos rule lt b =
+      let m = met-numbers (moved w f) r lt vr b br Current n i before pos rule in
+      (λ h. m .1 (omega (arith, h .1), omega (arith, h .0)), λ t. let q = m .0 t in (omega (arith, q .1), omega (arith, q .0)))

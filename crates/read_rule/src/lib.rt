@@ -9,7 +9,7 @@ ghost use Prim.Native.Nat.{ℕ, _-_, _≤_, _<_};
 ghost use Rattle.model.specs.Rules.Reads.{writerFirst};
 ghost use Rattle.model.specs.Rules.Search.{firstFrom};
 ghost use Rattle.read_rule.specs.Lines.{isPlain, isCurrent, isBefore, SmallLine, LineFor, numberAt, meetsAt, CandidatesOf, Paced};
-ghost use Rattle.read_rule.specs.Reads.{rateIn, indexFound, metBy};
+ghost use Rattle.read_rule.specs.Reads.{rateIn, indexFound, metBy, MetIn};
 
 // A signal's period and phase.
 pub struct Timing {
@@ -212,4 +212,46 @@ pub fn is_met(kind: Kind, sampled: Sampled, w: Timing, r: Timing, before: bool) 
         return before == wants_first(kind);
     }
     true
+}
+
+// The phases that one signal of a read may take: from `low` up to `high`, which is none of them.
+pub struct Phases {
+    pub low: usize,
+    pub high: usize,
+}
+
+// The phases at which a read is met at an index where one of its two signals moves and the other stays: the reader's, or those of
+// the signal read. Runs share a cycle at one end of the line alone, which is cut off where they are put the wrong way round.
+pub fn phases_met(
+    kind: Kind,
+    index: usize,
+    w: Timing,
+    r: Timing,
+    before: bool,
+    reader: bool,
+) -> Phases
+    requires { ⌜ index < 256 ⌝ }
+    ensures { λ o. ⌜ MetIn reader kind (rateIn w) (rateIn r) index before o ⌝ }
+{
+    let line = line_of(kind, w, r);
+    let wrong = either(before == wants_first(kind), 0, 1);
+    let low_end = either(is_before(kind), 0, wrong);
+    let high_end = either(is_before(kind), wrong, 0);
+    if reader == is_current(kind) {
+        let stretch = index * line.stride;
+        let base = line.ahead + stretch;
+        let first = line.cycle + low_end;
+        let past = line.cycle + line.step;
+        let cut = base + high_end;
+        return Phases {
+            low: minus(first, base),
+            high: minus(past, cut),
+        };
+    }
+    let number = number_at(line, index);
+    let last = number + high_end;
+    Phases {
+        low: minus(last + 1, line.step),
+        high: minus(number + 1, low_end),
+    }
 }

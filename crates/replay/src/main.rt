@@ -336,6 +336,29 @@ fn call_convert() -> bool {
     true
 }
 
+fn moves(program: &[u8], schedule: &[u8], list: &mut [u8]) {
+    let code = larderlate::larderlate_moves(program, schedule, list);
+    print_code(code, hash_bytes(list));
+}
+
+// 10: the moves of a pair.
+fn call_moves() -> bool {
+    let mut program = [0u8; 9000];
+    let mut schedule = [0u8; 400];
+    let program_size = number(2);
+    let schedule_size = number(2);
+    let b = number(4);
+    let byte = number(1);
+    let p = fill(&mut program, program_size);
+    let s = fill(&mut schedule, schedule_size);
+    if 26000 < b || 255 < byte || p < program_size || s < schedule_size {
+        return false;
+    }
+    let mut list = buffer_of((byte % 256) as u8);
+    moves(&program[..p], &schedule[..s], &mut list[..b]);
+    true
+}
+
 // A sum of bits, one for each place.
 fn print_bits(w: [usize; 17], weight: usize)
     requires { ⌜ 1 ≤ weight ⌝ }
@@ -528,6 +551,7 @@ fn call(kind: usize, image: &[u8], state: &mut [i32], record: &mut [usize; 17]) 
         13 => call_mark(state, record),
         14 => call_turn(image, state, record),
         15 => call_join(),
+        16 => call_moves(),
         17 => put_record(record),
         _ => false,
     }

@@ -7,6 +7,8 @@ use lib.ListN.{length, getD, List·getD-map}
 use Rattle.model.specs.Rules.Command.{operatorAt}
 use Rattle.model.specs.Rules.Outcome.{accepted}
 use Rattle.model.specs.Rules.Program.{Program, Read, Link, count, signalAt, bodyReads, parseProgram}
+use Rattle.model.specs.Rules.Reads.{rateOf}
+use Rattle.model.specs.Rules.Schedule.{Schedule}
 use Rattle.model.specs.declared.Operator.the-variants as Operator
 use Rattle.model.specs.declared.Index.the-variants.{Fixed}
 use Rattle.model.specs.declared.Kind.the-variants.{Now}
@@ -15,7 +17,7 @@ use Rattle.model.proofs.Texts.Legal.{SpellsRead, legal, signal-reads}
 use Rattle.model.proofs.Basics.Outcomes.{accepted-same}
 use Rattle.text_command.specs.Operator.{ReadStands, ReadTaken}
 use Rattle.text_command.specs.declared.Taken.{Taken}
-use Rattle.text_program.specs.Tables.{readsIn, ReadsOf, TablesOf, TabledAs, Indexed}
+use Rattle.text_program.specs.Tables.{PeriodsOf, rateAt, readsIn, ReadsOf, TablesOf, TabledAs, Indexed, SlotsOf}
 use Rattle.text_program.specs.declared.Tables.{Tables}
 use Rattle.text_program.proofs.Sums.{sums-below}
 
@@ -35,6 +37,11 @@ few-signals text t p e tables = omega (arith, legal text p e .1 .fewSignals, tab
 -- Its reads stand in their table.
 pub indexed : (text reads : List ℕ) (t : Tables) → TabledAs text reads t → Indexed text reads (t .firsts) (t .signals)
 indexed text reads t h = record { program = h .0; parsed = h .1; count-is = h .2 .counts .signals-are; reads-are = h .3 }
+
+-- The rate of a signal by the tables of periods and phases.
+pub rate-is : {p : Program} {s : Schedule} {order phases ranks : List ℕ} (periods : List ℕ) → PeriodsOf p periods →
+    SlotsOf p s order phases ranks → (x : ℕ) → x < count p → rateAt periods phases x ≡ rateOf p s x
+rate-is periods table slots x lt = λ i. record { period = table x lt i; phase = slots .phases-are x lt i }
 
 -- The entries of the table.
 module _ {text reads firsts : List ℕ} {n : ℕ} (ix : Indexed text reads firsts n) (p : Program)

@@ -90,7 +90,7 @@ returns-2 c =
     c .is-timely .ensures ∙
     (λ j. timelyBy (mode j) (bound j) (i .result .hops) (i .result .count) (rateIn (b .timing-at .ensures j))
     (rateIn (e .timing-at2 .ensures j)) (from j) (w j)) ∙
-    d .same
+    d .same (chainAt p (a .args .chain) .bound)
 
 pub keeps-time-spec : {M : Type 1} → statement M
 keeps-time-spec =

@@ -1,10 +1,15 @@
 -- `check_pair::check_with` meets its contract. Assumes nothing.
+use Prim.Native.Nat.{ℕ}
 use mathlib.Core.Path.{_≡_, refl, sym, ap, _∙_}
+use native.Mathlib.Omega.{arith}
 use denote.Ref.{now}
 use borrow.Author.Needs.{needs}
 use Rattle.model.specs.Rules.Compile.{shortEnough}
 use Rattle.model.specs.Rules.Outcome.{accepted}
 use Rattle.model.specs.Rules.Schedule.{Schedule}
+use Rattle.model.specs.declared.Fault.{Fault}
+use Rattle.basics.specs.declared.Judged.{Judged}
+use Rattle.basics.specs.declared.Judged.the-variants as Judged
 use Rattle.text_program.specs.Tables.{ReadAs}
 use Rattle.text_program.specs.declared.Tables.{Tables}
 use Rattle.text_schedule.specs.Arranged.{Arranged}
@@ -110,13 +115,18 @@ arranged e =
       },
     )
 
+fine-refused : (j : Judged) (f : Fault) → j ≡ Judged.Fine → j ≡ Judged.Refused f → ⊥
+fine-refused j f p q = let z : _≡_ {A = ℕ} 0 1 = cc in omega arith
+
 returns : tie.Need-returns
 unfolding stepsOf
 returns c =
-    let told = c .before .enum-told2 .given .1 in
-    rw (pair-steps _ _)
-    (answers-stop _ _ _ _ _ (judgement-refused _ _ _ (c .before .before .before .check-lengths .ensures) told)
-    (c .refused .ensures ∙ told))
+    let told = c .before .enum-told2 .given .1 in (
+      rw (pair-steps _ _)
+          (answers-stop _ _ _ _ _ (judgement-refused _ _ _ (c .before .before .before .check-lengths .ensures) told)
+          (c .refused .ensures ∙ told)),
+      λ e. absurd (fine-refused _ _ e (c .refused .ensures ∙ told)),
+    )
 
 read-program-requires : tie.Need-read-program-requires
 read-program-requires c κs =
@@ -128,11 +138,13 @@ returns-2 : tie.Need-returns-2
 unfolding stepsOf
 returns-2 c =
     let r = c .before .before .before .before .before in
-    let told = c .before .enum-told4 .given .1 in
-    rw (pair-steps _ _)
-    (answers-then _ _ _ _ _ (short (r .before .before))
-    (answers-stop _ _ _ _ _ (answers-refused _ _ _ _ (program-answers _ _ _ (r .read-program .ensures)) told)
-    (c .refused2 .ensures ∙ told)))
+    let told = c .before .enum-told4 .given .1 in (
+      rw (pair-steps _ _)
+          (answers-then _ _ _ _ _ (short (r .before .before))
+          (answers-stop _ _ _ _ _ (answers-refused _ _ _ _ (program-answers _ _ _ (r .read-program .ensures)) told)
+          (c .refused2 .ensures ∙ told))),
+      λ e. absurd (fine-refused _ _ e (c .refused2 .ensures ∙ told)),
+    )
 
 check-rates-requires : tie.Need-check-rates-requires
 check-rates-requires c κs =
@@ -144,11 +156,13 @@ unfolding stepsOf
 returns-3 c =
     let r = c .before .before .before in
     let x = looked r in
-    let told = c .before .enum-told6 .given .1 in
-    rw (pair-steps _ _)
-    (answers-then _ _ _ _ _ (short (lengths x))
-    (answers-then _ _ _ _ _ (read x .1)
-    (answers-stop _ _ _ _ _ (answers-refused _ _ _ _ (rates r) told) (c .refused3 .ensures ∙ told))))
+    let told = c .before .enum-told6 .given .1 in (
+      rw (pair-steps _ _)
+          (answers-then _ _ _ _ _ (short (lengths x))
+          (answers-then _ _ _ _ _ (read x .1)
+          (answers-stop _ _ _ _ _ (answers-refused _ _ _ _ (rates r) told) (c .refused3 .ensures ∙ told)))),
+      λ e. absurd (fine-refused _ _ e (c .refused3 .ensures ∙ told)),
+    )
 
 check-schedule-requires : tie.Need-check-schedule-requires
 check-schedule-requires c κs =
@@ -168,13 +182,15 @@ unfolding stepsOf
 returns-4 c =
     let d = c .before .before .before in
     let x = known d in
-    let told = c .before .enum-told8 .given .1 in
-    rw (pair-steps _ _)
-    (answers-then _ _ _ _ _ (short (lengths x))
-    (answers-then _ _ _ _ _ (read x .1)
-    (answers-then _ _ _ _ _ (rated (found d))
-    (answers-stop _ _ _ _ _ (answers-refused _ _ _ _ (schedule-answers _ _ _ (scheduled d)) told)
-    (c .refused4 .ensures ∙ told)))))
+    let told = c .before .enum-told8 .given .1 in (
+      rw (pair-steps _ _)
+          (answers-then _ _ _ _ _ (short (lengths x))
+          (answers-then _ _ _ _ _ (read x .1)
+          (answers-then _ _ _ _ _ (rated (found d))
+          (answers-stop _ _ _ _ _ (answers-refused _ _ _ _ (schedule-answers _ _ _ (scheduled d)) told)
+          (c .refused4 .ensures ∙ told))))),
+      λ e. absurd (fine-refused _ _ e (c .refused4 .ensures ∙ told)),
+    )
 
 check-runs-requires : tie.Need-check-runs-requires
 check-runs-requires c κs =
@@ -192,28 +208,31 @@ returns-5 c =
     let x = known d in
     let p = read x .0 in
     let a = arranged e in
-    let g = a .2 in
-    rw (pair-steps _ _)
-    (answers-then _ _ _ _ _ (short (lengths x))
-    (answers-then _ _ _ _ _ (g .parsed)
-    (answers-then _ _ _ _ _ (rated (found d))
-    (answers-then _ _ _ _ _ (a .1)
-    (answers-last _ _ _ _ (judgement-answers _ _ _ (c .check-runs .ensures p (a .0) g) (λ _.
-    record {
-      prepared =
+    let g = a .2 in (
+      rw (pair-steps _ _)
+          (answers-then _ _ _ _ _ (short (lengths x))
+          (answers-then _ _ _ _ _ (g .parsed)
+          (answers-then _ _ _ _ _ (rated (found d))
+          (answers-then _ _ _ _ _ (a .1)
+          (answers-last _ _ _ _ (judgement-answers _ _ _ (c .check-runs .ensures p (a .0) g) (λ _.
           record {
-            parsed = g .parsed;
-            tables = g .tables-are;
-            periods-are = g .tables-are .periods;
-            ranks = d .check-schedule .result .slots .ranks;
-            slots = g .slots-are;
-            ordered = ordered g;
-            covered = rates-passed _ _ (rated (found d)) .3;
-          };
-      ranks-are = refl;
-      hyper = refl;
-      bound = short-hypercycle g;
-    })))))))
+            prepared =
+                record {
+                  parsed = g .parsed;
+                  tables = g .tables-are;
+                  periods-are = g .tables-are .periods;
+                  ranks = d .check-schedule .result .slots .ranks;
+                  slots = g .slots-are;
+                  ordered = ordered g;
+                  covered = rates-passed _ _ (rated (found d)) .3;
+                };
+            ranks-are = refl;
+            hyper = refl;
+            bound = short-hypercycle g;
+            arranged = g;
+          }))))))),
+      λ q. program-read _ _ _ (x .before .before .before .before .read-program .ensures) (x .enum-told3 .given .1),
+    )
 
 pub check-with-spec : {M : Type 1} → statement M
 check-with-spec =

@@ -28,6 +28,12 @@ pub second-fails : (a b : Bool) → b ≡ false → (a && b) ≡ false
 second-fails true b h = h
 second-fails false b h = refl
 
+-- Two tests that pass together come out alike.
+pub together : (a b : Bool) → (a ≡ true → b ≡ true) → (b ≡ true → a ≡ true) → a ≡ b
+together true b f g = sym (f refl)
+together false true f g = g refl
+together false false f g = refl
+
 -- a − b of two natural numbers, by which is the larger.
 pub sub-by : (a b : ℕ) (P : ℤ → Type 0) → (a < b → P (negsuc (b - suc a))) → (b ≤ a → P (pos (a - b))) → P (subℕ a b)
 sub-by a b P f g = go (ltb a b) (λ t. f (ltb→lt a b t)) (λ t. g (nltb→le a b t))

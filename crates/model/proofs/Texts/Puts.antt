@@ -4,7 +4,7 @@ use mathlib.Core.Bool.{Bool, true, false, cond, _||_, false≢true}
 use mathlib.Core.List.{List, [], _∷_, _++_, map, append-assoc, append-nil}
 use mathlib.Core.Path.{_≡_, refl, sym, ap, subst, _∙_}
 use native.Mathlib.Omega.{arith}
-use borrow.Author.Tests.{leb-true, ltb-true, eqb-true, eq-eqb}
+use borrow.Author.Tests.{leb-true, le-leb, ltb-true, eqb-true, eq-eqb}
 use lib.Dec.{leb, ltb, eqb}
 use lib.ListN.{length, getD, length-map}
 pub use Rattle.model.specs.Says.Grammar.{SpellsPuts}
@@ -38,6 +38,8 @@ use Rattle.model.proofs.Basics.Outcomes.{
   holds-then,
   holds-map,
   holds-provided,
+  accepted-then,
+  true-provided,
   lowest-none,
   append-none,
   table-at,
@@ -106,6 +108,29 @@ module _ (text : List ℕ) where
       let r = holds-value (ReadsPuts 0 []) (parsePuts (length text) text 0 []) o (reads-puts (length text) 0 []) e in
       rw (r .1) (r .2)
 
+-- PUTs that are spelled are read.
+more : (left : ℕ) → 0 < left → (n : ℕ) × (left ≡ suc n)
+more zero h = absurd (omega arith)
+more (suc n) h = (n, refl)
+
+module _ {text : List ℕ} where
+  pub parse-puts : {at end : ℕ} {qs : List Put} (left : ℕ) (puts : List Put) → SpellsPuts text at qs end →
+      length text ≤ at + left → parsePuts left text at puts ≡ parsed (puts ++ qs) end
+  unfolding parsePuts scheduleCommand
+  parse-puts left puts (SpellsPuts.ends {at = at} e le) enough =
+      let q = more left (omega (arith, put-sound text at _ (put-decoded e))) in
+      rw (q .1)
+      (ap (scheduleCommand (λ n qs. parsePuts (q .0) text n qs) text at puts) (put-decoded e) ∙
+      accepted-then _ _ tt (true-provided _ 11 (at + 1) (le-leb _ _ le)) ∙
+      rw (append-nil puts))
+  parse-puts left puts (SpellsPuts.put {at = at} {signal = signal} {phase = phase} {qs = qs} e r) enough =
+      let q = more left (omega (arith, put-sound text at _ (put-decoded e) .2)) in
+      let here : Put = record { place = at; signal = signal; phase = phase } in
+      rw (q .1)
+      (ap (scheduleCommand (λ n qs. parsePuts (q .0) text n qs) text at puts) (put-decoded e) ∙
+      parse-puts (q .0) (puts ++ (here ∷ [])) r (omega (arith, q .1)) ∙
+      rw (append-assoc puts (here ∷ []) qs))
+
 -- Each PUT takes three bytes.
 pub puts-end : {text : List ℕ} {at end : ℕ} {qs : List Put} → SpellsPuts text at qs end →
     (end ≡ at + 3 * length qs) × (length text ≡ end + 1)
@@ -142,7 +167,8 @@ module _ (p : Program) where
       let h = put-placed before q (f .0) in
       (h .0, h .1, h .2, puts-placed (before ++ (q ∷ [])) qs (f .1))
 
-abbrev signalsOf : List Put → List ℕ
+-- The signals of PUTs, in their order.
+abbrev pub signalsOf : List Put → List ℕ
 signalsOf qs = map (λ q. q .signal) qs
 
 put-earlier : (before : List Put) (q : Put) (x : ℕ) → isPut (before ++ (q ∷ [])) x ≡ false →

@@ -46,6 +46,11 @@ unfoldable pub joinFrom : {A B : Type 0} → ℕ → (ℕ → A → List B) → 
 joinFrom i f [] = []
 joinFrom i f (x ∷ xs) = f i x ++ joinFrom (suc i) f xs
 
+-- The lists that f gives for the numbers below n, joined.
+unfoldable pub joinBelow : {A : Type 0} → ℕ → (ℕ → List A) → List A
+joinBelow zero f = []
+joinBelow (suc n) f = joinBelow n f ++ f n
+
 unfoldable pub sum : List ℕ → ℕ
 sum [] = 0
 sum (x ∷ xs) = x + sum xs

@@ -16,7 +16,6 @@ use Rattle.model.specs.Says.Grammar.{
   Declares,
   LegalWith,
   LegalProgram,
-  SpellsPuts,
   LegalSchedule,
 }
 use Rattle.model.specs.Rules.Outcome.{Outcome, accepted, Parsed, parsed}
@@ -35,7 +34,7 @@ use Rattle.model.specs.Rules.Program.{
   parseWith,
   parseProgram,
 }
-use Rattle.model.specs.Rules.Schedule.{Put, scheduleCommand, parsePuts, parseSchedule}
+use Rattle.model.specs.Rules.Schedule.{Put, parseSchedule}
 use Rattle.model.specs.Rules.Width.{readWidth}
 use Rattle.model.specs.Rules.Word.{byteAt}
 use Rattle.model.specs.Says.Grammar.{HasRoom}
@@ -47,10 +46,10 @@ use Rattle.model.specs.declared.Operator.{Operator}
 use Rattle.model.proofs.Texts.Commands.{declaration-sound, written-byte, written-inside, operator-of}
 use Rattle.model.proofs.Texts.Legal.{links-end}
 use Rattle.model.proofs.Basics.Outcomes.{accepted-then, true-provided}
-use Rattle.model.proofs.Texts.Puts.{put-sound, puts-spelled}
+use Rattle.model.proofs.Texts.Puts.{puts-spelled, parse-puts}
 use Rattle.model.proofs.Texts.Room.{signal-is, operator-fit, declaration-fit}
 use Rattle.model.proofs.Texts.Spelled.{declared}
-use Rattle.model.proofs.Texts.Written.{decoded, operator-decoded, put-decoded}
+use Rattle.model.proofs.Texts.Written.{decoded, operator-decoded}
 
 -- A number with one below it.
 pub one-below : (m d : ℕ) → suc m ≤ d → (e : ℕ) × (d ≡ suc e) × (m ≤ e)
@@ -198,25 +197,6 @@ module _ {least : ℕ} {text : List ℕ} where
       (command-step least text (q .0) at label p _ (decoded e) (fit at p e (HasRoom.end (written-byte text at e))) ∙
       accepted-then _ _ tt (true-provided _ 6 (at + 1) (le-leb _ _ le)))
   parse-commands (Declares.onward d r) left enough = parse-onward _ d (λ k l. parse-commands r k l) left enough
-
-module _ {text : List ℕ} where
-  -- PUTs that are spelled are read.
-  parse-puts : {at end : ℕ} {qs : List Put} (left : ℕ) (puts : List Put) → SpellsPuts text at qs end →
-      length text ≤ at + left → parsePuts left text at puts ≡ parsed (puts ++ qs) end
-  unfolding parsePuts scheduleCommand
-  parse-puts left puts (SpellsPuts.ends {at = at} e le) enough =
-      let q = one-below 0 left (omega (arith, put-sound text at _ (put-decoded e))) in
-      rw (q .1)
-      (ap (scheduleCommand (λ n qs. parsePuts (q .0) text n qs) text at puts) (put-decoded e) ∙
-      accepted-then _ _ tt (true-provided _ 11 (at + 1) (le-leb _ _ le)) ∙
-      rw (append-nil puts))
-  parse-puts left puts (SpellsPuts.put {at = at} {signal = signal} {phase = phase} {qs = qs} e r) enough =
-      let q = one-below 0 left (omega (arith, put-sound text at _ (put-decoded e) .2)) in
-      let here : Put = record { place = at; signal = signal; phase = phase } in
-      rw (q .1)
-      (ap (scheduleCommand (λ n qs. parsePuts (q .0) text n qs) text at puts) (put-decoded e) ∙
-      parse-puts (q .0) (puts ++ (here ∷ [])) r (omega (arith, q .1)) ∙
-      rw (append-assoc puts (here ∷ []) qs))
 
 -- Reading accepts the legal program texts and no others.
 pub with-legal : (least : ℕ) (text : List ℕ) (p : Program) → (parseWith least text ≡ accepted p) ↔ LegalWith least text p

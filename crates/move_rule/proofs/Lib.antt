@@ -1,0 +1,3 @@
+-- Laws of narrowing.
+pub mod Narrowings
+pub mod Limits

@@ -1,0 +1,2 @@
+-- What the functions that list where one job may go stand for.
+pub mod Listing
