@@ -1,25 +1,26 @@
 -- Demand 3 for each place of a board, and that one number tells the answers of its calls. What they promise besides is in crate
 -- `board`. Assumes nothing.
-use Prim.Native.Nat.{ℕ, _+_, _≤_, _<_}
+use Prim.Native.Nat.{ℕ, suc, _+_, _≤_, _<_}
 use mathlib.Core.List.{List, _∷_}
 use mathlib.Core.Path.{_≡_, subst, refl, sym, ap}
 use mathlib.Core.Bool.{Bool, true, false, cond}
 use native.Mathlib.Omega.{arith}
 use borrow.Author.Tests.{le-leb, lt-ltb}
-use lib.IntN.{ℤ}
-use lib.ListN.{length}
+use lib.IntN.{ℤ, pos}
+use lib.ListN.{length, getD}
 use lib.Dec.{leb, ltb}
 use Rattle.model.specs.Rules.Compile.{Pair, pairOf}
 use Rattle.model.specs.Rules.Image.{imageOf}
 use Rattle.model.specs.Rules.Join.{linksOf}
 use Rattle.model.specs.Rules.Machine.{stretch, resetOf}
 use Rattle.model.specs.Rules.Outcome.{accepted, Outcome, refused, refuse, fault}
-use Rattle.model.specs.Rules.Program.{Program}
+use Rattle.model.specs.Rules.Program.{Program, count}
 use Rattle.model.specs.Rules.Reads.{settled}
 use Rattle.model.specs.Rules.Schedule.{Schedule}
 use Rattle.model.specs.Rules.Tail.{Bears}
 use Rattle.model.specs.Rules.Word.{AreBytes}
 use Rattle.model.specs.Says.Calls.{Call, callOf}
+use Rattle.theorems.specs.Dependence.{DependsOn}
 use Rattle.theorems.specs.Held.{stateBy, logBy, Supplied, Holds}
 use Rattle.theorems.specs.Join.{LinkedSatisfies, JoinLegal}
 use Rattle.theorems.specs.Streams.{Satisfies}
@@ -28,9 +29,28 @@ use Rattle.board.specs.Board.{placeWords, placeAt, nextDue, onStretch, resetIn,
 use Rattle.board.specs.Events.{Event, load, Scene, loadBy, afterEvent, afterEvents, Throughout, Untouched, ownCycles}
 use Rattle.board_words.specs.Record.{turnDone}
 use Rattle.promises.specs.Codable.{Codable}
+use Rattle.promises.specs.Scenes.{
+  SceneBut,
+  OtherSamples,
+  SamplesExcept,
+  EventsBut,
+  Confined,
+  Course,
+  afterLoad,
+  courseImage,
+  Undisturbed,
+  courseAnswers,
+  courseWords,
+  CoursesExcept,
+}
 use Rattle.board.specs.declared.Board.{Board}
 use Rattle.board.proofs.Promises.{place-alone, place-cycles}
 use Rattle.promises.proofs.JoinPromises.{join-calls-hold}
+use Rattle.model.proofs.Pairs.Verdict.{pair-accepted, pair-multiple, pair-bounded}
+use Rattle.theorems.proofs.Joining.Demand as Join
+use Rattle.promises.proofs.Confined.{confined}
+use Rattle.promises.proofs.Courses as Courses
+use Rattle.promises.proofs.Courses.{courses-apart, board-apart}
 use Rattle.promises.proofs.Promises.{calls-hold, reset-codable, former-refused}
 use Rattle.board.proofs.Answers.{
   load-place,
@@ -81,6 +101,41 @@ module _ (program schedule : List ℕ) (bytes : AreBytes program) (p : Program) 
       (place-cycles s k start size n four a es free .0) (ownCycles k (afterEvent s (load k start size)) es)
       .holds inputs X supplied satisfied)
 
+  -- Request m for each place. Two courses of places, on one board or on two, whose stretches hold the image of this pair: after
+  -- as many runs they have answered the same and have the same position, and if the samples that they were lent differ only in
+  -- the elements of input i, they hold the same word of every other signal that does not depend on i.
+  pub place-only-readers : (c c′ : Course) → Undisturbed c → Undisturbed c′ → (tail tail′ : List ℕ) →
+      Bears (imageOf p q h) tail (courseImage c) → Bears (imageOf p q h) tail′ (courseImage c′) →
+      length (courseAnswers c) ≡ length (courseAnswers c′) → (i : ℕ) → CoursesExcept p q i c c′
+  place-only-readers c c′ u u′ tail tail′ =
+      courses-apart p q h (pair-accepted program schedule _ e) (pair-multiple program schedule _ e)
+      (pair-bounded program schedule _ e bytes) c c′ u u′
+
+  -- So it is on a board in two courses of events that are the same but for the samples of that place, where it is run as often.
+  -- They may end after any event.
+  pub board-only-readers : (s s′ : Scene) (k start size : ℕ) (es es′ : List Event) → SceneBut k s s′ →
+      EventsBut k (OtherSamples k) es es′ →
+      let c : Course = record { scene = s; place = k; start = start; size = size; events = es } in
+      let c′ : Course = record { scene = s′; place = k; start = start; size = size; events = es′ } in
+      Undisturbed c → Throughout (Untouched k) (afterLoad c′) es′ → (tail : List ℕ) →
+      Bears (imageOf p q h) tail (courseImage c) → (i : ℕ) → CoursesExcept p q i c c′
+  board-only-readers =
+      board-apart p q h (pair-accepted program schedule _ e) (pair-multiple program schedule _ e)
+      (pair-bounded program schedule _ e bytes)
+
+  -- Where the turns' samples differ only in word i of that place, every other signal of it that does not depend on i holds the
+  -- same word.
+  pub board-words : (s s′ : Scene) (k start size : ℕ) (es es′ : List Event) → SceneBut k s s′ → (i : ℕ) → i < 64 →
+      EventsBut k (SamplesExcept k i) es es′ →
+      let c : Course = record { scene = s; place = k; start = start; size = size; events = es } in
+      let c′ : Course = record { scene = s′; place = k; start = start; size = size; events = es′ } in
+      Undisturbed c → Throughout (Untouched k) (afterLoad c′) es′ → (tail : List ℕ) →
+      Bears (imageOf p q h) tail (courseImage c) → (y : ℕ) → y < count p → ¬ (y ≡ i) → ¬ DependsOn p y i →
+      getD (courseWords c) (suc y) (pos 0) ≡ getD (courseWords c′) (suc y) (pos 0)
+  board-words =
+      Courses.board-words p q h (pair-accepted program schedule _ e) (pair-multiple program schedule _ e)
+      (pair-bounded program schedule _ e bytes)
+
 -- The same of the image of an accepted join, with the equations of all parts and links together.
 module _ (texts numbers links : List ℕ) (bytes : AreBytes texts) (q : Pair) (l : JoinLegal texts numbers links q) where
   pub join-place-streams : (s : Scene) (k start size n : ℕ) → length (s .board .places) ≡ 4 →
@@ -98,6 +153,32 @@ module _ (texts numbers links : List ℕ) (bytes : AreBytes texts) (q : Pair) (l
       (join-calls-hold texts numbers links q l bytes tail (stretch (s .images) start (start + size)) bears
       (placeWords k (s .state)) (place-cycles s k start size n four a es free .0)
       (ownCycles k (afterEvent s (load k start size)) es) .holds inputs X supplied satisfied)
+
+  -- Request m for each place that holds it: as for a pair, by the joined program.
+  pub join-place-only-readers : (c c′ : Course) → Undisturbed c → Undisturbed c′ → (tail tail′ : List ℕ) →
+      Bears (imageOf (q .program) (q .schedule) (q .hypercycle)) tail (courseImage c) →
+      Bears (imageOf (q .program) (q .schedule) (q .hypercycle)) tail′ (courseImage c′) →
+      length (courseAnswers c) ≡ length (courseAnswers c′) → (i : ℕ) → CoursesExcept (q .program) (q .schedule) i c c′
+  join-place-only-readers c c′ u u′ tail tail′ =
+      courses-apart (q .program) (q .schedule) (q .hypercycle) (Join.feasible texts numbers links q l)
+      (Join.multiple texts numbers links q l) (Join.bounded texts numbers links q l bytes) c c′ u u′
+
+  pub join-board-only-readers : (s s′ : Scene) (k start size : ℕ) (es es′ : List Event) → SceneBut k s s′ →
+      EventsBut k (OtherSamples k) es es′ →
+      let c : Course = record { scene = s; place = k; start = start; size = size; events = es } in
+      let c′ : Course = record { scene = s′; place = k; start = start; size = size; events = es′ } in
+      Undisturbed c → Throughout (Untouched k) (afterLoad c′) es′ → (tail : List ℕ) →
+      Bears (imageOf (q .program) (q .schedule) (q .hypercycle)) tail (courseImage c) → (i : ℕ) →
+      CoursesExcept (q .program) (q .schedule) i c c′
+  join-board-only-readers =
+      board-apart (q .program) (q .schedule) (q .hypercycle) (Join.feasible texts numbers links q l)
+      (Join.multiple texts numbers links q l) (Join.bounded texts numbers links q l bytes)
+
+-- All else on such a board is the same, whatever images, samples and signals' words that place has: every call's answer, so that
+-- the places are taken in the same order with the same outcomes, the record, and all words of the state but those signals'.
+pub place-confined : (k : ℕ) (s s′ : Scene) (es es′ : List Event) → SceneBut k s s′ → EventsBut k (OtherSamples k) es es′ →
+    Confined k s s′ es es′
+place-confined k s s′ es es′ = confined
 
 -- One number tells the answers of a board's calls too: they yield 0, or refuse with a number above 0 at place 0.
 -- A call that has come to an effect.

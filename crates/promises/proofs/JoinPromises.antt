@@ -22,6 +22,7 @@ use Rattle.model.specs.Rules.Join.{
 }
 use Rattle.model.specs.Rules.Machine.{resetOf}
 use Rattle.model.specs.Rules.Outcome.{Outcome, accepted, refused}
+use Rattle.model.specs.Rules.Parts.{partAt}
 use Rattle.model.specs.Rules.Program.{Chain, count}
 use Rattle.model.specs.Rules.Reads.{settled}
 use Rattle.model.specs.Rules.Tail.{Bears}
@@ -32,9 +33,12 @@ use Rattle.model.specs.declared.Found.{Found}
 use Rattle.larderlate.specs.Code.{codeNumber}
 use Rattle.promises.specs.Codable.{Codable}
 use Rattle.promises.proofs.Promises.{small-code}
+use Rattle.theorems.specs.Dependence.{AlikeCalls}
 use Rattle.theorems.specs.Exactness.{sizeOf, JoinExactly}
+use Rattle.theorems.specs.Held.{stateBy, logBy, answersBy}
 use Rattle.theorems.specs.Composed.{Composed}
 use Rattle.theorems.specs.Conditions.{_among_, KeepsTime}
+use Rattle.theorems.specs.JoinDependence.{JoinSameExcept}
 use Rattle.theorems.specs.Join.{LinkedSatisfies, TextsLent, JoinLegal, JoinRefused}
 use Rattle.theorems.specs.Lists.{
   JoinKept,
@@ -55,6 +59,7 @@ use Rattle.theorems.proofs.Joining.Alike as Alike
 use Rattle.theorems.proofs.Joining.Alone as Alone
 use Rattle.theorems.proofs.Joining.Called as Called
 use Rattle.theorems.proofs.Joining.Demand as Demand
+use Rattle.theorems.proofs.Joining.Dependence as Dependence
 use Rattle.theorems.proofs.Joining.Exact as Exact
 use Rattle.theorems.proofs.Joining.Places as Places
 
@@ -157,6 +162,20 @@ module _ (texts numbers links : List ℕ) (q : Pair) (l : JoinLegal texts number
       OthersRefused size m ls →
       JoinKept (l .parts) (linksOf links) q old (owns ls) (ownAnswers size m ls) (ownLog size m [] ls) (leftAll size m ls .state)
   join-calls-among = Demand.calls-among texts numbers links q l
+
+  -- Request m. In two runs that are alike call by call all calls answer the same, and after each call, the n-th of both, the
+  -- position is the same; and if the elements supplied since the latest reset are the same for all inputs but i of part k, so is the
+  -- word of every other signal of any part that does not read it, by itself or through other signals and links.
+  pub join-only-readers : AreBytes texts → (tail tail′ lent lent′ : List ℕ) →
+      Bears (imageOf (q .program) (q .schedule) (q .hypercycle)) tail lent →
+      Bears (imageOf (q .program) (q .schedule) (q .hypercycle)) tail′ lent′ → (old old′ : List ℤ) →
+      resetOf lent old .answer ≡ accepted 0 → resetOf lent′ old′ .answer ≡ accepted 0 → (k i : ℕ) → k < length (l .parts) →
+      i < count (partAt (l .parts) k .program) → (cs cs′ : List Call) → AlikeCalls (q .program) cs cs′ → (n : ℕ) →
+      JoinSameExcept (l .parts) (linksOf links) q k i (answersBy lent old (take n cs)) (answersBy lent′ old′ (take n cs′))
+      (logBy lent old (take n cs)) (logBy lent′ old′ (take n cs′)) (stateBy lent old (take n cs))
+      (stateBy lent′ old′ (take n cs′))
+  join-only-readers bytes tail tail′ lent lent′ b b′ old old′ r r′ =
+      Dependence.join-only-readers texts numbers links bytes q l b b′ old old′ r r′
 
 -- Two accepted joins with the same links, of parts with the same programs that settle alike.
 module _ (texts numbers texts′ numbers′ links : List ℕ) (q q′ : Pair) (l : JoinLegal texts numbers links q)

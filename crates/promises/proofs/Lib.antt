@@ -3,4 +3,8 @@ pub mod Promises
 pub mod MovesListed
 pub mod MovesPromises
 pub mod JoinPromises
+pub mod Confined
+pub mod Runs
+pub mod Samples
+pub mod Courses
 pub mod BoardPromises

@@ -42,7 +42,20 @@ use Rattle.model.specs.Rules.Machine.{
   codeAt,
 }
 use Rattle.model.specs.Rules.Outcome.{Outcome, accepted, refused, refuse, fault, _▷_, provided}
-use Rattle.model.specs.Rules.Program.{Program, Chain, Read, Expr, equation, unary, count, signalAt, parseWith, parseProgram}
+use Rattle.model.specs.Rules.Program.{
+  Program,
+  Body,
+  Chain,
+  Read,
+  Expr,
+  equation,
+  unary,
+  count,
+  signalAt,
+  bodyReads,
+  parseWith,
+  parseProgram,
+}
 use Rattle.model.specs.Rules.Rates.{hypercycle}
 use Rattle.model.specs.Rules.Reads.{rateOf, runCycle, settled}
 use Rattle.model.specs.Rules.Report.{highest, needsOf, reportJob, reportOf}
@@ -71,6 +84,9 @@ use Rattle.model.specs.Says.Written.{
   CodeWhole,
 }
 use Rattle.theorems.specs.Conditions.{_among_, ReadIn, LegalPairWith, LegalPair}
+use Rattle.theorems.specs.Dependence.{OccursIn, DependsOn, AlikeCalls, AgreeExcept, LentExcept, SameExcept, SameExceptBy}
+use Rattle.theorems.specs.Dependents.{dependents}
+use Rattle.theorems.specs.Held.{logBy, IsInput}
 use Rattle.theorems.specs.Conversion.{earlierFactor, Converts, ConversionKeeps}
 use Rattle.theorems.specs.Decimals.{SaysNumber, SaysWord}
 use Rattle.theorems.specs.Enums.{
@@ -146,6 +162,8 @@ use Rattle.theorems.proofs.Bench.Decimals as Decimals
 use Rattle.theorems.proofs.Streams.Alike.{open-alike, alike-satisfy}
 use Rattle.theorems.proofs.Streams.AlikeLent.{words-alike}
 use Rattle.theorems.proofs.Streams.Demand as Demand
+use Rattle.theorems.proofs.Streams.Dependence as Dependence
+use Rattle.theorems.proofs.Streams.Dependents as Dependents
 use Rattle.theorems.proofs.Streams.Looked.{table-of-image, rows-stored}
 use Rattle.theorems.proofs.Streams.Worded.{elements-words, table-yields}
 use Rattle.theorems.proofs.Texts.Enums as Enums
@@ -411,6 +429,10 @@ pub others-nothing : (size : ℕ) (m : Memory) (log : List (List ℤ)) (ls : Lis
     AsWithout size m log ls
 others-nothing = Among.others-nothing
 
+-- Request m. An equation reads w exactly if w is the signal of one of its reads, those that are checked and met.
+pub reads-exactly : (b : Body) (w : ℕ) → OccursIn w b ↔ ((ρ : Read) × (ρ among bodyReads b) × (ρ .operands .signal ≡ w))
+reads-exactly = Dependence.reads-exactly
+
 -- An accepted pair.
 module _ (program schedule : List ℕ) (bytes : AreBytes program) (p : Program) (s : Schedule) (h : ℕ)
     (e : pairOf program schedule ≡ accepted (record { program = p; schedule = s; hypercycle = h })) where
@@ -484,6 +506,54 @@ module _ (program schedule : List ℕ) (bytes : AreBytes program) (p : Program) 
   calls-among size buffer tail bears old r ls others =
       let a = others-nothing size (afterReset size buffer old) [] ls others in
       rw (a .answers, a .logs, a .state) (calls-hold tail (take size buffer) bears old r (owns ls))
+
+  -- Request m. If the elements of all inputs but i are the same, so are those of every other signal that does not read i, by
+  -- itself or through other signals ..
+  pub streams-apart : (i : ℕ) (inputs inputs′ X X′ : ℕ → ℕ → ℤ) →
+      ((x k : ℕ) → x < count p → IsInput (signalAt p x .body) → ¬ (x ≡ i) → inputs x k ≡ inputs′ x k) →
+      Satisfies p (settled p s) inputs X → Satisfies p (settled p s) inputs′ X′ →
+      (y j : ℕ) → y < count p → ¬ (y ≡ i) → ¬ DependsOn p y i → X y j ≡ X′ y j
+  streams-apart = Dependence.streams-apart p s accepts
+
+  -- .. (which signals do is decided by a definition that computes) ..
+  pub dependents-exactly : (i y : ℕ) → y < count p → (getD (dependents p i) y false ≡ true) ↔ DependsOn p y i
+  dependents-exactly = Dependents.dependents-exactly p s accepts
+
+  -- .. so in two runs that are alike call by call, each after a reset that is not refused, all calls answer the same, and after
+  -- each call, the n-th of both, the position is the same; and if the elements supplied since the latest reset are the same for
+  -- all inputs but i, so is the word of every such signal. Any two states may be lent, and the image with a tail or without.
+  pub only-readers : (tail tail′ lent lent′ : List ℕ) → Bears (imageOf p s h) tail lent → Bears (imageOf p s h) tail′ lent′ →
+      (old old′ : List ℤ) → resetOf lent old .answer ≡ accepted 0 → resetOf lent′ old′ .answer ≡ accepted 0 → (i : ℕ)
+      (cs cs′ : List Call) → AlikeCalls p cs cs′ → (n : ℕ) →
+      SameExceptBy p s i lent lent′ old old′ (take n cs) (take n cs′)
+  only-readers tail tail′ lent lent′ b b′ old old′ r r′ =
+      Dependence.only-readers p s h accepts (pair-multiple program schedule _ e) bounded b b′ old old′ r r′
+
+  -- The elements are the same for all inputs but i, after each call, if the cycles side by side are lent the same samples but for
+  -- word i.
+  pub lent-agree : (tail tail′ lent lent′ : List ℕ) → Bears (imageOf p s h) tail lent → Bears (imageOf p s h) tail′ lent′ →
+      (old old′ : List ℤ) → resetOf lent old .answer ≡ accepted 0 → resetOf lent′ old′ .answer ≡ accepted 0 → (i : ℕ)
+      (cs cs′ : List Call) → AlikeCalls p cs cs′ → LentExcept i cs cs′ → (n : ℕ) →
+      AgreeExcept p s i (logBy lent old (take n cs)) (logBy lent′ old′ (take n cs′))
+  lent-agree tail tail′ lent lent′ b b′ old old′ r r′ =
+      Dependence.lent-agree-each p s h accepts (pair-multiple program schedule _ e) bounded b b′ old old′ r r′
+
+  -- The same with calls in between that are lent something else and are refused, in either run.
+  pub only-readers-among : (size size′ : ℕ) (buffer buffer′ tail tail′ : List ℕ) →
+      Bears (imageOf p s h) tail (take size buffer) → Bears (imageOf p s h) tail′ (take size′ buffer′) → (old old′ : List ℤ) →
+      resetOf (take size buffer) old .answer ≡ accepted 0 → resetOf (take size′ buffer′) old′ .answer ≡ accepted 0 → (i : ℕ)
+      (ls ls′ : List Lent) → AlikeCalls p (owns ls) (owns ls′) →
+      let m = afterReset size buffer old in
+      let m′ = afterReset size′ buffer′ old′ in
+      OthersRefused size m ls → OthersRefused size′ m′ ls′ →
+      SameExcept p s i (ownAnswers size m ls) (ownAnswers size′ m′ ls′) (ownLog size m [] ls) (ownLog size′ m′ [] ls′)
+      (leftAll size m ls .state) (leftAll size′ m′ ls′ .state)
+  only-readers-among size size′ buffer buffer′ tail tail′ b b′ old old′ r r′ i ls ls′ alike others others′ =
+      let a = others-nothing size (afterReset size buffer old) [] ls others in
+      let a′ = others-nothing size′ (afterReset size′ buffer′ old′) [] ls′ others′ in
+      rw (a .answers, a .logs, a .state, a′ .answers, a′ .logs, a′ .state)
+      (Dependence.runs-apart p s h accepts (pair-multiple program schedule _ e) bounded b b′ old old′ r r′ i (owns ls) (owns ls′)
+      alike)
 
 -- Two accepted schedules of one program that settle alike: each open read has the same index under both.
 module _ (program schedule schedule′ : List ℕ) (bytes : AreBytes program) (p : Program) (s s′ : Schedule) (h : ℕ)

@@ -1,3 +1,4 @@
 -- What a promise says of an answer.
 pub mod Codable
 pub mod Moves
+pub mod Scenes

@@ -146,6 +146,7 @@ use Rattle.model.specs.Rules.Script.{
 use Rattle.model.specs.Rules.Trial.{linesFrom, trialOf}
 use Rattle.theorems.specs.Streams.{value}
 use Rattle.theorems.specs.Held.{lentAt}
+use Rattle.theorems.specs.Dependents.{anyRead, markReaders, marksAfter, dependents}
 use Rattle.theorems.specs.Examples.{ExamplesHold}
 
 -- The definitions answer every question of the table as the paper does.
@@ -164,4 +165,5 @@ unfolding _▷_ provided lowest firstFrom firstBelow allBelow tableFrom table ch
     lentAt digitsUpTo natural decimal spaced lineOf scriptCommandAt scriptCommand scriptFrom scriptAt isInputOf inputsOnly checkOf
     callsFrom linesFrom trialOf lookups contains tableWord insert byLow rowBytes tableBytes rowsFrom areaRows apart meetsEarlier
     startingAt continues noGap covering tabled chained areaOk rowsAt tableOffset tableOk
+    anyRead markReaders marksAfter dependents
 examples = refl

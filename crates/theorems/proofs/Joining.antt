@@ -11,3 +11,4 @@ pub mod Called
 pub mod Demand
 pub mod Alike
 pub mod Places
+pub mod Dependence

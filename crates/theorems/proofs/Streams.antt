@@ -13,3 +13,5 @@ pub mod AlikeBytes
 pub mod Lending
 pub mod Demand
 pub mod AlikeLent
+pub mod Dependence
+pub mod Dependents

@@ -1,11 +1,12 @@
 -- The examples of paper 01 that are marked m, and some of request j: one table of questions, each with the answer that the paper
 -- gives.
 use Prim.Native.Nat.{ℕ, suc}
+use mathlib.Core.Bool.{false}
 use mathlib.Core.List.{List, [], _∷_, _++_, map}
 use mathlib.Core.Path.{_≡_}
 use lib.IntN.{ℤ, pos, negsuc}
 use lib.ListN.{length, getD, replicate}
-use Rattle.model.specs.Rules.Search.{table, joinFrom}
+use Rattle.model.specs.Rules.Search.{table, chosen, joinFrom}
 use Rattle.model.specs.Rules.Word.{negWord, binaryWord}
 use Rattle.model.specs.Rules.Reads.{settled}
 use Rattle.model.specs.Rules.Machine.{Effect, codeOffset, listOf, hyperOf, countOf, statedLength}
@@ -14,10 +15,11 @@ use Rattle.model.specs.Rules.Report.{reportOf}
 use Rattle.model.specs.Says.Calls.{callOf, reset, cycle}
 use Rattle.model.specs.Rules.Trial.{trialOf}
 use Rattle.model.specs.Rules.Outcome.{Outcome, accepted, refused}
-use Rattle.model.specs.Rules.Program.{bodyReads}
+use Rattle.model.specs.Rules.Program.{Program, count, bodyReads}
 use Rattle.model.specs.declared.Binary.{Binary}
 use Rattle.model.specs.declared.Sizes.{Sizes}
 use Rattle.model.specs.declared.Binary.the-variants.{Add, Sub, Mul}
+use Rattle.theorems.specs.Dependents.{dependents}
 
 -- A question about a program and its schedule, or about an operator.
 pub data Question : Type 0 where
@@ -26,6 +28,8 @@ pub data Question : Type 0 where
   intoBuffer : List ℕ → List ℕ → ℕ → Question
   -- the words of a signal after each cycle, given the words of input 0
   words : List ℕ → List ℕ → ℕ → List ℤ → Question
+  -- the signals that depend on one
+  dependent : List ℕ → List ℕ → ℕ → Question
   -- what a trial prints, given the script
   printed : List ℕ → List ℕ → List ℕ → Question
   -- what a reset answers, given what is lent for an image
@@ -79,6 +83,10 @@ wordsFrom image state x (w ∷ ws) =
     let next = callOf image state (cycle (w ∷ replicate 63 (pos 0))) .left in
     getD next (suc x) (pos 0) ∷ wordsFrom image next x ws
 
+-- The signals that depend on signal i.
+abbrev dependentSignals : Program → ℕ → List ℕ
+dependentSignals p i = chosen (λ y. getD (dependents p i) y false) (table (count p) (λ y. y))
+
 abbrev pub answerTo : Question → Answer
 answerTo (verdict program schedule) = ofImage (λ image. accepts) (verdictOf program schedule)
 answerTo (hypercycles program schedule) = ofPair (λ q. numbers (q .hypercycle ∷ [])) (pairOf program schedule)
@@ -95,6 +103,8 @@ answerTo (needs program schedule) = ofReport (reportOf program schedule [])
 answerTo (words program schedule x inputs) =
     ofImage (λ image. signals (wordsFrom image (callOf image (replicate 65 (pos 9)) reset .left) x inputs))
     (verdictOf program schedule)
+answerTo (dependent program schedule i) =
+    ofPair (λ q. numbers (dependentSignals (q .program) i)) (pairOf program schedule)
 answerTo (printed program schedule text) = ofTrial (trialOf program schedule text)
 answerTo (resets lent) = ofCompile (callOf lent (replicate 65 (pos 0)) reset .answer)
 answerTo (binary operator a b) = signals (binaryWord operator a b ∷ [])
@@ -132,6 +142,20 @@ cap n = 0x14 ∷ n ∷ 0 ∷ 0 ∷ 0 ∷ []
 -- The chain 0, 1, 2 in a mode with a bound.
 abbrev chain : ℕ → ℕ → List ℕ
 chain mode bound = 0x12 ∷ mode ∷ bound ∷ 0 ∷ 0x13 ∷ 0 ∷ 0x13 ∷ 1 ∷ 0x13 ∷ 2 ∷ []
+
+-- One more input.
+abbrev one-input : List ℕ
+one-input = 0x10 ∷ 1 ∷ 0 ∷ 0 ∷ 0 ∷ 0 ∷ []
+
+-- An input, a signal that adds 5 to itself, and one that reads the input; all put at phase 0.
+abbrev battery-and-arc : List ℕ
+battery-and-arc =
+    0x10 ∷ 1 ∷ 0 ∷ 0 ∷ 0 ∷ 0 ∷
+    0x11 ∷ 1 ∷ 0 ∷ 0 ∷ 0 ∷ 0 ∷ 0 ∷ 0 ∷ 0x30 ∷ 0x22 ∷ 1 ∷ 0x20 ∷ 5 ∷ 0 ∷ 0 ∷ 0 ∷
+    0x11 ∷ 1 ∷ 0 ∷ 0 ∷ 0 ∷ 0 ∷ 0 ∷ 0 ∷ 0x21 ∷ 0 ∷ 0x00 ∷ []
+
+abbrev all-at-once : List ℕ
+all-at-once = 0x40 ∷ 0 ∷ 0 ∷ 0x40 ∷ 1 ∷ 0 ∷ 0x40 ∷ 2 ∷ 0 ∷ 0x00 ∷ []
 
 -- Two inputs of given periods.
 abbrev two-inputs : ℕ → ℕ → List ℕ
@@ -192,6 +216,15 @@ cases =
     (needs A in-order gives numbers (49 ∷ 61 ∷ 2 ∷ 6 ∷ 8 ∷ replicate 238 0)) ∷
     -- inputs 10, 11, 12, 13: signal 2 is 5, 16, 27, 40
     (words A in-order 2 (pos 10 ∷ pos 11 ∷ pos 12 ∷ pos 13 ∷ []) gives signals (pos 5 ∷ pos 16 ∷ pos 27 ∷ pos 40 ∷ [])) ∷
+    -- input 0 reaches signal 1, and through it signal 2; one more input reaches none (request m)
+    (dependent A in-order 0 gives numbers (1 ∷ 2 ∷ [])) ∷
+    (dependent (A-with one-input) (0x40 ∷ 3 ∷ 0 ∷ in-order) 3 gives numbers []) ∷
+    (dependent (A-with one-input) (0x40 ∷ 3 ∷ 0 ∷ in-order) 0 gives numbers (1 ∷ 2 ∷ [])) ∷
+    -- the input reaches its reader, signal 2, and leaves signal 1 as it is: with 10, 11 as with 90, 91 it is 5, 10
+    (dependent battery-and-arc all-at-once 0 gives numbers (2 ∷ [])) ∷
+    (words battery-and-arc all-at-once 1 (pos 10 ∷ pos 11 ∷ []) gives signals (pos 5 ∷ pos 10 ∷ [])) ∷
+    (words battery-and-arc all-at-once 1 (pos 90 ∷ pos 91 ∷ []) gives signals (pos 5 ∷ pos 10 ∷ [])) ∷
+    (words battery-and-arc all-at-once 2 (pos 90 ∷ pos 91 ∷ []) gives signals (pos 90 ∷ pos 91 ∷ [])) ∷
     -- RUN 1 after each SET of 10, 11, 12: `0 10 5 5`, `1 11 11 16`, `2 12 11 27` (request e)
     (printed A in-order (set-to 0 10 ++ run-for 1 ++ set-to 0 11 ++ run-for 1 ++ set-to 0 12 ++ run-for 1 ++ end) gives
     lists ((48 ∷ 32 ∷ 49 ∷ 48 ∷ 32 ∷ 53 ∷ 32 ∷ 53 ∷ 10 ∷ []) ∷ (49 ∷ 32 ∷ 49 ∷ 49 ∷ 32 ∷ 49 ∷ 49 ∷ 32 ∷ 49 ∷ 54 ∷ 10 ∷ []) ∷

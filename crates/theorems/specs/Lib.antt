@@ -16,6 +16,9 @@ pub mod Held
 pub mod Join
 pub mod Composed
 pub mod Lists
+pub mod Dependence
+pub mod Dependents
+pub mod JoinDependence
 pub mod Exactness
 pub mod Convert
 pub mod Conversion

@@ -136,10 +136,10 @@ module _ (buffer numbers links : List ℕ) (q : Pair) (l : JoinLegal buffer numb
   abbrev joint : Part
   joint = joinedPair (l .parts) (linksOf links)
 
-  names : All (LinkNames (l .parts)) (linksOf links)
+  pub names : All (LinkNames (l .parts)) (linksOf links)
   names = all-named (l .parts) links (l .right)
 
-  feasible-parts : All FeasiblePart (l .parts)
+  pub feasible-parts : All FeasiblePart (l .parts)
   feasible-parts = parts-legal-feasible buffer numbers (l .parts) (l .legal)
 
   joint-feasible : FeasiblePart joint
