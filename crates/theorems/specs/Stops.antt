@@ -1,17 +1,17 @@
 -- How reading a text stops (2 to 6, 11), as relations beside the grammar: what stands before the place is legal, and what
 -- stands at it is cut, unknown, too many, too deep, outside its range or past END. The last index is the refusal.
 use Prim.Native.Nat.{ℕ, suc, _+_, _≤_, _<_}
-use mathlib.Core.Bool.{false}
 use mathlib.Core.List.{List}
 use mathlib.Core.Path.{_≡_}
 use lib.IntN.{ℤ}
 use lib.ListN.{length}
 use Rattle.model.specs.Rules.Outcome.{fault}
-use Rattle.model.specs.Rules.Program.{Expr, Link, Program, unlimited, count, isAllowed}
+use Rattle.model.specs.Rules.Program.{Expr, Link, Program, unlimited, count}
 use Rattle.model.specs.Rules.Width.{inProgram, inExpression, inSchedule}
 use Rattle.model.specs.Rules.Word.{byteAt}
 use Rattle.model.specs.Says.Grammar.{depth, Spells, SpellsLinks, IsSignal, DeclaresOne, HasRoom}
 use Rattle.model.specs.Says.Written.{
+  IsSampled,
   DeclarationWritten,
   DeclarationCut,
   DeclarationOutside,
@@ -54,9 +54,9 @@ pub data StopsExpr (least : ℕ) (text : List ℕ) : ℕ → ℕ → Fault → T
   deep : {at : ℕ} → OperatorByte (byteAt text at) → StopsExpr least text 0 at (fault 4 at)
   cut : {d at : ℕ} → OperatorCut text at → StopsExpr least text (suc d) at (fault 2 (length text))
   outside : {d at : ℕ} → OperatorOutside text at → StopsExpr least text (suc d) at (fault 5 at)
-  -- A factor below the least.
-  single : {d at : ℕ} {kind : Kind} {x : Sampled} → OperatorWritten text at (Operator.Read kind x) →
-      isAllowed least kind x ≡ false → StopsExpr least text (suc d) at (fault 5 at)
+  -- A factor of WHEN, LASTWHEN or CURRENT below the least.
+  single : {d at : ℕ} {kind : Kind} {x : Sampled} → OperatorWritten text at (Operator.Read kind x) → IsSampled kind →
+      x .factor < least → StopsExpr least text (suc d) at (fault 5 at)
   -- The first k operands are legal, and the one after them stops. All operators are as wide as ADD.
   operand : {d at arity k next : ℕ} {o : Operator} {f : Fault} → OperatorWritten text at o → HasOperands o arity → k < arity →
       SpellsOperands least text d (at + inExpression 0x30) k next → StopsExpr least text d next f →

@@ -16,7 +16,7 @@ use lib.Signed.{_≤ℤ_}
 use Rattle.model.specs.Rules.Command.{indexOf, declarationAt, operatorAt}
 use Rattle.model.specs.Rules.Width.{inProgram, inExpression, readWidth}
 use Rattle.model.specs.Rules.Word.{byteAt, twoAt, fourAt, wordOf, wordAt, AreBytes}
-use Rattle.model.specs.Says.Written.{InIndices, DeclarationWritten, OperatorWritten, OperatorByte}
+use Rattle.model.specs.Says.Written.{InIndices, IsSampled, DeclarationWritten, OperatorWritten, OperatorByte}
 use Rattle.model.specs.declared.Declaration.{Declaration}
 use Rattle.model.specs.declared.Declaration.the-variants as Declaration
 use Rattle.model.specs.declared.Index.{Index}
@@ -28,6 +28,7 @@ use Rattle.model.specs.declared.Operator.the-variants as Operator
 use Rattle.model.specs.declared.Sampled.{Sampled}
 use Rattle.model.proofs.Pairs.Decide.{InRange}
 use Rattle.model.proofs.Pairs.Lines.{Indexed}
+use Rattle.model.proofs.Texts.Picks.{plain-width, sampled-width}
 use Rattle.model.proofs.Texts.Written.{DeclarationDecodes, declaration-decodes, OperatorDecodes, operator-decodes, decoded}
 
 -- Four numbers of a text are read as a word, whatever they are.
@@ -160,9 +161,9 @@ module _ (text : List ℕ) (at : ℕ) where
   operator-of (OperatorWritten.unary operator h b) = OperatorByte.unary operator b
   operator-of (OperatorWritten.choose h b) = OperatorByte.choose b
 
-  sampled-indexed : (kind : Kind) → readWidth kind ≡ inExpression 0x23 → Indexed kind
-  sampled-indexed Now e = absurd (omega arith)
-  sampled-indexed Last e = absurd (omega arith)
+  sampled-indexed : (kind : Kind) → IsSampled kind → Indexed kind
+  sampled-indexed Now e = absurd e
+  sampled-indexed Last e = absurd e
   sampled-indexed When e = tt
   sampled-indexed LastWhen e = tt
   sampled-indexed Current e = tt
@@ -171,12 +172,12 @@ module _ (text : List ℕ) (at : ℕ) where
   operator-written-sound (OperatorWritten.constant h b) = (refl, h)
   operator-written-sound (OperatorWritten.plain kind e h b) = (
     record { positive = omega arith; bound = omega arith; range = omega arith },
-    omega arith,
+    omega (arith, plain-width kind e),
     λ u. let z : _≡_ {A = ℕ} 0 1 = cc in absurd (omega arith),
   )
   operator-written-sound (OperatorWritten.sampled kind e h b r i) = (
     record { positive = r .0; bound = r .1; range = index-range _ _ (r .1) i },
-    omega arith,
+    omega (arith, sampled-width kind e),
     λ u. sampled-indexed kind e,
   )
   operator-written-sound (OperatorWritten.binary operator h b) = h

@@ -4,23 +4,25 @@ use Prim.Native.Nat.{ℕ, _+_, _≤_, _<_}
 use mathlib.Core.Bool.{Bool, true, false, cond, false≢true, and-eq-true-iff}
 use mathlib.Core.List.{List}
 use mathlib.Core.Logic.{_↔_, inl, inr}
-use mathlib.Core.Path.{_≡_, refl}
+use mathlib.Core.Path.{_≡_, refl, sym}
 use native.Mathlib.Omega.{arith}
 use borrow.Author.Tests.{leb-true, leb-false, ltb-true, ltb-false, le-leb, lt-leb, eqb-true, eqb-false}
 use lib.Dec.{leb, ltb, eqb}
 use lib.ListN.{length, List·getD-eq-default}
 use Rattle.model.specs.Rules.Command.{whole, plainRead, sampledRead, operatorOf, isOperator}
 use Rattle.model.specs.Rules.Image.{binaryByte, unaryByte}
+use Rattle.model.specs.Rules.Program.{isAllowed}
 use Rattle.model.specs.Rules.Width.{within, isListed, inExpression, readWidth}
 use Rattle.model.specs.Rules.Word.{byteAt}
-use Rattle.model.specs.Says.Grammar.{IsSignal}
-use Rattle.model.specs.Says.Written.{readByte, OperatorByte}
+use Rattle.model.specs.Says.Grammar.{Allowed, IsSignal}
+use Rattle.model.specs.Says.Written.{IsPlain, IsSampled, readByte, OperatorByte}
 use Rattle.model.specs.declared.Binary.{Binary}
 use Rattle.model.specs.declared.Binary.the-variants.{Add, Sub, Mul, Less, Same, Min, Max}
 use Rattle.model.specs.declared.Kind.{Kind}
 use Rattle.model.specs.declared.Kind.the-variants.{Now, Last, When, LastWhen, Current}
 use Rattle.model.specs.declared.Operator.{Operator}
 use Rattle.model.specs.declared.Operator.the-variants as Operator
+use Rattle.model.specs.declared.Sampled.{Sampled}
 use Rattle.model.specs.declared.Unary.{Unary}
 use Rattle.model.specs.declared.Unary.the-variants.{Negate, Table}
 use Rattle.model.specs.declared.Width.{Width}
@@ -121,22 +123,54 @@ no-operator c r two one i t (OperatorByte.unary Negate e) = one e
 no-operator c r two one i t (OperatorByte.unary Table e) = t e
 no-operator c r two one i t (OperatorByte.choose e) = i e
 
+-- The bytes of a read, by its kind.
+pub plain-width : (kind : Kind) → IsPlain kind → readWidth kind ≡ inExpression 0x21
+plain-width Now w = refl
+plain-width Last w = refl
+plain-width When w = absurd w
+plain-width LastWhen w = absurd w
+plain-width Current w = absurd w
+
+pub sampled-width : (kind : Kind) → IsSampled kind → readWidth kind ≡ inExpression 0x23
+sampled-width Now w = absurd w
+sampled-width Last w = absurd w
+sampled-width When w = refl
+sampled-width LastWhen w = refl
+sampled-width Current w = refl
+
+-- The test of a factor decides what is said of it.
+pub allowed-exactly : (least : ℕ) (kind : Kind) (x : Sampled) → (isAllowed least kind x ≡ true) ↔ Allowed least kind x
+allowed-exactly least Now x = (λ e. tt, λ h. refl)
+allowed-exactly least Last x = (λ e. tt, λ h. refl)
+allowed-exactly least When x = (leb-true least (x .factor), le-leb least (x .factor))
+allowed-exactly least LastWhen x = (leb-true least (x .factor), le-leb least (x .factor))
+allowed-exactly least Current x = (leb-true least (x .factor), le-leb least (x .factor))
+
+-- A factor that is not allowed is one of the three kinds' and below the least.
+pub single-exactly : (least : ℕ) (kind : Kind) (x : Sampled) →
+    (isAllowed least kind x ≡ false) ↔ (IsSampled kind × (x .factor < least))
+single-exactly least Now x = (λ e. absurd (false≢true (sym e)), λ h. absurd (h .0))
+single-exactly least Last x = (λ e. absurd (false≢true (sym e)), λ h. absurd (h .0))
+single-exactly least When x = (λ e. (tt, leb-false least (x .factor) e), λ h. lt-leb least (x .factor) (h .1))
+single-exactly least LastWhen x = (λ e. (tt, leb-false least (x .factor) e), λ h. lt-leb least (x .factor) (h .1))
+single-exactly least Current x = (λ e. (tt, leb-false least (x .factor) e), λ h. lt-leb least (x .factor) (h .1))
+
 -- What an operator of a byte is.
 module _ {b : ℕ} (text : List ℕ) (at : ℕ) where
-  pub plain-picked : (kind : Kind) → readWidth kind ≡ inExpression 0x21 → b ≡ readByte kind →
+  pub plain-picked : (kind : Kind) → IsPlain kind → b ≡ readByte kind →
       operatorOf b text at ≡ plainRead kind text at
   unfolding operatorOf
   plain-picked Now w e = rw e
   plain-picked Last w e = rw e
-  plain-picked When w e = absurd (omega arith)
-  plain-picked LastWhen w e = absurd (omega arith)
-  plain-picked Current w e = absurd (omega arith)
+  plain-picked When w e = absurd w
+  plain-picked LastWhen w e = absurd w
+  plain-picked Current w e = absurd w
 
-  pub sampled-picked : (kind : Kind) → readWidth kind ≡ inExpression 0x23 → b ≡ readByte kind →
+  pub sampled-picked : (kind : Kind) → IsSampled kind → b ≡ readByte kind →
       operatorOf b text at ≡ sampledRead kind text at
   unfolding operatorOf
-  sampled-picked Now w e = absurd (omega arith)
-  sampled-picked Last w e = absurd (omega arith)
+  sampled-picked Now w e = absurd w
+  sampled-picked Last w e = absurd w
   sampled-picked When w e = rw e
   sampled-picked LastWhen w e = rw e
   sampled-picked Current w e = rw e

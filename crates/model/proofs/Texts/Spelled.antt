@@ -37,6 +37,7 @@ use Rattle.model.specs.declared.Operator.the-variants as Operator
 use Rattle.model.proofs.Images.Bounds.{depth}
 use Rattle.model.proofs.Texts.Commands.{written-byte}
 use Rattle.model.proofs.Basics.Outcomes.{Holds, holds-value, value-holds, holds-then, holds-map, holds-provided}
+use Rattle.model.proofs.Texts.Picks.{allowed-exactly}
 use Rattle.model.proofs.Texts.Room.{signal-is, fit-declaration, signal-room, chain-room, cap-room, row-room}
 use Rattle.model.proofs.Texts.Written.{as-written, operator-as-written}
 
@@ -54,7 +55,7 @@ module _ (least : ℕ) (text : List ℕ) where
   reads-node d sub h at (Operator.Constant w) e = (Spells.constants (operator-as-written _ tt e), omega arith)
   reads-node d sub h at (Operator.Read kind x) e =
       holds-provided (Reads (suc d) at) (isAllowed least kind x) 5 at _ (λ t.
-      (Spells.reads (operator-as-written _ tt e) t, omega arith))
+      (Spells.reads (operator-as-written _ tt e) (allowed-exactly least kind x .0 t), omega arith))
   reads-node d sub h at (Operator.Binary operator) e =
       holds-then (Reads d (at + 1)) (Reads (suc d) at) (sub (at + 1)) _ (h (at + 1)) (λ x u.
       holds-then (Reads d (x .next)) (Reads (suc d) at) (sub (x .next)) _ (h (x .next)) (λ y v.

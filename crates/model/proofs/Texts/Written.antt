@@ -46,6 +46,8 @@ use Rattle.model.specs.Rules.Word.{byteAt, twoAt, wordAt}
 use Rattle.model.specs.Says.Written.{
   InPeriods,
   InIndices,
+  IsPlain,
+  IsSampled,
   readByte,
   DeclarationWritten,
   DeclarationCut,
@@ -91,6 +93,8 @@ use Rattle.model.proofs.Texts.Picks.{
   no-operator,
   no-read,
   no-binary,
+  plain-width,
+  sampled-width,
   plain-picked,
   sampled-picked,
   binary-picked,
@@ -391,20 +395,20 @@ module _ (text : List ℕ) (at : ℕ) where
       O (whole Operator.EndsEarly text at n c)
   operator-whole n c f h = whole-all O Operator.EndsEarly text at n c (λ g. OperatorDecodes.cut (f g)) h
 
-  plain-decodes : (kind : Kind) → readWidth kind ≡ inExpression 0x21 → byteAt text at ≡ readByte kind →
+  plain-decodes : (kind : Kind) → IsPlain kind → byteAt text at ≡ readByte kind →
       O (plainRead kind text at)
   unfolding plainRead
   plain-decodes kind e b =
-      operator-whole (inExpression 0x21) _ (λ g. OperatorCut.read kind b (omega arith)) (λ h.
+      operator-whole (inExpression 0x21) _ (λ g. OperatorCut.read kind b (omega (arith, plain-width kind e))) (λ h.
       OperatorDecodes.written (OperatorWritten.plain kind e h b))
 
-  sampled-decodes : (kind : Kind) → readWidth kind ≡ inExpression 0x23 → byteAt text at ≡ readByte kind →
+  sampled-decodes : (kind : Kind) → IsSampled kind → byteAt text at ≡ readByte kind →
       O (sampledRead kind text at)
   unfolding sampledRead
   sampled-decodes kind e b =
       let i = byteAt text (at + 2) in
       let n = byteAt text (at + 3) in
-      operator-whole (inExpression 0x23) _ (λ g. OperatorCut.read kind b (omega arith)) (λ h.
+      operator-whole (inExpression 0x23) _ (λ g. OperatorCut.read kind b (omega (arith, sampled-width kind e))) (λ h.
       chosen-all O (isFactor n && isIndex i n) _ _
       (λ t. let r = in-ranges i n .0 t in OperatorDecodes.written (OperatorWritten.sampled kind e h b (r .0) (r .1)))
       (λ f. OperatorDecodes.outside (OperatorOutside.sampled kind e h b (fails (in-ranges i n) f))))
@@ -419,11 +423,11 @@ module _ (text : List ℕ) (at : ℕ) where
       picked O y 0x20 _ _ (λ b.
       operator-whole (inExpression 0x20) _ (OperatorCut.constant b) (λ h. OperatorDecodes.written (OperatorWritten.constant h b)))
       (λ c.
-      picked O y 0x21 _ _ (plain-decodes Now refl) (λ r1.
-      picked O y 0x22 _ _ (plain-decodes Last refl) (λ r2.
-      picked O y 0x23 _ _ (sampled-decodes When refl) (λ r3.
-      picked O y 0x24 _ _ (sampled-decodes LastWhen refl) (λ r4.
-      picked O y 0x25 _ _ (sampled-decodes Current refl) (λ r5.
+      picked O y 0x21 _ _ (plain-decodes Now tt) (λ r1.
+      picked O y 0x22 _ _ (plain-decodes Last tt) (λ r2.
+      picked O y 0x23 _ _ (sampled-decodes When tt) (λ r3.
+      picked O y 0x24 _ _ (sampled-decodes LastWhen tt) (λ r4.
+      picked O y 0x25 _ _ (sampled-decodes Current tt) (λ r5.
       picked O y 0x30 _ _ (binary-decodes lt Add) (λ b0.
       picked O y 0x31 _ _ (binary-decodes lt Sub) (λ b1.
       picked O y 0x32 _ _ (binary-decodes lt Mul) (λ b2.
@@ -472,24 +476,27 @@ module _ (text : List ℕ) (at : ℕ) where
   pub operator-outside-byte : OperatorOutside text at → OperatorByte (byteAt text at)
   operator-outside-byte (OperatorOutside.sampled kind e h b u) = OperatorByte.read kind b
 
-  plain-cut : (kind : Kind) → readWidth kind ≡ inExpression 0x21 → byteAt text at ≡ readByte kind →
+  plain-cut : (kind : Kind) → IsPlain kind → byteAt text at ≡ readByte kind →
       length text < at + readWidth kind → operatorOf (byteAt text at) text at ≡ Operator.EndsEarly
   unfolding plainRead
-  plain-cut kind e b g = plain-picked text at kind e b ∙ missing Operator.EndsEarly text at (inExpression 0x21) _ (omega arith)
+  plain-cut kind e b g =
+      plain-picked text at kind e b ∙
+      missing Operator.EndsEarly text at (inExpression 0x21) _ (omega (arith, plain-width kind e))
 
-  sampled-cut : (kind : Kind) → readWidth kind ≡ inExpression 0x23 → byteAt text at ≡ readByte kind →
+  sampled-cut : (kind : Kind) → IsSampled kind → byteAt text at ≡ readByte kind →
       length text < at + readWidth kind → operatorOf (byteAt text at) text at ≡ Operator.EndsEarly
   unfolding sampledRead
   sampled-cut kind e b g =
-      sampled-picked text at kind e b ∙ missing Operator.EndsEarly text at (inExpression 0x23) _ (omega arith)
+      sampled-picked text at kind e b ∙
+      missing Operator.EndsEarly text at (inExpression 0x23) _ (omega (arith, sampled-width kind e))
 
   read-cut : (kind : Kind) → byteAt text at ≡ readByte kind → length text < at + readWidth kind →
       operatorOf (byteAt text at) text at ≡ Operator.EndsEarly
-  read-cut Now b g = plain-cut Now refl b g
-  read-cut Last b g = plain-cut Last refl b g
-  read-cut When b g = sampled-cut When refl b g
-  read-cut LastWhen b g = sampled-cut LastWhen refl b g
-  read-cut Current b g = sampled-cut Current refl b g
+  read-cut Now b g = plain-cut Now tt b g
+  read-cut Last b g = plain-cut Last tt b g
+  read-cut When b g = sampled-cut When tt b g
+  read-cut LastWhen b g = sampled-cut LastWhen tt b g
+  read-cut Current b g = sampled-cut Current tt b g
 
   cut-operator : OperatorCut text at → operatorOf (byteAt text at) text at ≡ Operator.EndsEarly
   unfolding operatorOf

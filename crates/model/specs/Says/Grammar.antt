@@ -28,7 +28,6 @@ use Rattle.model.specs.Rules.Program.{
   unlimited,
   count,
   leastFactor,
-  isAllowed,
 }
 use Rattle.model.specs.Rules.Schedule.{Put}
 use Rattle.model.specs.Rules.Width.{inProgram, inExpression, inSchedule, readWidth}
@@ -37,6 +36,7 @@ use Rattle.model.specs.Says.Written.{DeclarationWritten, OperatorWritten
 use Rattle.model.specs.declared.Binary.{Binary}
 use Rattle.model.specs.declared.Declaration.the-variants as Declaration
 use Rattle.model.specs.declared.Kind.{Kind}
+use Rattle.model.specs.declared.Kind.the-variants.{Now, Last, When, LastWhen, Current}
 use Rattle.model.specs.declared.Mode.{Mode}
 use Rattle.model.specs.declared.Operator.the-variants as Operator
 use Rattle.model.specs.declared.Sampled.{Sampled}
@@ -52,12 +52,20 @@ depth (binary operator x y) = suc (max (depth x) (depth y))
 depth (unary operator x) = suc (depth x)
 depth (choose x y z) = suc (max (depth x) (max (depth y) (depth z)))
 
+-- A read whose factors go from `least` on: n of WHEN, LASTWHEN and CURRENT is not below it; NOW and LAST have none.
+abbrev pub Allowed : ℕ → Kind → Sampled → Type 0
+Allowed least Now x = Unit {0}
+Allowed least Last x = Unit {0}
+Allowed least When x = least ≤ x .factor
+Allowed least LastWhen x = least ≤ x .factor
+Allowed least Current x = least ≤ x .factor
+
 -- The bytes from `at` up to `next` spell the expression, operator first.
 pub data Spells (least : ℕ) (text : List ℕ) : ℕ → Expr → ℕ → Type 0 where
   constants : {at : ℕ} {w : ℤ} → OperatorWritten text at (Operator.Constant w) →
       Spells least text at (constant w) (at + inExpression 0x20)
   reads : {at : ℕ} {kind : Kind} {x : Sampled} → OperatorWritten text at (Operator.Read kind x) →
-      isAllowed least kind x ≡ true →
+      Allowed least kind x →
       Spells least text at (read (record { place = at; kind = kind; operands = x })) (at + readWidth kind)
   two : {at m n : ℕ} {operator : Binary} {x y : Expr} → OperatorWritten text at (Operator.Binary operator) →
       Spells least text (at + inExpression 0x30) x m → Spells least text m y n → Spells least text at (binary operator x y) n

@@ -40,6 +40,22 @@ readByte When = 0x23
 readByte LastWhen = 0x24
 readByte Current = 0x25
 
+-- NOW and LAST, which have a signal alone.
+abbrev pub IsPlain : Kind → Type 0
+IsPlain Now = Unit {0}
+IsPlain Last = Unit {0}
+IsPlain When = ⊥
+IsPlain LastWhen = ⊥
+IsPlain Current = ⊥
+
+-- WHEN, LASTWHEN and CURRENT, which have i and n besides.
+abbrev pub IsSampled : Kind → Type 0
+IsSampled Now = ⊥
+IsSampled Last = ⊥
+IsSampled When = Unit {0}
+IsSampled LastWhen = Unit {0}
+IsSampled Current = Unit {0}
+
 -- The declaration at an offset of the program text.
 pub data DeclarationWritten (text : List ℕ) (at : ℕ) : Declaration → Type 0 where
   end : at + inProgram 0x00 ≤ length text → byteAt text at ≡ 0x00 → DeclarationWritten text at Declaration.End
@@ -103,11 +119,11 @@ pub data OperatorWritten (text : List ℕ) (at : ℕ) : Operator → Type 0 wher
   constant : at + inExpression 0x20 ≤ length text → byteAt text at ≡ 0x20 →
       OperatorWritten text at (Operator.Constant (wordAt text (at + 1)))
   -- NOW and LAST: a signal.
-  plain : (kind : Kind) → readWidth kind ≡ inExpression 0x21 → at + inExpression 0x21 ≤ length text →
+  plain : (kind : Kind) → IsPlain kind → at + inExpression 0x21 ≤ length text →
       byteAt text at ≡ readByte kind →
       OperatorWritten text at (Operator.Read kind (record { signal = byteAt text (at + 1); factor = 1; index = Fixed 0 }))
   -- WHEN, LASTWHEN and CURRENT: a signal, i and n; i is below n, or 255.
-  sampled : (kind : Kind) → readWidth kind ≡ inExpression 0x23 → at + inExpression 0x23 ≤ length text →
+  sampled : (kind : Kind) → IsSampled kind → at + inExpression 0x23 ≤ length text →
       byteAt text at ≡ readByte kind → InPeriods (byteAt text (at + 3)) →
       InIndices (byteAt text (at + 2)) (byteAt text (at + 3)) →
       OperatorWritten text at (Operator.Read kind
@@ -126,7 +142,7 @@ pub data OperatorCut (text : List ℕ) (at : ℕ) : Type 0 where
 
 -- It has an operand outside its range: i and n of WHEN, LASTWHEN and CURRENT.
 pub data OperatorOutside (text : List ℕ) (at : ℕ) : Type 0 where
-  sampled : (kind : Kind) → readWidth kind ≡ inExpression 0x23 → at + inExpression 0x23 ≤ length text →
+  sampled : (kind : Kind) → IsSampled kind → at + inExpression 0x23 ≤ length text →
       byteAt text at ≡ readByte kind →
       ¬ (InPeriods (byteAt text (at + 3)) × InIndices (byteAt text (at + 2)) (byteAt text (at + 3))) → OperatorOutside text at
 

@@ -39,7 +39,7 @@ module _ {least : ℕ} {text : List ℕ} where
   expr-number (StopsExpr.deep i) = omega arith
   expr-number (StopsExpr.cut e) = omega arith
   expr-number (StopsExpr.outside e) = omega arith
-  expr-number (StopsExpr.single e t) = omega arith
+  expr-number (StopsExpr.single e i lt) = omega arith
   expr-number (StopsExpr.operand w h lt u s) = expr-number s
 
   pub stops-number : {at label : ℕ} {p : Program} {f : Fault} → Stops least text at label p f → 1 ≤ f .number

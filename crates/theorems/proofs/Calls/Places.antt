@@ -43,7 +43,7 @@ module _ (text : List ℕ) where
   expr-inside (StopsExpr.deep {at = at} o) = omega (arith, operator-inside text at o)
   expr-inside (StopsExpr.cut e) = omega arith
   expr-inside (StopsExpr.outside {at = at} u) = omega (arith, operator-inside text at (operator-outside-byte text at u))
-  expr-inside (StopsExpr.single {at = at} w t) = omega (arith, operator-sound text at _ (operator-decoded w) .1)
+  expr-inside (StopsExpr.single {at = at} w i lt) = omega (arith, operator-sound text at _ (operator-decoded w) .1)
   expr-inside (StopsExpr.operand w h lt u s) = expr-inside s
 
   links-inside : {room at : ℕ} {f : Fault} → at ≤ length text → StopsLinks text room at f → f .place ≤ length text

@@ -2,10 +2,9 @@
 use Prim.Native.Nat.{ℕ, zero, suc, _+_, _≤_, _<_}
 use mathlib.Core.Bool.{Bool, true, false, cond}
 use mathlib.Core.List.{List, [], _∷_, _++_, map, map-append}
-use mathlib.Core.Logic.{_⊎_, inl, inr}
 use mathlib.Core.Path.{_≡_, refl, sym, ap, ap₂, subst, _∙_}
 use native.Mathlib.Omega.{arith}
-use borrow.Author.Tests.{eqb-true, eqb-false, eq-eqb, le-ltb, le-leb}
+use borrow.Author.Tests.{eqb-true, eqb-false, eq-eqb, le-ltb}
 use lib.Dec.{eqb}
 use lib.IntN.{ℤ}
 use lib.ListN.{length, getD, take, drop, length-append, length-drop, length-map, List·getD-append, List·getD-eq-default}
@@ -14,7 +13,17 @@ use Rattle.model.specs.Says.Feasible.{All}
 use Rattle.model.specs.Rules.Command.{isOperator, declarationAt}
 use Rattle.theorems.specs.Convert.{isSingle, mapExpr, mapSignal, mapLink, mapChain, mapRow, bareRead, bare, Renamed}
 use Rattle.model.specs.Rules.Rewrite.{singleKind}
-use Rattle.model.specs.Says.Grammar.{depth, Spells, SpellsLinks, IsSignal, DeclaresOne, Declares, LegalWith, LegalProgram}
+use Rattle.model.specs.Says.Grammar.{
+  depth,
+  Allowed,
+  Spells,
+  SpellsLinks,
+  IsSignal,
+  DeclaresOne,
+  Declares,
+  LegalWith,
+  LegalProgram,
+}
 use Rattle.model.specs.Rules.Program.{
   leastFactor,
   Program,
@@ -37,7 +46,6 @@ use Rattle.model.specs.Rules.Program.{
   withCap,
   unlimited,
   count,
-  isAllowed,
   readsOf,
   bodyReads,
 }
@@ -58,7 +66,7 @@ use Rattle.model.specs.Rules.Rewrite.{
 use Rattle.model.specs.Rules.Table.{Row}
 use Rattle.model.specs.Rules.Word.{byteAt, twoAt, fourAt, wordOf, wordAt}
 use Rattle.model.specs.Rules.Width.{readWidth}
-use Rattle.model.specs.Says.Written.{readByte, DeclarationWritten, OperatorWritten}
+use Rattle.model.specs.Says.Written.{IsPlain, readByte, DeclarationWritten, OperatorWritten}
 use Rattle.model.specs.declared.Binary.{Binary}
 use Rattle.model.specs.declared.Declaration.{Declaration}
 use Rattle.model.specs.declared.Declaration.the-variants as Declaration
@@ -76,7 +84,7 @@ use Rattle.model.proofs.Basics.All.{all-append}
 use Rattle.model.proofs.Texts.Commands.{ReadSound, link-decoded, operator-of, operator-sound}
 use Rattle.theorems.proofs.Conversion.Converted.{single-twice, count-bare}
 use Rattle.model.proofs.Pairs.Decide.{InRange}
-use Rattle.model.proofs.Texts.Picks.{signal-inside, operator-byte}
+use Rattle.model.proofs.Texts.Picks.{signal-inside, operator-byte, plain-width, sampled-width}
 use Rattle.model.proofs.Texts.Written.{decoded, operator-decoded}
 
 -- A command that is written, of either kind.
@@ -115,8 +123,9 @@ declaration-inside (DeclarationWritten.row h b r) = (h, omega arith)
 operator-inside : {text : List ℕ} {at : ℕ} {o : Operator} → OperatorWritten text at o →
     (at + operatorWidth o ≤ length text) × (1 ≤ operatorWidth o)
 operator-inside (OperatorWritten.constant h b) = (h, omega arith)
-operator-inside (OperatorWritten.plain kind e h b) = (omega arith, omega (arith, read-width kind))
-operator-inside (OperatorWritten.sampled kind e h b r i) = (omega arith, omega (arith, read-width kind))
+operator-inside (OperatorWritten.plain kind e h b) = (omega (arith, plain-width kind e), omega (arith, read-width kind))
+operator-inside (OperatorWritten.sampled kind e h b r i) =
+    (omega (arith, sampled-width kind e), omega (arith, read-width kind))
 operator-inside (OperatorWritten.binary operator h b) = (h, omega arith)
 operator-inside (OperatorWritten.unary operator h b) = (h, omega arith)
 operator-inside (OperatorWritten.choose h b) = (h, omega arith)
@@ -151,29 +160,31 @@ range-single : (n : ℕ) (i : Index) → n ≡ 1 → InRange n i → isSingle n 
 range-single n (Fixed i) e lt = rw (eq-eqb n 1 e, eq-eqb i 0 (omega arith))
 range-single n Open e u = rw (eq-eqb n 1 e)
 
-single-width : (kind : Kind) → readWidth (singleKind kind) ≡ 2
-single-width Now = refl
-single-width Last = refl
-single-width When = refl
-single-width LastWhen = refl
-single-width Current = refl
+single-plain : (kind : Kind) → IsPlain (singleKind kind)
+single-plain Now = tt
+single-plain Last = tt
+single-plain When = tt
+single-plain LastWhen = tt
+single-plain Current = tt
 
--- A read of the shortened rule: NOW or LAST, or n is 2 or more.
-abbrev pub Allowed : Kind → Sampled → Type 0
-Allowed kind x = (readWidth kind ≡ 2) ⊎ (2 ≤ x .factor)
+-- NOW and LAST are allowed, and a factor of 2 or more is.
+plain-allowed : (kind : Kind) (x : Sampled) → IsPlain kind → Allowed leastFactor kind x
+plain-allowed Now x h = tt
+plain-allowed Last x h = tt
+plain-allowed When x h = absurd h
+plain-allowed LastWhen x h = absurd h
+plain-allowed Current x h = absurd h
 
-allowed-true : (kind : Kind) (x : Sampled) → Allowed kind x → isAllowed leastFactor kind x ≡ true
-allowed-true Now x h = refl
-allowed-true Last x h = refl
-allowed-true When x (inl h) = absurd (omega arith)
-allowed-true When x (inr h) = le-leb leastFactor (x .factor) (omega arith)
-allowed-true LastWhen x (inl h) = absurd (omega arith)
-allowed-true LastWhen x (inr h) = le-leb leastFactor (x .factor) (omega arith)
-allowed-true Current x (inl h) = absurd (omega arith)
-allowed-true Current x (inr h) = le-leb leastFactor (x .factor) (omega arith)
+two-allowed : (kind : Kind) (x : Sampled) → 2 ≤ x .factor → Allowed leastFactor kind x
+two-allowed Now x h = tt
+two-allowed Last x h = tt
+two-allowed When x h = h
+two-allowed LastWhen x h = h
+two-allowed Current x h = h
 
+-- A read of the shortened rule.
 abbrev pub AllowedRead : Read → Type 0
-AllowedRead ρ = Allowed (ρ .kind) (ρ .operands)
+AllowedRead ρ = Allowed leastFactor (ρ .kind) (ρ .operands)
 
 -- Every read of a program is one.
 abbrev pub AllowedIn : Program → Type 0
@@ -300,9 +311,11 @@ module _ (text new : List ℕ) where
   operator-copied (OperatorWritten.constant h b) c =
       rw (← word-copied c 1 (omega arith)) (OperatorWritten.constant (c .inside) (first-copied c (omega arith) ∙ b))
   operator-copied (OperatorWritten.plain kind e h b) c =
+      let n = plain-width kind e in
       rw (← c .bytes 1 (omega arith))
       (OperatorWritten.plain kind e (omega (arith, c .inside)) (first-copied c (omega arith) ∙ b))
   operator-copied (OperatorWritten.sampled kind e h b r i) c =
+      let n = sampled-width kind e in
       let f = c .bytes 2 (omega arith) in
       let g = c .bytes 3 (omega arith) in
       rw (← c .bytes 1 (omega arith), ← f, ← g)
@@ -406,7 +419,7 @@ module _ (text new : List ℕ) where
     pub same : bareRead (record { place = at; kind = kind; operands = x }) ≡
         bareRead (record { place = at′; kind = read; operands = operands })
     pub next : Stands (at + readWidth kind) (at′ + readWidth read)
-    pub allowed : Allowed read operands
+    pub allowed : Allowed leastFactor read operands
 
   read-moved : {at at′ : ℕ} (kind : Kind) (x : Sampled) → OperatorWritten text at (Operator.Read kind x) → Stands at at′ →
       ReadMoved at at′ kind x
@@ -435,10 +448,10 @@ module _ (text new : List ℕ) where
           record {
             read = singleKind kind;
             operands = record { signal = byteAt new (at′ + 1); factor = 1; index = Fixed 0 };
-            here = OperatorWritten.plain (singleKind kind) (single-width kind) (next .inside) byte;
+            here = OperatorWritten.plain (singleKind kind) (single-plain kind) (next .inside) byte;
             same = rw (single, signal, one) (ap (λ a. made 1 a) (sym (single-twice kind)));
-            next = rw (single-width kind) next;
-            allowed = inl (single-width kind);
+            next = rw (plain-width (singleKind kind) (single-plain kind)) next;
+            allowed = plain-allowed (singleKind kind) _ (single-plain kind);
           }
       go false t =
           let k = steps-kept (ofOperator (Operator.Read kind x)) w (rw t) s in
@@ -448,7 +461,7 @@ module _ (text new : List ℕ) where
             here = k .here;
             same = refl;
             next = k .next;
-            allowed = inr (omega (arith, sound .positive, eqb-false (x .factor) 1 t));
+            allowed = two-allowed kind x (omega (arith, sound .positive, eqb-false (x .factor) 1 t));
           }
 
   -- An expression stands in the new text, converted.
@@ -485,7 +498,7 @@ module _ (text new : List ℕ) where
       record {
         expr = read (record { place = at′; kind = k .read; operands = k .operands });
         end = at′ + readWidth (k .read);
-        spells = Spells.reads (k .here) (allowed-true (k .read) (k .operands) (k .allowed));
+        spells = Spells.reads (k .here) (k .allowed);
         same = ap read (k .same);
         onward = k .next;
         allowed = (k .allowed, tt);

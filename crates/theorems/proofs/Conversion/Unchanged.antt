@@ -1,18 +1,18 @@
 -- A legal text with no factor of 1, rewritten, is what it was; so that a text rewritten twice is the text rewritten once.
 -- Assumes nothing.
 use Prim.Native.Nat.{ℕ, zero, suc, _+_, _≤_}
-use mathlib.Core.Bool.{true, false}
+use mathlib.Core.Bool.{false}
 use mathlib.Core.List.{List, [], _∷_, _++_}
 use mathlib.Core.Path.{_≡_, refl, sym, ap, _∙_}
 use native.Mathlib.Numerals.{add-one}
 use native.Mathlib.Omega.{arith}
-use borrow.Author.Tests.{leb-true, ne-eqb}
+use borrow.Author.Tests.{ne-eqb}
 use lib.Dec.{eqb}
 use lib.ListN.{length, take, drop, take-append-drop, drop-of-length-le}
 use lib.Seq.{drop-cons, drop-drop}
 use Rattle.model.specs.Rules.Rewrite.{singleKind}
-use Rattle.model.specs.Says.Grammar.{Spells, SpellsLinks, DeclaresOne, Declares, LegalWith, LegalProgram}
-use Rattle.model.specs.Rules.Program.{Program, Expr, Link, leastFactor, isAllowed}
+use Rattle.model.specs.Says.Grammar.{Allowed, Spells, SpellsLinks, DeclaresOne, Declares, LegalWith, LegalProgram}
+use Rattle.model.specs.Rules.Program.{Program, Expr, Link, leastFactor}
 use Rattle.model.specs.Rules.Rewrite.{
   Command,
   ofDeclaration,
@@ -27,7 +27,7 @@ use Rattle.model.specs.Rules.Rewrite.{
 }
 use Rattle.model.specs.Rules.Width.{readWidth}
 use Rattle.model.specs.Rules.Word.{byteAt}
-use Rattle.model.specs.Says.Written.{readByte, DeclarationWritten, OperatorWritten}
+use Rattle.model.specs.Says.Written.{IsPlain, IsSampled, readByte, DeclarationWritten, OperatorWritten}
 use Rattle.model.specs.declared.Declaration.the-variants as Declaration
 use Rattle.model.specs.declared.Kind.{Kind}
 use Rattle.model.specs.declared.Kind.the-variants.{Now, Last, When, LastWhen, Current}
@@ -77,23 +77,23 @@ module _ (text : List ℕ) where
   two-bytes at le =
       rw (drop-cons text at 0 (omega arith), drop-cons text (suc at) 0 (omega arith), add-one at)
 
-  plain-bytes : (at : ℕ) (kind : Kind) → readWidth kind ≡ 2 → at + 2 ≤ length text → byteAt text at ≡ readByte kind →
+  plain-bytes : (at : ℕ) (kind : Kind) → IsPlain kind → at + 2 ≤ length text → byteAt text at ≡ readByte kind →
       readByte (singleKind kind) ∷ byteAt text (at + 1) ∷ [] ≡ take (readWidth kind) (drop at text)
   plain-bytes at Now d h b = ap (λ a. a ∷ byteAt text (at + 1) ∷ []) (sym b) ∙ two-bytes at h
   plain-bytes at Last d h b = ap (λ a. a ∷ byteAt text (at + 1) ∷ []) (sym b) ∙ two-bytes at h
-  plain-bytes at When d h b = absurd (omega arith)
-  plain-bytes at LastWhen d h b = absurd (omega arith)
-  plain-bytes at Current d h b = absurd (omega arith)
+  plain-bytes at When d h b = absurd d
+  plain-bytes at LastWhen d h b = absurd d
+  plain-bytes at Current d h b = absurd d
 
-  factor-two : (kind : Kind) (x : Sampled) → readWidth kind ≡ 4 → isAllowed leastFactor kind x ≡ true → eqb (x .factor) 1 ≡ false
-  factor-two Now x d a = absurd (omega arith)
-  factor-two Last x d a = absurd (omega arith)
-  factor-two When x d a = ne-eqb (x .factor) 1 (λ e. omega (arith, leb-true leastFactor (x .factor) a))
-  factor-two LastWhen x d a = ne-eqb (x .factor) 1 (λ e. omega (arith, leb-true leastFactor (x .factor) a))
-  factor-two Current x d a = ne-eqb (x .factor) 1 (λ e. omega (arith, leb-true leastFactor (x .factor) a))
+  factor-two : (kind : Kind) (x : Sampled) → IsSampled kind → Allowed leastFactor kind x → eqb (x .factor) 1 ≡ false
+  factor-two Now x d a = absurd d
+  factor-two Last x d a = absurd d
+  factor-two When x d a = ne-eqb (x .factor) 1 (λ e. omega arith)
+  factor-two LastWhen x d a = ne-eqb (x .factor) 1 (λ e. omega arith)
+  factor-two Current x d a = ne-eqb (x .factor) 1 (λ e. omega arith)
 
   abbrev Lasting : Operator → Type 0
-  Lasting (Operator.Read kind x) = isAllowed leastFactor kind x ≡ true
+  Lasting (Operator.Read kind x) = Allowed leastFactor kind x
   Lasting Operator.EndsEarly = ⊥
   Lasting Operator.Unknown = ⊥
   Lasting Operator.OutOfRange = ⊥
@@ -112,7 +112,7 @@ module _ (text : List ℕ) where
   read-bytes (OperatorWritten.choose h b) a = absurd a
 
   read-same : {at : ℕ} (kind : Kind) (x : Sampled) → OperatorWritten text at (Operator.Read kind x) →
-      isAllowed leastFactor kind x ≡ true → Same (at + readWidth kind) → Same at
+      Allowed leastFactor kind x → Same (at + readWidth kind) → Same at
   read-same kind x w a f = command-same (ofOperator (Operator.Read kind x)) w (read-bytes w a) f
 
   expr-same : {at n : ℕ} {e : Expr} → Spells leastFactor text at e n → Same n → Same at

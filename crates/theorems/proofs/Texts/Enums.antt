@@ -24,11 +24,12 @@ use Rattle.theorems.specs.Enums.{
   CodeRanged,
   BytesAt,
 }
-use Rattle.model.specs.Rules.Width.{readWidth}
 use Rattle.model.specs.Says.Words.{IsWord}
 use Rattle.model.specs.Rules.Word.{byteAt, twoBytes, fourBytes, wordBytes}
 use Rattle.model.specs.Says.Written.{
   InPeriods,
+  IsPlain,
+  IsSampled,
   InIndices,
   readByte,
   DeclarationWritten,
@@ -142,7 +143,7 @@ module _ {text : List ℕ} {at : ℕ} where
       rw (← word-at w f (behind (0x20 ∷ []) (wordBytes w) h))
       (OperatorWritten.constant (inside (omega arith) h) (byte-here h))
 
-  plain-written : (kind : Kind) (x : Sampled) → readWidth kind ≡ 2 → x .factor ≡ 1 → x .index ≡ Fixed 0 →
+  plain-written : (kind : Kind) (x : Sampled) → IsPlain kind → x .factor ≡ 1 → x .index ≡ Fixed 0 →
       Stands text at (readByte kind ∷ x .signal ∷ []) → OperatorWritten text at (Operator.Read kind x)
   plain-written kind x two n i h =
       let s = byte-from 1 (omega arith) h in
@@ -153,7 +154,7 @@ module _ {text : List ℕ} {at : ℕ} where
       λ j. record { signal = s j; factor = sym n j; index = sym i j } in
       subst (λ y. OperatorWritten text at (Operator.Read kind y)) e w
 
-  sampled-written : (kind : Kind) (x : Sampled) → readWidth kind ≡ 4 → InPeriods (x .factor) → IndexBelow (x .factor) (x .index) →
+  sampled-written : (kind : Kind) (x : Sampled) → IsSampled kind → InPeriods (x .factor) → IndexBelow (x .factor) (x .index) →
       Stands text at (readByte kind ∷ x .signal ∷ indexByte (x .index) ∷ x .factor ∷ []) →
       OperatorWritten text at (Operator.Read kind x)
   sampled-written kind x four n i h =
@@ -172,11 +173,11 @@ module _ {text : List ℕ} {at : ℕ} where
 
   read-written : (kind : Kind) (x : Sampled) → RangedRead kind x → Stands text at (readByte kind ∷ operandBytes kind x) →
       OperatorWritten text at (Operator.Read kind x)
-  read-written Now x r h = plain-written Now x refl (r .0) (r .1) h
-  read-written Last x r h = plain-written Last x refl (r .0) (r .1) h
-  read-written When x r h = sampled-written When x refl (r .0) (r .1) h
-  read-written LastWhen x r h = sampled-written LastWhen x refl (r .0) (r .1) h
-  read-written Current x r h = sampled-written Current x refl (r .0) (r .1) h
+  read-written Now x r h = plain-written Now x tt (r .0) (r .1) h
+  read-written Last x r h = plain-written Last x tt (r .0) (r .1) h
+  read-written When x r h = sampled-written When x tt (r .0) (r .1) h
+  read-written LastWhen x r h = sampled-written LastWhen x tt (r .0) (r .1) h
+  read-written Current x r h = sampled-written Current x tt (r .0) (r .1) h
 
   pub declaration-stands : (c : Declaration) → DeclarationRanged c → Stands text at (declarationBytes c) →
       DeclarationWritten text at c

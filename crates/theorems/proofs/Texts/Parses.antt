@@ -47,6 +47,7 @@ use Rattle.model.proofs.Texts.Commands.{declaration-sound, written-byte, writte
 use Rattle.model.proofs.Texts.Legal.{links-end}
 use Rattle.model.proofs.Basics.Outcomes.{accepted-then, true-provided}
 use Rattle.model.proofs.Texts.Puts.{puts-spelled, parse-puts}
+use Rattle.model.proofs.Texts.Picks.{allowed-exactly}
 use Rattle.model.proofs.Texts.Room.{signal-is, operator-fit, declaration-fit}
 use Rattle.model.proofs.Texts.Spelled.{declared}
 use Rattle.model.proofs.Texts.Written.{decoded, operator-decoded}
@@ -93,11 +94,11 @@ module _ {least : ℕ} {text : List ℕ} where
   parse-expr d (Spells.constants {at = at} {w = w} e) le =
       let q = one-below 0 d le in
       rw (q .1) (expr-step least text (q .0) at _ (operator-decoded e) (operator-fit text at (operator-of text at e)))
-  parse-expr d (Spells.reads {at = at} e t) le =
+  parse-expr d (Spells.reads {at = at} {kind = kind} {x = x} e t) le =
       let q = one-below 0 d le in
       rw (q .1)
       (expr-step least text (q .0) at _ (operator-decoded e) (operator-fit text at (operator-of text at e)) ∙
-      accepted-then _ _ tt (true-provided _ 5 at t))
+      accepted-then _ _ tt (true-provided _ 5 at (allowed-exactly least kind x .1 t)))
   parse-expr d (Spells.two {at = at} {x = x} {y = y} e u v) le =
       let q = one-below _ d le in
       rw (q .1)

@@ -56,7 +56,15 @@ use Rattle.model.proofs.Basics.Outcomes.{
   false-provided,
 }
 use Rattle.theorems.proofs.Texts.Parses.{expr-step, command-step, spells-after, parse-expr, fit, parse-links, parse-onward}
-use Rattle.model.proofs.Texts.Picks.{picked, chosen-all, byte-inside, signal-inside, operator-inside, operator-byte}
+use Rattle.model.proofs.Texts.Picks.{
+  picked,
+  chosen-all,
+  byte-inside,
+  signal-inside,
+  operator-inside,
+  operator-byte,
+  single-exactly,
+}
 use Rattle.model.proofs.Texts.Puts.{put-sound}
 use Rattle.model.proofs.Texts.Room.{
   signal-is,
@@ -160,7 +168,9 @@ module _ (least : ℕ) (text : List ℕ) where
       node-stops (Operator.Read kind x) e i =
           let R = StopsExpr least text (suc d) at in
           refuses-then R (provided (isAllowed least kind x) 5 at) _
-          (refuses-provided R _ 5 at (λ t. StopsExpr.single (operator-as-written _ tt e) t)) (λ u t. tt)
+          (refuses-provided R _ 5 at (λ t.
+          let s = single-exactly least kind x .0 t in
+          StopsExpr.single (operator-as-written _ tt e) (s .0) (s .1))) (λ u t. tt)
       node-stops (Operator.Binary operator) e i =
           let w = operator-as-written _ tt e in
           let h = HasOperands.binary in
@@ -239,9 +249,9 @@ module _ (least : ℕ) (text : List ℕ) where
       expr-step least text d at _ (operator-cut text at .1 (inr c)) (operator-fit text at (operator-cut-byte text at c))
   expr-refused (StopsExpr.outside {d = d} {at = at} u) =
       expr-step least text d at _ (operator-outside text at .1 u) (operator-fit text at (operator-outside-byte text at u))
-  expr-refused (StopsExpr.single {d = d} {at = at} w t) =
+  expr-refused (StopsExpr.single {d = d} {at = at} {kind = kind} {x = x} w i lt) =
       expr-step least text d at _ (operator-decoded w) (operator-fit text at (operator-of text at w)) ∙
-      refused-then _ _ _ (false-provided _ 5 at t)
+      refused-then _ _ _ (false-provided _ 5 at (single-exactly least kind x .1 (i, lt)))
   expr-refused (StopsExpr.operand {d = d} {at = at} w h lt o s) =
       expr-step least text d at _ (operator-decoded w) (operator-fit text at (operator-of text at w)) ∙
       operand-refused d at _ h lt o (expr-refused s)

@@ -53,6 +53,7 @@ use Rattle.model.specs.declared.Unary.the-variants.{Negate, Table}
 use Rattle.model.specs.declared.Width.{Width}
 use Rattle.model.specs.declared.Width.the-variants.{Bytes, Unlisted}
 use Rattle.model.proofs.Pairs.Decide.{beq-true, all-true}
+use Rattle.model.proofs.Texts.Picks.{plain-width, sampled-width}
 use Rattle.model.proofs.Texts.Written.{declaration-written, operator-written, put-written, code-written}
 
 -- Two tests that agree on all bytes.
@@ -232,11 +233,11 @@ module _ (text : List ℕ) (at : ℕ) where
       rw (← word text m (at + 1) (omega arith))
       (OperatorWritten.constant (long text m _ g h) (byte text m at (omega arith) ∙ b)))
   operator-span c (OperatorWritten.plain kind w h b) =
-      operator-spans (inExpression 0x21) (omega arith) h (rw b (read-list kind _ w)) (λ m g.
+      operator-spans (inExpression 0x21) (omega arith) h (rw b (read-list kind _ (plain-width kind w))) (λ m g.
       rw (← byte text m (at + 1) (omega arith))
       (OperatorWritten.plain kind w (long text m _ g h) (byte text m at (omega arith) ∙ b)))
   operator-span c (OperatorWritten.sampled kind w h b r i) =
-      operator-spans (inExpression 0x23) (omega arith) h (rw b (read-list kind _ w)) (λ m g.
+      operator-spans (inExpression 0x23) (omega arith) h (rw b (read-list kind _ (sampled-width kind w))) (λ m g.
       let n = byte text m (at + 3) (omega arith) in
       let j = byte text m (at + 2) (omega arith) in
       rw (← byte text m (at + 1) (omega arith), ← j, ← n)
