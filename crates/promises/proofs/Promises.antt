@@ -61,7 +61,7 @@ use Rattle.model.specs.Rules.Reads.{rateOf, runCycle, settled}
 use Rattle.model.specs.Rules.Report.{highest, needsOf, reportJob, reportOf}
 use Rattle.model.specs.Rules.Rewrite.{rewrite, convertOf}
 use Rattle.model.specs.Rules.Schedule.{Schedule, scheduleCommandAt}
-use Rattle.model.specs.Rules.Script.{Action, noSamples, callsFrom, cyclesOf}
+use Rattle.model.specs.Rules.Script.{Action}
 use Rattle.model.specs.Rules.Tail.{tailIn, Bears}
 use Rattle.model.specs.Rules.Trial.{trialOf}
 use Rattle.model.specs.Rules.Word.{byteAt, AreBytes}
@@ -122,7 +122,7 @@ use Rattle.theorems.specs.Refusals.{RefusedAt}
 use Rattle.theorems.specs.Streams.{Satisfies, value, wordRead}
 use Rattle.theorems.specs.Subexpression.{Subexpression}
 use Rattle.theorems.specs.Tables.{Yields, StoresRows, WithoutTable}
-use Rattle.theorems.specs.Trials.{inputsOf, TrialLines}
+use Rattle.theorems.specs.Trials.{Runs, SetInputs, TrialLines}
 use Rattle.theorems.specs.TrialRefusals.{LegalScript, TrialRefusedAt}
 use Rattle.theorems.specs.WellFormed.{WellFormed}
 use Rattle.theorems.specs.Nearest.{WordsRange, NearestResults}
@@ -182,7 +182,7 @@ use Rattle.theorems.proofs.Pairs.Settled as Settled
 use Rattle.theorems.proofs.Images.Former.{not-lent}
 use Rattle.theorems.proofs.Images.Tailed
 use Rattle.theorems.proofs.Images.Tailed.{part-bytes}
-use Rattle.theorems.proofs.Bench.TrialLines.{tried-count, tried-line}
+use Rattle.theorems.proofs.Bench.TrialLines.{tried-count, tried-line, set-inputs}
 use Rattle.theorems.proofs.Bench.Trials.{linesOf, Tried, trial-refused, trial-accepts}
 use Rattle.theorems.proofs.Streams.Unique as Unique
 use Rattle.theorems.proofs.Texts.Widths as Widths
@@ -667,11 +667,17 @@ trial-lines program schedule text bytes q actions legal script =
     record {
       lines = lines;
       prints = trial-accepts program schedule text legal script;
-      number = tried-count program schedule text bytes lines tried ∙ ap cyclesOf same;
-      line = λ X sat j lt. tried-line program schedule text bytes lines tried X
-          (subst (λ (acts : List Action). Satisfies p (settled p s) (inputsOf p s (callsFrom noSamples acts)) X) (sym same) sat) j
-          lt;
+      number = subst (λ acts. Runs acts (length lines)) same (tried-count program schedule text bytes lines tried);
+      line = λ inputs X given.
+          tried-line program schedule text bytes lines tried inputs X (subst (λ acts. SetInputs p s acts inputs) (sym same) given);
     }
+
+-- There are inputs that its SETs supply.
+pub trial-inputs : (program schedule : List ℕ) → AreBytes program → (q : Pair) → LegalPair program schedule q →
+    (actions : List Action) → (inputs : ℕ → ℕ → ℤ) × SetInputs (q .program) (q .schedule) actions inputs
+trial-inputs program schedule bytes q legal actions =
+    let b = pair-bounded program schedule q (accepted-exactly program schedule q .1 legal) bytes in
+    (_, set-inputs (q .program) (q .schedule) actions (b .signals))
 
 -- Request g. A conversion is done, or refused with each number at its place, exactly under its condition.
 pub convert-exactly : (program buffer : List ℕ) → Converts program buffer
