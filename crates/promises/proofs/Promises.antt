@@ -87,7 +87,7 @@ use Rattle.theorems.specs.Conditions.{_among_, ReadIn, LegalPairWith, LegalPair
 use Rattle.theorems.specs.Dependence.{OccursIn, DependsOn, AlikeCalls, AgreeExcept, LentExcept, SameExcept, SameExceptBy}
 use Rattle.theorems.specs.Dependents.{dependents}
 use Rattle.theorems.specs.Held.{logBy, IsInput}
-use Rattle.theorems.specs.Conversion.{earlierFactor, Converts, ConversionKeeps}
+use Rattle.theorems.specs.Conversion.{earlierFactor, ConvertedText, Converts, ConversionKeeps}
 use Rattle.theorems.specs.Decimals.{SaysNumber, SaysWord}
 use Rattle.theorems.specs.Enums.{
   declarationBytes,
@@ -155,6 +155,7 @@ use Rattle.theorems.proofs.Calls.CallsExact as CallsExact
 use Rattle.theorems.proofs.Images.Counted.{cycle-count, count-fits}
 use Rattle.theorems.proofs.Conversion.Conversions as Conversions
 use Rattle.theorems.proofs.Conversion.Converted as Converted
+use Rattle.theorems.proofs.Conversion.OnText as OnText
 use Rattle.theorems.proofs.Conversion.Rewritten as Rewritten
 use Rattle.theorems.proofs.Conversion.Unchanged as Unchanged
 use Rattle.theorems.proofs.Texts.Parses as Parses
@@ -684,15 +685,15 @@ pub convert-exactly : (program buffer : List ℕ) → Converts program buffer
 convert-exactly = Conversions.convert-exactly
 
 -- With every schedule that the old program was legal with by the earlier rule, the converted one is accepted with the same
--- schedule
--- and hypercycle, and has the same streams and the same image.
-pub convert-keeps : (old schedule : List ℕ) (u : Pair) → LegalPairWith earlierFactor old schedule u →
-    ConversionKeeps old schedule u
-convert-keeps old schedule u l =
+-- schedule and hypercycle, and has the same streams and the same image.
+pub convert-keeps : (old new schedule : List ℕ) (u : Pair) → LegalPairWith earlierFactor old schedule u → ConvertedText old new →
+    ConversionKeeps new schedule u
+convert-keeps old new schedule u l converted =
     let w = Rewritten.rewrite-legal old (u .program) (l .places .rates .legal) in
     let c = Converted.renamed-common (w .renamed) (u .schedule) in
     let q : Pair = record { program = w .program; schedule = u .schedule; hypercycle = u .hypercycle } in
-    record {
+    rw (Conversions.converted-is (l .places .rates .legal) converted)
+    (record {
       program = w .program;
       accepts =
           accepted-exactly (rewrite old) schedule q .1
@@ -700,15 +701,20 @@ convert-keeps old schedule u l =
           (omega (arith, w .short, l .places .rates .short .0)) (w .legal) (w .renamed));
       streams = c .streams;
       image = sym (c .image (u .hypercycle));
-    }
+    })
 
 -- What is converted is read by the rule of today, and converting it again changes nothing.
-pub convert-new : (old : List ℕ) (p : Program) → parseWith earlierFactor old ≡ accepted p →
-    (q : Program) × (parseProgram (rewrite old) ≡ accepted q) × (rewrite (rewrite old) ≡ rewrite old)
-convert-new old p e =
+pub convert-new : (old new : List ℕ) (p : Program) → parseWith earlierFactor old ≡ accepted p → ConvertedText old new →
+    (q : Program) × (parseProgram new ≡ accepted q) × ConvertedText new new
+convert-new old new p e converted =
     let l = Parses.with-legal earlierFactor old p .0 e in
     let w = Rewritten.rewrite-legal old p l in
-    (w .program, Parses.with-legal _ (rewrite old) (w .program) .1 (w .legal), Unchanged.rewrite-twice old p l)
+    rw (Conversions.converted-is l converted) (
+      w .program,
+      Parses.with-legal _ (rewrite old) (w .program) .1 (w .legal),
+      subst (ConvertedText (rewrite old)) (Unchanged.rewrite-twice old p l)
+          (OnText.rewrite-converts _ (rewrite old) (w .program) (w .legal)),
+    )
 
 -- A decimal by its value: digits, the fewest, that read back give the number; a word's have one minus sign before them exactly if
 -- it is negative.
@@ -831,7 +837,7 @@ pub convert-codable : (program buffer : List ℕ) → Codable (convertOf program
 convert-codable program buffer = go (convertOf program buffer .answer) refl
   where
     go : (o : Outcome ℕ) → convertOf program buffer .answer ≡ o → Codable o
-    go (accepted n) e = omega (arith, Numbers.convert-most (convert-exactly program buffer .done n .0 e))
+    go (accepted n) e = omega (arith, Numbers.convert-most (convert-exactly program buffer .done n _ .0 (e, refl)))
     go (refused f) e =
-        let r = convert-exactly program buffer .refused-at f .0 e in
+        let r = convert-exactly program buffer .refuses f _ .0 (e, refl) .0 in
         (Numbers.convert-number r, omega (arith, Numbers.convert-place r))

@@ -2,4 +2,5 @@
 pub mod Converted
 pub mod Rewritten
 pub mod Unchanged
+pub mod OnText
 pub mod Conversions

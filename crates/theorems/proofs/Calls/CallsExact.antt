@@ -61,7 +61,7 @@ use Rattle.theorems.proofs.Pairs.Judged.{
 }
 
 -- Steps whose answer has its condition, where each condition gives its answer.
-both-ways : {A : Type 0} {Q : A → Type 0} {R : Fault → Type 0} (o : Outcome A) → Answers Q R o →
+pub both-ways : {A : Type 0} {Q : A → Type 0} {R : Fault → Type 0} (o : Outcome A) → Answers Q R o →
     ((a : A) → Q a → o ≡ accepted a) → ((f : Fault) → R f → o ≡ refused f) → Judged Q R o
 both-ways {Q = Q} {R = R} o h f g =
     record {
@@ -70,12 +70,12 @@ both-ways {Q = Q} {R = R} o h f g =
     }
 
 -- What a job that is done yields and leaves.
-abbrev Does : {A : Type 0} → (ℕ → List A → Type 0) → Job ℕ A → Type 0
+abbrev pub Does : {A : Type 0} → (ℕ → List A → Type 0) → Job ℕ A → Type 0
 Does Done j = Done (j .yields) (j .leaves)
 
 -- The steps of a call, judged, are the call.
 module _ {A : Type 0} (lent : List A) (Done : ℕ → List A → Type 0) (Refused : Fault → Type 0) where
-  exactly : (o : Outcome (Job ℕ A)) → Judged (Does Done) Refused o → Exactly lent Done Refused (effect lent o)
+  pub exactly : (o : Outcome (Job ℕ A)) → Judged (Does Done) Refused o → Exactly lent Done Refused (effect lent o)
   exactly o h = record { done = done o h; refuses = refuses o h }
     where
       done : (o : Outcome (Job ℕ A)) → Judged (Does Done) Refused o → (n : ℕ) (left : List A) →

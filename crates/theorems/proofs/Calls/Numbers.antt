@@ -3,7 +3,7 @@
 use Prim.Native.Nat.{ℕ, _*_, _≤_}
 use mathlib.Core.List.{List}
 use mathlib.Core.Logic.{⊎-elim}
-use mathlib.Core.Path.{_≡_, refl}
+use mathlib.Core.Path.{_≡_, refl, ap}
 use native.Mathlib.Omega.{arith}
 use lib.IntN.{ℤ}
 use lib.ListN.{length}
@@ -24,6 +24,7 @@ use Rattle.model.proofs.Pairs.Verdict.{pair-bounded}
 use Rattle.theorems.proofs.Calls.CallsExact.{compile-exactly}
 use Rattle.theorems.proofs.Pairs.Exact.{accepted-exactly}
 use Rattle.theorems.proofs.Calls.Places.{commands-inside}
+use Rattle.theorems.proofs.Conversion.Conversions.{converted-is}
 use Rattle.theorems.proofs.Conversion.Rewritten.{rewrite-legal}
 
 -- 2 to 6.
@@ -146,12 +147,20 @@ tail-most {image} {tail} w b =
 pub convert-number : {program buffer : List ℕ} {f : Fault} → ConvertRefusedAt program buffer f → 1 ≤ f .number
 convert-number (ConvertRefusedAt.long lt) = omega arith
 convert-number (ConvertRefusedAt.stopped short s) = stops-number s
-convert-number (ConvertRefusedAt.space short legal lt) = omega arith
+convert-number (ConvertRefusedAt.space short legal c lt) = omega arith
 
 pub convert-place : {program buffer : List ℕ} {f : Fault} → ConvertRefusedAt program buffer f → f .place ≤ 8192
 convert-place (ConvertRefusedAt.long lt) = omega arith
 convert-place {program} (ConvertRefusedAt.stopped short s) = omega (arith, commands-inside program s)
-convert-place {program} (ConvertRefusedAt.space {p = p} short legal lt) = omega (arith, rewrite-legal program p legal .short)
+convert-place {program} (ConvertRefusedAt.space {p = p} short legal c lt) =
+    omega (arith, rewrite-legal program p legal .short, ap length (converted-is legal c))
 
-pub convert-most : {program buffer : List ℕ} {n : ℕ} → ConvertsTo program buffer n → n ≤ 8192
-convert-most {program} c = omega (arith, c .is, c .short, rewrite-legal program (c .declares) (c .legal) .short)
+pub convert-most : {program buffer left : List ℕ} {n : ℕ} → ConvertsTo program buffer n left → n ≤ 8192
+convert-most {program} c =
+    omega (
+      arith,
+      c .is,
+      c .short,
+      rewrite-legal program (c .declares) (c .legal) .short,
+      ap length (converted-is (c .legal) (c .converted)),
+    )

@@ -1,22 +1,28 @@
--- The converter answers exactly as its statements say, and what it makes of an accepted program keeps its streams and its image.
--- Assumes nothing.
+-- The converter answers and leaves exactly what its statements say. Assumes nothing.
 use Prim.Native.Nat.{ℕ, _≤_, _<_}
 use mathlib.Core.List.{List, _++_}
-use mathlib.Core.Path.{_≡_, refl, sym, ap, _∙_}
+use mathlib.Core.Path.{_≡_, refl, sym, ap, subst, _∙_}
 use native.Mathlib.Omega.{arith}
 use borrow.Author.Tests.{leb-true, leb-false, le-leb}
 use lib.Dec.{leb}
 use lib.ListN.{length, drop}
 use Rattle.model.specs.Says.Grammar.{LegalWith}
-use Rattle.model.specs.Rules.Machine.{Job, Effect, effect}
+use Rattle.model.specs.Rules.Machine.{Job}
 use Rattle.model.specs.Rules.Outcome.{Outcome, accepted, refused, fault, _▷_, provided}
 use Rattle.model.specs.Rules.Program.{Program, parseWith}
 use Rattle.model.specs.Rules.Rewrite.{rewrite, convertOf}
-use Rattle.theorems.specs.Conversion.{earlierFactor, ConvertsTo, ConvertRefusedAt, ConvertsExactly, Converts}
+use Rattle.theorems.specs.Conversion.{earlierFactor, ConvertedText, ConvertsTo, ConvertRefusedAt, Converts}
 use Rattle.model.specs.declared.Fault.{Fault}
 use Rattle.model.proofs.Basics.Outcomes.{accepted-then, refused-then}
+use Rattle.theorems.proofs.Calls.CallsExact.{both-ways, Does, exactly}
+use Rattle.theorems.proofs.Conversion.OnText.{rewrite-converts, converted-one}
 use Rattle.theorems.proofs.Pairs.Exact.{text-judged}
-use Rattle.theorems.proofs.Pairs.Judged.{Judged, Only, provided-judged, Answers, answers-then, answers-refused}
+use Rattle.theorems.proofs.Pairs.Judged.{Judged, Only, provided-judged, Answers, answers-then}
+
+-- A legal text is converted to what is written for it, and to nothing else.
+pub converted-is : {least : ℕ} {text new : List ℕ} {p : Program} → LegalWith least text p → ConvertedText text new →
+    new ≡ rewrite text
+converted-is {least} {text} {p = p} legal c = converted-one c (rewrite-converts least text p legal)
 
 module _ (program buffer : List ℕ) where
   abbrev size : ℕ
@@ -30,6 +36,12 @@ module _ (program buffer : List ℕ) where
       provided (leb size (length buffer)) 17 size ▷ λ _.
       accepted (record { yields = size; leaves = rewrite program ++ drop size buffer })
 
+  abbrev Done : Job ℕ ℕ → Type 0
+  Done = Does (ConvertsTo program buffer)
+
+  abbrev NotDone : Fault → Type 0
+  NotDone = ConvertRefusedAt program buffer
+
   long-judged : Judged (λ u. length program ≤ 8192) (Only 1 0 (8192 < length program)) (provided (leb (length program) 8192) 1 0)
   long-judged =
       provided-judged _ 1 0 (length program ≤ 8192) (8192 < length program) (leb-true _ _, le-leb _ _) (leb-false _ _)
@@ -41,19 +53,19 @@ module _ (program buffer : List ℕ) where
       provided-judged _ 17 size (size ≤ length buffer) (length buffer < size) (leb-true _ _, le-leb _ _) (leb-false _ _)
       (λ l h. omega arith)
 
-  -- The job that is done, or the refusal.
-  record Done (j : Job ℕ ℕ) : Type 0 where
-    converts : ConvertsTo program buffer (j .yields)
-    leaves : j .leaves ≡ rewrite program ++ drop (j .yields) buffer
-
-  answers : Answers Done (ConvertRefusedAt program buffer) job
+  answers : Answers Done NotDone job
   answers =
-      answers-then Done (ConvertRefusedAt program buffer) _ _ long-judged (λ g f. long f) (λ u short.
-      answers-then Done (ConvertRefusedAt program buffer) _ _ (text-judged earlierFactor program)
-      (λ g f. ConvertRefusedAt.stopped short f) (λ p legal.
-      answers-then Done (ConvertRefusedAt program buffer) _ _ space-judged (λ g f. space short legal f) (λ v fits.
+      answers-then Done NotDone _ _ long-judged (λ g f. long f) (λ u short.
+      answers-then Done NotDone _ _ (text-judged earlierFactor program) (λ g f. ConvertRefusedAt.stopped short f) (λ p legal.
+      answers-then Done NotDone _ _ space-judged (λ g f. space short legal f) (λ v fits.
       record {
-        converts = record { short = short; declares = p; legal = legal; is = refl; fits = fits };
+        short = short;
+        declares = p;
+        legal = legal;
+        result = rewrite program;
+        converted = rewrite-converts earlierFactor program p legal;
+        is = refl;
+        fits = fits;
         leaves = refl;
       })))
     where
@@ -62,66 +74,36 @@ module _ (program buffer : List ℕ) where
 
       space : {p : Program} {f : Fault} → length program ≤ 8192 → LegalWith earlierFactor program p →
           Only 17 size (length buffer < size) f → ConvertRefusedAt program buffer f
-      space short legal (Only.only h) = ConvertRefusedAt.space short legal h
+      space {p} short legal (Only.only h) =
+          ConvertRefusedAt.space short legal (rewrite-converts earlierFactor program p legal) h
 
   -- And the other way round.
-  job-done : {n : ℕ} → ConvertsTo program buffer n →
-      job ≡ accepted (record { yields = size; leaves = rewrite program ++ drop size buffer })
-  job-done c =
+  job-done : (j : Job ℕ ℕ) → Done j → job ≡ accepted j
+  job-done j c =
+      let new : c .result ≡ rewrite program = converted-is (c .legal) (c .converted) in
+      let n : size ≡ j .yields = sym (ap length new) ∙ sym (c .is) in
+      let left : rewrite program ++ drop size buffer ≡ j .leaves =
+      ap (λ l. l ++ drop size buffer) (sym new) ∙ ap (λ m. c .result ++ drop m buffer) n ∙ sym (c .leaves) in
       accepted-then _ _ _ (long-judged .accepts tt .1 (c .short)) ∙
       accepted-then _ _ _ (text-judged earlierFactor program .accepts (c .declares) .1 (c .legal)) ∙
-      accepted-then _ _ _ (space-judged .accepts tt .1 (omega (arith, c .is, c .fits)))
+      accepted-then _ _ _ (space-judged .accepts tt .1 (omega (arith, c .fits))) ∙
+      ap accepted (λ i. record { yields = n i; leaves = left i })
 
-  job-refused : {f : Fault} → ConvertRefusedAt program buffer f → job ≡ refused f
-  job-refused (ConvertRefusedAt.long h) = refused-then _ _ _ (long-judged .refuses (fault 1 0) .1 (Only.only h))
-  job-refused (ConvertRefusedAt.stopped short f) =
+  job-refused : (f : Fault) → NotDone f → job ≡ refused f
+  job-refused f (ConvertRefusedAt.long h) = refused-then _ _ _ (long-judged .refuses (fault 1 0) .1 (Only.only h))
+  job-refused f (ConvertRefusedAt.stopped short s) =
       accepted-then _ _ _ (long-judged .accepts tt .1 short) ∙
-      refused-then _ _ _ (text-judged earlierFactor program .refuses _ .1 f)
-  job-refused (ConvertRefusedAt.space {p = p} short legal lt) =
+      refused-then _ _ _ (text-judged earlierFactor program .refuses _ .1 s)
+  job-refused f (ConvertRefusedAt.space {p = p} short legal c lt) =
+      let new = ap length (converted-is legal c) in
       accepted-then _ _ _ (long-judged .accepts tt .1 short) ∙
       accepted-then _ _ _ (text-judged earlierFactor program .accepts p .1 legal) ∙
-      refused-then _ _ _ (space-judged .refuses (fault 17 size) .1 (Only.only lt))
-
-  abbrev call : Outcome (Job ℕ ℕ) → Effect ℕ ℕ
-  call o = effect buffer o
-
-  exactly : (o : Outcome (Job ℕ ℕ)) → Answers Done (ConvertRefusedAt program buffer) o →
-      ((n : ℕ) → ConvertsTo program buffer n →
-      o ≡ accepted (record { yields = size; leaves = rewrite program ++ drop size buffer })) →
-      ((f : Fault) → ConvertRefusedAt program buffer f → o ≡ refused f) → ConvertsExactly program buffer (call o)
-  exactly (accepted j) h f g =
-      record {
-        done = λ n. (
-          λ e. let z : j .yields ≡ n = cc in rw (← z) (h .converts),
-          λ c. ap (λ o. call o .answer) (f n c) ∙ ap accepted (sym (c .is)),
-        );
-        refused-at = λ k. (
-          λ e. let z : _≡_ {A = ℕ} 0 1 = cc in absurd (omega arith),
-          λ r. ap (λ o. call o .answer) (g k r),
-        );
-        written = λ n e. let z : j .yields ≡ n = cc in h .leaves ∙ ap (λ (m : ℕ). rewrite program ++ drop m buffer) z;
-        kept = λ k e. let z : _≡_ {A = ℕ} 0 1 = cc in absurd (omega arith);
-      }
-  exactly (refused q) h f g =
-      record {
-        done = λ n. (
-          λ e. let z : _≡_ {A = ℕ} 0 1 = cc in absurd (omega arith),
-          λ c. ap (λ o. call o .answer) (f n c) ∙ ap accepted (sym (c .is)),
-        );
-        refused-at = λ k. (
-          λ e. answers-refused Done (ConvertRefusedAt program buffer) (refused q) k h (same e),
-          λ r. ap (λ o. call o .answer) (g k r),
-        );
-        written = λ n e. let z : _≡_ {A = ℕ} 0 1 = cc in absurd (omega arith);
-        kept = λ k e. refl;
-      }
-    where
-      same : {k : Fault} → _≡_ {A = Outcome ℕ} (refused q) (refused k) → _≡_ {A = Outcome (Job ℕ ℕ)} (refused q) (refused k)
-      same {k} e = let z : q ≡ k = cc in ap refused z
+      refused-then _ _ _ (space-judged .refuses (fault 17 size) .1 (Only.only (omega arith))) ∙
+      ap (λ n. refused (fault 17 n)) (sym new)
 
 -- A conversion is done, or refused with each number at its place, exactly under its condition.
 pub convert-exactly : (program buffer : List ℕ) → Converts program buffer
 unfolding convertOf
 convert-exactly program buffer =
-    exactly program buffer (job program buffer) (answers program buffer)
-    (λ n c. job-done program buffer c) (λ k r. job-refused program buffer r)
+    exactly buffer (ConvertsTo program buffer) (ConvertRefusedAt program buffer) (job program buffer)
+    (both-ways (job program buffer) (answers program buffer) (job-done program buffer) (job-refused program buffer))

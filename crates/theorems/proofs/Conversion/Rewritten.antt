@@ -92,7 +92,7 @@ abbrev pub CommandWritten : List ℕ → ℕ → Command → Type 0
 CommandWritten text at (ofDeclaration d) = DeclarationWritten text at d
 CommandWritten text at (ofOperator o) = OperatorWritten text at o
 
-no-operator : {text : List ℕ} {at : ℕ} {d : Declaration} → DeclarationWritten text at d → isOperator (byteAt text at) ≡ false
+pub no-operator : {text : List ℕ} {at : ℕ} {d : Declaration} → DeclarationWritten text at d → isOperator (byteAt text at) ≡ false
 no-operator (DeclarationWritten.end h b) = rw b
 no-operator (DeclarationWritten.input h b r) = rw b
 no-operator (DeclarationWritten.equation h b r) = rw b

@@ -77,7 +77,7 @@ module _ (text : List ℕ) where
   two-bytes at le =
       rw (drop-cons text at 0 (omega arith), drop-cons text (suc at) 0 (omega arith), add-one at)
 
-  plain-bytes : (at : ℕ) (kind : Kind) → IsPlain kind → at + 2 ≤ length text → byteAt text at ≡ readByte kind →
+  pub plain-bytes : (at : ℕ) (kind : Kind) → IsPlain kind → at + 2 ≤ length text → byteAt text at ≡ readByte kind →
       readByte (singleKind kind) ∷ byteAt text (at + 1) ∷ [] ≡ take (readWidth kind) (drop at text)
   plain-bytes at Now d h b = ap (λ a. a ∷ byteAt text (at + 1) ∷ []) (sym b) ∙ two-bytes at h
   plain-bytes at Last d h b = ap (λ a. a ∷ byteAt text (at + 1) ∷ []) (sym b) ∙ two-bytes at h
