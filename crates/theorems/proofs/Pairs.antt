@@ -8,4 +8,5 @@ pub mod Window
 pub mod Latency
 pub mod JudgedRuns
 pub mod Settled
+pub mod Terms
 pub mod Exact

@@ -6,6 +6,7 @@ pub mod Reach
 pub mod Latency
 pub mod Subexpression
 pub mod Conditions
+pub mod Terms
 pub mod Refusals
 pub mod Height
 pub mod WellFormed

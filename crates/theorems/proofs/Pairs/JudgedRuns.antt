@@ -57,7 +57,7 @@ use Rattle.theorems.proofs.Pairs.Window.{keeps-decides}
 
 -- 14.
 module _ (program schedule : List ℕ) (p : Program) (h : ℕ) (s : Schedule) (c : LegalPlaces program schedule p h s) where
-  ordered : Ordered p s
+  pub ordered : Ordered p s
   ordered =
       placed-ordered p (c .puts) s (placed-judged p schedule (c .puts) (c .legal) .accepts s .1 (c .placed)) .0
 

@@ -58,7 +58,7 @@ module _ (program schedule : List ℕ) (q : Pair) (e : pairOf program schedule �
       K c = keeps p s (q .hypercycle) c ≡ true
 
 -- A chain with a link has a last one.
-last-link : (ls : List Link) → 1 ≤ length ls → (r : ℕ) × (ws : List ℕ) × (reverseAux (map (λ l. l .signal) ls) [] ≡ r ∷ ws)
+pub last-link : (ls : List Link) → 1 ≤ length ls → (r : ℕ) × (ws : List ℕ) × (reverseAux (map (λ l. l .signal) ls) [] ≡ r ∷ ws)
 last-link [] le = absurd (omega arith)
 last-link (l ∷ ls) le = go ls (l .signal) []
   where
