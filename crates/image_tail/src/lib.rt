@@ -1,19 +1,35 @@
 // The tail of an image, for tools that show signals by their labels. Nothing is written or copied.
-ghost use Rattle.model.specs.Rules.Tail.{ReadsTail};
+use model::Compiled;
+use model::Fault;
+ghost use mathlib.Core.Path.{_≡_};
+ghost use Rattle.model.specs.Rules.Compile.{compiledOf};
+ghost use Rattle.model.specs.Rules.Tail.{tailIn, lengthOfTail, stretchIn};
 
 // The number of the refusal.
 const BAD_IMAGE: u8 = 20;
 
-// The tail of what is lent: a stretch of it, empty for an image without a tail. `number` gets 0, or that of the refusal, and the
-// stretch is then empty.
-pub fn tail<'a>(lent: &'a [u8], number: &mut u8) -> &'a [u8]
-    ensures { λ r. ⌜ ReadsTail (now (lent .entry)) (now (number .exit)) (now r) ⌝ }
+// How long the tail of what is lent is, 0 for an image without one; or the refusal.
+pub fn tail_length(lent: &[u8]) -> Compiled
+    ensures { λ r. ⌜ compiledOf r ≡ lengthOfTail (tailIn (now (lent .entry))) ⌝ }
 {
     let image = image_valid::image_in(lent);
     if !image_valid::well_formed(image) {
-        *number = BAD_IMAGE;
-        return &lent[lent.len()..];
+        return Compiled::Refused(Fault {
+            number: BAD_IMAGE,
+            place: 0,
+        });
     }
-    *number = 0;
-    &lent[image.len()..]
+    Compiled::Length(lent.len() - image.len())
+}
+
+// The tail of what is lent: a stretch of it, empty for an image without a tail and where `tail_length` refuses.
+pub fn tail<'a>(lent: &'a [u8]) -> &'a [u8]
+    ensures { λ r. ⌜ now r ≡ stretchIn (tailIn (now (lent .entry))) ⌝ }
+{
+    let length = tail_length(lent);
+    let Compiled::Length(n) = length else {
+        return &lent[lent.len()..];
+    };
+    let start = lent.len() - n;
+    &lent[start..]
 }

@@ -5,23 +5,36 @@ ghost use Prim.Native.Nat.{_<_, _≤_};
 ghost use Rattle.image_valid_code.specs.Shape.{shapeOf, Shapes, isTabled, commandBytes, afterOf, lastOf};
 ghost use Rattle.model.specs.Rules.Machine.{codeOk};
 
-// 0: no command, or STORE; else 1 and the words that it takes off the stack, and 8 more for LOAD. In an image without rows.
+// The shape of a command: 1 and the words that it takes off the stack, and 8 more for LOAD, whose signal is judged by its number.
+const PUSHES: u8 = 1;
+const LOADS: u8 = 9;
+const ONE_OPERAND: u8 = 2;
+const TWO_OPERANDS: u8 = 3;
+const THREE_OPERANDS: u8 = 4;
+
+// No command, or STORE.
+const NO_SHAPE: u8 = 0;
+
+// More words than the stack may hold: the command may not stand where it does.
+const TOO_HIGH: usize = 33;
+
+// What each byte commands, in an image without rows.
 fn plain_shapes() -> [u8; 256]
     ensures { λ r. ⌜ Shapes false r ⌝ }
 {
-    let mut table = [0; 256];
-    table[0x30] = 3;
-    table[0x31] = 3;
-    table[0x32] = 3;
-    table[0x33] = 3;
-    table[0x34] = 3;
-    table[0x35] = 3;
-    table[0x36] = 3;
-    table[0x38] = 2;
-    table[0x3A] = 4;
-    table[0x50] = 1;
-    table[0x51] = 9;
-    table[0x52] = 1;
+    let mut table = [NO_SHAPE; 256];
+    table[0x30] = TWO_OPERANDS;
+    table[0x31] = TWO_OPERANDS;
+    table[0x32] = TWO_OPERANDS;
+    table[0x33] = TWO_OPERANDS;
+    table[0x34] = TWO_OPERANDS;
+    table[0x35] = TWO_OPERANDS;
+    table[0x36] = TWO_OPERANDS;
+    table[0x38] = ONE_OPERAND;
+    table[0x3A] = THREE_OPERANDS;
+    table[0x50] = PUSHES;
+    table[0x51] = LOADS;
+    table[0x52] = PUSHES;
     table
 }
 
@@ -33,7 +46,7 @@ pub fn shapes(rows: bool) -> [u8; 256]
     if !rows {
         return table;
     }
-    table[0x3B] = 2;
+    table[0x3B] = ONE_OPERAND;
     table
 }
 
@@ -58,23 +71,23 @@ fn command_bytes(byte: u8) -> usize
     width::in_code(0x51)
 }
 
-// The words on the stack after the command of a shape with `byte` and then x, where it held h; 33 where it may not stand there.
+// The words on the stack after the command of a shape with `byte` and then x, where it held h; TOO_HIGH where it may not stand there.
 fn after(shape: usize, byte: u8, x: u8, h: usize, n: u8, own: u8) -> usize
     requires { ⌜ (h ≤ 32) × (shape ≤ 9) ⌝ }
     ensures { λ r. ⌜ r ≡ afterOf shape byte x h n own ⌝ }
 {
     let takes = shape % 8;
     if h + 1 < takes {
-        return 33;
+        return TOO_HIGH;
     }
     if basics::wide(n) <= shape / 8 * basics::wide(x) {
-        return 33;
+        return TOO_HIGH;
     }
     if byte == 0x52 {
         if x == own {
             return h + 2 - takes;
         }
-        return 33;
+        return TOO_HIGH;
     }
     h + 2 - takes
 }

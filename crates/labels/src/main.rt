@@ -1,6 +1,7 @@
 // Lists the signals of a compiled image as a service tool shows them: reads the file that the argument names and prints a line a
 // signal from the image's tail: number, label, period and phase. An image without a tail has no line; a refusal prints its number.
 use libc::STDOUT_FILENO;
+use model::Compiled;
 ghost use Prim.Native.Nat.{_+_, _*_, _≤_};
 ghost use lib.ListN.{length};
 ghost use Rattle.io.specs.Counts.{Counts};
@@ -45,13 +46,12 @@ fn print_tail(tail: &[u8]) {
 }
 
 fn list(image: &[u8]) {
-    let mut number: u8 = 0;
-    let tail = larderlate::tail(image, &mut number);
-    if number != 0 {
-        print_number(basics::wide(number), b"\n");
+    let length = larderlate::tail_length(image);
+    if let Compiled::Refused(fault) = length {
+        print_number(basics::wide(fault.number), b"\n");
         return;
     }
-    print_tail(tail);
+    print_tail(larderlate::tail(image));
 }
 
 // No image with its tail is longer than 65,791 bytes; one more is read, so that a longer file is seen.

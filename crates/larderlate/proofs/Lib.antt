@@ -1,2 +1,1 @@
 -- What the proofs of the calls cite.
-pub mod TailCode

@@ -1,7 +1,6 @@
 -- The answer of a call as one number, for a C caller.
 use Prim.Native.Nat.{ℕ, _+_, _*_, _%_}
 use mathlib.Core.List.{List}
-use lib.ListN.{length}
 use Rattle.model.specs.Rules.Machine.{statedLength}
 use Rattle.model.specs.Rules.Outcome.{Outcome, accepted, refused}
 use Rattle.model.specs.declared.Found.{Found}
@@ -32,11 +31,7 @@ abbrev pub stackIn : ℕ → Outcome Sizes → ℕ
 stackIn old (accepted x) = x .stack
 stackIn old (refused f) = old
 
--- Of what the tail's reader answers: the tail's length, and where it starts, at L, or what was there before.
-abbrev pub lengthOfTail : Outcome (List ℕ) → Outcome ℕ
-lengthOfTail (accepted tail) = accepted (length tail)
-lengthOfTail (refused f) = refused f
-
+-- Of what the tail's reader answers: where the tail starts, at L, or what was there before.
 abbrev pub startIn : ℕ → List ℕ → Outcome (List ℕ) → ℕ
 startIn old lent (accepted tail) = statedLength lent
 startIn old lent (refused f) = old

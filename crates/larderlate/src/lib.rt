@@ -17,10 +17,10 @@ ghost use Rattle.model.specs.Rules.Moves.{listedOf, movesOf};
 ghost use Rattle.model.specs.Rules.Outcome.{refused};
 ghost use Rattle.model.specs.Rules.Report.{reportedOf, reportOf};
 ghost use Rattle.model.specs.Rules.Rewrite.{convertOf};
-ghost use Rattle.model.specs.Rules.Tail.{tailIn, ReadsTail};
+ghost use Rattle.model.specs.Rules.Tail.{tailIn, lengthOfTail, stretchIn};
 ghost use Rattle.board.specs.Board.{loadOf, markPlaceOf, turnOf, turnedOf};
 ghost use Rattle.board_words.specs.Record.{boardOf, newWords, loadRecord, markRecord, turnRecord, turnDone, outcomeIn};
-ghost use Rattle.larderlate.specs.Code.{codeNumber, partNumber, lengthIn, writtenIn, stackIn, lengthOfTail, startIn};
+ghost use Rattle.larderlate.specs.Code.{codeNumber, partNumber, lengthIn, writtenIn, stackIn, startIn};
 
 // Writes the image of an accepted program and schedule and its tail to the start of `image`, and yields how many bytes these are.
 pub fn compile(program: &[u8], schedule: &[u8], image: &mut [u8]) -> Compiled
@@ -68,11 +68,18 @@ pub fn cycle(image: &[u8], state: &mut [i32], samples: &[i32]) -> Cycled
     machine::cycle(image, &mut state[..], samples)
 }
 
-// The tail of an image: a stretch of what is lent, empty for an image without one. `number` gets 0, or that of the refusal.
-pub fn tail<'a>(image: &'a [u8], number: &mut u8) -> &'a [u8]
-    ensures { λ r. ⌜ ReadsTail (now (image .entry)) (now (number .exit)) (now r) ⌝ }
+// How long the tail of an image is, 0 for an image without one; or the refusal.
+pub fn tail_length(image: &[u8]) -> Compiled
+    ensures { λ r. ⌜ compiledOf r ≡ lengthOfTail (tailIn (now (image .entry))) ⌝ }
 {
-    image_tail::tail(image, number)
+    image_tail::tail_length(image)
+}
+
+// The tail of an image: a stretch of what is lent, empty for an image without one and where `tail_length` refuses.
+pub fn tail<'a>(image: &'a [u8]) -> &'a [u8]
+    ensures { λ r. ⌜ now r ≡ stretchIn (tailIn (now (image .entry))) ⌝ }
+{
+    image_tail::tail(image)
 }
 
 // Rewrites a program text of the earlier rule, with a sampling factor of 1, to the start of `result`, and yields its new length.
@@ -270,13 +277,12 @@ pub extern "C" fn larderlate_tail(image: &[u8], start: &mut usize) -> u64
     ensures answer { λ r. ⌜ r ≡ codeNumber (lengthOfTail (tailIn (now (image .entry)))) ⌝ }
     ensures place { λ _. ⌜ now (start .exit) ≡ startIn (now (start .entry)) (now (image .entry)) (tailIn (now (image .entry))) ⌝ }
 {
-    let mut number: u8 = 0;
-    let bytes = tail(image, &mut number);
-    if number != 0 {
-        return code_of_fault(Fault { number, place: 0 });
-    }
-    *start = image.len() - bytes.len();
-    bytes.len() as u64
+    let length = tail_length(image);
+    let Compiled::Length(n) = length else {
+        return code_of_compiled(length);
+    };
+    *start = image.len() - n;
+    n as u64
 }
 
 #[no_mangle]

@@ -310,9 +310,9 @@ fn call_trial() -> bool {
 
 // 09: the tail of the image.
 fn call_tail(image: &[u8]) -> bool {
-    let mut number: u8 = 0;
-    let bytes = larderlate::tail(image, &mut number);
-    print_line(number as u64, bytes.len() as u64, hash_bytes(bytes));
+    let mut start: usize = 0;
+    let code = larderlate::larderlate_tail(image, &mut start);
+    print_code(code, hash_bytes(larderlate::tail(image)));
     true
 }
 

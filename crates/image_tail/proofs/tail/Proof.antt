@@ -1,33 +1,41 @@
 -- `image_tail::tail` meets its contract. Assumes nothing.
-use mathlib.Core.Path.{_≡_, sym, _∙_}
-use mathlib.Core.Bool.{true}
-use borrow.Author.Tests.{not-true, not-false}
-use Rattle.model.specs.Rules.Machine.{wellFormed}
-use Rattle.image_tail.proofs.Answers.{inside, reads-none, reads-rest}
+use Prim.Native.Nat.{ℕ, _-_}
+use mathlib.Core.Path.{_≡_, sym, ap, _∙_}
+use native.Mathlib.Omega.{arith}
+use lib.ListN.{length, take, drop, length-drop}
+use lib.Seq.{take-all}
+use Rattle.model.specs.Rules.Compile.{compiledOf}
+use Rattle.image_tail.proofs.Answers.{LastBytes, last-bytes, no-bytes}
 use borrow.Author.Needs.{needs}
 use Rattle.image_tail.proofs.tail.Statement.{statement}
 use Rattle.image_tail.proofs.tail.Tie as tie
 
-well : (e : tie.Else1) → wellFormed (e .before .before .image-in .result .now) ≡ true
-well e = sym (e .before .well-formed .ensures) ∙ not-false _ (e .if1 .left)
+-- what the length says
+told : (c : tie.After-known-told) → LastBytes (c .before .before .before .before .before .args .lent .now) (c .before .length .given .0 .0)
+told c =
+    let m = c .before .before in
+    last-bytes _ (sym (ap compiledOf (c .before .length .given .1)) ∙ m .before .tail-length .ensures)
 
 returns : tie.Need-returns
 returns c =
-    let t = c .before in
-    let w = t .before in
-    reads-none (w .before .image-in .ensures) (sym (w .well-formed .ensures) ∙ not-true _ (t .if1 .taken))
+    let m = c .before .before in
+    let lent = m .before .before .before .args .lent .now in
+    let none : length lent - length lent ≡ 0 = omega arith in
+    ap (λ (k : ℕ). take k (drop (length lent) lent)) none ∙
+    sym (no-bytes lent (sym (ap compiledOf (c .before .enum-told .given .1)) ∙ m .before .tail-length .ensures))
 
-sub-result-2 : tie.Need-sub-result-2
-sub-result-2 c = inside (c .before .before .image-in .ensures) (well c)
-
-part-result-start-2 : tie.Need-part-result-start-2
-part-result-start-2 c = inside (c .before .before .image-in .ensures) (well c)
+sub-start : tie.Need-sub-start
+sub-start c = told c .inside
 
 returns-2 : tie.Need-returns-2
-returns-2 c = let e = c .before in reads-rest (e .before .before .image-in .ensures) (well e)
+returns-2 c =
+    let t = told (c .before) in
+    let lent = c .before .before .before .before .before .before .args .lent .now in
+    let start = length lent - c .before .before .length .given .0 .0 in
+    take-all (length lent - start) (drop start lent) (omega (arith, length-drop start lent)) ∙ t .stretch
 
 pub tail-spec : {M : Type 1} → statement M
 tail-spec =
     tie.close
-    (tie.spec (λ c κs. search needs) (λ c κs. search needs) (λ c. search needs) (λ c. search needs) (λ c. search needs) returns
-    sub-result-2 part-result-start-2 (λ c. search needs) returns-2)
+    (tie.spec (λ c κs. search needs) (λ c. search needs) (λ c. search needs) (λ c. search needs) (λ c. search needs)
+    (λ c. search needs) returns sub-start (λ c. search needs) (λ c. search needs) (λ c. search needs) returns-2)

@@ -13,18 +13,14 @@ use Rattle.model.specs.Rules.Word.{byteAt, twoAt}
 unfoldable pub tailIn : List ℕ → Outcome (List ℕ)
 tailIn lent = provided (lentOk lent) 20 0 ▷ λ _. accepted (drop (statedLength lent) lent)
 
--- A call answers it by a number, 0 or that of the refusal, and a stretch, empty where it refuses.
-abbrev pub numberIn : Outcome (List ℕ) → ℕ
-numberIn (accepted tail) = 0
-numberIn (refused f) = f .number
+-- A call answers its length, or the refusal; another the stretch itself, empty where it is refused.
+abbrev pub lengthOfTail : Outcome (List ℕ) → Outcome ℕ
+lengthOfTail (accepted tail) = accepted (length tail)
+lengthOfTail (refused f) = refused f
 
 abbrev pub stretchIn : Outcome (List ℕ) → List ℕ
 stretchIn (accepted tail) = tail
 stretchIn (refused f) = []
-
-pub record ReadsTail (lent : List ℕ) (number : ℕ) (tail : List ℕ) : Type 0 where
-  pub number-is : number ≡ numberIn (tailIn lent)
-  pub stretch-is : tail ≡ stretchIn (tailIn lent)
 
 -- The same as a statement: what is lent is an image and its tail, which is empty or has 4N bytes.
 pub record Bears (image tail lent : List ℕ) : Type 0 where
