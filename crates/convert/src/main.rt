@@ -1,6 +1,6 @@
 // Converts a program text that was written when a sampling factor of 1 was allowed: reads the file that the argument names and writes
 // the new text to standard output. A refusal is said in words on standard error, and as a line with its number on standard output.
-// All that is decided is decided by `converter`; here it is read and written.
+// All that is decided is decided by `text_convert`; here it is read and written.
 use libc::STDERR_FILENO;
 use libc::STDOUT_FILENO;
 use model::Compiled;

@@ -1,2 +1,2 @@
--- The definitions that the contracts of `image_check` cite.
+-- Whether any bytes are an image: what the tests of its areas stand for.
 pub mod Lends

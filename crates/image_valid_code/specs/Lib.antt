@@ -1,2 +1,2 @@
--- The definitions that the contracts of `code_check` cite.
+-- What the check of a code knows of a command.
 pub mod Shape

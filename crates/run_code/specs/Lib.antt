@@ -1,2 +1,2 @@
--- The definitions that the contracts of `runner` cite.
+-- What the leaves of a code push.
 pub mod Leaf

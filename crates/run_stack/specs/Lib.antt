@@ -1,2 +1,2 @@
--- The definitions that the contracts of `stack` cite.
+-- The stack as a list.
 pub mod View

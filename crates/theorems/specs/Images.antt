@@ -63,9 +63,8 @@ pub record ReportsExactly (program schedule counts : List ℕ) : Type 0 where
       (sizes .written ≡ length (writtenOf (q .program) (q .schedule) (q .hypercycle)))
 
 -- Of an accepted pair it tells L, the length of its image, and L + 4N, that with its tail; the least number of words that the
--- code
--- of every signal keeps within on the image's bytes; and 240 counts, those of the hypercycle being the commands that the image's
--- lists run and the others 0.
+-- code of every signal keeps within on the image's bytes; and 240 counts, those of the hypercycle being the commands that the
+-- image's lists run and the others 0.
 pub record Reports (program schedule : List ℕ) (p : Program) (s : Schedule) (h : ℕ) (image : List ℕ) : Type 0 where
   pub told : (counts : List ℕ) → reportOf program schedule counts ≡
       record {

@@ -1,5 +1,5 @@
 // A bench trial: reads a program, a schedule and a script from the three files that the arguments name, and prints a line for
-// each cycle of the script, or the number of the refusal. All that is printed is made by `bench_trial` and `stepper`; here it is
+// each cycle of the script, or the number of the refusal. All that is printed is made by `trial_prepare` and `trial_step`; here it is
 // read and written.
 use basics::Judged;
 use libc::STDERR_FILENO;

@@ -1,2 +1,2 @@
--- The definitions that the contracts of `bench_trial` cite.
+-- How a trial starts.
 pub mod Prepares

@@ -1,3 +1,3 @@
--- The definitions that the contracts of `script` cite.
+-- The commands of a script as the code goes over them.
 pub mod Inputs
 pub mod Steps

@@ -1,2 +1,2 @@
--- The definitions that the contracts of `stepper` cite.
+-- A trial under way.
 pub mod Steps

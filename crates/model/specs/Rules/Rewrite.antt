@@ -1,6 +1,5 @@
 -- The converter, on bytes: each WHEN and CURRENT with n = 1 is written as NOW, each LASTWHEN with n = 1 as LAST, of the same
--- signal;
--- every other byte is kept. All command bytes of a program text differ, so that one walk from command to command meets
+-- signal; every other byte is kept. All command bytes of a program text differ, so that one walk from command to command meets
 -- declarations, operators, reads and LINKs in the order of their offsets.
 use Prim.Native.Nat.{ℕ, zero, suc, _+_}
 use mathlib.Core.Bool.{cond}
@@ -67,8 +66,7 @@ abbrev pub widthOf : Command → ℕ
 widthOf (ofDeclaration d) = declarationWidth d
 widthOf (ofOperator o) = operatorWidth o
 
--- What stands for the bytes of an operator: of a read by 1 a shorter one. NOW and LAST have factor 1 as well, and stay what they
--- are.
+-- What stands for the bytes of an operator: of a read by 1 a shorter one. NOW and LAST have factor 1 too, and stay as they are.
 abbrev pub operatorAfter : Operator → List ℕ → List ℕ
 operatorAfter Operator.EndsEarly bytes = bytes
 operatorAfter Operator.Unknown bytes = bytes
