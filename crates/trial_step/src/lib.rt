@@ -6,7 +6,19 @@ ghost use lib.ListN.{length, set};
 ghost use Rattle.machine.specs.Runnable.{Runnable};
 ghost use Rattle.model.specs.Rules.Script.{scriptAt, callsFrom};
 ghost use Rattle.trial_script.specs.Steps.{altered};
-ghost use Rattle.trial_step.specs.Steps.{atStart, soughtCalls, Underway, Printed, StepsOn, Filled};
+ghost use Rattle.trial_step.specs.Steps.{
+    atStart,
+    soughtCalls,
+    seekOf,
+    stepOf,
+    Stepped,
+    blockOf,
+    FilledTo,
+    Underway,
+    Printed,
+    StepsOn,
+    Filled,
+};
 
 // How far a trial has come: where the script goes on, the cycles left of the present RUN, and the number of the next line.
 pub struct Progress {
@@ -73,7 +85,10 @@ fn alter(samples: &mut [i32], command: ScriptCommand)
 
 // Goes on from an offset to the next cycle: SETs on the way alter the samples.
 fn seek(text: &[u8], from: usize, samples: &mut [i32]) -> Sought
-    ensures { λ r. ⌜ callsFrom (now (samples .entry)) (scriptAt (now (text .entry)) from .actions) ≡ soughtCalls (now (text .entry)) (now (samples .exit)) r ⌝ }
+    ensures calls { λ r. ⌜ callsFrom (now (samples .entry)) (scriptAt (now (text .entry)) from .actions) ≡
+        soughtCalls (now (text .entry)) (now (samples .exit)) r ⌝ }
+    ensures found { λ r. ⌜ r ≡ seekOf (now (text .entry)) from (now (samples .entry)) .sought ⌝ }
+    ensures left { λ _. ⌜ now (samples .exit) ≡ seekOf (now (text .entry)) from (now (samples .entry)) .samples ⌝ }
 {
     let mut at = from;
     while at < text.len() {
@@ -119,7 +134,10 @@ pub fn next_line(
     line: &mut [u8],
 ) -> Next
     requires { ⌜ Underway (now image) (now text) progress (now samples) (now state) × (1024 ≤ length (now line)) ⌝ }
-    ensures { λ r. ⌜ StepsOn (now (image .entry)) (now (text .entry)) progress (now (samples .entry)) (now (state .entry)) (now (samples .exit)) (now (state .exit)) (now (line .exit)) r ⌝ }
+    ensures steps { λ r. ⌜ StepsOn (now (image .entry)) (now (text .entry)) progress (now (samples .entry)) (now (state .entry))
+        (now (samples .exit)) (now (state .exit)) (now (line .exit)) r ⌝ }
+    ensures is { λ r. ⌜ Stepped (stepOf (now (image .entry)) (now (text .entry)) progress (now (samples .entry)) (now (state .entry))
+        (now (line .entry))) (now (samples .exit)) (now (state .exit)) (now (line .exit)) r ⌝ }
 {
     let at = progress.at;
     let left = progress.left;
@@ -156,7 +174,10 @@ pub fn next_block(
     block: &mut [u8],
 ) -> Block
     requires { ⌜ Underway (now image) (now text) progress (now samples) (now state) × (1024 ≤ length (now block)) ⌝ }
-    ensures { λ r. ⌜ Filled (now (image .entry)) (now (text .entry)) progress (now (samples .entry)) (now (state .entry)) (now (samples .exit)) (now (state .exit)) (now (block .exit)) r ⌝ }
+    ensures fills { λ r. ⌜ Filled (now (image .entry)) (now (text .entry)) progress (now (samples .entry)) (now (state .entry))
+        (now (samples .exit)) (now (state .exit)) (now (block .exit)) r ⌝ }
+    ensures is { λ r. ⌜ FilledTo (blockOf (now (image .entry)) (now (text .entry)) progress (now (samples .entry)) (now (state .entry))
+        (now (block .entry))) (now (samples .exit)) (now (state .exit)) (now (block .exit)) r ⌝ }
 {
     let mut reached = progress;
     let mut size: usize = 0;

@@ -1,11 +1,14 @@
 -- `trial_step::next_line` meets its contract. Assumes nothing.
 use Rattle.trial_step.proofs.Left.{left-some, left-none, lined, none-left}
 use Rattle.machine.specs.Runnable.{Runnable}
-use Rattle.trial_step.specs.Steps.{callsLeft, soughtCalls, StepsOn}
+use Rattle.trial_step.specs.Steps.{callsLeft, soughtCalls, Seeking, nextCycle, StepsOn}
+use Rattle.trial_step.specs.declared.Sought.{Sought}
+use Rattle.trial_step.proofs.Seeks.{sought-is, within-run, after-run, stepped-cycle, stepped-none}
 use Rattle.model.specs.Says.Calls.{cycle}
+use lib.IntN.{ℤ}
 use lib.ListN.{length}
 use Prim.Native.Nat.{ℕ, _-_}
-use mathlib.Core.List.{_∷_}
+use mathlib.Core.List.{List, _∷_}
 use mathlib.Core.Path.{_≡_, ap, _∙_}
 use native.Mathlib.Omega.{arith}
 use borrow.Author.Needs.{needs}
@@ -37,7 +40,20 @@ sought-calls k =
     let a = seek-start k .args in
     let none : a .progress .left ≡ 0 = omega (arith, k .before .before .if1 .left) in
     ap (λ (n : ℕ). callsLeft (a .text .now) (a .progress .at) n (a .samples .now)) none ∙
-    left-none (a .text .now) (a .progress .at) (a .samples .now) ∙ k .seek .ensures
+    left-none (a .text .now) (a .progress .at) (a .samples .now) ∙ k .seek .ensures .0
+
+-- the next cycle
+sought-next : (k : tie.After-seek) → let a = seek-start k .args in
+    nextCycle (a .text .now) (a .progress) (a .samples .now) ≡
+    record { sought = k .seek .result; samples = k .seek .last .1 .1 .0 }
+sought-next k =
+    let a = seek-start k .args in
+    let none : a .progress .left ≡ 0 = omega (arith, k .before .before .if1 .left) in
+    after-run (a .text .now) (a .progress) (a .samples .now) none ∙
+    sought-is (a .text .now) (a .progress .at) (a .samples .now) (k .seek .ensures .1 .0) (k .seek .ensures .1 .1)
+
+abbrev seeking : List ℤ → Sought → Seeking
+seeking samples r = record { sought = r; samples = samples }
 
 cycle-calls : (o : tie.After-sought) → let k = o .before .before .before in let a = seek-start k .args in
     callsLeft (a .text .now) (a .progress .at) (a .progress .left) (a .samples .now) ≡
@@ -58,16 +74,25 @@ unfolding StepsOn
 returns c =
     let t = at-run c in
     let s = run-start t in
-    lined (s .args .progress .at) (s .args .progress .left - 1) (s .pre .0) (s .pre .0 .runnable) (run-calls t)
-    (c .before .before .before .print-cycle .ensures)
+    let a = s .args in
+    let printed = c .before .before .before .print-cycle .ensures in (
+      lined (a .progress .at) (a .progress .left - 1) (s .pre .0) (s .pre .0 .runnable) (run-calls t) printed,
+      stepped-cycle (a .image .now) (a .text .now) (a .progress) (a .samples .now) (a .state .now) (a .line .now)
+          (a .progress .at) (a .progress .left - 1)
+          (within-run (a .text .now) (a .progress) (a .samples .now) (t .if1 .taken)) printed,
+    )
 
 returns-2 : tie.Need-returns-2
 unfolding StepsOn
 returns-2 c =
     let k = c .before .before .before in
     let a = seek-start k .args in
-    none-left (a .image .now) (a .text .now) (a .progress) (a .samples .now) (a .state .now)
-    (sought-calls k ∙ ap (soughtCalls (a .text .now) (k .seek .last .1 .1 .0)) (c .enum-told .given .1))
+    (
+      none-left (a .image .now) (a .text .now) (a .progress) (a .samples .now) (a .state .now)
+          (sought-calls k ∙ ap (soughtCalls (a .text .now) (k .seek .last .1 .1 .0)) (c .enum-told .given .1)),
+      stepped-none (a .image .now) (a .text .now) (a .progress) (a .samples .now) (a .state .now) (a .line .now)
+          (sought-next k ∙ ap (seeking (k .seek .last .1 .1 .0)) (c .enum-told .given .1)),
+    )
 
 -- the samples that were sought are as many
 sought-runnable : (k : tie.After-seek) → let a =
@@ -91,8 +116,13 @@ returns-3 c =
     let c8 = c3 .before .before .before .before .before in
     let o = c8 in
     let k = o .before .before .before in
-    lined (o .sought .given .0 .0) (o .sought .given .0 .1 .0) (seek-start k .pre .0) (sought-runnable k) (cycle-calls o)
-    (c3 .print-cycle2 .ensures)
+    let a = seek-start k .args in (
+      lined (o .sought .given .0 .0) (o .sought .given .0 .1 .0) (seek-start k .pre .0) (sought-runnable k) (cycle-calls o)
+          (c3 .print-cycle2 .ensures),
+      stepped-cycle (a .image .now) (a .text .now) (a .progress) (a .samples .now) (a .state .now) (a .line .now)
+          (o .sought .given .0 .0) (o .sought .given .0 .1 .0)
+          (sought-next k ∙ ap (seeking (k .seek .last .1 .1 .0)) (o .sought .given .1)) (c3 .print-cycle2 .ensures),
+    )
 
 pub next-line-spec : {M : Type 1} → statement M
 next-line-spec =
