@@ -42,7 +42,7 @@ use Rattle.trial_script.specs.Inputs.{fetches}
 use Rattle.trial_script.proofs.Marks.{fetches-are}
 use Rattle.trial_step.specs.Steps.{linesLeft, atStart, Underway}
 use Rattle.trial_step.proofs.Left.{left-all, left-count}
-use Rattle.trial_prepare.specs.Prepares.{Started, Prepares, Begun, PreparesOn}
+use Rattle.trial_prepare.specs.Prepares.{notReady, Started, Prepares, Begun, PreparesOn}
 use Rattle.trial_prepare.specs.declared.Prepared.{Prepared}
 use Rattle.trial_prepare.specs.declared.Start.{Start}
 
@@ -213,6 +213,8 @@ module _ (program schedule text : List ℕ) (r : Start) (c : Compiles program sc
   started b =
       let on : Begun image text (r .ready) = rw (c .here) at b in
       record {
+        samples-are = on .samples-are;
+        state-is = rw (c .here) (on .state-is);
         fits = c .inside;
         lines-are =
             rw (c .here)
@@ -222,11 +224,11 @@ module _ (program schedule text : List ℕ) (r : Start) (c : Compiles program sc
         underway = rw (c .here) (begun-underway image text (r .ready) (c .formed) few on);
       }
 
-  unstarted : (f : Fault) → checkOf (fetches (take (r .length) (r .image))) text ≡ refused f → trialOf program schedule text ≡
-      refused f
+  unstarted : (f : Fault) → (checkOf (fetches (take (r .length) (r .image))) text ≡ refused f) × (r .ready ≡ notReady f) →
+      (trialOf program schedule text ≡ refused f) × (r .ready ≡ notReady f)
   unfolding trialOf
-  unstarted f e =
-      accepted-then _ _ _ (c .accepts) ∙ refused-then _ _ _ (sym inputs-are ∙ (rw (c .here) at e))
+  unstarted f (e, none) =
+      (accepted-then _ _ _ (c .accepts) ∙ refused-then _ _ _ (sym inputs-are ∙ (rw (c .here) at e)), none)
 
   -- What is prepared on the image is prepared for the pair.
   pub prepared : (j : Judged) → PreparesOn (take (r .length) (r .image)) text (r .ready) j → Prepares program schedule text r j

@@ -5,7 +5,7 @@ use model::Fault;
 ghost use mathlib.Core.Path.{_≡_};
 ghost use mathlib.Core.Bool.{true};
 ghost use Rattle.model.specs.Rules.Machine.{wellFormed};
-ghost use Rattle.trial_prepare.specs.Prepares.{PreparesOn, Prepares};
+ghost use Rattle.trial_prepare.specs.Prepares.{notReady, PreparesOn, Prepares, HoldsImage};
 
 // The samples and the state before the first line, how many lines there will be, or the refusal.
 pub struct Prepared {
@@ -24,7 +24,7 @@ pub struct Start {
 
 // No line is printed.
 fn refused(fault: Fault) -> Prepared
-    ensures { λ r. ⌜ r .judged ≡ Judged.Refused fault ⌝ }
+    ensures { λ r. ⌜ r ≡ notReady fault ⌝ }
 {
     let samples: [i32; 64] = [0; 64];
     let state: [i32; 65] = [0; 65];
@@ -60,7 +60,8 @@ fn prepare_image(image: &[u8], text: &[u8]) -> Prepared
 
 // Starts a trial, or tells the refusal (1 to 16, 29, 30, 24, 25).
 pub fn prepare(program: &[u8], schedule: &[u8], text: &[u8]) -> Start
-    ensures { λ r. ⌜ Prepares (now (program .entry)) (now (schedule .entry)) (now (text .entry)) r (r .ready .judged) ⌝ }
+    ensures starts { λ r. ⌜ Prepares (now (program .entry)) (now (schedule .entry)) (now (text .entry)) r (r .ready .judged) ⌝ }
+    ensures holds { λ r. ⌜ HoldsImage (now (program .entry)) (now (schedule .entry)) r ⌝ }
 {
     let mut image: [u8; 65792] = [0; 65792];
     let compiled = compiler::compile(program, schedule, &mut image);

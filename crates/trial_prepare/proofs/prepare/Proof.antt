@@ -1,5 +1,5 @@
 -- `trial_prepare::prepare` meets its contract. Assumes nothing.
-use mathlib.Core.Path.{sym, ap, _∙_}
+use mathlib.Core.Path.{refl, sym, ap, _∙_}
 use native.Mathlib.Omega.{arith}
 use borrow.Author.Needs.{needs}
 use lib.ListN.{length-take}
@@ -39,7 +39,15 @@ prepare-image-requires : tie.Need-prepare-image-requires
 prepare-image-requires c κs = let m = imaged (c .before) in rw (m .here) (m .formed)
 
 returns : tie.Need-returns
-returns c = prepared _ _ _ _ (imaged (c .before .before)) _ (c .prepare-image .ensures)
+returns c =
+    let l = c .before .before in
+    let k = l .before .before in
+    let i = k .before .before .before in
+    let e = i .before .compile .ensures in
+    let answer = sym (e .0) ∙ ap compiledOf (k .before .compiled .given .1) in (
+      prepared _ _ _ _ (imaged l) _ (c .prepare-image .ensures),
+      record { image-is = e .1; length-is = l .stated-length .ensures ∙ rw (answer, e .1) },
+    )
 
 returns-2 : tie.Need-returns-2
 unfolding Prepares
@@ -47,10 +55,16 @@ returns-2 c =
     let k = c .before .before in
     let i = k .before .before in
     let e = i .before .compile .ensures in
-    rw (c .refused .ensures)
-    (uncompiled _ _ _ _
-    (compile-refuses _ _ _ (λ j. i .before .before .before .before .before .shared-slice-known .given j .fits)
-    (omega (arith, i .image2 .given)) _ (sym (e .0) ∙ ap compiledOf (k .compiled2 .given .1))))
+    let answer = sym (e .0) ∙ ap compiledOf (k .compiled2 .given .1) in
+    rw (c .refused .ensures) (
+      (
+        uncompiled _ _ _ _
+            (compile-refuses _ _ _ (λ j. i .before .before .before .before .before .shared-slice-known .given j .fits)
+            (omega (arith, i .image2 .given)) _ answer),
+        refl,
+      ),
+      record { image-is = e .1; length-is = rw answer },
+    )
 
 pub prepare-spec : {M : Type 1} → statement M
 prepare-spec =

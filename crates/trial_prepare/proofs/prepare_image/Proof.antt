@@ -23,7 +23,7 @@ returns : tie.Need-returns
 unfolding PreparesOn
 returns c =
     let k = c .before .before .before .before in
-    rw (c .refused .ensures) (sym (judged-is k) ∙ ap ruledOf (c .before .before .judged .given .1))
+    rw (c .refused .ensures) (sym (judged-is k) ∙ ap ruledOf (c .before .before .judged .given .1), refl)
 
 -- the script is fine
 fine : (e : tie.After-enum-told) → let a = e .before .before .before .before .before .before .before .args in
