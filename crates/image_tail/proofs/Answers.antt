@@ -72,9 +72,12 @@ module _ (lent : List ℕ) where
           }
       go false o q = let z : _≡_ {A = ℕ} 0 1 = cc in absurd (omega arith)
 
-  pub no-bytes : {f : Fault} → refused f ≡ lengthOfTail (tailIn lent) → stretchIn (tailIn lent) ≡ []
-  no-bytes {f} e = go (tailIn lent) e
+  pub none-read : {f : Fault} → refused f ≡ lengthOfTail (tailIn lent) → tailIn lent ≡ refused f
+  none-read {f} e = go (tailIn lent) e
     where
-      go : (o : Outcome (List ℕ)) → refused f ≡ lengthOfTail o → stretchIn o ≡ []
+      go : (o : Outcome (List ℕ)) → refused f ≡ lengthOfTail o → o ≡ refused f
       go (accepted tail) q = let z : _≡_ {A = ℕ} 0 1 = cc in absurd (omega arith)
-      go (refused g) q = refl
+      go (refused g) q = let same : g ≡ f = cc in ap refused same
+
+  pub no-bytes : {f : Fault} → refused f ≡ lengthOfTail (tailIn lent) → stretchIn (tailIn lent) ≡ []
+  no-bytes e = ap stretchIn (none-read e)

@@ -35,23 +35,23 @@ next-block-requires c κs =
     (l .loop .inv .0 (not-true _ (c .before .before .before .loop-test .taken)), omega (arith, l .loop .inv .3))
 
 array-share-prefix-block : tie.Need-array-share-prefix-block Inv-loop μ-loop
-array-share-prefix-block c = c .before .before .before .next-block .ensures .fits
+array-share-prefix-block c = c .before .before .before .next-block .ensures .0 .fits
 
 slice-aggregate-hash-more : tie.Need-slice-aggregate-hash-more Inv-loop μ-loop
-slice-aggregate-hash-more c = simp length-take (omega (arith, c .before .before .before .before .next-block .ensures .fits))
+slice-aggregate-hash-more c = simp length-take (omega (arith, c .before .before .before .before .next-block .ensures .0 .fits))
 
 loop-less : tie.Need-loop-less Inv-loop μ-loop
 loop-less c =
     let n = c .before .before .before .before .before .before in
     let goes : turn n .loop .ended ≡ false = not-true _ (n .before .before .before .before .loop-test .taken) in
-    rw goes (falls (n .next-block .ensures))
+    rw goes (falls (n .next-block .ensures .0))
 
 loop-again : tie.Need-loop-again Inv-loop μ-loop
 loop-again c =
     let n = c .before .before .before .before .before .before in
     let i = turn n .loop .inv in
     let kept = n .next-block .kept .1 .1 .1 in
-    (n .next-block .ensures .underway, kept .0 ∙ i .1, kept .1 .0 ∙ i .2, kept .1 .1 .0 ∙ i .3)
+    (n .next-block .ensures .0 .underway, kept .0 ∙ i .1, kept .1 .0 ∙ i .2, kept .1 .1 .0 ∙ i .3)
 
 pub hash-lines-spec : {M : Type 1} → statement M
 hash-lines-spec =

@@ -11,7 +11,7 @@ use Rattle.replay.proofs.trial.Tie as tie
 started : (t : tie.After-enum-told) → let k = t .before .before .before in let a = k .before .before .before .before .args in
     Started (a .program .now) (a .schedule .now) (a .text .now) (k .prepare .result)
 started t = let k = t .before .before .before in
-    is-started _ _ _ (k .prepare .result) (t .enum-told .given .1) (k .prepare .ensures)
+    is-started _ _ _ (k .prepare .result) (t .enum-told .given .1) (k .prepare .ensures .0)
 
 slice-aggregate-hash-lines : tie.Need-slice-aggregate-hash-lines
 slice-aggregate-hash-lines c = simp length-take (omega (arith, started (c .before .before .before .before) .fits))

@@ -12,7 +12,7 @@ started : (t : tie.After-enum-told) → let k = t .before .before .before in let
     Started (a .program .now) (a .schedule .now) (a .text .now) (k .prepare .result)
 started t =
     let k = t .before .before .before in
-    is-started _ _ _ (k .prepare .result) (t .enum-told .given .1) (k .prepare .ensures)
+    is-started _ _ _ (k .prepare .result) (t .enum-told .given .1) (k .prepare .ensures .0)
 
 slice-aggregate-print-lines : tie.Need-slice-aggregate-print-lines
 slice-aggregate-print-lines c = simp length-take (omega (arith, started (c .before .before .before .before) .fits))
