@@ -64,7 +64,7 @@ use Rattle.model.specs.Rules.Schedule.{Schedule, scheduleCommandAt}
 use Rattle.model.specs.Rules.Script.{Action, noSamples, callsFrom, cyclesOf}
 use Rattle.model.specs.Rules.Tail.{tailIn, Bears}
 use Rattle.model.specs.Rules.Trial.{trialOf}
-use Rattle.model.specs.Rules.Word.{byteAt, AreBytes}
+use Rattle.model.specs.Rules.Word.{nearest, byteAt, AreBytes}
 use Rattle.model.specs.Says.Written.{
   DeclarationWritten,
   DeclarationCut,
@@ -125,7 +125,8 @@ use Rattle.theorems.specs.Tables.{Yields, StoresRows, WithoutTable}
 use Rattle.theorems.specs.Trials.{inputsOf, TrialLines}
 use Rattle.theorems.specs.TrialRefusals.{LegalScript, TrialRefusedAt}
 use Rattle.theorems.specs.WellFormed.{WellFormed}
-use Rattle.theorems.specs.Nearest.{WordsRange, NearestResults}
+use Rattle.theorems.specs.Nearest.{WordsRange, NearestWord}
+use Rattle.theorems.specs.Operators.{OperatorBytes, OperatorsGive}
 use Rattle.theorems.specs.Images.{TailExactly, ReportsExactly, OneImage, Reports}
 use Rattle.larderlate.specs.Code.{codeNumber, lengthIn, lengthOfTail}
 use Rattle.promises.specs.Codable.{Codable}
@@ -173,6 +174,7 @@ use Rattle.theorems.proofs.Images.FormedExactly as FormedExactly
 use Rattle.theorems.proofs.Images.Heights.{stack-least, stack-31}
 use Rattle.theorems.proofs.Pairs.Latency as Latency
 use Rattle.theorems.proofs.Nearest as Nearest
+use Rattle.theorems.proofs.Operators as Operators
 use Rattle.theorems.proofs.Calls.Numbers as Numbers
 use Rattle.theorems.proofs.Images.Offsets.{offsets-fit}
 use Rattle.theorems.proofs.Calls.Places.{refusal-small, places-small, places-zero}
@@ -585,10 +587,16 @@ same-program program schedule schedule′ q q′ e e′ =
 pub words-range : WordsRange
 words-range = Nearest.words-range
 
--- Request d. ADD, SUB, MUL and NEG, in the streams as in a cycle, give the nearest word to the true result: a word; the result
--- itself, where it is one; and no word is nearer to it.
-pub nearest-word : (a b : ℤ) → NearestResults a b
+-- Request d. The nearest word to a true result: a word; the result itself, where it is one; and no word is nearer to it.
+pub nearest-word : (z w : ℤ) → (nearest z ≡ w) ↔ NearestWord z w
 nearest-word = Nearest.nearest-word
+
+-- The operators have the paper's bytes, and each gives, in the streams as in a cycle, exactly what the paper says of it.
+pub operators-listed : OperatorBytes
+operators-listed = Operators.operators-listed
+
+pub operators-give : OperatorsGive
+operators-give = Operators.operators-give
 
 -- Request j. A word that one row contains, and no other, has its result, however many rows there are ..
 pub table-rule : (rows : List Row) (w : ℤ) (n : ℕ) → Lies rows w n → ((m : ℕ) → Lies rows w m → m ≡ n) →

@@ -1,13 +1,15 @@
--- The nearest word is what its name says, and ADD, SUB, MUL and NEG give it. Assumes nothing.
-use Prim.Native.Nat.{ℕ, zero, suc, _+_, _-_, _≤_}
-use mathlib.Core.Path.{_≡_, ap}
+-- The nearest word is what its name says. Assumes nothing.
+use Prim.Native.Nat.{ℕ, zero, suc, _+_, _-_, _≤_, _<_, min}
+use mathlib.Core.Logic.{_↔_}
+use mathlib.Core.Path.{_≡_, sym, ap, subst, _∙_}
+use native.Mathlib.Decide.{decLt}
 use native.Mathlib.Omega.{arith}
 use borrow.Author.Needs.{sfits-of}
-use lib.IntN.{ℤ, pos, negsuc, natAbs, negℤ, _+ℤ_, _-ℤ_, _*ℤ_}
+use lib.IntN.{ℤ, pos, negsuc, natAbs}
 use mir.Syntax.{w32}
-use Rattle.model.specs.Rules.Word.{nearest, addWord, subWord, mulWord, negWord}
+use Rattle.model.specs.Rules.Word.{nearest}
 use Rattle.model.specs.Says.Words.{IsWord}
-use Rattle.theorems.specs.Nearest.{WordsRange, distance, NearestWord, NearestResults}
+use Rattle.theorems.specs.Nearest.{WordsRange, distance, NearestWord}
 use Rattle.model.proofs.Basics.Order.{le-true, true-le}
 use Rattle.model.proofs.Basics.Tests.{sub-by}
 use Rattle.model.proofs.Rows.Levels.{word-range, range-word}
@@ -40,7 +42,7 @@ none-nearer (pos n) (negsuc k) h = let l = h .sfits in simp (apart-pos, apart-be
 none-nearer (negsuc n) (pos k) h = let l = h .sfits in simp (apart-neg, apart-above) (omega arith)
 none-nearer (negsuc n) (negsuc k) h = let l = h .sfits in simp apart-neg (omega arith)
 
-nearest-is : (z : ℤ) → NearestWord z (nearest z)
+pub nearest-is : (z : ℤ) → NearestWord z (nearest z)
 unfolding nearest
 nearest-is (pos n) =
     record {
@@ -55,12 +57,38 @@ nearest-is (negsuc n) =
       none-nearer = none-nearer (negsuc n);
     }
 
-pub nearest-word : (a b : ℤ) → NearestResults a b
-unfolding addWord subWord mulWord negWord
-nearest-word a b =
-    record {
-      add = nearest-is (a +ℤ b);
-      sub = nearest-is (a -ℤ b);
-      mul = nearest-is (a *ℤ b);
-      neg = nearest-is (negℤ a);
-    }
+-- There is one nearest word.
+only-pos : (n : ℕ) (w : ℤ) → NearestWord (pos n) w → nearest (pos n) ≡ w
+unfolding nearest
+only-pos n w h = go (decLt n 2147483648) w h
+  where
+    go : Dec (n < 2147483648) → (w : ℤ) → NearestWord (pos n) w → pos (min n 2147483647) ≡ w
+    go (yes l) w h = ap pos (omega arith) ∙ sym (h .itself (sfits-of {w = w32} (omega arith)))
+    go (no l) (pos m) h =
+        let f = h .word .sfits in
+        let d = simp apart-pos at (h .none-nearer (pos 2147483647) (sfits-of {w = w32} (omega arith))) in
+        ap pos (omega arith)
+    go (no l) (negsuc m) h =
+        let d = simp (apart-pos, apart-below) at (h .none-nearer (pos 2147483647) (sfits-of {w = w32} (omega arith))) in
+        absurd (omega arith)
+
+only-neg : (n : ℕ) (w : ℤ) → NearestWord (negsuc n) w → nearest (negsuc n) ≡ w
+unfolding nearest
+only-neg n w h = go (decLt n 2147483648) w h
+  where
+    go : Dec (n < 2147483648) → (w : ℤ) → NearestWord (negsuc n) w → negsuc (min n 2147483647) ≡ w
+    go (yes l) w h = ap negsuc (omega arith) ∙ sym (h .itself (sfits-of {w = w32} (omega arith)))
+    go (no l) (negsuc m) h =
+        let f = h .word .sfits in
+        let d = simp apart-neg at (h .none-nearer (negsuc 2147483647) (sfits-of {w = w32} (omega arith))) in
+        ap negsuc (omega arith)
+    go (no l) (pos m) h =
+        let d = simp (apart-neg, apart-above) at (h .none-nearer (negsuc 2147483647) (sfits-of {w = w32} (omega arith))) in
+        absurd (omega arith)
+
+only : (z w : ℤ) → NearestWord z w → nearest z ≡ w
+only (pos n) = only-pos n
+only (negsuc n) = only-neg n
+
+pub nearest-word : (z w : ℤ) → (nearest z ≡ w) ↔ NearestWord z w
+nearest-word z w = (λ e. subst (λ v. NearestWord z v) e (nearest-is z), only z w)

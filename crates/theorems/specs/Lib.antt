@@ -1,5 +1,6 @@
 -- The statements that judge the definitions: the paper's words over all bytes, runs and calls.
 pub mod Nearest
+pub mod Operators
 pub mod Enums
 pub mod Stops
 pub mod Reach
