@@ -33,7 +33,16 @@ use Rattle.model.proofs.Basics.Order.{le-true, true-le, lt-true, true-lt, below
 use Rattle.model.proofs.Basics.Outcomes.{not-true-false}
 use Rattle.model.proofs.Rows.Levels.{eqZ-true, true-eqZ, lies-contains, contains-lies}
 use Rattle.model.proofs.Rows.Rule.{table-first, table-none}
-use Rattle.theorems.specs.Operators.{OperatorBytes, Tests, Extreme, BinaryGives, TableGives, UnaryGives, IfGives, OperatorsGive}
+use Rattle.theorems.specs.Operators.{
+  OperatorBytes,
+  Tests,
+  Extreme,
+  BinaryGives,
+  TableGives,
+  UnaryGives,
+  IfGives,
+  OperatorsGive,
+}
 use Rattle.theorems.proofs.Nearest.{nearest-word}
 
 pub operators-listed : OperatorBytes

@@ -216,7 +216,7 @@ cases =
     (size A in-order gives numbers (49 ∷ 61 ∷ [])) ∷
     -- a buffer of 48: 17, place 61, with the tail (requests f, j)
     (intoBuffer A in-order 48 gives refuses 17 61) ∷
-    -- its bytes: the head; the records; the offsets and the lists; the count byte; the codes; the tail; then the buffer's own byte
+    -- its bytes: the head; the records; the offsets and the lists; the count byte; the codes; the tail; then the buffer's own
     (leaves A in-order 62 gives
     numbers (
     2 ∷ 3 ∷ 49 ∷ 0 ∷

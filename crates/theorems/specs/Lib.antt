@@ -9,6 +9,7 @@ pub mod Subexpression
 pub mod Conditions
 pub mod Refusals
 pub mod Height
+pub mod Stretches
 pub mod WellFormed
 pub mod Images
 pub mod Streams

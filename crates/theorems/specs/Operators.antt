@@ -38,8 +38,8 @@ pub record Extreme (R : ℤ → ℤ → Type 0) (a b w : ℤ) : Type 0 where
   pub first : R w a
   pub second : R w b
 
--- ADD, SUB and MUL give the nearest word to the true result. LESS (signed) and SAME give 1 or 0. MIN gives one of both that is not
--- above either, MAX one that is not below.
+-- ADD, SUB and MUL give the nearest word to the true result. LESS (signed) and SAME give 1 or 0. MIN gives one of both that is
+-- not above either, MAX one that is not below.
 abbrev pub BinaryGives : Binary → ℤ → ℤ → ℤ → Type 0
 BinaryGives Add a b w = NearestWord (a +ℤ b) w
 BinaryGives Sub a b w = NearestWord (a -ℤ b) w
@@ -49,8 +49,8 @@ BinaryGives Same a b w = Tests (a ≡ b) w
 BinaryGives Min a b w = Extreme (λ v u. v ≤ℤ u) a b w
 BinaryGives Max a b w = Extreme (λ v u. u ≤ℤ v) a b w
 
--- TABLE yields the result of the row that contains its operand: of the first, and 0 where there is none. (Rows that cover leave no
--- word to the second case, and one row to the first.)
+-- TABLE yields the result of the row that contains its operand: of the first, and 0 where there is none. (Rows that cover leave
+-- one row to the first case, and no word to the second.)
 pub data TableGives (rows : List Row) (a : ℤ) : ℤ → Type 0 where
   row : {n : ℕ} → Lies rows a n → ((m : ℕ) → m < n → ¬ Lies rows a m) → TableGives rows a (rowAt rows n .result)
   none : ((n : ℕ) → ¬ Lies rows a n) → TableGives rows a (pos 0)
