@@ -172,6 +172,7 @@ use Rattle.theorems.proofs.Pairs.Exact as Exact
 use Rattle.theorems.proofs.Examples as Examples
 use Rattle.theorems.proofs.Images.FormedExactly as FormedExactly
 use Rattle.theorems.proofs.Images.Heights.{stack-least, stack-31}
+use Rattle.theorems.proofs.Images.Ran.{cycle-is}
 use Rattle.theorems.proofs.Pairs.Latency as Latency
 use Rattle.theorems.proofs.Nearest as Nearest
 use Rattle.theorems.proofs.Operators as Operators
@@ -475,7 +476,9 @@ module _ (program schedule : List ℕ) (bytes : AreBytes program) (p : Program) 
         told = λ counts. rw (e, image-length p s h);
         stack = stack-least p s h bounded;
         size = counts-length p s h (bounded .hyper);
-        counted = λ c lt. counts-at p s h c lt ∙ sym (cycle-count p s h bounded (accepts .ordered .only) c lt);
+        counted = λ c lt n state samples left r.
+            counts-at p s h c lt ∙ sym (cycle-count p s h bounded (accepts .ordered .only) c lt) ∙
+            sym (cycle-is (imageOf p s h) c state samples r .1);
         past = counts-past p s h;
       }
 

@@ -3,6 +3,7 @@ pub mod Decoded
 pub mod Stretched
 pub mod FormedExactly
 pub mod Former
+pub mod Ran
 pub mod Tailed
 pub mod Heights
 pub mod Offsets

@@ -11,6 +11,7 @@ pub mod Refusals
 pub mod Height
 pub mod Stretches
 pub mod WellFormed
+pub mod Runs
 pub mod Images
 pub mod Streams
 pub mod Tables

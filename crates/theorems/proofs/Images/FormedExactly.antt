@@ -6,7 +6,7 @@ use mathlib.Core.Logic.{_↔_, _⊎_, inl, inr}
 use mathlib.Core.Path.{_≡_, refl, sym, ap, subst}
 use native.Mathlib.Decide.{decLt}
 use native.Mathlib.Omega.{arith}
-use borrow.Author.Tests.{leb-true, ltb-true, eqb-true, le-leb, lt-ltb, le-ltb, eq-eqb}
+use borrow.Author.Tests.{leb-true, ltb-true, eqb-true, le-leb, lt-ltb, eq-eqb}
 use lib.Dec.{leb, ltb}
 use lib.ListN.{length}
 use Rattle.theorems.specs.Height.{Changes}
@@ -165,7 +165,7 @@ module _ (rows n own : ℕ) (code : List ℕ) where
   code-exactly = (λ h. from-formed (length code) 0 0 (omega arith) h, λ f. formed-from f (length code) (omega arith))
 
 -- What rises step by step rises.
-rises : (f : ℕ → ℕ) (n : ℕ) → ((c : ℕ) → c < n → f c ≤ f (c + 1)) → (k : ℕ) → k ≤ n → f k ≤ f n
+pub rises : (f : ℕ → ℕ) (n : ℕ) → ((c : ℕ) → c < n → f c ≤ f (c + 1)) → (k : ℕ) → k ≤ n → f k ≤ f n
 rises f zero up k le = let z : k ≡ 0 = omega arith in rw z (omega arith)
 rises f (suc n) up k le = go (decLt k (suc n)) (rises f n (λ c lt. up c (omega arith)) k)
   where
@@ -310,7 +310,7 @@ module _ (image : List ℕ) where
     entry-below : (i : ℕ) → i < tableOffset image - listsAt n h → byteAt image (listsAt n h + i) < n
     entry-below i lt = w .entries (listsAt n h + i) (omega (arith, w .lists-start)) (omega arith)
 
-    table-within : tableOffset image + 1 + 12 * rowCount image ≤ length image
+    pub table-within : tableOffset image + 1 + 12 * rowCount image ≤ length image
     table-within = omega (arith, code-start, code-within 0 (omega arith))
 
     ordered : Ordered (tableOffset image)
