@@ -31,6 +31,7 @@ use Rattle.model.specs.Rules.Machine.{
   countOf,
   statedLength,
   wellFormed,
+  tableOffset,
   rowCount,
   rowsIn,
   imagePart,
@@ -120,6 +121,7 @@ use Rattle.theorems.specs.Lists.{
 use Rattle.theorems.specs.Reach.{WidthsListed}
 use Rattle.theorems.specs.Refusals.{RefusedAt}
 use Rattle.theorems.specs.Streams.{Satisfies, value, wordRead}
+use Rattle.theorems.specs.Stretches.{RowsStand}
 use Rattle.theorems.specs.Subexpression.{Subexpression}
 use Rattle.theorems.specs.Tables.{Yields, StoresRows, WithoutTable}
 use Rattle.theorems.specs.Trials.{inputsOf, TrialLines}
@@ -173,6 +175,7 @@ use Rattle.theorems.proofs.Examples as Examples
 use Rattle.theorems.proofs.Images.FormedExactly as FormedExactly
 use Rattle.theorems.proofs.Images.Heights.{stack-least, stack-31}
 use Rattle.theorems.proofs.Images.Ran.{cycle-is}
+use Rattle.theorems.proofs.Images.Stretched as Stretched
 use Rattle.theorems.proofs.Pairs.Latency as Latency
 use Rattle.theorems.proofs.Nearest as Nearest
 use Rattle.theorems.proofs.Operators as Operators
@@ -610,6 +613,10 @@ table-rule = Rule.table-rule
 pub sorted-rule : (rows others : List Row) → Reordered rows others → Covers rows → (w : ℤ) → IsWord w →
     tableWord others w ≡ tableWord rows w
 sorted-rule rows others r c w f = sym (Rule.table-reordered r c w f)
+
+-- The rows of an image are those that stand after its lists, byte by byte.
+pub rows-stand : (image : List ℕ) → RowsStand image (tableOffset image)
+rows-stand = Stretched.rows-stand
 
 -- In a well-formed image with a row every word lies in exactly one, whose result TABLE yields.
 pub formed-covers : (image : List ℕ) → wellFormed image ≡ true → 0 < rowCount image → (w : ℤ) → IsWord w →

@@ -1,10 +1,11 @@
--- Where the lists and the codes of an image stand, by its bytes.
+-- Where the lists, the rows and the codes of an image stand, by its bytes.
 use Prim.Native.Nat.{ℕ, _+_, _*_, _<_}
 use mathlib.Core.List.{List, _++_}
 use mathlib.Core.Path.{_≡_}
 use lib.ListN.{length}
-use Rattle.model.specs.Rules.Machine.{countOf}
-use Rattle.model.specs.Rules.Word.{twoAt}
+use Rattle.model.specs.Rules.Machine.{hyperOf, countOf, rowsIn}
+use Rattle.model.specs.Rules.Table.{rowAt}
+use Rattle.model.specs.Rules.Word.{byteAt, twoAt, wordAt}
 
 -- The bytes of an image from one offset to another. Offsets count from byte 0.
 pub record IsStretch (image : List ℕ) (from to : ℕ) (bytes : List ℕ) : Type 0 where
@@ -18,6 +19,14 @@ pub record IsStretch (image : List ℕ) (from to : ℕ) (bytes : List ℕ) : Typ
 abbrev pub IsList : List ℕ → ℕ → List ℕ → Type 0
 IsList image c bytes =
     IsStretch image (twoAt image (4 + 6 * countOf image + 2 * c)) (twoAt image (4 + 6 * countOf image + 2 * (c + 1))) bytes
+
+-- Where the last list ends stands a count byte, then the rows, 12 bytes each: low, high, result.
+pub record RowsStand (image : List ℕ) (at : ℕ) : Type 0 where
+  pub here : at ≡ twoAt image (4 + 6 * countOf image + 2 * hyperOf image)
+  pub many : length (rowsIn image) ≡ byteAt image at
+  pub low : (n : ℕ) → n < byteAt image at → rowAt (rowsIn image) n .low ≡ wordAt image (at + 1 + 12 * n)
+  pub high : (n : ℕ) → n < byteAt image at → rowAt (rowsIn image) n .high ≡ wordAt image (at + 1 + 12 * n + 4)
+  pub result : (n : ℕ) → n < byteAt image at → rowAt (rowsIn image) n .result ≡ wordAt image (at + 1 + 12 * n + 8)
 
 -- Code by signal number, without gaps: the code of signal x starts at the offset in its record, behind the initial word; where
 -- one after the last would start, the image ends.

@@ -1,4 +1,4 @@
--- The lists and codes that the definitions cut out of an image are those that its bytes say. Assumes nothing.
+-- The lists, rows and codes that the definitions take out of an image are those that its bytes say. Assumes nothing.
 use Prim.Native.Nat.{ℕ, _+_, _-_, _*_, _≤_, _<_}
 use mathlib.Core.Bool.{Bool, true, false, cond}
 use mathlib.Core.List.{List, _++_}
@@ -8,9 +8,11 @@ use borrow.Author.Tests.{ltb-true, ltb-false, lt-ltb, le-ltb}
 use lib.Dec.{ltb}
 use lib.ListN.{length, take, drop, take-append-drop, length-append, length-take, length-drop}
 use lib.Seq.{length-take-le, take-at, drop-at}
-use Rattle.model.specs.Rules.Machine.{stretch, countOf, listOffset, codeOffset, listOf, codeOf}
-use Rattle.model.specs.Rules.Word.{twoAt}
-use Rattle.theorems.specs.Stretches.{IsStretch, IsList, CodeStarts, IsCode}
+use Rattle.model.specs.Rules.Machine.{stretch, countOf, listOffset, tableOffset, codeOffset, listOf, codeOf}
+use Rattle.model.specs.Rules.Table.{areaRows}
+use Rattle.model.specs.Rules.Word.{byteAt, twoAt}
+use Rattle.theorems.specs.Stretches.{IsStretch, IsList, RowsStand, CodeStarts, IsCode}
+use Rattle.model.proofs.Rows.Area.{rows-length, rows-at}
 
 module _ {image : List ℕ} where
   stretch-is : (from to : ℕ) → from ≤ to → to ≤ length image → IsStretch image from to (stretch image from to)
@@ -75,3 +77,18 @@ module _ {image : List ℕ} where
   pub is-list : (c : ℕ) {bytes : List ℕ} → IsList image c bytes → listOf image c ≡ bytes
   unfolding listOf listOffset
   is-list c s = is-stretch s
+
+-- The rows.
+pub rows-stand : (image : List ℕ) → RowsStand image (tableOffset image)
+unfolding tableOffset listOffset areaRows
+rows-stand image =
+    let start = tableOffset image + 1 in
+    let count = byteAt image (tableOffset image) in
+    let row = rows-at image start count in
+    record {
+      here = refl;
+      many = rows-length image start count;
+      low = λ n lt. ap (λ r. r .low) (row n lt);
+      high = λ n lt. ap (λ r. r .high) (row n lt);
+      result = λ n lt. ap (λ r. r .result) (row n lt);
+    }
