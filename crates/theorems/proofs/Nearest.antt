@@ -1,8 +1,7 @@
 -- The nearest word is what its name says. Assumes nothing.
-use Prim.Native.Nat.{ℕ, zero, suc, _+_, _-_, _≤_, _<_, min}
+use Prim.Native.Nat.{ℕ, zero, suc, _+_, _-_, _≤_}
 use mathlib.Core.Logic.{_↔_}
-use mathlib.Core.Path.{_≡_, sym, ap, subst, _∙_}
-use native.Mathlib.Decide.{decLt}
+use mathlib.Core.Path.{_≡_, ap, subst}
 use native.Mathlib.Omega.{arith}
 use borrow.Author.Needs.{sfits-of}
 use lib.IntN.{ℤ, pos, negsuc, natAbs}
@@ -57,38 +56,23 @@ nearest-is (negsuc n) =
       none-nearer = none-nearer (negsuc n);
     }
 
--- There is one nearest word.
-only-pos : (n : ℕ) (w : ℤ) → NearestWord (pos n) w → nearest (pos n) ≡ w
-unfolding nearest
-only-pos n w h = go (decLt n 2147483648) w h
-  where
-    go : Dec (n < 2147483648) → (w : ℤ) → NearestWord (pos n) w → pos (min n 2147483647) ≡ w
-    go (yes l) w h = ap pos (omega arith) ∙ sym (h .itself (sfits-of {w = w32} (omega arith)))
-    go (no l) (pos m) h =
-        let f = h .word .sfits in
-        let d = simp apart-pos at (h .none-nearer (pos 2147483647) (sfits-of {w = w32} (omega arith))) in
-        ap pos (omega arith)
-    go (no l) (negsuc m) h =
-        let d = simp (apart-pos, apart-below) at (h .none-nearer (pos 2147483647) (sfits-of {w = w32} (omega arith))) in
-        absurd (omega arith)
-
-only-neg : (n : ℕ) (w : ℤ) → NearestWord (negsuc n) w → nearest (negsuc n) ≡ w
-unfolding nearest
-only-neg n w h = go (decLt n 2147483648) w h
-  where
-    go : Dec (n < 2147483648) → (w : ℤ) → NearestWord (negsuc n) w → negsuc (min n 2147483647) ≡ w
-    go (yes l) w h = ap negsuc (omega arith) ∙ sym (h .itself (sfits-of {w = w32} (omega arith)))
-    go (no l) (negsuc m) h =
-        let f = h .word .sfits in
-        let d = simp apart-neg at (h .none-nearer (negsuc 2147483647) (sfits-of {w = w32} (omega arith))) in
-        ap negsuc (omega arith)
-    go (no l) (pos m) h =
-        let d = simp (apart-neg, apart-above) at (h .none-nearer (negsuc 2147483647) (sfits-of {w = w32} (omega arith))) in
-        absurd (omega arith)
-
+-- There is no other.
 only : (z w : ℤ) → NearestWord z w → nearest z ≡ w
-only (pos n) = only-pos n
-only (negsuc n) = only-neg n
+unfolding nearest
+only (pos n) (pos m) h =
+    let l = h .word .sfits in
+    let d = simp apart-pos at (h .none-nearer (nearest (pos n)) (nearest-is (pos n) .word)) in
+    ap pos (omega arith)
+only (pos n) (negsuc m) h =
+    let d = simp (apart-pos, apart-below) at (h .none-nearer (nearest (pos n)) (nearest-is (pos n) .word)) in
+    absurd (omega arith)
+only (negsuc n) (pos m) h =
+    let d = simp (apart-neg, apart-above) at (h .none-nearer (nearest (negsuc n)) (nearest-is (negsuc n) .word)) in
+    absurd (omega arith)
+only (negsuc n) (negsuc m) h =
+    let l = h .word .sfits in
+    let d = simp apart-neg at (h .none-nearer (nearest (negsuc n)) (nearest-is (negsuc n) .word)) in
+    ap negsuc (omega arith)
 
 pub nearest-word : (z w : ℤ) → (nearest z ≡ w) ↔ NearestWord z w
 nearest-word z w = (λ e. subst (λ v. NearestWord z v) e (nearest-is z), only z w)
