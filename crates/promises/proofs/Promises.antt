@@ -31,6 +31,7 @@ use Rattle.model.specs.Rules.Machine.{
   countOf,
   statedLength,
   wellFormed,
+  tableOffset,
   rowCount,
   rowsIn,
   imagePart,
@@ -64,7 +65,7 @@ use Rattle.model.specs.Rules.Schedule.{Schedule, scheduleCommandAt}
 use Rattle.model.specs.Rules.Script.{Action}
 use Rattle.model.specs.Rules.Tail.{tailIn, Bears}
 use Rattle.model.specs.Rules.Trial.{trialOf}
-use Rattle.model.specs.Rules.Word.{byteAt, AreBytes}
+use Rattle.model.specs.Rules.Word.{nearest, byteAt, AreBytes}
 use Rattle.model.specs.Says.Written.{
   DeclarationWritten,
   DeclarationCut,
@@ -120,12 +121,14 @@ use Rattle.theorems.specs.Lists.{
 use Rattle.theorems.specs.Reach.{WidthsListed}
 use Rattle.theorems.specs.Refusals.{RefusedAt}
 use Rattle.theorems.specs.Streams.{Satisfies, value, wordRead}
+use Rattle.theorems.specs.Stretches.{RowsStand}
 use Rattle.theorems.specs.Subexpression.{Subexpression}
 use Rattle.theorems.specs.Tables.{Yields, StoresRows, WithoutTable}
-use Rattle.theorems.specs.Trials.{Runs, SetInputs, TrialLines}
+use Rattle.theorems.specs.Trials.{Makes, SetInputs, TrialLines}
 use Rattle.theorems.specs.TrialRefusals.{LegalScript, TrialRefusedAt}
 use Rattle.theorems.specs.WellFormed.{WellFormed}
-use Rattle.theorems.specs.Nearest.{WordsRange, NearestResults}
+use Rattle.theorems.specs.Nearest.{WordsRange, NearestWord}
+use Rattle.theorems.specs.Operators.{OperatorBytes, OperatorsGive}
 use Rattle.theorems.specs.Images.{TailExactly, ReportsExactly, OneImage, Reports}
 use Rattle.larderlate.specs.Code.{codeNumber, lengthIn, lengthOfTail}
 use Rattle.promises.specs.Codable.{Codable}
@@ -172,8 +175,11 @@ use Rattle.theorems.proofs.Pairs.Exact as Exact
 use Rattle.theorems.proofs.Examples as Examples
 use Rattle.theorems.proofs.Images.FormedExactly as FormedExactly
 use Rattle.theorems.proofs.Images.Heights.{stack-least, stack-31}
+use Rattle.theorems.proofs.Images.Ran.{cycle-is}
+use Rattle.theorems.proofs.Images.Stretched as Stretched
 use Rattle.theorems.proofs.Pairs.Latency as Latency
 use Rattle.theorems.proofs.Nearest as Nearest
+use Rattle.theorems.proofs.Operators as Operators
 use Rattle.theorems.proofs.Calls.Numbers as Numbers
 use Rattle.theorems.proofs.Images.Offsets.{offsets-fit}
 use Rattle.theorems.proofs.Calls.Places.{refusal-small, places-small, places-zero}
@@ -474,7 +480,9 @@ module _ (program schedule : List ℕ) (bytes : AreBytes program) (p : Program) 
         told = λ counts. rw (e, image-length p s h);
         stack = stack-least p s h bounded;
         size = counts-length p s h (bounded .hyper);
-        counted = λ c lt. counts-at p s h c lt ∙ sym (cycle-count p s h bounded (accepts .ordered .only) c lt);
+        counted = λ c lt n state samples left r.
+            counts-at p s h c lt ∙ sym (cycle-count p s h bounded (accepts .ordered .only) c lt) ∙
+            sym (cycle-is (imageOf p s h) c state samples r .1);
         past = counts-past p s h;
       }
 
@@ -586,10 +594,16 @@ same-program program schedule schedule′ q q′ e e′ =
 pub words-range : WordsRange
 words-range = Nearest.words-range
 
--- Request d. ADD, SUB, MUL and NEG, in the streams as in a cycle, give the nearest word to the true result: a word; the result
--- itself, where it is one; and no word is nearer to it.
-pub nearest-word : (a b : ℤ) → NearestResults a b
+-- Request d. The nearest word to a true result: a word; the result itself, where it is one; and no word is nearer to it.
+pub nearest-word : (z w : ℤ) → (nearest z ≡ w) ↔ NearestWord z w
 nearest-word = Nearest.nearest-word
+
+-- The operators have the paper's bytes, and each gives, in the streams as in a cycle, exactly what the paper says of it.
+pub operators-listed : OperatorBytes
+operators-listed = Operators.operators-listed
+
+pub operators-give : OperatorsGive
+operators-give = Operators.operators-give
 
 -- Request j. A word that one row contains, and no other, has its result, however many rows there are ..
 pub table-rule : (rows : List Row) (w : ℤ) (n : ℕ) → Lies rows w n → ((m : ℕ) → Lies rows w m → m ≡ n) →
@@ -600,6 +614,10 @@ table-rule = Rule.table-rule
 pub sorted-rule : (rows others : List Row) → Reordered rows others → Covers rows → (w : ℤ) → IsWord w →
     tableWord others w ≡ tableWord rows w
 sorted-rule rows others r c w f = sym (Rule.table-reordered r c w f)
+
+-- The rows of an image are those that stand after its lists, byte by byte.
+pub rows-stand : (image : List ℕ) → RowsStand image (tableOffset image)
+rows-stand = Stretched.rows-stand
 
 -- In a well-formed image with a row every word lies in exactly one, whose result TABLE yields.
 pub formed-covers : (image : List ℕ) → wellFormed image ≡ true → 0 < rowCount image → (w : ℤ) → IsWord w →
@@ -668,7 +686,7 @@ trial-lines program schedule text bytes q actions legal script =
     record {
       lines = lines;
       prints = trial-accepts program schedule text legal script;
-      number = subst (λ acts. Runs acts (length lines)) same (tried-count program schedule text bytes lines tried);
+      number = subst (λ acts. Makes acts (length lines)) same (tried-count program schedule text bytes lines tried);
       line = λ inputs X given.
           tried-line program schedule text bytes lines tried inputs X (subst (λ acts. SetInputs p s acts inputs) (sym same) given);
     }

@@ -1,5 +1,6 @@
 -- The theorems that only promises cite, and the paper's examples.
 pub mod Nearest
+pub mod Operators
 pub mod Texts
 pub mod Pairs
 pub mod Images

@@ -1,13 +1,14 @@
--- The nearest word is what its name says, and ADD, SUB, MUL and NEG give it. Assumes nothing.
+-- The nearest word is what its name says. Assumes nothing.
 use Prim.Native.Nat.{ℕ, zero, suc, _+_, _-_, _≤_}
-use mathlib.Core.Path.{_≡_, ap}
+use mathlib.Core.Logic.{_↔_}
+use mathlib.Core.Path.{_≡_, ap, subst}
 use native.Mathlib.Omega.{arith}
 use borrow.Author.Needs.{sfits-of}
-use lib.IntN.{ℤ, pos, negsuc, natAbs, negℤ, _+ℤ_, _-ℤ_, _*ℤ_}
+use lib.IntN.{ℤ, pos, negsuc, natAbs}
 use mir.Syntax.{w32}
-use Rattle.model.specs.Rules.Word.{nearest, addWord, subWord, mulWord, negWord}
+use Rattle.model.specs.Rules.Word.{nearest}
 use Rattle.model.specs.Says.Words.{IsWord}
-use Rattle.theorems.specs.Nearest.{WordsRange, distance, NearestWord, NearestResults}
+use Rattle.theorems.specs.Nearest.{WordsRange, distance, NearestWord}
 use Rattle.model.proofs.Basics.Order.{le-true, true-le}
 use Rattle.model.proofs.Basics.Tests.{sub-by}
 use Rattle.model.proofs.Rows.Levels.{word-range, range-word}
@@ -40,7 +41,7 @@ none-nearer (pos n) (negsuc k) h = let l = h .sfits in simp (apart-pos, apart-be
 none-nearer (negsuc n) (pos k) h = let l = h .sfits in simp (apart-neg, apart-above) (omega arith)
 none-nearer (negsuc n) (negsuc k) h = let l = h .sfits in simp apart-neg (omega arith)
 
-nearest-is : (z : ℤ) → NearestWord z (nearest z)
+pub nearest-is : (z : ℤ) → NearestWord z (nearest z)
 unfolding nearest
 nearest-is (pos n) =
     record {
@@ -55,12 +56,23 @@ nearest-is (negsuc n) =
       none-nearer = none-nearer (negsuc n);
     }
 
-pub nearest-word : (a b : ℤ) → NearestResults a b
-unfolding addWord subWord mulWord negWord
-nearest-word a b =
-    record {
-      add = nearest-is (a +ℤ b);
-      sub = nearest-is (a -ℤ b);
-      mul = nearest-is (a *ℤ b);
-      neg = nearest-is (negℤ a);
-    }
+-- There is no other.
+only : (z w : ℤ) → NearestWord z w → nearest z ≡ w
+unfolding nearest
+only (pos n) (pos m) h =
+    let l = h .word .sfits in
+    let d = simp apart-pos at (h .none-nearer (nearest (pos n)) (nearest-is (pos n) .word)) in
+    ap pos (omega arith)
+only (pos n) (negsuc m) h =
+    let d = simp (apart-pos, apart-below) at (h .none-nearer (nearest (pos n)) (nearest-is (pos n) .word)) in
+    absurd (omega arith)
+only (negsuc n) (pos m) h =
+    let d = simp (apart-neg, apart-above) at (h .none-nearer (nearest (negsuc n)) (nearest-is (negsuc n) .word)) in
+    absurd (omega arith)
+only (negsuc n) (negsuc m) h =
+    let l = h .word .sfits in
+    let d = simp apart-neg at (h .none-nearer (nearest (negsuc n)) (nearest-is (negsuc n) .word)) in
+    ap negsuc (omega arith)
+
+pub nearest-word : (z w : ℤ) → (nearest z ≡ w) ↔ NearestWord z w
+nearest-word z w = (λ e. subst (λ v. NearestWord z v) e (nearest-is z), only z w)

@@ -9,13 +9,14 @@ use Rattle.model.specs.Rules.Compile.{Pair}
 use Rattle.theorems.specs.Conditions.{LegalPair}
 use Rattle.model.specs.Rules.Join.{partNamed, joinOf}
 use Rattle.model.specs.Rules.Image.{writtenOf, writtenLength}
-use Rattle.model.specs.Rules.Machine.{Effect, hyperOf, countOf, resetWords, cycleWords, cycleCount}
+use Rattle.model.specs.Rules.Machine.{Effect, hyperOf, countOf}
 use Rattle.model.specs.Rules.Outcome.{accepted, refused, fault}
 use Rattle.model.specs.declared.Fault.{Fault}
 use Rattle.model.specs.declared.Found.{Found}
 use Rattle.model.specs.declared.Found.the-variants.{Nowhere}
 use Rattle.theorems.specs.Join.{JoinLegal, JoinRefused}
 use Rattle.theorems.specs.Refusals.{RefusedAt}
+use Rattle.theorems.specs.Runs.{ResetLeaves, CycleRuns}
 use Rattle.theorems.specs.WellFormed.{WellLent}
 
 -- A call yields n and leaves `left` exactly if `Done` says so. It is refused with f exactly if `Refused` says so, and then
@@ -81,7 +82,7 @@ module _ (lent : List ℕ) (state : List ℤ) where
     pub image : List ℕ
     pub usable : Usable image
     pub is : n ≡ 0
-    pub leaves : left ≡ resetWords image state
+    pub leaves : ResetLeaves image state left
 
   -- It is refused: image not well formed, state shorter than N + 1.
   pub data ResetRefusedAt : Fault → Type 0 where
@@ -101,8 +102,7 @@ module _ (lent : List ℕ) (state : List ℤ) where
       pub usable : Usable image
       pub positioned : Positioned image
       pub sampled : countOf image ≤ length samples
-      pub is : n ≡ cycleCount image state
-      pub leaves : left ≡ cycleWords image state samples
+      pub runs : CycleRuns image (positioned .position) state samples n left
 
     -- It is refused: as a reset; position outside 0 to H − 1; fewer than N samples.
     pub data CycleRefusedAt : Fault → Type 0 where

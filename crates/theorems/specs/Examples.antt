@@ -7,7 +7,7 @@ use mathlib.Core.Path.{_≡_}
 use lib.IntN.{ℤ, pos, negsuc}
 use lib.ListN.{length, getD, replicate}
 use Rattle.model.specs.Rules.Search.{table, chosen, joinFrom}
-use Rattle.model.specs.Rules.Word.{negWord, binaryWord}
+use Rattle.model.specs.Rules.Word.{negWord, binaryWord, ifWord}
 use Rattle.model.specs.Rules.Reads.{settled}
 use Rattle.model.specs.Rules.Machine.{Effect, codeOffset, listOf, hyperOf, countOf, statedLength}
 use Rattle.model.specs.Rules.Compile.{pairOf, verdictOf, compileOf, Pair}
@@ -18,14 +18,14 @@ use Rattle.model.specs.Rules.Outcome.{Outcome, accepted, refused}
 use Rattle.model.specs.Rules.Program.{Program, count, bodyReads}
 use Rattle.model.specs.declared.Binary.{Binary}
 use Rattle.model.specs.declared.Sizes.{Sizes}
-use Rattle.model.specs.declared.Binary.the-variants.{Add, Sub, Mul}
+use Rattle.model.specs.declared.Binary.the-variants.{Add, Sub, Mul, Less, Same, Min, Max}
 use Rattle.theorems.specs.Dependents.{dependents}
 
 -- A question about a program and its schedule, or about an operator.
 pub data Question : Type 0 where
   verdict hypercycles indices runs codeOffsets size written needs : List ℕ → List ℕ → Question
-  -- what compile answers, given the length of its buffer
-  intoBuffer : List ℕ → List ℕ → ℕ → Question
+  -- what compile answers, given the length of its buffer, and what it leaves there
+  intoBuffer leaves : List ℕ → List ℕ → ℕ → Question
   -- the words of a signal after each cycle, given the words of input 0
   words : List ℕ → List ℕ → ℕ → List ℤ → Question
   -- the signals that depend on one
@@ -36,6 +36,8 @@ pub data Question : Type 0 where
   resets : List ℕ → Question
   binary : Binary → ℤ → ℤ → Question
   negation : ℤ → Question
+  -- IF, given the condition and both operands
+  choice : ℤ → ℤ → ℤ → Question
 
 pub data Answer : Type 0 where
   accepts : Answer
@@ -99,6 +101,7 @@ answerTo (size program schedule) =
     ofImage (λ image. numbers (statedLength image ∷ length image ∷ [])) (verdictOf program schedule)
 answerTo (written program schedule) = ofImage (λ bytes. numbers bytes) (verdictOf program schedule)
 answerTo (intoBuffer program schedule n) = ofCompile (compileOf program schedule (replicate n 7) .answer)
+answerTo (leaves program schedule n) = numbers (compileOf program schedule (replicate n 7) .left)
 answerTo (needs program schedule) = ofReport (reportOf program schedule [])
 answerTo (words program schedule x inputs) =
     ofImage (λ image. signals (wordsFrom image (callOf image (replicate 65 (pos 9)) reset .left) x inputs))
@@ -109,6 +112,7 @@ answerTo (printed program schedule text) = ofTrial (trialOf program schedule tex
 answerTo (resets lent) = ofCompile (callOf lent (replicate 65 (pos 0)) reset .answer)
 answerTo (binary operator a b) = signals (binaryWord operator a b ∷ [])
 answerTo (negation a) = signals (negWord a ∷ [])
+answerTo (choice c a b) = signals (ifWord c a b ∷ [])
 
 -- Program A without its END, with what is added before END, and its schedule.
 abbrev open-A : List ℕ
@@ -212,6 +216,17 @@ cases =
     (size A in-order gives numbers (49 ∷ 61 ∷ [])) ∷
     -- a buffer of 48: 17, place 61, with the tail (requests f, j)
     (intoBuffer A in-order 48 gives refuses 17 61) ∷
+    -- its bytes: the head; the records; the offsets and the lists; the count byte; the codes; the tail; then the buffer's own
+    (leaves A in-order 62 gives
+    numbers (
+    2 ∷ 3 ∷ 49 ∷ 0 ∷
+    0 ∷ 0 ∷ 0 ∷ 0 ∷ 34 ∷ 0 ∷ 5 ∷ 0 ∷ 0 ∷ 0 ∷ 38 ∷ 0 ∷ 0 ∷ 0 ∷ 0 ∷ 0 ∷ 42 ∷ 0 ∷
+    28 ∷ 0 ∷ 30 ∷ 0 ∷ 33 ∷ 0 ∷ 0 ∷ 2 ∷ 0 ∷ 1 ∷ 2 ∷
+    0 ∷
+    0x52 ∷ 0 ∷ 0x5F ∷ 0 ∷ 0x51 ∷ 0 ∷ 0x5F ∷ 1 ∷ 0x51 ∷ 1 ∷ 0x51 ∷ 2 ∷ 0x30 ∷ 0x5F ∷ 2 ∷
+    0 ∷ 0 ∷ 1 ∷ 0 ∷ 0 ∷ 0 ∷ 2 ∷ 1 ∷ 0 ∷ 0 ∷ 1 ∷ 0 ∷
+    7 ∷ []
+    )) ∷
     -- the report: L 49, 61 with the tail, stack 2, and 6, 8 commands in its two cycles (requests a, f)
     (needs A in-order gives numbers (49 ∷ 61 ∷ 2 ∷ 6 ∷ 8 ∷ replicate 238 0)) ∷
     -- inputs 10, 11, 12, 13: signal 2 is 5, 16, 27, 40
@@ -265,6 +280,17 @@ cases =
     -- 0 SUB −2147483648 and −1 SUB it are 2147483647: SUB is not ADD of NEG, which gives 2147483646 for the second
     (binary Sub (pos 0) (negsuc 2147483647) gives signals (pos 2147483647 ∷ [])) ∷
     (binary Sub (negsuc 0) (negsuc 2147483647) gives signals (pos 2147483647 ∷ [])) ∷
+    -- −1 is LESS than 0, and 0 is not LESS than −1 or than itself; SAME; MIN and MAX of −1 and 0
+    (binary Less (negsuc 0) (pos 0) gives signals (pos 1 ∷ [])) ∷
+    (binary Less (pos 0) (negsuc 0) gives signals (pos 0 ∷ [])) ∷
+    (binary Less (pos 0) (pos 0) gives signals (pos 0 ∷ [])) ∷
+    (binary Same (negsuc 0) (negsuc 0) gives signals (pos 1 ∷ [])) ∷
+    (binary Same (negsuc 0) (pos 0) gives signals (pos 0 ∷ [])) ∷
+    (binary Min (negsuc 0) (pos 0) gives signals (negsuc 0 ∷ [])) ∷
+    (binary Max (negsuc 0) (pos 0) gives signals (pos 0 ∷ [])) ∷
+    -- IF takes the second operand for −1, and the third for 0
+    (choice (negsuc 0) (pos 5) (pos 6) gives signals (pos 5 ∷ [])) ∷
+    (choice (pos 0) (pos 5) (pos 6) gives signals (pos 6 ∷ [])) ∷
     -- request j: the result of the row that contains the word, both ends included
     (words (looks-up (upper ++ lower)) (at-phases 0 0) 1 (negsuc 0 ∷ pos 0 ∷ pos 2147483647 ∷ []) gives
     signals (pos 7 ∷ pos 9 ∷ pos 9 ∷ [])) ∷

@@ -1,10 +1,9 @@
 -- The height of the working stack, the number of words that it holds, while a code runs.
 use Prim.Native.Nat.{ℕ, suc, _+_, _≤_}
 use mathlib.Core.List.{List}
-use mathlib.Core.Path.{_≡_}
 use lib.IntN.{ℤ}
-use Rattle.model.specs.Rules.Machine.{codeAt}
 use Rattle.model.specs.Rules.Width.{inCode}
+use Rattle.model.specs.Says.Written.{CodeWritten}
 use Rattle.model.specs.declared.Binary.{Binary}
 use Rattle.model.specs.declared.Code.{Code}
 use Rattle.model.specs.declared.Code.the-variants as Code
@@ -23,6 +22,6 @@ pub data Changes : Code → ℕ → ℕ → ℕ → Type 0 where
 -- The code, run from an offset with the stack at a height, goes on to its STORE, and the stack never holds more than `most`
 -- words.
 pub data Within (most : ℕ) (code : List ℕ) : ℕ → ℕ → Type 0 where
-  store : {at height x : ℕ} → codeAt code at ≡ Code.Store x → height ≤ most → Within most code at height
-  onward : {at height width after : ℕ} {c : Code} → codeAt code at ≡ c → height ≤ most → Changes c width height after →
+  store : {at height x : ℕ} → CodeWritten code at (Code.Store x) → height ≤ most → Within most code at height
+  onward : {at height width after : ℕ} {c : Code} → CodeWritten code at c → height ≤ most → Changes c width height after →
       Within most code (at + width) after → Within most code at height

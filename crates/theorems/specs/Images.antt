@@ -4,9 +4,10 @@ use mathlib.Core.List.{List, _++_}
 use mathlib.Core.Path.{_≡_}
 use mathlib.Core.Bool.{true}
 use mathlib.Core.Logic.{_↔_}
+use lib.IntN.{ℤ}
 use lib.ListN.{length, getD, drop}
 use Rattle.model.specs.Rules.Image.{codes, runLists, offsets, listsAt, codesAt, imageOf, writtenOf}
-use Rattle.model.specs.Rules.Machine.{listOffset, codeOffset, statedLength, listOf, codeOf, countSignals, wellFormed}
+use Rattle.model.specs.Rules.Machine.{listOffset, codeOffset, statedLength, codeOf, wellFormed}
 use Rattle.model.specs.Rules.Program.{Program, count, signalAt}
 use Rattle.model.specs.Rules.Schedule.{Schedule, phaseOf}
 use Rattle.model.specs.Rules.Compile.{Pair, pairOf, verdictOf, compileOf}
@@ -14,6 +15,7 @@ use Rattle.model.specs.Rules.Outcome.{accepted, refused, refuse, fault}
 use Rattle.model.specs.Rules.Report.{highest, countsOf, reportOf}
 use Rattle.model.specs.Rules.Tail.{tailIn, Bears, Tells}
 use Rattle.theorems.specs.Height.{Within}
+use Rattle.theorems.specs.Runs.{CycleRuns}
 use Rattle.model.specs.declared.Fault.{Fault}
 use Rattle.model.specs.declared.Sizes.{Sizes}
 
@@ -63,8 +65,8 @@ pub record ReportsExactly (program schedule counts : List ℕ) : Type 0 where
       (sizes .written ≡ length (writtenOf (q .program) (q .schedule) (q .hypercycle)))
 
 -- Of an accepted pair it tells L, the length of its image, and L + 4N, that with its tail; the least number of words that the
--- code of every signal keeps within on the image's bytes; and 240 counts, those of the hypercycle being the commands that the
--- image's lists run and the others 0.
+-- code of every signal keeps within on the image's bytes; and 240 counts, those of the hypercycle being the commands that a cycle
+-- at that position runs, whatever words it is lent, and the others 0.
 pub record Reports (program schedule : List ℕ) (p : Program) (s : Schedule) (h : ℕ) (image : List ℕ) : Type 0 where
   pub told : (counts : List ℕ) → reportOf program schedule counts ≡
       record {
@@ -73,7 +75,8 @@ pub record Reports (program schedule : List ℕ) (p : Program) (s : Schedule) (h
       }
   pub stack : (m : ℕ) → ((x : ℕ) → x < count p → Within m (codeOf image x) 0 0) ↔ (highest (p .signals) ≤ m)
   pub size : length (countsOf p s h) ≡ 240
-  pub counted : (c : ℕ) → c < h → getD (countsOf p s h) c 0 ≡ countSignals image (listOf image c)
+  pub counted : (c : ℕ) → c < h → (n : ℕ) (state samples left : List ℤ) → CycleRuns image c state samples n left →
+      getD (countsOf p s h) c 0 ≡ n
   pub past : (c : ℕ) → h ≤ c → c < 240 → getD (countsOf p s h) c 0 ≡ 0
 
 pub record TailExactly (lent : List ℕ) : Type 0 where

@@ -1,5 +1,6 @@
 -- The statements that judge the definitions: the paper's words over all bytes, runs and calls.
 pub mod Nearest
+pub mod Operators
 pub mod Enums
 pub mod Stops
 pub mod Reach
@@ -9,7 +10,9 @@ pub mod Conditions
 pub mod Terms
 pub mod Refusals
 pub mod Height
+pub mod Stretches
 pub mod WellFormed
+pub mod Runs
 pub mod Images
 pub mod Streams
 pub mod Tables

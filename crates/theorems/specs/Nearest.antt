@@ -1,10 +1,9 @@
--- Words as numbers, what the nearest word to a number is, and that the operators give it.
+-- Words as numbers, and what the nearest word to a number is.
 use Prim.Native.Nat.{ℕ, _≤_}
 use mathlib.Core.Logic.{_↔_}
 use mathlib.Core.Path.{_≡_}
-use lib.IntN.{ℤ, pos, negsuc, negℤ, natAbs, _+ℤ_, _-ℤ_, _*ℤ_}
+use lib.IntN.{ℤ, pos, negsuc, natAbs, _-ℤ_}
 use lib.Signed.{_≤ℤ_}
-use Rattle.model.specs.Rules.Word.{addWord, subWord, mulWord, negWord}
 use Rattle.model.specs.Says.Words.{IsWord}
 
 -- A number is a word exactly if it lies from −2147483648 to 2147483647. (negsuc n is −1 − n.)
@@ -19,10 +18,3 @@ pub record NearestWord (z w : ℤ) : Type 0 where
   pub word : IsWord w
   pub itself : IsWord z → w ≡ z
   pub none-nearer : (v : ℤ) → IsWord v → distance w z ≤ distance v z
-
--- ADD, SUB, MUL and NEG give the nearest word to the true result.
-pub record NearestResults (a b : ℤ) : Type 0 where
-  pub add : NearestWord (a +ℤ b) (addWord a b)
-  pub sub : NearestWord (a -ℤ b) (subWord a b)
-  pub mul : NearestWord (a *ℤ b) (mulWord a b)
-  pub neg : NearestWord (negℤ a) (negWord a)

@@ -84,7 +84,7 @@ module _ (p : Program) (s : Schedule) where
         WayBack (a ∷ (b ∷ links)) a m r k
 
   -- Run k of the last link counts, and has latency l: its cycle minus the cycle of m, and 1 more.
-  pub record Counts (c : Chain) (k l : ℕ) : Type 0 where
+  pub record CountedRun (c : Chain) (k l : ℕ) : Type 0 where
     pub first : ℕ
     pub last : ℕ
     pub m : ℕ
@@ -94,8 +94,8 @@ module _ (p : Program) (s : Schedule) where
 
   -- Backward: every counted run is within the bound. Exists: one is.
   abbrev pub InTime : Mode → Chain → Type 0
-  InTime Backward c = (k l : ℕ) → Counts c k l → l ≤ c .bound
-  InTime Exists c = (k l : ℕ) × Counts c k l × (l ≤ c .bound)
+  InTime Backward c = (k l : ℕ) → CountedRun c k l → l ≤ c .bound
+  InTime Exists c = (k l : ℕ) × CountedRun c k l × (l ≤ c .bound)
 
 -- What the terms come to, for a program and a schedule that keep 1 to 13: the load of a cycle, and put before; and where every
 -- read is met besides, the latency of a chain.

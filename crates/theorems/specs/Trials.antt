@@ -27,16 +27,16 @@ heldAt p s X c x =
 abbrev pub wordsAfter : Program → Schedule → (ℕ → ℕ → ℤ) → ℕ → List ℤ
 wordsAfter p s X c = table (count p) (heldAt p s X c)
 
--- The sum of the RUNs is n.
-pub data Runs : List Action → ℕ → Type 0 where
-  none : Runs [] 0
-  sets : {at x n : ℕ} {w : ℤ} {actions : List Action} → Runs actions n → Runs (alter at x w ∷ actions) n
-  runs : {m n : ℕ} {actions : List Action} → Runs actions n → Runs (run m ∷ actions) (m + n)
+-- The RUNs of the commands make n cycles together.
+pub data Makes : List Action → ℕ → Type 0 where
+  none : Makes [] 0
+  sets : {at x n : ℕ} {w : ℤ} {actions : List Action} → Makes actions n → Makes (alter at x w ∷ actions) n
+  runs : {m n : ℕ} {actions : List Action} → Makes actions n → Makes (run m ∷ actions) (m + n)
 
 -- Cycle t is made by a RUN that stands after the commands `before`, which make n cycles.
 pub record MadeAfter (actions before : List Action) (t : ℕ) : Type 0 where
   pub n : ℕ
-  pub runs : Runs before n
+  pub runs : Makes before n
   pub m : ℕ
   pub after : List Action
   pub stands : actions ≡ before ++ (run m ∷ after)
@@ -79,7 +79,7 @@ pub record SaysLine (j : ℕ) (words : List ℤ) (line : List ℕ) : Type 0 wher
 pub record TrialLines (program schedule text : List ℕ) (q : Pair) (actions : List Action) : Type 0 where
   pub lines : List (List ℕ)
   pub prints : trialOf program schedule text ≡ accepted lines
-  pub number : Runs actions (length lines)
+  pub number : Makes actions (length lines)
   pub line : (inputs X : ℕ → ℕ → ℤ) → SetInputs (q .program) (q .schedule) actions inputs →
       Satisfies (q .program) (settled (q .program) (q .schedule)) inputs X →
       (j : ℕ) → j < length lines → SaysLine j (wordsAfter (q .program) (q .schedule) X (suc j)) (getD lines j [])

@@ -4,6 +4,7 @@ use mathlib.Core.List.{List}
 use mathlib.Core.Path.{_≡_}
 use lib.ListN.{length}
 use Rattle.theorems.specs.Height.{Changes}
+use Rattle.theorems.specs.Stretches.{CodeStarts, IsCode}
 use Rattle.model.specs.Rules.Image.{listsAt}
 use Rattle.model.specs.Rules.Machine.{
   hyperOf,
@@ -13,8 +14,6 @@ use Rattle.model.specs.Rules.Machine.{
   tableOffset,
   rowCount,
   rowsIn,
-  codeOffset,
-  codeOf,
 }
 use Rattle.model.specs.Rules.Tail.{Bears}
 use Rattle.model.specs.Rules.Width.{inCode}
@@ -61,9 +60,7 @@ pub record WellFormed (image : List ℕ) : Type 0 where
   -- Every area, list and code starts where the one before ended, the last ending at L.
   pub lists-start : listOffset image 0 ≡ listsAt (countOf image) (hyperOf image)
   pub lists-rise : (c : ℕ) → c < hyperOf image → listOffset image c ≤ listOffset image (c + 1)
-  pub codes-start : codeOffset image 0 ≡ tableOffset image + 1 + 12 * rowCount image
-  pub codes-rise : (x : ℕ) → x < countOf image → codeOffset image x ≤ codeOffset image (x + 1)
-  pub codes-end : codeOffset image (countOf image) ≡ length image
+  pub codes-start : CodeStarts image 0 (tableOffset image + 1 + 12 * rowCount image)
   -- List entries are below N.
   pub entries : (i : ℕ) → listOffset image 0 ≤ i → i < tableOffset image → byteAt image i < countOf image
   -- At most 32 rows, no low above its high, by rising low; if there is one, they cover.
@@ -71,8 +68,9 @@ pub record WellFormed (image : List ℕ) : Type 0 where
   pub upright : AllUpright (rowsIn image)
   pub rising : Rising (rowsIn image)
   pub covers : 0 < rowCount image → Covers (rowsIn image)
-  -- Each code, from its start with an empty stack.
-  pub codes : (x : ℕ) → x < countOf image → FormedFrom (rowCount image) (countOf image) x (codeOf image x) 0 0
+  -- Each code, from its start with an empty stack to where the next one starts, the last one to L.
+  pub codes : (x : ℕ) → x < countOf image →
+      (code : List ℕ) × IsCode image x code × FormedFrom (rowCount image) (countOf image) x code 0 0
 
 -- What is lent for an image: its L bytes, or with its tail L + 4N.
 pub record WellLent (lent image : List ℕ) : Type 0 where

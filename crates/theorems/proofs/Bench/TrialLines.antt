@@ -40,7 +40,7 @@ use Rattle.theorems.specs.Streams.{Satisfies}
 use Rattle.theorems.specs.Trials.{
   heldAt,
   wordsAfter,
-  Runs,
+  Makes,
   MadeAfter,
   NoSet,
   LastSet,
@@ -284,13 +284,13 @@ last-empty (LastSet.last (c ∷ before) after at w e free) = let z : _≡_ {A = 
 last-empty (LastSet.none free) = refl
 
 module _ (x m : ℕ) (after : List Action) where
-  sample-last : {n : ℕ} {w : ℤ} (before : List Action) (samples : List ℤ) → x < length samples → Runs before n → (t : ℕ) →
+  sample-last : {n : ℕ} {w : ℤ} (before : List Action) (samples : List ℤ) → x < length samples → Makes before n → (t : ℕ) →
       n ≤ t → t < n + m → LastSet x (getD samples x (pos 0)) before w →
       getD (samplesAt (callsFrom samples (before ++ (run m ∷ after))) t) x (pos 0) ≡ w
   unfolding callsFrom
-  sample-last [] samples inside Runs.none t from to last =
+  sample-last [] samples inside Makes.none t from to last =
       ap (λ l. getD l x (pos 0)) (run-at m samples (callsFrom samples after) t (omega arith)) ∙ last-empty last
-  sample-last {n} {w} (alter at y u ∷ before) samples inside (Runs.sets r) t from to last =
+  sample-last {n} {w} (alter at y u ∷ before) samples inside (Makes.sets r) t from to last =
       sample-last before (set samples y u) (omega (arith, length-set samples y u)) r t from to (go (eqb y x) refl)
     where
       go : (b : Bool) → eqb y x ≡ b → LastSet x (getD (set samples y u) x (pos 0)) before w
@@ -300,7 +300,7 @@ module _ (x m : ℕ) (after : List Action) where
       go false e =
           let other = eqb-false y x e in
           rw (getD-set-other samples y x u (pos 0) (λ q. other (sym q))) (last-other other last)
-  sample-last (run k ∷ before) samples inside (Runs.runs {n = n} r) t from to last =
+  sample-last (run k ∷ before) samples inside (Makes.runs {n = n} r) t from to last =
       let e : t ≡ k + (t - k) = omega arith in
       ap (λ i. getD (samplesAt (callsFrom samples (run k ∷ (before ++ (run m ∷ after)))) i) x (pos 0)) e ∙
       ap (λ l. getD l x (pos 0)) (run-past k samples (callsFrom samples (before ++ (run m ∷ after))) (t - k)) ∙
@@ -335,11 +335,11 @@ last-set x start (run m ∷ actions) =
     (l .0, last-over (run m) (λ i z q. let r : _≡_ {A = ℕ} 0 1 = cc in omega arith) (l .1))
 
 -- The RUN that makes a cycle.
-runs-sum : (actions : List Action) → Runs actions (cyclesOf actions)
+runs-sum : (actions : List Action) → Makes actions (cyclesOf actions)
 unfolding cyclesOf
-runs-sum [] = Runs.none
-runs-sum (alter at x w ∷ actions) = Runs.sets (runs-sum actions)
-runs-sum (run m ∷ actions) = Runs.runs (runs-sum actions)
+runs-sum [] = Makes.none
+runs-sum (alter at x w ∷ actions) = Makes.sets (runs-sum actions)
+runs-sum (run m ∷ actions) = Makes.runs (runs-sum actions)
 
 made-after : (actions : List Action) (t : ℕ) → t < cyclesOf actions → (before : List Action) × MadeAfter actions before t
 unfolding cyclesOf
@@ -349,7 +349,7 @@ made-after (alter at x w ∷ actions) t lt =
       alter at x w ∷ m .0,
       record {
         n = m .1 .n;
-        runs = Runs.sets (m .1 .runs);
+        runs = Makes.sets (m .1 .runs);
         m = m .1 .m;
         after = m .1 .after;
         stands = ap (λ l. alter at x w ∷ l) (m .1 .stands);
@@ -362,13 +362,13 @@ made-after (run k ∷ actions) t lt = go (decLt t k) (λ h. made-after actions (
     go : Dec (t < k) → (t - k < cyclesOf actions → (before : List Action) × MadeAfter actions before (t - k)) →
         (before : List Action) × MadeAfter (run k ∷ actions) before t
     go (yes h) ih =
-        ([], record { n = 0; runs = Runs.none; m = k; after = actions; stands = refl; from = omega arith; to = omega arith })
+        ([], record { n = 0; runs = Makes.none; m = k; after = actions; stands = refl; from = omega arith; to = omega arith })
     go (no h) ih =
         let m = ih (omega arith) in (
           run k ∷ m .0,
           record {
             n = k + m .1 .n;
-            runs = Runs.runs (m .1 .runs);
+            runs = Makes.runs (m .1 .runs);
             m = m .1 .m;
             after = m .1 .after;
             stands = ap (λ l. run k ∷ l) (m .1 .stands);
@@ -433,7 +433,7 @@ module _ (program schedule text : List ℕ) (bytes : AreBytes program) (lines : 
     abbrev actions : List Action
     actions = scriptOf text .actions
 
-    pub tried-count : Runs actions (length lines)
+    pub tried-count : Makes actions (length lines)
     tried-count =
         let e : length lines ≡ cyclesOf actions =
         ap length (tried .lines-are) ∙ lines-count (imageOf p s h) 0 (startOf (imageOf p s h)) (callsOf text) ∙

@@ -50,6 +50,7 @@ use Rattle.model.proofs.Basics.Outcomes.{accepted≢refused, accepted-same, acc
 use Rattle.model.proofs.Images.Tails.{lent-ok, lent-formed, lent-bears, part-is, written-length}
 use Rattle.theorems.proofs.Pairs.Exact.{pair-judged}
 use Rattle.theorems.proofs.Images.FormedExactly.{well-formed-exactly}
+use Rattle.theorems.proofs.Images.Ran.{cycle-is, cycle-runs, reset-leaves, reset-is}
 use Rattle.theorems.proofs.Pairs.Judged.{
   Judged,
   Only,
@@ -239,7 +240,8 @@ module _ (lent : List ℕ) (state : List ℤ) where
   reset-done j d =
       usable-passes _ (usable-own (d .usable)) ∙
       ap₂ (λ (n : ℕ) (l : List ℤ). accepted (record { yields = n; leaves = l })) (sym (d .is))
-      (ap (λ (i : List ℕ). resetWords i state) (lent-image (d .usable .lends)) ∙ sym (d .leaves))
+      (ap (λ (i : List ℕ). resetWords i state) (lent-image (d .usable .lends)) ∙
+      sym (reset-is (d .image) state (d .usable .long) (d .leaves)))
 
   -- A reset does its job, or is refused by 20 or 21, exactly under its condition.
   pub reset-exactly : Exactly state (Resets lent state) (ResetRefusedAt lent state) (resetOf lent state)
@@ -247,7 +249,8 @@ module _ (lent : List ℕ) (state : List ℤ) where
   reset-exactly =
       exactly state (Resets lent state) (ResetRefusedAt lent state) _
       (both-ways _
-      (checked-answers _ _ _ (λ g r. r) (λ usable. record { image = own; usable = usable; is = refl; leaves = refl }))
+      (checked-answers _ _ _ (λ g r. r) (λ usable.
+      record { image = own; usable = usable; is = refl; leaves = reset-leaves own state (usable .long) }))
       reset-done (λ g r. checked-refuses _ r))
 
   position-judged : Judged (λ u. Positioned lent state own) (Only 22 0 (¬ Positioned lent state own))
@@ -287,10 +290,17 @@ module _ (lent : List ℕ) (state : List ℤ) where
         accepted ran
 
     runs-answers : Usable lent state own → Answers (Does cycleDone) cycleRefused runs
+    unfolding cycleWords cycleCount
     runs-answers usable =
         answers-then _ cycleRefused _ _ position-judged (λ g f. outside f) (λ u positioned.
         answers-then _ cycleRefused _ _ samples-judged (λ g f. unsampled positioned f) (λ v sampled.
-        record { image = own; usable = usable; positioned = positioned; sampled = sampled; is = refl; leaves = refl }))
+        record {
+          image = own;
+          usable = usable;
+          positioned = positioned;
+          sampled = sampled;
+          runs = rw (positioned .stands) (cycle-runs own _ state samples (usable .lends .formed) (positioned .below));
+        }))
       where
         outside : {f : Fault} → Only 22 0 (¬ Positioned lent state own) f → cycleRefused f
         outside (Only.only h) = CycleRefusedAt.outside usable h
@@ -299,16 +309,18 @@ module _ (lent : List ℕ) (state : List ℤ) where
         unsampled positioned (Only.only h) = CycleRefusedAt.unsampled usable positioned h
 
     cycle-done : (j : Job ℕ ℤ) → cycleDone (j .yields) (j .leaves) → checked runs ≡ accepted j
+    unfolding cycleWords cycleCount
     cycle-done j d =
         let same = lent-image (d .usable .lends) in
+        let ran = cycle-is (d .image) (d .positioned .position) state samples (d .runs) in
         usable-passes runs (usable-own (d .usable)) ∙
         accepted-then _ _ _
         (position-judged .accepts tt .1 (subst (λ (i : List ℕ). Positioned lent state i) (sym same) (d .positioned))) ∙
         accepted-then _ _ _
         (samples-judged .accepts tt .1 (subst (λ (i : List ℕ). countOf i ≤ length samples) (sym same) (d .sampled))) ∙
         ap₂ (λ (n : ℕ) (l : List ℤ). accepted (record { yields = n; leaves = l }))
-        (ap (λ (i : List ℕ). cycleCount i state) same ∙ sym (d .is))
-        (ap (λ (i : List ℕ). cycleWords i state samples) same ∙ sym (d .leaves))
+        (ap (λ (i : List ℕ). cycleCount i state) same ∙ rw (d .positioned .stands) (sym (ran .1)))
+        (ap (λ (i : List ℕ). cycleWords i state samples) same ∙ rw (d .positioned .stands) (sym (ran .0)))
 
     cycle-refused : {f : Fault} → cycleRefused f → checked runs ≡ refused f
     cycle-refused (CycleRefusedAt.unready r) = checked-refuses runs r

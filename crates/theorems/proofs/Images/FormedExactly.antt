@@ -6,7 +6,7 @@ use mathlib.Core.Logic.{_↔_, _⊎_, inl, inr}
 use mathlib.Core.Path.{_≡_, refl, sym, ap, subst}
 use native.Mathlib.Decide.{decLt}
 use native.Mathlib.Omega.{arith}
-use borrow.Author.Tests.{leb-true, ltb-true, eqb-true, le-leb, lt-ltb, le-ltb, eq-eqb}
+use borrow.Author.Tests.{leb-true, ltb-true, eqb-true, le-leb, lt-ltb, eq-eqb}
 use lib.Dec.{leb, ltb}
 use lib.ListN.{length}
 use Rattle.theorems.specs.Height.{Changes}
@@ -34,16 +34,18 @@ use Rattle.model.specs.Rules.Machine.{
 }
 use Rattle.model.specs.Rules.Table.{areaRows}
 use Rattle.model.specs.Rules.Search.{allBelow}
+use Rattle.theorems.specs.Stretches.{CodeStarts}
 use Rattle.theorems.specs.WellFormed.{Served, BeforeStore, FormedFrom, WellFormed}
 use Rattle.model.specs.Rules.Word.{byteAt}
 use Rattle.model.specs.Says.Rows.{AllUpright, Rising, Covers}
-use Rattle.model.specs.Says.Written.{CodeWritten, CodeWhole}
+use Rattle.model.specs.Says.Written.{CodeWritten}
 use Rattle.model.specs.declared.Code.{Code}
 use Rattle.model.specs.declared.Code.the-variants as Code
 use Rattle.model.specs.declared.Unary.{Unary}
 use Rattle.model.specs.declared.Unary.the-variants.{Negate, Table}
+use Rattle.theorems.proofs.Images.Decoded.{written, decoded, inside}
+use Rattle.theorems.proofs.Images.Stretched.{stretch-inside, code-starts, starts-code, code-is, is-code}
 use Rattle.model.proofs.Pairs.Decide.{all-true, true-all}
-use Rattle.model.proofs.Texts.Written.{code-written}
 use Rattle.model.proofs.Rows.Area.{rows-length, area-true, true-area}
 use Rattle.model.proofs.Rows.Sorted.{InOrder}
 
@@ -64,9 +66,6 @@ true-served rows Table h = lt-ltb 0 rows h
 module _ (rows n own : ℕ) (code : List ℕ) where
   abbrev From : ℕ → ℕ → Type 0
   From at height = FormedFrom rows n own code at height
-
-  written : {at : ℕ} {c : Code} → codeAt code at ≡ c → CodeWhole c → CodeWritten code at c
-  written {at} {c} e whole = code-written code at c .0 (e, whole)
 
   -- A command that passes, where what follows is formed.
   command-formed : (next : ℕ → ℕ → Bool) → ((a h : ℕ) → h ≤ 32 → next a h ≡ true → From a h) → (at height : ℕ) → height ≤ 32 →
@@ -149,24 +148,15 @@ module _ (rows n own : ℕ) (code : List ℕ) where
   width-some Changes.unary = omega arith
   width-some Changes.choose = omega arith
 
-  inside : {at : ℕ} {c : Code} → CodeWritten code at c → at < length code
-  inside (CodeWritten.push le e) = omega arith
-  inside (CodeWritten.load le e) = omega arith
-  inside (CodeWritten.fetch le e) = omega arith
-  inside (CodeWritten.store le e) = omega arith
-  inside (CodeWritten.binary operator le e) = omega arith
-  inside (CodeWritten.unary operator le e) = omega arith
-  inside (CodeWritten.choose le e) = omega arith
-
   formed-from : {at height : ℕ} → From at height → (left : ℕ) → length code ≤ at + left →
       codeOkFrom left (ltb 0 rows) code n own at height ≡ true
   unfolding codeOkFrom commandOk
   formed-from (FormedFrom.store w ends) zero le = absurd (omega (arith, inside w))
   formed-from (FormedFrom.store {at = at} w ends) (suc left) le =
-      rw (code-written code at _ .1 w .0, eq-eqb own own refl, eq-eqb _ _ ends)
+      rw (decoded w, eq-eqb own own refl, eq-eqb _ _ ends)
   formed-from (FormedFrom.onward w a ch room rest) zero le = absurd (omega (arith, inside w))
   formed-from (FormedFrom.onward {at = at} {c = c} w a ch room rest) (suc left) le =
-      rw (code-written code at c .1 w .0)
+      rw (decoded w)
       (change-ok (λ a k. codeOkFrom left (ltb 0 rows) code n own a k) at ch a room
       (formed-from rest left (omega (arith, width-some ch))))
 
@@ -175,7 +165,7 @@ module _ (rows n own : ℕ) (code : List ℕ) where
   code-exactly = (λ h. from-formed (length code) 0 0 (omega arith) h, λ f. formed-from f (length code) (omega arith))
 
 -- What rises step by step rises.
-rises : (f : ℕ → ℕ) (n : ℕ) → ((c : ℕ) → c < n → f c ≤ f (c + 1)) → (k : ℕ) → k ≤ n → f k ≤ f n
+pub rises : (f : ℕ → ℕ) (n : ℕ) → ((c : ℕ) → c < n → f c ≤ f (c + 1)) → (k : ℕ) → k ≤ n → f k ≤ f n
 rises f zero up k le = let z : k ≡ 0 = omega arith in rw z (omega arith)
 rises f (suc n) up k le = go (decLt k (suc n)) (rises f n (λ c lt. up c (omega arith)) k)
   where
@@ -192,11 +182,6 @@ module _ (image : List ℕ) where
 
   abbrev h : ℕ
   h = hyperOf image
-
-  -- The end of the last code is the image's.
-  last-code : codeOffset image n ≡ length image
-  unfolding codeOffset
-  last-code = rw (le-ltb n n (omega arith))
 
   -- The table: none, or rows in order.
   Ordered : ℕ → Type 0
@@ -265,15 +250,17 @@ module _ (image : List ℕ) where
         signals = leb-true _ _ (b .1);
         lists-start = start;
         lists-rise = λ c lt. leb-true _ _ (all-true h _ (m .1) c lt);
-        codes-start = eqb-true _ _ (area .1);
-        codes-rise = λ x lt. leb-true _ _ (and-eq-true-iff _ _ .0 (code x (p .3) lt .0) .0);
-        codes-end = last-code;
+        codes-start = subst (CodeStarts image 0) (eqb-true _ _ (area .1)) (code-starts 0 (omega arith));
         entries = λ i from to. entry i (p .2) start from to;
         rows = rows .0;
         upright = order-upright (tableOffset image) (rows .2);
         rising = order-rising (tableOffset image) (rows .2);
         covers = order-covers (tableOffset image) (rows .2);
-        codes = λ x lt. code-exactly (rowCount image) n x (codeOf image x) .0 (code x (p .3) lt .1);
+        codes = λ x lt. let t = code x (p .3) lt in let u = and-eq-true-iff _ _ .0 (t .0) in (
+          codeOf image x,
+          code-is x lt (leb-true _ _ (u .0)) (leb-true _ _ (u .1)),
+          code-exactly (rowCount image) n x (codeOf image x) .0 (t .1),
+        );
       }
     where
       code : (x : ℕ) → codesOk image ≡ true → x < n →
@@ -291,8 +278,19 @@ module _ (image : List ℕ) where
           (ltb-true (byteAt image (listsAt n h + j)) n (all-true _ _ t j (omega arith)))
 
   module _ (w : WellFormed image) where
+    codes-rise : (x : ℕ) → x < n → codeOffset image x ≤ codeOffset image (x + 1)
+    codes-rise x lt =
+        let c = w .codes x lt .1 in
+        omega (arith, starts-code (c .starts), starts-code (c .ends), stretch-inside (c .stretch) .0)
+
     code-within : (x : ℕ) → x ≤ n → codeOffset image x ≤ length image
-    code-within x le = omega (arith, rises (codeOffset image) n (w .codes-rise) x le, w .codes-end)
+    code-within x le =
+        let last : CodeStarts image n (length image) = CodeStarts.none refl refl in
+        omega (arith, rises (codeOffset image) n codes-rise x le, starts-code last)
+
+    -- The code starts where the table ends.
+    pub code-start : codeOffset image 0 ≡ tableOffset image + 1 + 12 * rowCount image
+    code-start = starts-code (w .codes-start)
 
     table-at : tableOffset image ≡ listOffset image h
     unfolding tableOffset
@@ -305,15 +303,15 @@ module _ (image : List ℕ) where
           w .lists-start,
           rises (listOffset image) h (w .lists-rise) 0 (omega arith),
           table-at,
-          w .codes-start,
+          code-start,
           code-within 0 (omega arith),
         )
 
     entry-below : (i : ℕ) → i < tableOffset image - listsAt n h → byteAt image (listsAt n h + i) < n
     entry-below i lt = w .entries (listsAt n h + i) (omega (arith, w .lists-start)) (omega arith)
 
-    table-within : tableOffset image + 1 + 12 * rowCount image ≤ length image
-    table-within = omega (arith, w .codes-start, code-within 0 (omega arith))
+    pub table-within : tableOffset image + 1 + 12 * rowCount image ≤ length image
+    table-within = omega (arith, code-start, code-within 0 (omega arith))
 
     ordered : Ordered (tableOffset image)
     unfolding Ordered
@@ -327,7 +325,7 @@ module _ (image : List ℕ) where
     unfolding tableOk Ordered
     table-ok =
         rw (true-area image (tableOffset image) (omega (arith, table-within)) (w .rows) table-within ordered)
-        (eq-eqb _ _ (w .codes-start))
+        (eq-eqb _ _ code-start)
 
     head-ok : headOk image ≡ true
     unfolding headOk
@@ -356,8 +354,9 @@ module _ (image : List ℕ) where
     unfolding codesOk
     codes-ok =
         true-all n _ (λ x lt.
-        rw (le-leb _ _ (w .codes-rise x lt), le-leb _ _ (code-within (x + 1) (omega arith)))
-        (code-exactly (rowCount image) n x (codeOf image x) .1 (w .codes x lt)))
+        let c = w .codes x lt in
+        rw (le-leb _ _ (codes-rise x lt), le-leb _ _ (code-within (x + 1) (omega arith)), is-code (c .1))
+        (code-exactly (rowCount image) n x (c .0) .1 (c .2)))
 
     formed-test : wellFormed image ≡ true
     unfolding wellFormed

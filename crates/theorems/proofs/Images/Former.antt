@@ -10,12 +10,12 @@ use Rattle.theorems.specs.Tables.{WithoutTable}
 use Rattle.theorems.specs.WellFormed.{WellFormed}
 use Rattle.model.proofs.Basics.Outcomes.{not-true-false}
 use Rattle.model.proofs.Images.Tails.{Headed, part-here, lent-formed}
-use Rattle.theorems.proofs.Images.FormedExactly.{well-formed-exactly}
+use Rattle.theorems.proofs.Images.FormedExactly.{code-start, well-formed-exactly}
 
 -- It is not well formed: between lists and code a count byte is wanted.
 unformed : (image : List ℕ) → WithoutTable image → ¬ WellFormed image
 unfolding tableOffset
-unformed image o f = omega (arith, o .adjacent, f .codes-start)
+unformed image o f = omega (arith, o .adjacent, code-start image f)
 
 pub not-lent : {image tail lent : List ℕ} → WithoutTable image → Bears image tail lent → lentOk lent ≡ false
 not-lent {image} {lent = lent} o b = not-true-false (lentOk lent) (λ e.

@@ -43,6 +43,7 @@ use Rattle.model.proofs.Images.Runs.{
   unary-parts,
   choose-parts,
 }
+use Rattle.theorems.proofs.Images.Decoded.{written, decoded}
 use Rattle.model.proofs.Images.Stretches.{Stands, all-of, front, behind, code-stretch}
 
 -- An expression of depth d puts at most 2(d − 1) + 1 words on the stack.
@@ -97,26 +98,29 @@ module _ (most : ℕ) (code : List ℕ) where
       Within most code (at + length (exprCode e)) (suc height) → Within most code at height
   unfolding exprCode wordBytes fourBytes
   expr-within (constant w) at height fit room h next =
-      Within.onward {height = height} (push-at w fit h) (omega arith) Changes.push next
+      Within.onward {height = height} (written (push-at w fit h) tt) (omega arith) Changes.push next
   expr-within (read ρ) at height fit room h next =
-      Within.onward {height = height} (load-at _ h) (omega arith) Changes.load next
+      Within.onward {height = height} (written (load-at _ h) tt) (omega arith) Changes.load next
   expr-within (binary operator x y) at height fit room h next =
       let parts = binary-parts operator x y h in
       expr-within x at height (fit .0) (omega arith) (parts .0)
       (expr-within y _ _ (fit .1) (omega arith) (parts .1)
-      (Within.onward {height = suc (suc height)} (binary-at operator (parts .2)) (omega (arith, height-some y)) Changes.binary
+      (Within.onward {height = suc (suc height)} (written (binary-at operator (parts .2)) tt) (omega (arith, height-some y))
+      Changes.binary
       (moved (simp length-append (omega arith)) next)))
   expr-within (unary operator x) at height fit room h next =
       let parts = unary-parts operator x h in
       expr-within x at height fit room (parts .0)
-      (Within.onward {height = suc height} (unary-at operator (parts .1)) (omega (arith, height-some x)) Changes.unary
+      (Within.onward {height = suc height} (written (unary-at operator (parts .1)) tt) (omega (arith, height-some x))
+      Changes.unary
       (moved (simp length-append (omega arith)) next))
   expr-within (choose x y z) at height fit room h next =
       let parts = choose-parts x y z h in
       expr-within x at height (fit .0) (omega arith) (parts .0)
       (expr-within y _ _ (fit .1) (omega arith) (parts .1)
       (expr-within z _ _ (fit .2) (omega arith) (parts .2)
-      (Within.onward {height = suc (suc (suc height))} (if-at (parts .3)) (omega (arith, height-some z)) Changes.choose
+      (Within.onward {height = suc (suc (suc height))} (written (if-at (parts .3)) tt) (omega (arith, height-some z))
+      Changes.choose
       (moved (simp length-append (omega arith)) next))))
 
   -- .. and only there.
@@ -131,12 +135,12 @@ module _ (most : ℕ) (code : List ℕ) where
     next : Within most code (at + width) after
 
   next-of : {at height : ℕ} (c : Code) → codeAt code at ≡ c → GoesOn c → Within most code at height → Next c at height
-  next-of c e on (Within.store d le) = absurd (subst GoesOn (sym e ∙ d) on)
+  next-of c e on (Within.store d le) = absurd (subst GoesOn (sym e ∙ decoded d) on)
   next-of {height = height} c e on (Within.onward {width = width} {after = after} d le change next) =
       record {
         width = width;
         after = after;
-        changes = subst (λ k. Moves k width height after) (sym d ∙ e) (moves change);
+        changes = subst (λ k. Moves k width height after) (sym (decoded d) ∙ e) (moves change);
         next = next;
       }
 
@@ -182,12 +186,14 @@ module _ (most : ℕ) (code : List ℕ) where
 signal-within : (most x : ℕ) (body : Body) → BodyWords body → bodyHeight body ≤ most → Within most (signalCode x body) 0 0
 signal-within most x input fit room =
     let code = signalCode x input in
-    Within.onward {height = 0} (fetch-at x (front (0x52 ∷ x ∷ []) (0x5F ∷ x ∷ []) (all-of code))) (omega arith) Changes.fetch
-    (Within.store {height = 1} (store-at x (behind (0x52 ∷ x ∷ []) (0x5F ∷ x ∷ []) (all-of code))) (omega arith))
+    Within.onward {height = 0} (written (fetch-at x (front (0x52 ∷ x ∷ []) (0x5F ∷ x ∷ []) (all-of code))) tt) (omega arith)
+    Changes.fetch
+    (Within.store {height = 1} (written (store-at x (behind (0x52 ∷ x ∷ []) (0x5F ∷ x ∷ []) (all-of code))) tt) (omega arith))
 signal-within most x (equation weight e) fit room =
     let code = signalCode x (equation weight e) in
     expr-within most code e 0 0 fit (omega arith) (front (exprCode e) (0x5F ∷ x ∷ []) (all-of code))
-    (Within.store {height = 1} (store-at x (behind (exprCode e) (0x5F ∷ x ∷ []) (all-of code))) (omega (arith, height-some e)))
+    (Within.store {height = 1} (written (store-at x (behind (exprCode e) (0x5F ∷ x ∷ []) (all-of code))) tt)
+    (omega (arith, height-some e)))
 
 within-signal : (most x : ℕ) (body : Body) → BodyWords body → Within most (signalCode x body) 0 0 → bodyHeight body ≤ most
 within-signal most x input fit here =

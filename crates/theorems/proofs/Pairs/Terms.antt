@@ -56,7 +56,7 @@ use Rattle.theorems.specs.Terms.{
   UsesElement,
   Reaches,
   WayBack,
-  Counts,
+  CountedRun,
   InTime,
   TermsAre,
   LatencyIs,
@@ -454,11 +454,11 @@ module _ (program schedule : List ℕ) (p : Program) (h : ℕ) (s : Schedule) (c
         adds = latency-adds p s accepts r ρs (all-declared .0) (chain-met p s accepts ws r all-declared all-linked)
 
         -- A run counts with this latency exactly if the definition says so.
-        counts-exactly : (k l : ℕ) → (runLatency p s r ρs k ≡ At l) ↔ Counts p s a k l
+        counts-exactly : (k l : ℕ) → (runLatency p s r ρs k ≡ At l) ↔ CountedRun p s a k l
         unfolding runLatency
         counts-exactly k l = (λ e. counted (back p s r k ρs) refl e, runs)
           where
-            counted : (f : Found) → back p s r k ρs ≡ f → latencyFrom p s r k x f ≡ At l → Counts p s a k l
+            counted : (f : Found) → back p s r k ρs ≡ f → latencyFrom p s r k x f ≡ At l → CountedRun p s a k l
             counted (At m) e t =
                 let same : latencyOf (rateOf p s r) k (rateOf p s x) m ≡ l = cc in
                 record {
@@ -470,7 +470,7 @@ module _ (program schedule : List ℕ) (p : Program) (h : ℕ) (s : Schedule) (c
                 }
             counted Nowhere e t = let z : _≡_ {A = ℕ} 0 1 = cc in absurd (omega arith)
 
-            runs : Counts p s a k l → latencyFrom p s r k x (back p s r k ρs) ≡ At l
+            runs : CountedRun p s a k l → latencyFrom p s r k x (back p s r k ρs) ≡ At l
             runs t =
                 let u = returned ws r all-declared all-linked (rw from at (way-back .0 (t .way))) in
                 let add = adds k (t .m) (u .2) in

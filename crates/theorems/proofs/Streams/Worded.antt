@@ -5,7 +5,7 @@ use mathlib.Core.List.{List, [], _∷_, _++_}
 use mathlib.Core.Path.{_≡_, refl}
 use native.Mathlib.Omega.{arith}
 use borrow.Author.Needs.{sfits-of}
-use lib.IntN.{ℤ, pos}
+use lib.IntN.{ℤ, pos, negℤ, _+ℤ_, _-ℤ_, _*ℤ_}
 use lib.ListN.{length}
 use lib.Signed.{ltZ}
 use mir.Syntax.{w32}
@@ -31,7 +31,20 @@ use Rattle.model.specs.Rules.Program.{
 use Rattle.model.specs.Rules.Reads.{settled}
 use Rattle.model.specs.Rules.Schedule.{Schedule}
 use Rattle.model.specs.Rules.Table.{Row, contains, tableWord, unaryWord, rowAt}
-use Rattle.model.specs.Rules.Word.{bitWord, eqZ, lessWord, sameWord, minWord, maxWord, binaryWord, ifWord}
+use Rattle.model.specs.Rules.Word.{
+  bitWord,
+  eqZ,
+  addWord,
+  subWord,
+  mulWord,
+  negWord,
+  lessWord,
+  sameWord,
+  minWord,
+  maxWord,
+  binaryWord,
+  ifWord,
+}
 use Rattle.model.specs.Says.Feasible.{All, Met, Feasible}
 use Rattle.model.specs.Says.Rows.{Lies}
 use Rattle.model.specs.Says.Words.{IsWord}
@@ -45,7 +58,7 @@ use Rattle.theorems.specs.Tables.{Yields}
 use Rattle.model.proofs.Basics.All.{all-split}
 use Rattle.model.proofs.Images.Bounds.{Words, BodyWords, Bounded}
 use Rattle.model.proofs.Rows.Rule.{table-rule}
-use Rattle.theorems.proofs.Nearest.{nearest-word}
+use Rattle.theorems.proofs.Nearest.{nearest-is}
 use Rattle.theorems.proofs.Pairs.Lookups.{body-looks}
 use Rattle.theorems.proofs.Streams.Fix
 use Rattle.theorems.proofs.Streams.Unique.{number, used-lower, entry-same}
@@ -60,10 +73,10 @@ bit-word true = sfits-of {w = w32} (omega arith)
 bit-word false = sfits-of {w = w32} (omega arith)
 
 binary-word : (operator : Binary) (a b : ℤ) → IsWord a → IsWord b → IsWord (binaryWord operator a b)
-unfolding lessWord sameWord minWord maxWord
-binary-word Add a b f g = nearest-word a b .add .word
-binary-word Sub a b f g = nearest-word a b .sub .word
-binary-word Mul a b f g = nearest-word a b .mul .word
+unfolding addWord subWord mulWord lessWord sameWord minWord maxWord
+binary-word Add a b f g = nearest-is (a +ℤ b) .word
+binary-word Sub a b f g = nearest-is (a -ℤ b) .word
+binary-word Mul a b f g = nearest-is (a *ℤ b) .word
 binary-word Less a b f g = bit-word (ltZ a b)
 binary-word Same a b f g = bit-word (eqZ a b)
 binary-word Min a b f g = either-word (ltZ a b) a b f g
@@ -80,7 +93,8 @@ table-word (row ∷ rows) f w =
     (table-word rows (λ n l. f (suc n) (omega arith)) w)
 
 unary-word : (rows : List Row) → Results rows → (operator : Unary) (a : ℤ) → IsWord (unaryWord rows operator a)
-unary-word rows f Negate a = nearest-word a a .neg .word
+unfolding negWord
+unary-word rows f Negate a = nearest-is (negℤ a) .word
 unary-word rows f Table a = table-word rows f a
 
 module _ (rows : List Row) (results : Results rows) (Q : Read → Type 0) (word : Read → ℤ)
