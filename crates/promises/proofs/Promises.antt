@@ -13,7 +13,7 @@ use borrow.Author.Tests.{le-leb, lt-leb}
 use lib.Dec.{leb, ltb}
 use lib.IntN.{ℤ, pos}
 use lib.ListN.{length, getD, take, drop}
-use Rattle.model.specs.Says.Feasible.{SettlesAt, Feasible}
+use Rattle.model.specs.Says.Feasible.{SettlesAt, Met, Feasible}
 use Rattle.model.specs.Says.Calls.{Call, callOf}
 use Rattle.model.specs.Rules.Command.{declarationAt, operatorAt}
 use Rattle.model.specs.Rules.Compile.{Pair, pairOf, verdictOf, compileOf}
@@ -22,7 +22,6 @@ use Rattle.model.specs.Rules.Table.{Row, tableWord, rowAt}
 use Rattle.model.specs.Says.Rows.{Lies, Covers, Reordered}
 use Rattle.model.specs.Says.Words.{IsWord}
 use Rattle.model.specs.Rules.Image.{lengthOf, imageOf, tailOf, writtenOf, writtenLength}
-use Rattle.model.specs.Rules.Latency.{readsBack, backwards, back, source, latencyOf}
 use Rattle.model.specs.Rules.Machine.{
   Effect,
   effect,
@@ -58,12 +57,12 @@ use Rattle.model.specs.Rules.Program.{
   parseProgram,
 }
 use Rattle.model.specs.Rules.Rates.{hypercycle}
-use Rattle.model.specs.Rules.Reads.{rateOf, runCycle, settled}
+use Rattle.model.specs.Rules.Reads.{rateOf, settled}
 use Rattle.model.specs.Rules.Report.{highest, needsOf, reportJob, reportOf}
 use Rattle.model.specs.Rules.Rewrite.{rewrite, convertOf}
 use Rattle.model.specs.Rules.Schedule.{Schedule, scheduleCommandAt}
 use Rattle.model.specs.Rules.Script.{Action}
-use Rattle.model.specs.Rules.Tail.{tailIn, Bears}
+use Rattle.model.specs.Rules.Tail.{tailIn, lengthOfTail, Bears}
 use Rattle.model.specs.Rules.Trial.{trialOf}
 use Rattle.model.specs.Rules.Word.{nearest, byteAt, AreBytes}
 use Rattle.model.specs.Says.Written.{
@@ -84,7 +83,7 @@ use Rattle.model.specs.Says.Written.{
   CodeWritten,
   CodeWhole,
 }
-use Rattle.theorems.specs.Conditions.{_among_, ReadIn, LegalPairWith, LegalPair}
+use Rattle.theorems.specs.Conditions.{_among_, ReadIn, LegalPlaces, LegalPairWith, LegalPair}
 use Rattle.theorems.specs.Dependence.{OccursIn, DependsOn, AlikeCalls, AgreeExcept, LentExcept, SameExcept, SameExceptBy}
 use Rattle.theorems.specs.Dependents.{dependents}
 use Rattle.theorems.specs.Held.{logBy, IsInput}
@@ -125,12 +124,13 @@ use Rattle.theorems.specs.Stretches.{RowsStand}
 use Rattle.theorems.specs.Subexpression.{Subexpression}
 use Rattle.theorems.specs.Tables.{Yields, StoresRows, WithoutTable}
 use Rattle.theorems.specs.Trials.{Makes, SetInputs, TrialLines}
+use Rattle.theorems.specs.Terms.{TermsAre, LatencyIs}
 use Rattle.theorems.specs.TrialRefusals.{LegalScript, TrialRefusedAt}
 use Rattle.theorems.specs.WellFormed.{WellFormed}
 use Rattle.theorems.specs.Nearest.{WordsRange, NearestWord}
 use Rattle.theorems.specs.Operators.{OperatorBytes, OperatorsGive}
 use Rattle.theorems.specs.Images.{TailExactly, ReportsExactly, OneImage, Reports}
-use Rattle.larderlate.specs.Code.{codeNumber, lengthIn, lengthOfTail}
+use Rattle.larderlate.specs.Code.{codeNumber, lengthIn}
 use Rattle.promises.specs.Codable.{Codable}
 use Rattle.model.specs.declared.Unary.the-variants.{Table}
 use Rattle.model.specs.declared.Code.{Code}
@@ -186,6 +186,7 @@ use Rattle.theorems.proofs.Calls.Places.{refusal-small, places-small, places-ze
 use Rattle.theorems.proofs.Calls.Refused as Refused
 use Rattle.theorems.proofs.Bench.Scripts.{script-actions}
 use Rattle.theorems.proofs.Pairs.Settled as Settled
+use Rattle.theorems.proofs.Pairs.Terms as Terms
 use Rattle.theorems.proofs.Images.Former.{not-lent}
 use Rattle.theorems.proofs.Images.Tailed
 use Rattle.theorems.proofs.Images.Tailed.{part-bytes}
@@ -216,17 +217,17 @@ pub refused-exactly : (program schedule : List ℕ) (f : Fault) →
     (pairOf program schedule ≡ refused f) ↔ RefusedAt program schedule f
 refused-exactly = Exact.refused-exactly
 
--- Request c. In an accepted pair let r be the last link of a chain and ws the links before it, the nearest first. If one goes
--- back from element k of r to element m of the first link a, the latency is 1 more than the cycles from m to k, and no
--- difference is cut ..
-pub latency-whole : (program schedule : List ℕ) (q : Pair) → pairOf program schedule ≡ accepted q → (c : Chain) →
-    c among q .program .chains → (r : ℕ) (ws : List ℕ) → backwards c ≡ r ∷ ws → (k m : ℕ) →
-    let p = q .program in
-    let s = q .schedule in
-    let a = source p s r (readsBack p r ws) in
-    back p s r k (readsBack p r ws) ≡ At m →
-    latencyOf (rateOf p s r) k (rateOf p s a) m + runCycle (rateOf p s a) m ≡ runCycle (rateOf p s r) k + 1
-latency-whole = Latency.latency-whole
+-- The terms in which these conditions are written are what the paper says of them: exactly one read, what the PUTs say, put
+-- before, the summed weight of the signals that run in a cycle ..
+pub terms-are : (program schedule : List ℕ) (p : Program) (h : ℕ) (s : Schedule) (c : LegalPlaces program schedule p h s) →
+    TermsAre p (c .puts .value) s
+terms-are = Terms.terms-are
+
+-- .. and, where every read is met, the latency of a chain: one goes back by the reads from element k of the last link to element m
+-- of the first; the latency is 1 more than the cycles from m to k (request c) ..
+pub latency-is : (program schedule : List ℕ) (p : Program) (h : ℕ) (s : Schedule) → LegalPlaces program schedule p h s →
+    ((r : ℕ) (ρ : Read) → ReadIn p r ρ → Met p s r ρ) → LatencyIs p s
+latency-is = Terms.latency-is
 
 -- .. so that no chain keeps a bound of 0, in either mode: some run of every chain counts.
 pub no-zero-bound : (program schedule : List ℕ) (q : Pair) → pairOf program schedule ≡ accepted q → (c : Chain) →

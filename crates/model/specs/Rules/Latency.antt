@@ -40,7 +40,7 @@ onward go (suc m) = go m
 
 -- Latency: the cycle of run k of the last link minus the cycle of element m of the first, by their rates r and a, and 1 more,
 -- since outputs latch at the end of the cycle (request c). The difference never cuts: no run goes back to an element that is
--- younger than itself (`latency-whole`).
+-- younger than itself (`latency-is`).
 unfoldable pub latencyOf : Rate → ℕ → Rate → ℕ → ℕ
 latencyOf r k a m = runCycle r k - runCycle a m + 1
 

@@ -7,16 +7,14 @@ use native.Mathlib.Omega.{arith}
 use lib.ListN.{length}
 use Rattle.model.specs.Says.Feasible.{All}
 use Rattle.model.specs.Rules.Compile.{Pair, pairOf}
-use Rattle.model.specs.Rules.Latency.{readsBack, backwards, back, source, latencyOf, keeps, timely}
+use Rattle.model.specs.Rules.Latency.{readsBack, backwards, keeps, timely}
 use Rattle.model.specs.Rules.Outcome.{accepted, fault}
 use Rattle.model.specs.Rules.Program.{Program, Link, Chain, count}
-use Rattle.model.specs.Rules.Reads.{rateOf, runCycle}
 use Rattle.model.specs.Rules.Schedule.{Schedule}
 use Rattle.model.specs.Rules.Rates.{isLinked}
 use Rattle.theorems.specs.Conditions.{_among_, TimelyFrom, KeepsTime}
-use Rattle.model.specs.declared.Found.the-variants.{At}
 use Rattle.model.proofs.Texts.Legal.{legal}
-use Rattle.model.proofs.Pairs.Links.{LinkedBack, linked-backwards, declared-backwards, chain-met, ChainMet, latency-adds}
+use Rattle.model.proofs.Pairs.Links.{LinkedBack, linked-backwards, declared-backwards, chain-met, ChainMet}
 use Rattle.model.proofs.Pairs.Verdict.{Passed, pair-passed, pair-accepted, pair-multiple, links-declared, chains-linked}
 use Rattle.model.proofs.Basics.All.{all-both, all-map, all-joined}
 use Rattle.model.proofs.Basics.Outcomes.{lowest-none, cond-none}
@@ -93,15 +91,6 @@ module _ (program schedule : List ℕ) (q : Pair) (e : pairOf program schedule �
     reads-met =
         chain-met p s (pair-accepted program schedule q e) ws r (subst (All (λ w. w < count p)) from declared)
         (subst (LinkedBack p) from joined)
-
-    -- Of every run that counts the latency is 1 more than the cycles from its element of the first link to it: no difference
-    -- is cut, since no run goes back to an element that is younger than itself.
-    pub latency-whole : (k m : ℕ) → back p s r k (readsBack p r ws) ≡ At m →
-        latencyOf (rateOf p s r) k (rateOf p s (source p s r (readsBack p r ws))) m +
-        runCycle (rateOf p s (source p s r (readsBack p r ws))) m ≡ runCycle (rateOf p s r) k + 1
-    latency-whole =
-        latency-adds p s (pair-accepted program schedule q e) r
-        (readsBack p r ws) last-declared reads-met
 
     kept-positive : 0 < c .bound
     kept-positive =
