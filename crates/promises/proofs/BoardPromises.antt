@@ -25,9 +25,23 @@ use Rattle.theorems.specs.Held.{stateBy, logBy, Supplied, Holds}
 use Rattle.theorems.specs.Join.{LinkedSatisfies, JoinLegal}
 use Rattle.theorems.specs.Streams.{Satisfies}
 use Rattle.theorems.specs.Tables.{WithoutTable}
-use Rattle.board.specs.Board.{placeWords, placeAt, nextDue, onStretch, resetIn, cycleIn, BoardEffect, Yield, loadOf, markPlaceOf, turnOf}
-use Rattle.board.specs.Events.{Event, load, Scene, loadBy, afterEvent, afterEvents, Throughout, Untouched, ownCycles}
+use Rattle.board.specs.Board.{
+  placeWords,
+  placeAt,
+  nextDue,
+  onStretch,
+  resetIn,
+  cycleIn,
+  BoardEffect,
+  Yield,
+  loadOf,
+  markPlaceOf,
+  turnOf,
+}
+use Rattle.board.specs.Events.{Event, load, mark, turn, Scene, loadBy, afterEvent, afterEvents, Throughout, Untouched, ownCycles}
+use Rattle.board_words.specs.Calls.{NumberScene, loadAnswer, markAnswer, turnAnswer, afterCall, FromLoad}
 use Rattle.board_words.specs.Record.{turnDone}
+use Rattle.promises.specs.BoardExact.{CallExactly, Loads, LoadRefusedAt, Marks, MarkRefusedAt, Turns, TurnRefusedAt}
 use Rattle.promises.specs.Codable.{Codable}
 use Rattle.promises.specs.Scenes.{
   SceneBut,
@@ -45,6 +59,8 @@ use Rattle.promises.specs.Scenes.{
 }
 use Rattle.board.specs.declared.Board.{Board}
 use Rattle.board.proofs.Promises.{place-alone, place-cycles}
+use Rattle.board_words.proofs.Lists.{numbers-place-alone}
+use Rattle.promises.proofs.BoardExact as BoardExact
 use Rattle.promises.proofs.JoinPromises.{join-calls-hold}
 use Rattle.model.proofs.Pairs.Verdict.{pair-accepted, pair-multiple, pair-bounded}
 use Rattle.theorems.proofs.Joining.Demand as Join
@@ -64,6 +80,21 @@ use Rattle.board.proofs.Answers.{
   turn-samples,
   turn-done,
 }
+
+-- Load, mark and turn on the 17 numbers of a record do their job, or are refused by 26, 21, 27 and 20, by 26 and 28, by 21 and
+-- 23, exactly under their condition, with all earlier ones absent; a turn's run by 27, 20 or 22, leaving the state.
+module _ (m : NumberScene) (seventeen : length (m .numbers) ≡ 17) where
+  pub load-exactly : (k start size : ℕ) →
+      CallExactly m (Loads m k start size) (LoadRefusedAt m k start size) (loadAnswer m k start size)
+      (afterCall m (load k start size))
+  load-exactly = BoardExact.load-exactly m seventeen
+
+  pub mark-exactly : (k : ℕ) → CallExactly m (Marks m k) (MarkRefusedAt m k) (markAnswer m k) (afterCall m (mark k))
+  mark-exactly = BoardExact.mark-exactly m seventeen
+
+  pub turn-exactly : (samples : List ℤ) →
+      CallExactly m (Turns m samples) (TurnRefusedAt m samples) (turnAnswer m samples) (afterCall m (turn samples))
+  turn-exactly = BoardExact.turn-exactly m seventeen
 
 -- What a list on its image holds a place holds, with c the number of turns that ran it since its load: word 0 is the remainder of c
 -- by H, signal x its element floor((c − 1 − p)/P), or its initial word if c ≤ p, and words beyond N are as before the load.
@@ -100,6 +131,16 @@ module _ (program schedule : List ℕ) (bytes : AreBytes program) (p : Program) 
       (calls-hold program schedule bytes p q h e tail (stretch (s .images) start (start + size)) bears (placeWords k (s .state))
       (place-cycles s k start size n four a es free .0) (ownCycles k (afterEvent s (load k start size)) es)
       .holds inputs X supplied satisfied)
+
+  -- The same by the numbers, for a place from its load on.
+  pub numbers-place-streams : {m : NumberScene} {k start size : ℕ} {es : List Event} {image : List ℕ} {old words : List ℤ}
+      {cs : List Call} → FromLoad m k start size es image old words cs → (tail : List ℕ) → Bears (imageOf p q h) tail image →
+      (inputs X : ℕ → ℕ → ℤ) → Supplied p q (logBy image old cs) inputs → Satisfies p (settled p q) inputs X →
+      Holds p q h X old (length cs) words
+  numbers-place-streams {image = image} {old = old} {cs = cs} f tail bears inputs X supplied satisfied =
+      let a = numbers-place-alone f in
+      rw (← (a .cycles), a .words-are)
+      (calls-hold program schedule bytes p q h e tail image bears old (a .resets) cs .holds inputs X supplied satisfied)
 
   -- Request m for each place. Two courses of places, on one board or on two, whose stretches hold the image of this pair: after
   -- as many runs they have answered the same and have the same position, and if the samples that they were lent differ only in
@@ -153,6 +194,16 @@ module _ (texts numbers links : List ℕ) (bytes : AreBytes texts) (q : Pair) (l
       (join-calls-hold texts numbers links q l bytes tail (stretch (s .images) start (start + size)) bears
       (placeWords k (s .state)) (place-cycles s k start size n four a es free .0)
       (ownCycles k (afterEvent s (load k start size)) es) .holds inputs X supplied satisfied)
+
+  pub numbers-join-place-streams : {m : NumberScene} {k start size : ℕ} {es : List Event} {image : List ℕ} {old words : List ℤ}
+      {cs : List Call} → FromLoad m k start size es image old words cs → (tail : List ℕ) →
+      Bears (imageOf (q .program) (q .schedule) (q .hypercycle)) tail image → (inputs X : ℕ → ℕ → ℤ) →
+      Supplied (q .program) (q .schedule) (logBy image old cs) inputs → LinkedSatisfies (l .parts) (linksOf links) inputs X →
+      Holds (q .program) (q .schedule) (q .hypercycle) X old (length cs) words
+  numbers-join-place-streams {image = image} {old = old} {cs = cs} f tail bears inputs X supplied satisfied =
+      let a = numbers-place-alone f in
+      rw (← (a .cycles), a .words-are)
+      (join-calls-hold texts numbers links q l bytes tail image bears old (a .resets) cs .holds inputs X supplied satisfied)
 
   -- Request m for each place that holds it: as for a pair, by the joined program.
   pub join-place-only-readers : (c c′ : Course) → Undisturbed c → Undisturbed c′ → (tail tail′ : List ℕ) →

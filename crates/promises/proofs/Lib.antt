@@ -7,4 +7,5 @@ pub mod Confined
 pub mod Runs
 pub mod Samples
 pub mod Courses
+pub mod BoardExact
 pub mod BoardPromises
