@@ -14,7 +14,7 @@ use lib.Seq.{length-take-le, getD-take, getD-drop, ext-getD}
 use Rattle.model.specs.Rules.Machine.{stretch}
 use Rattle.model.specs.declared.Found.the-variants.{At, Nowhere}
 use Rattle.board.specs.Board.{withWords, placeAt, placeAfter, countUp, nextDue}
-use Rattle.board.proofs.Due.{reached, none-due}
+use Rattle.board.proofs.Due.{next-below, reached, none-due}
 use Rattle.board.proofs.Words.{put-length, words-own, words-elsewhere}
 use Rattle.board_words.specs.Record.{boardOf, dueIn, loadedIn, countIn, loadedWords, markedWords, takenWords}
 use Rattle.board_words.specs.Numbers.{
@@ -23,6 +23,7 @@ use Rattle.board_words.specs.Numbers.{
   WordsSet,
   flagsAt,
   countAt,
+  lastOf,
   Loaded,
   Due,
   PlaceSet,
@@ -275,14 +276,13 @@ module _ (w : List ℕ) where
   unfolding boardOf
   next-place k e =
       let r = reached (boardOf w) k e in
-      let h : (getD w 16 0 + 1 + r .ahead) % 4 ≡ k = r .here in
-      let lt : k < 4 = omega arith in
+      let lt = next-below (boardOf w) k e in
       let due : placeAt (boardOf w) k .due ≡ true = ap (λ (i : ℕ). placeAt (boardOf w) i .due) (sym (r .here)) ∙ r .is-due in
       record {
         distance = r .ahead + 1;
         some = omega arith;
         most = omega (arith, r .few);
-        ahead = record { place = lt; rounds = (getD w 16 0 + 1 + r .ahead) / 4; is = omega arith };
+        ahead = record { place = lt; rounds = (lastOf w + 1 + r .ahead) / 4; is = omega (arith, r .here) };
         due = due-true (flagsAt w k) (sym (due-held w k lt) ∙ due);
         between =
             λ d j some near a.
@@ -294,7 +294,7 @@ module _ (w : List ℕ) where
   pub next-none : nextDue (boardOf w) ≡ Nowhere → NoneDue w
   unfolding boardOf
   next-none e j lt =
-      let i = (j + 3 - getD w 16 0 % 4) % 4 in
+      let i = (j + 3 - lastOf w % 4) % 4 in
       let here : placeAfter (boardOf w) i ≡ j = omega arith in
       not-due j lt (ap (λ (i : ℕ). placeAt (boardOf w) i .due) (sym here) ∙ none-due (boardOf w) e i (omega arith))
 
