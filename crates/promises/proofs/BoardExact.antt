@@ -225,7 +225,8 @@ module _ (m : NumberScene) (seventeen : length (m .numbers) ≡ 17) where
         words p false q =
             let e = load-state (boardOf (m .numbers)) (m .images) (m .state) k start size p q in
             by-load e
-            (stays (fault 21 0) (ap called e) (LoadRefusedAt.short (ltb-true k 4 p) (leb-false 260 (length (m .state)) q)) refl)
+            (stays (fault 21 0) (ap called e)
+            (LoadRefusedAt.short (omega (arith, ltb-true k 4 p)) (leb-false 260 (length (m .state)) q)) refl)
 
         place : (t : Bool) → ltb k 4 ≡ t → LoadEnds
         place true p = words p (leb 260 (length (m .state))) refl
@@ -320,7 +321,8 @@ module _ (m : NumberScene) (seventeen : length (m .numbers) ≡ 17) where
             let e = mark-loaded (boardOf (m .numbers)) k p q in
             by-mark e
             (stays (fault 28 0) (ap called e)
-            (MarkRefusedAt.unloaded lt (loaded-false (flagsAt (m .numbers) k) (sym (loaded-held (m .numbers) k lt) ∙ q))) refl)
+            (MarkRefusedAt.unloaded (omega arith)
+            (loaded-false (flagsAt (m .numbers) k) (sym (loaded-held (m .numbers) k lt) ∙ q))) refl)
 
         place : (t : Bool) → ltb k 4 ≡ t → MarkEnds
         place true p = loaded p (placeAt (boardOf (m .numbers)) k .loaded) refl
@@ -488,7 +490,7 @@ module _ (m : NumberScene) (seventeen : length (m .numbers) ≡ 17) where
             let e = turn-samples (boardOf (m .numbers)) (m .images) (m .state) samples p q in
             by-turn e
             (stays (fault 23 0) (ap (λ (x : BoardEffect Yield). x .answer) e)
-            (TurnRefusedAt.few (leb-true 260 (length (m .state)) p) (leb-false 256 (length samples) q)) refl)
+            (TurnRefusedAt.few (omega (arith, leb-true 260 (length (m .state)) p)) (leb-false 256 (length samples) q)) refl)
 
         state-long : (t : Bool) → leb 260 (length (m .state)) ≡ t → TurnEnds
         state-long true p = lent-many p (leb 256 (length samples)) refl

@@ -96,8 +96,8 @@ module _ (m : NumberScene) (seventeen : length (m .numbers) ≡ 17) where
       CallExactly m (Turns m samples) (TurnRefusedAt m samples) (turnAnswer m samples) (afterCall m (turn samples))
   turn-exactly = BoardExact.turn-exactly m seventeen
 
--- What a list on its image holds a place holds, with c the number of turns that ran it since its load: word 0 is the remainder of c
--- by H, signal x its element floor((c − 1 − p)/P), or its initial word if c ≤ p, and words beyond N are as before the load.
+-- What a list on its image holds a place holds, with c the number of turns that ran it since its load: word 0 is the remainder of
+-- c by H, signal x its element floor((c − 1 − p)/P), or its initial word if c ≤ p, and words beyond N are as before the load.
 place-holds : (p : Program) (q : Schedule) (h : ℕ) (s : Scene) (k start size n : ℕ) →
     length (s .board .places) ≡ 4 → loadBy s k start size .answer ≡ accepted n → (es : List Event) →
     Throughout (Untouched k) (afterEvent s (load k start size)) es → (X : ℕ → ℕ → ℤ) →

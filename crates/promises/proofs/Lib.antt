@@ -7,5 +7,6 @@ pub mod Confined
 pub mod Runs
 pub mod Samples
 pub mod Courses
+pub mod BoardLent
 pub mod BoardExact
 pub mod BoardPromises
