@@ -199,8 +199,8 @@ module _ (k : ℕ) where
   not-own samples (accepted (took j (refused f))) cs no-run = refl
   not-own samples (refused f) cs no-run = refl
 
-  pub runs-held : {m : NumberScene} {es : List Event} {cs : List Call} → length (m .numbers) ≡ 17 → RunsOf k m es cs →
-      cs ≡ ownCycles k (sceneOf m) es
+  pub runs-held : {m : NumberScene} {es : List Event} {cs : List Call} {os : List (Outcome ℕ)} → length (m .numbers) ≡ 17 →
+      RunsOf k m es cs os → cs ≡ ownCycles k (sceneOf m) es
   unfolding ownCycles
   runs-held long RunsOf.none = refl
   runs-held {m} long (RunsOf.other {e = e} {es = es} {cs = cs} no-run r) =
@@ -253,21 +253,22 @@ module _ (k : ℕ) where
           part-there (pos 0) samples (64 * k) 64
           (omega (arith, next-below (boardOf (m .numbers)) j at, leb-true 256 (length samples) v))
 
-  pub runs-there : (m : NumberScene) (es : List Event) → (cs : List Call) × RunsOf k m es cs
-  runs-there m [] = ([], RunsOf.none)
+  pub runs-there : (m : NumberScene) (es : List Event) → (cs : List Call) × (os : List (Outcome ℕ)) × RunsOf k m es cs os
+  runs-there m [] = ([], [], RunsOf.none)
   runs-there m (e ∷ es) = go e (runs-place m e) (runs-there (afterCall m e) es)
     where
-      go : (e : Event) → Dec (RunsPlace k m e) → ((cs : List Call) × RunsOf k (afterCall m e) es cs) →
-          (cs : List Call) × RunsOf k m (e ∷ es) cs
+      go : (e : Event) → Dec (RunsPlace k m e) →
+          ((cs : List Call) × (os : List (Outcome ℕ)) × RunsOf k (afterCall m e) es cs os) →
+          (cs : List Call) × (os : List (Outcome ℕ)) × RunsOf k m (e ∷ es) cs os
       go (load j start size) (yes r) rest = absurd r
-      go (load j start size) (no n) (cs, r) = (cs, RunsOf.other n r)
+      go (load j start size) (no n) (cs, os, r) = (cs, os, RunsOf.other n r)
       go (mark j) (yes r) rest = absurd r
-      go (mark j) (no n) (cs, r) = (cs, RunsOf.other n r)
-      go (turn samples) (yes p) (cs, r) =
-          (cycle (placeSamples k samples) ∷ cs, RunsOf.ran p (samples-there m samples p) r)
-      go (turn samples) (no n) (cs, r) = (cs, RunsOf.other n r)
+      go (mark j) (no n) (cs, os, r) = (cs, os, RunsOf.other n r)
+      go (turn samples) (yes p) (cs, os, r) =
+          (cycle (placeSamples k samples) ∷ cs, accepted (p .0) ∷ os, RunsOf.ran p (samples-there m samples p) r)
+      go (turn samples) (no n) (cs, os, r) = (cs, os, RunsOf.other n r)
       go (change images state) (yes r) rest = absurd r
-      go (change images state) (no n) (cs, r) = (cs, RunsOf.other n r)
+      go (change images state) (no n) (cs, os, r) = (cs, os, RunsOf.other n r)
 
 -- A list of calls keeps the number of words.
 after-length : (image : List ℕ) (cs : List Call) (words : List ℤ) → length (Says.after image words cs) ≡ length words
@@ -377,11 +378,11 @@ module _ (m : NumberScene) (seventeen : length (m .numbers) ≡ 17) (k start siz
   abbrev loaded : NumberScene
   loaded = afterCall m (load k start size)
 
-  four : length (boardOf (m .numbers) .places) ≡ 4
+  pub four : length (boardOf (m .numbers) .places) ≡ 4
   unfolding boardOf
   four = refl
 
-  after-load : sceneOf loaded ≡ afterEvent (sceneOf m) (load k start size)
+  pub after-load : sceneOf loaded ≡ afterEvent (sceneOf m) (load k start size)
   after-load = call-held m seventeen (load k start size)
 
   still : length (loaded .numbers) ≡ 17
@@ -417,7 +418,7 @@ module _ (m : NumberScene) (seventeen : length (m .numbers) ≡ 17) (k start siz
       zero-count = rw loads (omega (arith, load-count (m .numbers) seventeen k below start size))
 
   module _ (es : List Event) (free : ThroughoutIn (UntouchedIn k) loaded es) where
-    untouched : Throughout (Untouched k) (afterEvent (sceneOf m) (load k start size)) es
+    pub untouched : Throughout (Untouched k) (afterEvent (sceneOf m) (load k start size)) es
     untouched =
         subst (λ (s : Scene). Throughout (Untouched k) s es) after-load
         (throughout-held (UntouchedIn k) (Untouched k) (untouched-held k below) loaded still es free)
@@ -457,7 +458,8 @@ module _ (m : NumberScene) (seventeen : length (m .numbers) ≡ 17) (k start siz
 
     -- .. and there are its image, its words before and after, and its cycles.
     pub from-load-there :
-        (image : List ℕ) × (old : List ℤ) × (words : List ℤ) × (cs : List Call) × FromLoad m k start size es image old words cs
+        (image : List ℕ) × (old : List ℤ) × (words : List ℤ) × (cs : List Call) × (os : List (Outcome ℕ)) ×
+        FromLoad m k start size es image old words cs os
     from-load-there =
         let p = load-room m k start size loads in
         let r = runs-there k loaded es in (
@@ -465,6 +467,7 @@ module _ (m : NumberScene) (seventeen : length (m .numbers) ≡ 17) (k start siz
           words-before,
           words-after,
           r .0,
+          r .1,
           record {
             seventeen = seventeen;
             loads = loads;
@@ -472,7 +475,7 @@ module _ (m : NumberScene) (seventeen : length (m .numbers) ≡ 17) (k start siz
             stretch = stretch-there (m .images) start size (p .0);
             before = part-there (pos 0) (m .state) (65 * k) 65 (omega (arith, p .1, below));
             after = part-there (pos 0) (afterCalls m (load k start size ∷ es) .state) (65 * k) 65 room;
-            runs = r .1;
+            runs = r .2;
           },
         )
       where
@@ -486,7 +489,7 @@ module _ (m : NumberScene) (seventeen : length (m .numbers) ≡ 17) (k start siz
 
 -- The words of a place from its load on are those that a reset on its image alone and then these cycles leave; none is refused.
 pub numbers-place-alone : {m : NumberScene} {k start size : ℕ} {es : List Event} {image : List ℕ} {old words : List ℤ}
-    {cs : List Call} → FromLoad m k start size es image old words cs → AsAlone image old words cs
+    {cs : List Call} {os : List (Outcome ℕ)} → FromLoad m k start size es image old words cs os → AsAlone image old words cs
 numbers-place-alone {m} {k} {start} {size} {es} {image} {old} {words} {cs} f =
     let i : stretch (m .images) start (start + size) ≡ image = stretch-is (f .stretch) in
     let o : placeWords k (m .state) ≡ old = part-is (pos 0) (m .state) (65 * k) 65 (f .before) in

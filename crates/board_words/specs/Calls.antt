@@ -90,26 +90,27 @@ RunsPlace k m (mark j) = ⊥
 RunsPlace k m (turn samples) = (n : ℕ) × (turnAnswer m samples ≡ accepted (took k (accepted n)))
 RunsPlace k m (change images state) = ⊥
 
--- The cycles of the program of place k alone: one for each turn of a list that ran it, with the place's samples.
-pub data RunsOf (k : ℕ) : NumberScene → List Event → List Call → Type 0 where
-  none : {m : NumberScene} → RunsOf k m [] []
-  other : {m : NumberScene} {e : Event} {es : List Event} {cs : List Call} → ¬ RunsPlace k m e →
-      RunsOf k (afterCall m e) es cs → RunsOf k m (e ∷ es) cs
-  ran : {m : NumberScene} {samples own : List ℤ} {es : List Event} {cs : List Call} → RunsPlace k m (turn samples) →
-      OwnSamples k samples own → RunsOf k (afterCall m (turn samples)) es cs →
-      RunsOf k m (turn samples ∷ es) (cycle own ∷ cs)
+-- The cycles of the program of place k alone, and what they answered: one for each turn of a list that ran it, with the place's
+-- samples.
+pub data RunsOf (k : ℕ) : NumberScene → List Event → List Call → List (Outcome ℕ) → Type 0 where
+  none : {m : NumberScene} → RunsOf k m [] [] []
+  other : {m : NumberScene} {e : Event} {es : List Event} {cs : List Call} {os : List (Outcome ℕ)} → ¬ RunsPlace k m e →
+      RunsOf k (afterCall m e) es cs os → RunsOf k m (e ∷ es) cs os
+  ran : {m : NumberScene} {samples own : List ℤ} {es : List Event} {cs : List Call} {os : List (Outcome ℕ)} →
+      (r : RunsPlace k m (turn samples)) → OwnSamples k samples own → RunsOf k (afterCall m (turn samples)) es cs os →
+      RunsOf k m (turn samples ∷ es) (cycle own ∷ cs) (accepted (r .0) ∷ os)
 
 -- Place k from a load on that is not refused, its stretch and its words not changed from outside and it not loaded again: the
--- image loaded, its words before the load and after the events, and the cycles of its program alone.
+-- image loaded, its words before the load and after the events, the cycles of its program alone and what they answered.
 pub record FromLoad (m : NumberScene) (k start size : ℕ) (es : List Event) (image : List ℕ) (old words : List ℤ)
-    (cs : List Call) : Type 0 where
+    (cs : List Call) (os : List (Outcome ℕ)) : Type 0 where
   pub seventeen : length (m .numbers) ≡ 17
   pub loads : loadAnswer m k start size ≡ accepted 0
   pub untouched : ThroughoutIn (UntouchedIn k) (afterCall m (load k start size)) es
   pub stretch : StretchIs (m .images) start size image
   pub before : OwnWords k (m .state) old
   pub after : OwnWords k (afterCalls m (load k start size ∷ es) .state) words
-  pub runs : RunsOf k (afterCall m (load k start size)) es cs
+  pub runs : RunsOf k (afterCall m (load k start size)) es cs os
 
 -- The words of a place are those that a reset on its image alone and then these cycles leave, and none of them is refused.
 pub record AsAlone (image : List ℕ) (old words : List ℤ) (cs : List Call) : Type 0 where

@@ -20,9 +20,10 @@ use Rattle.model.specs.Rules.Schedule.{Schedule}
 use Rattle.model.specs.Rules.Tail.{Bears}
 use Rattle.model.specs.Rules.Word.{AreBytes}
 use Rattle.model.specs.Says.Calls.{Call, callOf}
-use Rattle.theorems.specs.Dependence.{DependsOn}
+use Rattle.theorems.specs.Dependence.{DependsOn, SameExcept}
 use Rattle.theorems.specs.Held.{stateBy, logBy, Supplied, Holds}
 use Rattle.theorems.specs.Join.{LinkedSatisfies, JoinLegal}
+use Rattle.theorems.specs.Lists.{Kept, JoinKept}
 use Rattle.theorems.specs.Streams.{Satisfies}
 use Rattle.theorems.specs.Tables.{WithoutTable}
 use Rattle.board.specs.Board.{
@@ -39,13 +40,15 @@ use Rattle.board.specs.Board.{
   turnOf,
 }
 use Rattle.board.specs.Events.{Event, load, mark, turn, Scene, loadBy, afterEvent, afterEvents, Throughout, Untouched, ownCycles}
-use Rattle.board_words.specs.Calls.{NumberScene, loadAnswer, markAnswer, turnAnswer, afterCall, FromLoad}
+use Rattle.board_words.specs.Calls.{NumberScene, sceneOf, loadAnswer, markAnswer, turnAnswer, afterCall, FromLoad}
 use Rattle.board_words.specs.Record.{turnDone}
 use Rattle.promises.specs.BoardExact.{CallExactly, Loads, LoadRefusedAt, Marks, MarkRefusedAt, Turns, TurnRefusedAt}
 use Rattle.promises.specs.Codable.{Codable}
 use Rattle.promises.specs.Scenes.{
   SceneBut,
+  NumbersBut,
   OtherSamples,
+  SamplesElsewhere,
   SamplesExcept,
   EventsBut,
   Confined,
@@ -60,6 +63,7 @@ use Rattle.promises.specs.Scenes.{
 use Rattle.board.specs.declared.Board.{Board}
 use Rattle.board.proofs.Promises.{place-alone, place-cycles}
 use Rattle.board_words.proofs.Lists.{numbers-place-alone}
+use Rattle.promises.proofs.BoardCourses.{course-is, answers-alone, scenes-but, events-but}
 use Rattle.promises.proofs.BoardExact as BoardExact
 use Rattle.promises.proofs.JoinPromises.{join-calls-hold}
 use Rattle.model.proofs.Pairs.Verdict.{pair-accepted, pair-multiple, pair-bounded}
@@ -132,15 +136,14 @@ module _ (program schedule : List ℕ) (bytes : AreBytes program) (p : Program) 
       (place-cycles s k start size n four a es free .0) (ownCycles k (afterEvent s (load k start size)) es)
       .holds inputs X supplied satisfied)
 
-  -- The same by the numbers, for a place from its load on.
+  -- The same by the numbers, for a place from its load on: also what its turns answered is what a list on its image answers, so
+  -- that each told the report's count of its position.
   pub numbers-place-streams : {m : NumberScene} {k start size : ℕ} {es : List Event} {image : List ℕ} {old words : List ℤ}
-      {cs : List Call} → FromLoad m k start size es image old words cs → (tail : List ℕ) → Bears (imageOf p q h) tail image →
-      (inputs X : ℕ → ℕ → ℤ) → Supplied p q (logBy image old cs) inputs → Satisfies p (settled p q) inputs X →
-      Holds p q h X old (length cs) words
-  numbers-place-streams {image = image} {old = old} {cs = cs} f tail bears inputs X supplied satisfied =
+      {cs : List Call} {os : List (Outcome ℕ)} → FromLoad m k start size es image old words cs os → (tail : List ℕ) →
+      Bears (imageOf p q h) tail image → Kept program schedule p q h old cs os (logBy image old cs) words
+  numbers-place-streams {image = image} {old = old} {cs = cs} f tail bears =
       let a = numbers-place-alone f in
-      rw (← (a .cycles), a .words-are)
-      (calls-hold program schedule bytes p q h e tail image bears old (a .resets) cs .holds inputs X supplied satisfied)
+      rw (← (answers-alone f), a .words-are) (calls-hold program schedule bytes p q h e tail image bears old (a .resets) cs)
 
   -- Request m for each place. Two courses of places, on one board or on two, whose stretches hold the image of this pair: after
   -- as many runs they have answered the same and have the same position, and if the samples that they were lent differ only in
@@ -164,6 +167,32 @@ module _ (program schedule : List ℕ) (bytes : AreBytes program) (p : Program) 
       board-apart p q h (pair-accepted program schedule _ e) (pair-multiple program schedule _ e)
       (pair-bounded program schedule _ e bytes)
 
+  -- The same by the numbers: of two places, each from its load on, after as many runs; of one board in two courses of events that
+  -- are the same but for the samples of that place.
+  pub numbers-only-readers : {m m′ : NumberScene} {k k′ start start′ size size′ : ℕ} {es es′ : List Event}
+      {image image′ : List ℕ} {old old′ words words′ : List ℤ} {cs cs′ : List Call} {os os′ : List (Outcome ℕ)} →
+      FromLoad m k start size es image old words cs os → FromLoad m′ k′ start′ size′ es′ image′ old′ words′ cs′ os′ →
+      (tail tail′ : List ℕ) → Bears (imageOf p q h) tail image → Bears (imageOf p q h) tail′ image′ → length os ≡ length os′ →
+      (i : ℕ) → SameExcept p q i os os′ (logBy image old cs) (logBy image′ old′ cs′) words words′
+  numbers-only-readers f f′ tail tail′ b b′ many i =
+      let c = course-is f in
+      let c′ = course-is f′ in
+      rw (← (c .answers-are), ← (c′ .answers-are), ← (c .log-is), ← (c′ .log-is), ← (c .words-are), ← (c′ .words-are))
+      (place-only-readers _ _ (c .undisturbed) (c′ .undisturbed) tail tail′ (rw (c .image-is) b) (rw (c′ .image-is) b′)
+      (rw (c .answers-are, c′ .answers-are) many) i)
+
+  pub numbers-board-readers : {m m′ : NumberScene} {k start size : ℕ} {es es′ : List Event} {image image′ : List ℕ}
+      {old old′ words words′ : List ℤ} {cs cs′ : List Call} {os os′ : List (Outcome ℕ)} → NumbersBut k m m′ →
+      EventsBut k (SamplesElsewhere k) es es′ → FromLoad m k start size es image old words cs os →
+      FromLoad m′ k start size es′ image′ old′ words′ cs′ os′ → (tail : List ℕ) → Bears (imageOf p q h) tail image →
+      (i : ℕ) → SameExcept p q i os os′ (logBy image old cs) (logBy image′ old′ cs′) words words′
+  numbers-board-readers {m} {m′} {k} {start} {size} {es} {es′} but alike f f′ tail b i =
+      let c = course-is f in
+      let c′ = course-is f′ in
+      rw (← (c .answers-are), ← (c′ .answers-are), ← (c .log-is), ← (c′ .log-is), ← (c .words-are), ← (c′ .words-are))
+      (board-only-readers (sceneOf m) (sceneOf m′) k start size es es′ (scenes-but but) (events-but alike) (c .undisturbed)
+      (c′ .undisturbed .untouched) tail (rw (c .image-is) b) i)
+
   -- Where the turns' samples differ only in word i of that place, every other signal of it that does not depend on i holds the
   -- same word.
   pub board-words : (s s′ : Scene) (k start size : ℕ) (es es′ : List Event) → SceneBut k s s′ → (i : ℕ) → i < 64 →
@@ -176,6 +205,18 @@ module _ (program schedule : List ℕ) (bytes : AreBytes program) (p : Program) 
   board-words =
       Courses.board-words p q h (pair-accepted program schedule _ e) (pair-multiple program schedule _ e)
       (pair-bounded program schedule _ e bytes)
+
+  pub numbers-board-words : {m m′ : NumberScene} {k start size : ℕ} {es es′ : List Event} {image image′ : List ℕ}
+      {old old′ words words′ : List ℤ} {cs cs′ : List Call} {os os′ : List (Outcome ℕ)} → NumbersBut k m m′ → (i : ℕ) →
+      i < 64 → EventsBut k (SamplesExcept k i) es es′ → FromLoad m k start size es image old words cs os →
+      FromLoad m′ k start size es′ image′ old′ words′ cs′ os′ → (tail : List ℕ) → Bears (imageOf p q h) tail image →
+      (y : ℕ) → y < count p → ¬ (y ≡ i) → ¬ DependsOn p y i → getD words (suc y) (pos 0) ≡ getD words′ (suc y) (pos 0)
+  numbers-board-words {m} {m′} {k} {start} {size} {es} {es′} but i small alike f f′ tail b y lt ne apart =
+      let c = course-is f in
+      let c′ = course-is f′ in
+      rw (← (c .words-are), ← (c′ .words-are))
+      (board-words (sceneOf m) (sceneOf m′) k start size es es′ (scenes-but but) i small alike (c .undisturbed)
+      (c′ .undisturbed .untouched) tail (rw (c .image-is) b) y lt ne apart)
 
 -- The same of the image of an accepted join, with the equations of all parts and links together.
 module _ (texts numbers links : List ℕ) (bytes : AreBytes texts) (q : Pair) (l : JoinLegal texts numbers links q) where
@@ -196,14 +237,13 @@ module _ (texts numbers links : List ℕ) (bytes : AreBytes texts) (q : Pair) (l
       (ownCycles k (afterEvent s (load k start size)) es) .holds inputs X supplied satisfied)
 
   pub numbers-join-place-streams : {m : NumberScene} {k start size : ℕ} {es : List Event} {image : List ℕ} {old words : List ℤ}
-      {cs : List Call} → FromLoad m k start size es image old words cs → (tail : List ℕ) →
-      Bears (imageOf (q .program) (q .schedule) (q .hypercycle)) tail image → (inputs X : ℕ → ℕ → ℤ) →
-      Supplied (q .program) (q .schedule) (logBy image old cs) inputs → LinkedSatisfies (l .parts) (linksOf links) inputs X →
-      Holds (q .program) (q .schedule) (q .hypercycle) X old (length cs) words
-  numbers-join-place-streams {image = image} {old = old} {cs = cs} f tail bears inputs X supplied satisfied =
+      {cs : List Call} {os : List (Outcome ℕ)} → FromLoad m k start size es image old words cs os → (tail : List ℕ) →
+      Bears (imageOf (q .program) (q .schedule) (q .hypercycle)) tail image →
+      JoinKept (l .parts) (linksOf links) q old cs os (logBy image old cs) words
+  numbers-join-place-streams {image = image} {old = old} {cs = cs} f tail bears =
       let a = numbers-place-alone f in
-      rw (← (a .cycles), a .words-are)
-      (join-calls-hold texts numbers links q l bytes tail image bears old (a .resets) cs .holds inputs X supplied satisfied)
+      rw (← (answers-alone f), a .words-are)
+      (join-calls-hold texts numbers links q l bytes tail image bears old (a .resets) cs)
 
   -- Request m for each place that holds it: as for a pair, by the joined program.
   pub join-place-only-readers : (c c′ : Course) → Undisturbed c → Undisturbed c′ → (tail tail′ : List ℕ) →

@@ -9,4 +9,5 @@ pub mod Samples
 pub mod Courses
 pub mod BoardLent
 pub mod BoardExact
+pub mod BoardCourses
 pub mod BoardPromises
