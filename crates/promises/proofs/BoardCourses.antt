@@ -1,9 +1,9 @@
 -- A place from its load on, by the numbers, is a course of the record that they stand for. Assumes nothing.
-use Prim.Native.Nat.{ℕ, _+_, _*_, _≤_, _<_}
+use Prim.Native.Nat.{ℕ, suc, _+_, _*_, _≤_, _<_}
 use mathlib.Core.Bool.{Bool, true, false, cond}
-use mathlib.Core.List.{List, _∷_}
+use mathlib.Core.List.{List, [], _∷_}
 use mathlib.Core.Logic.{_⊎_, inl, inr}
-use mathlib.Core.Path.{_≡_, refl, sym, ap, _∙_}
+use mathlib.Core.Path.{_≡_, refl, sym, ap, ap₂, _∙_}
 use native.Mathlib.Decide.{decLt}
 use native.Mathlib.Omega.{arith}
 use borrow.Author.Tests.{eqb-true, eq-eqb}
@@ -12,9 +12,16 @@ use lib.IntN.{ℤ, pos}
 use lib.ListN.{length, getD, drop}
 use lib.Seq.{getD-take, getD-drop, ext-getD}
 use Rattle.model.specs.Says.Calls.{Call}
+use Rattle.model.specs.Says.Feasible.{Feasible, Multiple}
+use Rattle.model.specs.Rules.Image.{imageOf}
 use Rattle.model.specs.Rules.Machine.{stretch}
 use Rattle.model.specs.Rules.Outcome.{Outcome, accepted, refused}
+use Rattle.model.specs.Rules.Program.{Program, count}
+use Rattle.model.specs.Rules.Schedule.{Schedule}
+use Rattle.model.specs.Rules.Tail.{Bears}
 use Rattle.model.specs.declared.Fault.{Fault}
+use Rattle.model.proofs.Images.Bounds.{Bounded}
+use Rattle.theorems.specs.Dependence.{DependsOn, SameExcept}
 use Rattle.theorems.specs.Held.{logBy, answersBy}
 use Rattle.board.specs.Board.{placeWords, placeSamples, Yield, idle, took}
 use Rattle.board.specs.Events.{
@@ -31,21 +38,30 @@ use Rattle.board.specs.Events.{
 use Rattle.board_words.specs.Calls.{
   NumberScene,
   sceneOf,
+  loadAnswer,
+  markAnswer,
   turnAnswer,
+  afterCall,
   afterCalls,
   ThroughoutIn,
   RunsPlace,
   RunsOf,
   FromLoad,
 }
-use Rattle.board_words.specs.Record.{boardOf}
+use Rattle.board_words.specs.Record.{boardOf, loadRecord, markRecord, turnRecord}
 use Rattle.promises.specs.Scenes.{
   SceneBut,
   NumbersBut,
   OtherSamples,
   SamplesElsewhere,
+  SamplesExcept,
   EventsBut,
+  BoardAnswer,
+  call,
+  turned,
   answersIn,
+  callAnswers,
+  NumbersConfined,
   runAnswer,
   runsAmong,
   runAnswers,
@@ -60,7 +76,8 @@ use Rattle.promises.specs.Scenes.{
 }
 use Rattle.board.proofs.Words.{samples-length}
 use Rattle.board_words.proofs.Numbers.{part-is, stretch-is}
-use Rattle.promises.proofs.Courses.{course-alone}
+use Rattle.promises.proofs.Confined.{confined}
+use Rattle.promises.proofs.Courses.{course-alone, courses-apart, board-apart, board-words}
 use Rattle.board_words.proofs.Lists.{
   call-held,
   call-long,
@@ -192,3 +209,92 @@ events-but (EventsBut.few a b r) = EventsBut.few a b (events-but r)
 events-but {k} (EventsBut.turns {samples = s} {samples′ = s′} a b h r) =
     EventsBut.turns a b (other-samples k s s′ a b h) (events-but r)
 events-but (EventsBut.changes images s r) = EventsBut.changes images s (events-but r)
+
+-- What the calls of a list answer, and the numbers that they leave.
+answers-held : (m : NumberScene) → length (m .numbers) ≡ 17 → (es : List Event) → callAnswers m es ≡ answersIn (sceneOf m) es
+unfolding callAnswers answersIn
+answers-held m long [] = refl
+answers-held m long (e ∷ es) =
+    first e (answers-held (afterCall m e) (call-long m e long) es ∙ ap (λ (s : Scene). answersIn s es) (call-held m long e))
+  where
+    first : (e : Event) → callAnswers (afterCall m e) es ≡ answersIn (afterEvent (sceneOf m) e) es →
+        callAnswers m (e ∷ es) ≡ answersIn (sceneOf m) (e ∷ es)
+    first (load j start size) h = ap (λ (xs : List BoardAnswer). call (loadAnswer m j start size) ∷ xs) h
+    first (mark j) h = ap (λ (xs : List BoardAnswer). call (markAnswer m j) ∷ xs) h
+    first (turn samples) h = ap (λ (xs : List BoardAnswer). turned (turnAnswer m samples) ∷ xs) h
+    first (change images state) h = h
+
+numbers-same : {k : ℕ} {A : List ℤ → List ℤ → Type 0} {es es′ : List Event} → EventsBut k A es es′ → (m m′ : NumberScene) →
+    m .numbers ≡ m′ .numbers → callAnswers m es ≡ callAnswers m′ es′ → afterCalls m es .numbers ≡ afterCalls m′ es′ .numbers
+unfolding callAnswers afterCalls afterCall
+numbers-same EventsBut.none m m′ e h = e
+numbers-same (EventsBut.loads {es = es} {es′ = es′} j start size r) m m′ e h =
+    let o : loadAnswer m j start size ≡ loadAnswer m′ j start size = cc in
+    numbers-same r (afterCall m (load j start size)) (afterCall m′ (load j start size))
+    (ap₂ (λ (w : List ℕ) (o : Outcome ℕ). loadRecord w j start size o) e o) (cc)
+numbers-same (EventsBut.marks j r) m m′ e h =
+    let o : markAnswer m j ≡ markAnswer m′ j = cc in
+    numbers-same r (afterCall m (mark j)) (afterCall m′ (mark j))
+    (ap₂ (λ (w : List ℕ) (o : Outcome ℕ). markRecord w j o) e o) (cc)
+numbers-same (EventsBut.few {samples = s} {samples′ = s′} a b r) m m′ e h =
+    let o : turnAnswer m s ≡ turnAnswer m′ s′ = cc in
+    numbers-same r (afterCall m (turn s)) (afterCall m′ (turn s′)) (ap₂ turnRecord e o) (cc)
+numbers-same (EventsBut.turns {samples = s} {samples′ = s′} a b x r) m m′ e h =
+    let o : turnAnswer m s ≡ turnAnswer m′ s′ = cc in
+    numbers-same r (afterCall m (turn s)) (afterCall m′ (turn s′)) (ap₂ turnRecord e o) (cc)
+numbers-same (EventsBut.changes {state = s} {state′ = s′} images x r) m m′ e h =
+    numbers-same r (afterCall m (change images s)) (afterCall m′ (change images s′)) e h
+
+pub numbers-confined : {k : ℕ} {m m′ : NumberScene} {es es′ : List Event} → length (m .numbers) ≡ 17 → NumbersBut k m m′ →
+    EventsBut k (SamplesElsewhere k) es es′ → NumbersConfined k m m′ es es′
+numbers-confined {k} {m} {m′} {es} {es′} long but alike =
+    let long′ : length (m′ .numbers) ≡ 17 = ap length (sym (but .numbers)) ∙ long in
+    let c = confined (scenes-but but) (events-but alike) in
+    let same : callAnswers m es ≡ callAnswers m′ es′ =
+    answers-held m long es ∙ c .answers ∙ sym (answers-held m′ long′ es′) in
+    let left : SceneBut k (sceneOf (afterCalls m es)) (sceneOf (afterCalls m′ es′)) =
+    rw (calls-held m long es, calls-held m′ long′ es′) (c .scene) in
+    record {
+      answers = same;
+      scene =
+          record { numbers = numbers-same alike m m′ (but .numbers) same; images = left .images; state = left .state };
+    }
+
+-- Request m by the numbers, of a program, schedule and hypercycle whose image the stretches hold.
+module _ (p : Program) (q : Schedule) (h : ℕ) (acc : Feasible p q) (whole : Multiple p h) (bounded : Bounded p q h) where
+  module _ {m m′ : NumberScene} {k k′ start start′ size size′ : ℕ} {es es′ : List Event} {image image′ : List ℕ}
+      {old old′ words words′ : List ℤ} {cs cs′ : List Call} {os os′ : List (Outcome ℕ)}
+      (f : FromLoad m k start size es image old words cs os)
+      (f′ : FromLoad m′ k′ start′ size′ es′ image′ old′ words′ cs′ os′) where
+    pub numbers-apart : {tail tail′ : List ℕ} → Bears (imageOf p q h) tail image → Bears (imageOf p q h) tail′ image′ →
+        length os ≡ length os′ → (i : ℕ) → SameExcept p q i os os′ (logBy image old cs) (logBy image′ old′ cs′) words words′
+    numbers-apart {tail} {tail′} b b′ many i =
+        let c = course-is f in
+        let c′ = course-is f′ in
+        let bears : Bears (imageOf p q h) tail (courseImage (courseOf m k start size es)) = rw (c .image-is) b in
+        let bears′ : Bears (imageOf p q h) tail′ (courseImage (courseOf m′ k′ start′ size′ es′)) = rw (c′ .image-is) b′ in
+        rw (← (c .answers-are), ← (c′ .answers-are), ← (c .log-is), ← (c′ .log-is), ← (c .words-are), ← (c′ .words-are))
+        (courses-apart p q h acc whole bounded (courseOf m k start size es) (courseOf m′ k′ start′ size′ es′) (c .undisturbed)
+        (c′ .undisturbed) bears bears′ (rw (c .answers-are, c′ .answers-are) many) i)
+
+  module _ {m m′ : NumberScene} {k start size : ℕ} {es es′ : List Event} {image image′ : List ℕ}
+      {old old′ words words′ : List ℤ} {cs cs′ : List Call} {os os′ : List (Outcome ℕ)} (but : NumbersBut k m m′)
+      (f : FromLoad m k start size es image old words cs os)
+      (f′ : FromLoad m′ k start size es′ image′ old′ words′ cs′ os′) (tail : List ℕ) (b : Bears (imageOf p q h) tail image) where
+    pub numbers-board-apart : EventsBut k (SamplesElsewhere k) es es′ → (i : ℕ) →
+        SameExcept p q i os os′ (logBy image old cs) (logBy image′ old′ cs′) words words′
+    numbers-board-apart alike i =
+        let c = course-is f in
+        let c′ = course-is f′ in
+        rw (← (c .answers-are), ← (c′ .answers-are), ← (c .log-is), ← (c′ .log-is), ← (c .words-are), ← (c′ .words-are))
+        (board-apart p q h acc whole bounded (sceneOf m) (sceneOf m′) k start size es es′ (scenes-but but) (events-but alike)
+        (c .undisturbed) (c′ .undisturbed .untouched) tail (rw (c .image-is) b) i)
+
+    pub numbers-words-apart : (i : ℕ) → i < 64 → EventsBut k (SamplesExcept k i) es es′ → (y : ℕ) → y < count p → ¬ (y ≡ i) →
+        ¬ DependsOn p y i → getD words (suc y) (pos 0) ≡ getD words′ (suc y) (pos 0)
+    numbers-words-apart i small alike y lt ne apart =
+        let c = course-is f in
+        let c′ = course-is f′ in
+        rw (← (c .words-are), ← (c′ .words-are))
+        (board-words p q h acc whole bounded (sceneOf m) (sceneOf m′) k start size es es′ (scenes-but but) i small alike
+        (c .undisturbed) (c′ .undisturbed .untouched) tail (rw (c .image-is) b) y lt ne apart)

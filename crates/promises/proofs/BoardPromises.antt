@@ -40,7 +40,7 @@ use Rattle.board.specs.Board.{
   turnOf,
 }
 use Rattle.board.specs.Events.{Event, load, mark, turn, Scene, loadBy, afterEvent, afterEvents, Throughout, Untouched, ownCycles}
-use Rattle.board_words.specs.Calls.{NumberScene, sceneOf, loadAnswer, markAnswer, turnAnswer, afterCall, FromLoad}
+use Rattle.board_words.specs.Calls.{NumberScene, loadAnswer, markAnswer, turnAnswer, afterCall, FromLoad}
 use Rattle.board_words.specs.Record.{turnDone}
 use Rattle.promises.specs.BoardExact.{CallExactly, Loads, LoadRefusedAt, Marks, MarkRefusedAt, Turns, TurnRefusedAt}
 use Rattle.promises.specs.Codable.{Codable}
@@ -52,6 +52,7 @@ use Rattle.promises.specs.Scenes.{
   SamplesExcept,
   EventsBut,
   Confined,
+  NumbersConfined,
   Course,
   afterLoad,
   courseImage,
@@ -63,7 +64,13 @@ use Rattle.promises.specs.Scenes.{
 use Rattle.board.specs.declared.Board.{Board}
 use Rattle.board.proofs.Promises.{place-alone, place-cycles}
 use Rattle.board_words.proofs.Lists.{numbers-place-alone}
-use Rattle.promises.proofs.BoardCourses.{course-is, answers-alone, scenes-but, events-but}
+use Rattle.promises.proofs.BoardCourses.{
+  answers-alone,
+  numbers-confined,
+  numbers-apart,
+  numbers-board-apart,
+  numbers-words-apart,
+}
 use Rattle.promises.proofs.BoardExact as BoardExact
 use Rattle.promises.proofs.JoinPromises.{join-calls-hold}
 use Rattle.model.proofs.Pairs.Verdict.{pair-accepted, pair-multiple, pair-bounded}
@@ -174,24 +181,18 @@ module _ (program schedule : List ℕ) (bytes : AreBytes program) (p : Program) 
       FromLoad m k start size es image old words cs os → FromLoad m′ k′ start′ size′ es′ image′ old′ words′ cs′ os′ →
       (tail tail′ : List ℕ) → Bears (imageOf p q h) tail image → Bears (imageOf p q h) tail′ image′ → length os ≡ length os′ →
       (i : ℕ) → SameExcept p q i os os′ (logBy image old cs) (logBy image′ old′ cs′) words words′
-  numbers-only-readers f f′ tail tail′ b b′ many i =
-      let c = course-is f in
-      let c′ = course-is f′ in
-      rw (← (c .answers-are), ← (c′ .answers-are), ← (c .log-is), ← (c′ .log-is), ← (c .words-are), ← (c′ .words-are))
-      (place-only-readers _ _ (c .undisturbed) (c′ .undisturbed) tail tail′ (rw (c .image-is) b) (rw (c′ .image-is) b′)
-      (rw (c .answers-are, c′ .answers-are) many) i)
+  numbers-only-readers f f′ tail tail′ =
+      numbers-apart p q h (pair-accepted program schedule _ e) (pair-multiple program schedule _ e)
+      (pair-bounded program schedule _ e bytes) f f′
 
   pub numbers-board-readers : {m m′ : NumberScene} {k start size : ℕ} {es es′ : List Event} {image image′ : List ℕ}
       {old old′ words words′ : List ℤ} {cs cs′ : List Call} {os os′ : List (Outcome ℕ)} → NumbersBut k m m′ →
       EventsBut k (SamplesElsewhere k) es es′ → FromLoad m k start size es image old words cs os →
       FromLoad m′ k start size es′ image′ old′ words′ cs′ os′ → (tail : List ℕ) → Bears (imageOf p q h) tail image →
       (i : ℕ) → SameExcept p q i os os′ (logBy image old cs) (logBy image′ old′ cs′) words words′
-  numbers-board-readers {m} {m′} {k} {start} {size} {es} {es′} but alike f f′ tail b i =
-      let c = course-is f in
-      let c′ = course-is f′ in
-      rw (← (c .answers-are), ← (c′ .answers-are), ← (c .log-is), ← (c′ .log-is), ← (c .words-are), ← (c′ .words-are))
-      (board-only-readers (sceneOf m) (sceneOf m′) k start size es es′ (scenes-but but) (events-but alike) (c .undisturbed)
-      (c′ .undisturbed .untouched) tail (rw (c .image-is) b) i)
+  numbers-board-readers but alike f f′ tail b =
+      numbers-board-apart p q h (pair-accepted program schedule _ e) (pair-multiple program schedule _ e)
+      (pair-bounded program schedule _ e bytes) but f f′ tail b alike
 
   -- Where the turns' samples differ only in word i of that place, every other signal of it that does not depend on i holds the
   -- same word.
@@ -211,12 +212,9 @@ module _ (program schedule : List ℕ) (bytes : AreBytes program) (p : Program) 
       i < 64 → EventsBut k (SamplesExcept k i) es es′ → FromLoad m k start size es image old words cs os →
       FromLoad m′ k start size es′ image′ old′ words′ cs′ os′ → (tail : List ℕ) → Bears (imageOf p q h) tail image →
       (y : ℕ) → y < count p → ¬ (y ≡ i) → ¬ DependsOn p y i → getD words (suc y) (pos 0) ≡ getD words′ (suc y) (pos 0)
-  numbers-board-words {m} {m′} {k} {start} {size} {es} {es′} but i small alike f f′ tail b y lt ne apart =
-      let c = course-is f in
-      let c′ = course-is f′ in
-      rw (← (c .words-are), ← (c′ .words-are))
-      (board-words (sceneOf m) (sceneOf m′) k start size es es′ (scenes-but but) i small alike (c .undisturbed)
-      (c′ .undisturbed .untouched) tail (rw (c .image-is) b) y lt ne apart)
+  numbers-board-words but i small alike f f′ tail b =
+      numbers-words-apart p q h (pair-accepted program schedule _ e) (pair-multiple program schedule _ e)
+      (pair-bounded program schedule _ e bytes) but f f′ tail b i small alike
 
 -- The same of the image of an accepted join, with the equations of all parts and links together.
 module _ (texts numbers links : List ℕ) (bytes : AreBytes texts) (q : Pair) (l : JoinLegal texts numbers links q) where
@@ -265,11 +263,25 @@ module _ (texts numbers links : List ℕ) (bytes : AreBytes texts) (q : Pair) (l
       board-apart (q .program) (q .schedule) (q .hypercycle) (Join.feasible texts numbers links q l)
       (Join.multiple texts numbers links q l) (Join.bounded texts numbers links q l bytes)
 
+  pub numbers-join-only-readers : {m m′ : NumberScene} {k k′ start start′ size size′ : ℕ} {es es′ : List Event}
+      {image image′ : List ℕ} {old old′ words words′ : List ℤ} {cs cs′ : List Call} {os os′ : List (Outcome ℕ)} →
+      FromLoad m k start size es image old words cs os → FromLoad m′ k′ start′ size′ es′ image′ old′ words′ cs′ os′ →
+      (tail tail′ : List ℕ) → Bears (imageOf (q .program) (q .schedule) (q .hypercycle)) tail image →
+      Bears (imageOf (q .program) (q .schedule) (q .hypercycle)) tail′ image′ → length os ≡ length os′ → (i : ℕ) →
+      SameExcept (q .program) (q .schedule) i os os′ (logBy image old cs) (logBy image′ old′ cs′) words words′
+  numbers-join-only-readers f f′ tail tail′ =
+      numbers-apart (q .program) (q .schedule) (q .hypercycle) (Join.feasible texts numbers links q l)
+      (Join.multiple texts numbers links q l) (Join.bounded texts numbers links q l bytes) f f′
+
 -- All else on such a board is the same, whatever images, samples and signals' words that place has: every call's answer, so that
 -- the places are taken in the same order with the same outcomes, the record, and all words of the state but those signals'.
 pub place-confined : (k : ℕ) (s s′ : Scene) (es es′ : List Event) → SceneBut k s s′ → EventsBut k (OtherSamples k) es es′ →
     Confined k s s′ es es′
 place-confined k s s′ es es′ = confined
+
+pub numbers-place-confined : (k : ℕ) (m m′ : NumberScene) (es es′ : List Event) → length (m .numbers) ≡ 17 → NumbersBut k m m′ →
+    EventsBut k (SamplesElsewhere k) es es′ → NumbersConfined k m m′ es es′
+numbers-place-confined k m m′ es es′ = numbers-confined
 
 -- One number tells the answers of a board's calls too: they yield 0, or refuse with a number above 0 at place 0.
 -- A call that has come to an effect.
