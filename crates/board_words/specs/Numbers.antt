@@ -6,7 +6,7 @@ use mathlib.Core.Path.{_≡_}
 use lib.IntN.{ℤ, pos}
 use lib.ListN.{length, getD}
 
--- The n elements of a list from one on: element i is element from + i, and none is missing. `none` is what `getD` has past an end.
+-- The n elements of a list from one on: element i is element from + i, and none is missing. `none` is what stands past an end.
 pub record PartAt {A : Type 0} (none : A) (whole : List A) (from n : ℕ) (part : List A) : Type 0 where
   pub inside : from + n ≤ length whole
   pub size : length part ≡ n
