@@ -42,6 +42,7 @@ use Rattle.board.specs.Events.{
   Throughout,
   NotLoaded,
   held,
+  Held,
 }
 use Rattle.board.specs.declared.Board.{Board}
 use Rattle.board.specs.declared.Place.{Place}
@@ -64,11 +65,6 @@ use Rattle.board.proofs.Cases.{
 use Rattle.board.proofs.Due.{reached}
 use Rattle.board.proofs.Round.{set-other, due-in}
 use Rattle.board.proofs.Stretch.{never}
-
--- what holding means, as an order of numbers
-pub record Held (n h : ℕ) : Type 0 where
-  pub small : n ≤ 4294967295 → h ≡ n
-  pub large : 4294967295 ≤ n → h ≡ 4294967295
 
 pub held-is : (n : ℕ) → Held n (held n)
 held-is n = go (leb n 4294967295) refl

@@ -1,6 +1,6 @@
 -- What happens to a board in the course of time: calls, each with the record as the one before left it, and changes from outside
 -- of the images and the state that are lent.
-use Prim.Native.Nat.{ℕ, _+_, _/_}
+use Prim.Native.Nat.{ℕ, _+_, _/_, _≤_}
 use mathlib.Core.Bool.{cond}
 use mathlib.Core.List.{List, [], _∷_}
 use mathlib.Core.Path.{_≡_}
@@ -168,3 +168,8 @@ ownCycles k s (change images state ∷ es) = ownCycles k (afterEvent s (change i
 -- A count held at its maximum.
 abbrev pub held : ℕ → ℕ
 held n = cond (leb n 4294967295) n 4294967295
+
+-- The same as an order of numbers.
+pub record Held (n h : ℕ) : Type 0 where
+  pub small : n ≤ 4294967295 → h ≡ n
+  pub large : 4294967295 ≤ n → h ≡ 4294967295

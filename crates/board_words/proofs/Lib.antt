@@ -2,3 +2,5 @@
 pub mod Places
 pub mod Next
 pub mod Promises
+pub mod Numbers
+pub mod Lists

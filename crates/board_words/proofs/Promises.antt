@@ -133,44 +133,44 @@ module _ (w : List ℕ) (long : length w ≡ 17) (k : ℕ) (lt : k < 4) where
   count = countIn (getD w (4 * k + 3) 0)
 
   -- the numbers that are set, and the others
-  other : (i : ℕ) → (i ≡ 4 * k → ⊥) → (i ≡ 4 * k + 3 → ⊥) → (i ≡ 16 → ⊥) → getD (takenWords w k) i 0 ≡ getD w i 0
+  pub taken-other : (i : ℕ) → (i ≡ 4 * k → ⊥) → (i ≡ 4 * k + 3 → ⊥) → (i ≡ 16 → ⊥) → getD (takenWords w k) i 0 ≡ getD w i 0
   unfolding takenWords
-  other i p q r =
+  taken-other i p q r =
       getD-set-other (set (set w (4 * k) flags) (4 * k + 3) count) 16 i k 0 r ∙
       getD-set-other (set w (4 * k) flags) (4 * k + 3) i count 0 q ∙
       getD-set-other w (4 * k) i flags 0 p
 
-  flags-set : getD (takenWords w k) (4 * k) 0 ≡ flags
+  pub taken-flags : getD (takenWords w k) (4 * k) 0 ≡ flags
   unfolding takenWords
-  flags-set =
+  taken-flags =
       getD-set-other (set (set w (4 * k) flags) (4 * k + 3) count) 16 (4 * k) k 0 (λ e. omega arith) ∙
       getD-set-other (set w (4 * k) flags) (4 * k + 3) (4 * k) count 0 (λ e. omega arith) ∙
       getD-set-same w (4 * k) flags 0 (omega arith)
 
-  count-set : getD (takenWords w k) (4 * k + 3) 0 ≡ count
+  pub taken-count : getD (takenWords w k) (4 * k + 3) 0 ≡ count
   unfolding takenWords
-  count-set =
+  taken-count =
       getD-set-other (set (set w (4 * k) flags) (4 * k + 3) count) 16 (4 * k + 3) k 0 (λ e. omega arith) ∙
       getD-set-same (set w (4 * k) flags) (4 * k + 3) count 0 (omega (arith, length-set w (4 * k) flags))
 
-  last-set : getD (takenWords w k) 16 0 ≡ k
+  pub taken-last : getD (takenWords w k) 16 0 ≡ k
   unfolding takenWords
-  last-set =
+  taken-last =
       getD-set-same (set (set w (4 * k) flags) (4 * k + 3) count) 16 k 0
       (omega (arith, length-set w (4 * k) flags, length-set (set w (4 * k) flags) (4 * k + 3) count))
 
   own-place : placeIn (takenWords w k) k ≡ takenPlace (placeIn w k)
   own-place =
-      by-numbers flags-set (other (4 * k + 1) (λ e. omega arith) (λ e. omega arith) (λ e. omega arith))
-      (other (4 * k + 2) (λ e. omega arith) (λ e. omega arith) (λ e. omega arith)) count-set ∙
+      by-numbers taken-flags (taken-other (4 * k + 1) (λ e. omega arith) (λ e. omega arith) (λ e. omega arith))
+      (taken-other (4 * k + 2) (λ e. omega arith) (λ e. omega arith) (λ e. omega arith)) taken-count ∙
       taken-numbers (getD w (4 * k) 0) (getD w (4 * k + 1) 0) (getD w (4 * k + 2) 0) (getD w (4 * k + 3) 0)
 
   taken-held : boardOf (takenWords w k) ≡ takenAt (boardOf w) k
   unfolding takenAt
   taken-held =
       place-set w (takenWords w k) k lt
-      (λ i l ne. other i (λ e. ne (omega arith)) (λ e. ne (omega arith)) (λ e. omega arith))
-      (takenPlace (placeAt (boardOf w) k)) k (own-place ∙ sym (ap takenPlace (place-held w k lt))) last-set
+      (λ i l ne. taken-other i (λ e. ne (omega arith)) (λ e. ne (omega arith)) (λ e. omega arith))
+      (takenPlace (placeAt (boardOf w) k)) k (own-place ∙ sym (ap takenPlace (place-held w k lt))) taken-last
 
 module _ (w : List ℕ) (long : length w ≡ 17) (k : ℕ) (lt : k < 4) (start size : ℕ) where
   -- the numbers of a place once it is loaded
@@ -183,7 +183,7 @@ module _ (w : List ℕ) (long : length w ≡ 17) (k : ℕ) (lt : k < 4) (start s
   abbrev three : List ℕ
   three = set two (4 * k + 2) size
 
-  load-other : (i : ℕ) → i < 17 → (i / 4 ≡ k → ⊥) → getD (loadedWords w k start size) i 0 ≡ getD w i 0
+  pub load-other : (i : ℕ) → i < 17 → (i / 4 ≡ k → ⊥) → getD (loadedWords w k start size) i 0 ≡ getD w i 0
   unfolding loadedWords
   load-other i l ne =
       getD-set-other three (4 * k + 3) i 0 0 (λ e. ne (omega arith)) ∙
@@ -191,48 +191,65 @@ module _ (w : List ℕ) (long : length w ≡ 17) (k : ℕ) (lt : k < 4) (start s
       getD-set-other one (4 * k + 1) i start 0 (λ e. ne (omega arith)) ∙
       getD-set-other w (4 * k) i 1 0 (λ e. ne (omega arith))
 
-  loaded-numbers : placeIn (loadedWords w k start size) k ≡ placeWith start size
+  pub load-flags : getD (loadedWords w k start size) (4 * k) 0 ≡ 1
   unfolding loadedWords
-  loaded-numbers =
-      by-numbers
-      (getD-set-other three (4 * k + 3) (4 * k) 0 0 (λ e. omega arith) ∙
+  load-flags =
+      getD-set-other three (4 * k + 3) (4 * k) 0 0 (λ e. omega arith) ∙
       getD-set-other two (4 * k + 2) (4 * k) size 0 (λ e. omega arith) ∙
       getD-set-other one (4 * k + 1) (4 * k) start 0 (λ e. omega arith) ∙
-      getD-set-same w (4 * k) 1 0 (omega arith))
-      (getD-set-other three (4 * k + 3) (4 * k + 1) 0 0 (λ e. omega arith) ∙
+      getD-set-same w (4 * k) 1 0 (omega arith)
+
+  pub load-start : getD (loadedWords w k start size) (4 * k + 1) 0 ≡ start
+  unfolding loadedWords
+  load-start =
+      getD-set-other three (4 * k + 3) (4 * k + 1) 0 0 (λ e. omega arith) ∙
       getD-set-other two (4 * k + 2) (4 * k + 1) size 0 (λ e. omega arith) ∙
-      getD-set-same one (4 * k + 1) start 0 (omega (arith, length-set w (4 * k) 1)))
-      (getD-set-other three (4 * k + 3) (4 * k + 2) 0 0 (λ e. omega arith) ∙
-      getD-set-same two (4 * k + 2) size 0 (omega (arith, length-set w (4 * k) 1, length-set one (4 * k + 1) start)))
-      (getD-set-same three (4 * k + 3) 0 0
-      (omega (arith, length-set w (4 * k) 1, length-set one (4 * k + 1) start, length-set two (4 * k + 2) size)))
+      getD-set-same one (4 * k + 1) start 0 (omega (arith, length-set w (4 * k) 1))
+
+  pub load-size : getD (loadedWords w k start size) (4 * k + 2) 0 ≡ size
+  unfolding loadedWords
+  load-size =
+      getD-set-other three (4 * k + 3) (4 * k + 2) 0 0 (λ e. omega arith) ∙
+      getD-set-same two (4 * k + 2) size 0 (omega (arith, length-set w (4 * k) 1, length-set one (4 * k + 1) start))
+
+  pub load-count : getD (loadedWords w k start size) (4 * k + 3) 0 ≡ 0
+  unfolding loadedWords
+  load-count =
+      getD-set-same three (4 * k + 3) 0 0
+      (omega (arith, length-set w (4 * k) 1, length-set one (4 * k + 1) start, length-set two (4 * k + 2) size))
 
   loaded-held : boardOf (loadedWords w k start size) ≡ loadedAt (boardOf w) k start size
   unfolding loadedAt boardOf
   loaded-held =
       place-set w (loadedWords w k start size) k lt (λ i l ne. load-other i (omega arith) ne) (placeWith start size) (getD w 16 0)
-      loaded-numbers (load-other 16 (omega arith) (λ e. omega arith))
+      (by-numbers load-flags load-start load-size load-count) (load-other 16 (omega arith) (λ e. omega arith))
 
-marked-held : (w : List ℕ) → length w ≡ 17 → (k : ℕ) → k < 4 → placeAt (boardOf w) k .loaded ≡ true →
-    boardOf (markedWords w k) ≡ markedAt (boardOf w) k
-unfolding markedAt boardOf
-marked-held w long k lt loaded =
-    place-set w (markedWords w k) k lt (λ i l ne. getD-set-other w (4 * k) i 3 0 (λ e. ne (omega arith)))
-    (withDue true (placeAt (boardOf w) k)) (getD w 16 0)
-    (by-numbers (getD-set-same w (4 * k) 3 0 (omega arith)) (at 1 (omega arith)) (at 2 (omega arith)) (at 3 (omega arith)) ∙
-    due (placeAt (boardOf w) k) (getD w (4 * k) 0) _ _ _ loaded (place-held w k lt))
-    (getD-set-other w (4 * k) 16 3 0 (λ e. omega arith))
-  where
-    at : (n : ℕ) → 0 < n → getD (markedWords w k) (4 * k + n) 0 ≡ getD w (4 * k + n) 0
-    at n pos = getD-set-other w (4 * k) (4 * k + n) 3 0 (λ e. omega arith)
+pub mark-other : (w : List ℕ) (k i : ℕ) → (i ≡ 4 * k → ⊥) → getD (markedWords w k) i 0 ≡ getD w i 0
+mark-other w k i ne = getD-set-other w (4 * k) i 3 0 ne
 
-    due : (p : Place) (f start size count : ℕ) → p .loaded ≡ true → p ≡ placeFrom f start size count →
-        placeFrom 3 start size count ≡ withDue true p
-    due p f start size count l e =
-        let a : p .start ≡ start = ap (λ (x : Place). x .start) e in
-        let s : p .size ≡ size = ap (λ (x : Place). x .size) e in
-        let n : p .count ≡ count % 4294967296 = ap (λ (x : Place). x .count) e in
-        cc
+module _ (w : List ℕ) (long : length w ≡ 17) (k : ℕ) (lt : k < 4) where
+  pub mark-flags : getD (markedWords w k) (4 * k) 0 ≡ 3
+  mark-flags = getD-set-same w (4 * k) 3 0 (omega arith)
+
+  marked-held : placeAt (boardOf w) k .loaded ≡ true → boardOf (markedWords w k) ≡ markedAt (boardOf w) k
+  unfolding markedAt boardOf
+  marked-held loaded =
+      place-set w (markedWords w k) k lt (λ i l ne. mark-other w k i (λ e. ne (omega arith)))
+      (withDue true (placeAt (boardOf w) k)) (getD w 16 0)
+      (by-numbers mark-flags (at 1 (omega arith)) (at 2 (omega arith)) (at 3 (omega arith)) ∙
+      due (placeAt (boardOf w) k) (getD w (4 * k) 0) _ _ _ loaded (place-held w k lt))
+      (mark-other w k 16 (λ e. omega arith))
+    where
+      at : (n : ℕ) → 0 < n → getD (markedWords w k) (4 * k + n) 0 ≡ getD w (4 * k + n) 0
+      at n pos = mark-other w k (4 * k + n) (λ e. omega arith)
+
+      due : (p : Place) (f start size count : ℕ) → p .loaded ≡ true → p ≡ placeFrom f start size count →
+          placeFrom 3 start size count ≡ withDue true p
+      due p f start size count l e =
+          let a : p .start ≡ start = ap (λ (x : Place). x .start) e in
+          let s : p .size ≡ size = ap (λ (x : Place). x .size) e in
+          let n : p .count ≡ count % 4294967296 = ap (λ (x : Place). x .count) e in
+          cc
 
 -- The record that the array holds after each call is the one that the call leaves.
 pub new-held : boardOf newWords ≡ newBoard

@@ -20,21 +20,39 @@ use Rattle.model.specs.Rules.Schedule.{Schedule}
 use Rattle.model.specs.Rules.Tail.{Bears}
 use Rattle.model.specs.Rules.Word.{AreBytes}
 use Rattle.model.specs.Says.Calls.{Call, callOf}
-use Rattle.theorems.specs.Dependence.{DependsOn}
+use Rattle.theorems.specs.Dependence.{DependsOn, SameExcept}
 use Rattle.theorems.specs.Held.{stateBy, logBy, Supplied, Holds}
 use Rattle.theorems.specs.Join.{LinkedSatisfies, JoinLegal}
+use Rattle.theorems.specs.Lists.{Kept, JoinKept}
 use Rattle.theorems.specs.Streams.{Satisfies}
 use Rattle.theorems.specs.Tables.{WithoutTable}
-use Rattle.board.specs.Board.{placeWords, placeAt, nextDue, onStretch, resetIn, cycleIn, BoardEffect, Yield, loadOf, markPlaceOf, turnOf}
-use Rattle.board.specs.Events.{Event, load, Scene, loadBy, afterEvent, afterEvents, Throughout, Untouched, ownCycles}
+use Rattle.board.specs.Board.{
+  placeWords,
+  placeAt,
+  nextDue,
+  onStretch,
+  resetIn,
+  cycleIn,
+  BoardEffect,
+  Yield,
+  loadOf,
+  markPlaceOf,
+  turnOf,
+}
+use Rattle.board.specs.Events.{Event, load, mark, turn, Scene, loadBy, afterEvent, afterEvents, Throughout, Untouched, ownCycles}
+use Rattle.board_words.specs.Calls.{NumberScene, loadAnswer, markAnswer, turnAnswer, afterCall, FromLoad}
 use Rattle.board_words.specs.Record.{turnDone}
+use Rattle.promises.specs.BoardExact.{CallExactly, Loads, LoadRefusedAt, Marks, MarkRefusedAt, Turns, TurnRefusedAt}
 use Rattle.promises.specs.Codable.{Codable}
 use Rattle.promises.specs.Scenes.{
   SceneBut,
+  NumbersBut,
   OtherSamples,
+  SamplesElsewhere,
   SamplesExcept,
   EventsBut,
   Confined,
+  NumbersConfined,
   Course,
   afterLoad,
   courseImage,
@@ -45,6 +63,15 @@ use Rattle.promises.specs.Scenes.{
 }
 use Rattle.board.specs.declared.Board.{Board}
 use Rattle.board.proofs.Promises.{place-alone, place-cycles}
+use Rattle.board_words.proofs.Lists.{numbers-place-alone}
+use Rattle.promises.proofs.BoardCourses.{
+  answers-alone,
+  numbers-confined,
+  numbers-apart,
+  numbers-board-apart,
+  numbers-words-apart,
+}
+use Rattle.promises.proofs.BoardExact as BoardExact
 use Rattle.promises.proofs.JoinPromises.{join-calls-hold}
 use Rattle.model.proofs.Pairs.Verdict.{pair-accepted, pair-multiple, pair-bounded}
 use Rattle.theorems.proofs.Joining.Demand as Join
@@ -65,8 +92,23 @@ use Rattle.board.proofs.Answers.{
   turn-done,
 }
 
--- What a list on its image holds a place holds, with c the number of turns that ran it since its load: word 0 is the remainder of c
--- by H, signal x its element floor((c − 1 − p)/P), or its initial word if c ≤ p, and words beyond N are as before the load.
+-- Load, mark and turn on the 17 numbers of a record do their job, or are refused by 26, 21, 27 and 20, by 26 and 28, by 21 and
+-- 23, exactly under their condition, with all earlier ones absent; a turn's run by 27, 20 or 22, leaving the state.
+module _ (m : NumberScene) (seventeen : length (m .numbers) ≡ 17) where
+  pub load-exactly : (k start size : ℕ) →
+      CallExactly m (Loads m k start size) (LoadRefusedAt m k start size) (loadAnswer m k start size)
+      (afterCall m (load k start size))
+  load-exactly = BoardExact.load-exactly m seventeen
+
+  pub mark-exactly : (k : ℕ) → CallExactly m (Marks m k) (MarkRefusedAt m k) (markAnswer m k) (afterCall m (mark k))
+  mark-exactly = BoardExact.mark-exactly m seventeen
+
+  pub turn-exactly : (samples : List ℤ) →
+      CallExactly m (Turns m samples) (TurnRefusedAt m samples) (turnAnswer m samples) (afterCall m (turn samples))
+  turn-exactly = BoardExact.turn-exactly m seventeen
+
+-- What a list on its image holds a place holds, with c the number of turns that ran it since its load: word 0 is the remainder of
+-- c by H, signal x its element floor((c − 1 − p)/P), or its initial word if c ≤ p, and words beyond N are as before the load.
 place-holds : (p : Program) (q : Schedule) (h : ℕ) (s : Scene) (k start size n : ℕ) →
     length (s .board .places) ≡ 4 → loadBy s k start size .answer ≡ accepted n → (es : List Event) →
     Throughout (Untouched k) (afterEvent s (load k start size)) es → (X : ℕ → ℕ → ℤ) →
@@ -101,6 +143,15 @@ module _ (program schedule : List ℕ) (bytes : AreBytes program) (p : Program) 
       (place-cycles s k start size n four a es free .0) (ownCycles k (afterEvent s (load k start size)) es)
       .holds inputs X supplied satisfied)
 
+  -- The same by the numbers, for a place from its load on: also what its turns answered is what a list on its image answers, so
+  -- that each told the report's count of its position.
+  pub numbers-place-streams : {m : NumberScene} {k start size : ℕ} {es : List Event} {image : List ℕ} {old words : List ℤ}
+      {cs : List Call} {os : List (Outcome ℕ)} → FromLoad m k start size es image old words cs os → (tail : List ℕ) →
+      Bears (imageOf p q h) tail image → Kept program schedule p q h old cs os (logBy image old cs) words
+  numbers-place-streams {image = image} {old = old} {cs = cs} f tail bears =
+      let a = numbers-place-alone f in
+      rw (← (answers-alone f), a .words-are) (calls-hold program schedule bytes p q h e tail image bears old (a .resets) cs)
+
   -- Request m for each place. Two courses of places, on one board or on two, whose stretches hold the image of this pair: after
   -- as many runs they have answered the same and have the same position, and if the samples that they were lent differ only in
   -- the elements of input i, they hold the same word of every other signal that does not depend on i.
@@ -123,6 +174,26 @@ module _ (program schedule : List ℕ) (bytes : AreBytes program) (p : Program) 
       board-apart p q h (pair-accepted program schedule _ e) (pair-multiple program schedule _ e)
       (pair-bounded program schedule _ e bytes)
 
+  -- The same by the numbers: of two places, each from its load on, after as many runs; of one board in two courses of events that
+  -- are the same but for the samples of that place.
+  pub numbers-only-readers : {m m′ : NumberScene} {k k′ start start′ size size′ : ℕ} {es es′ : List Event}
+      {image image′ : List ℕ} {old old′ words words′ : List ℤ} {cs cs′ : List Call} {os os′ : List (Outcome ℕ)} →
+      FromLoad m k start size es image old words cs os → FromLoad m′ k′ start′ size′ es′ image′ old′ words′ cs′ os′ →
+      (tail tail′ : List ℕ) → Bears (imageOf p q h) tail image → Bears (imageOf p q h) tail′ image′ → length os ≡ length os′ →
+      (i : ℕ) → SameExcept p q i os os′ (logBy image old cs) (logBy image′ old′ cs′) words words′
+  numbers-only-readers f f′ tail tail′ =
+      numbers-apart p q h (pair-accepted program schedule _ e) (pair-multiple program schedule _ e)
+      (pair-bounded program schedule _ e bytes) f f′
+
+  pub numbers-board-readers : {m m′ : NumberScene} {k start size : ℕ} {es es′ : List Event} {image image′ : List ℕ}
+      {old old′ words words′ : List ℤ} {cs cs′ : List Call} {os os′ : List (Outcome ℕ)} → NumbersBut k m m′ →
+      EventsBut k (SamplesElsewhere k) es es′ → FromLoad m k start size es image old words cs os →
+      FromLoad m′ k start size es′ image′ old′ words′ cs′ os′ → (tail : List ℕ) → Bears (imageOf p q h) tail image →
+      (i : ℕ) → SameExcept p q i os os′ (logBy image old cs) (logBy image′ old′ cs′) words words′
+  numbers-board-readers but alike f f′ tail b =
+      numbers-board-apart p q h (pair-accepted program schedule _ e) (pair-multiple program schedule _ e)
+      (pair-bounded program schedule _ e bytes) but f f′ tail b alike
+
   -- Where the turns' samples differ only in word i of that place, every other signal of it that does not depend on i holds the
   -- same word.
   pub board-words : (s s′ : Scene) (k start size : ℕ) (es es′ : List Event) → SceneBut k s s′ → (i : ℕ) → i < 64 →
@@ -135,6 +206,15 @@ module _ (program schedule : List ℕ) (bytes : AreBytes program) (p : Program) 
   board-words =
       Courses.board-words p q h (pair-accepted program schedule _ e) (pair-multiple program schedule _ e)
       (pair-bounded program schedule _ e bytes)
+
+  pub numbers-board-words : {m m′ : NumberScene} {k start size : ℕ} {es es′ : List Event} {image image′ : List ℕ}
+      {old old′ words words′ : List ℤ} {cs cs′ : List Call} {os os′ : List (Outcome ℕ)} → NumbersBut k m m′ → (i : ℕ) →
+      i < 64 → EventsBut k (SamplesExcept k i) es es′ → FromLoad m k start size es image old words cs os →
+      FromLoad m′ k start size es′ image′ old′ words′ cs′ os′ → (tail : List ℕ) → Bears (imageOf p q h) tail image →
+      (y : ℕ) → y < count p → ¬ (y ≡ i) → ¬ DependsOn p y i → getD words (suc y) (pos 0) ≡ getD words′ (suc y) (pos 0)
+  numbers-board-words but i small alike f f′ tail b =
+      numbers-words-apart p q h (pair-accepted program schedule _ e) (pair-multiple program schedule _ e)
+      (pair-bounded program schedule _ e bytes) but f f′ tail b i small alike
 
 -- The same of the image of an accepted join, with the equations of all parts and links together.
 module _ (texts numbers links : List ℕ) (bytes : AreBytes texts) (q : Pair) (l : JoinLegal texts numbers links q) where
@@ -153,6 +233,15 @@ module _ (texts numbers links : List ℕ) (bytes : AreBytes texts) (q : Pair) (l
       (join-calls-hold texts numbers links q l bytes tail (stretch (s .images) start (start + size)) bears
       (placeWords k (s .state)) (place-cycles s k start size n four a es free .0)
       (ownCycles k (afterEvent s (load k start size)) es) .holds inputs X supplied satisfied)
+
+  pub numbers-join-place-streams : {m : NumberScene} {k start size : ℕ} {es : List Event} {image : List ℕ} {old words : List ℤ}
+      {cs : List Call} {os : List (Outcome ℕ)} → FromLoad m k start size es image old words cs os → (tail : List ℕ) →
+      Bears (imageOf (q .program) (q .schedule) (q .hypercycle)) tail image →
+      JoinKept (l .parts) (linksOf links) q old cs os (logBy image old cs) words
+  numbers-join-place-streams {image = image} {old = old} {cs = cs} f tail bears =
+      let a = numbers-place-alone f in
+      rw (← (answers-alone f), a .words-are)
+      (join-calls-hold texts numbers links q l bytes tail image bears old (a .resets) cs)
 
   -- Request m for each place that holds it: as for a pair, by the joined program.
   pub join-place-only-readers : (c c′ : Course) → Undisturbed c → Undisturbed c′ → (tail tail′ : List ℕ) →
@@ -174,11 +263,25 @@ module _ (texts numbers links : List ℕ) (bytes : AreBytes texts) (q : Pair) (l
       board-apart (q .program) (q .schedule) (q .hypercycle) (Join.feasible texts numbers links q l)
       (Join.multiple texts numbers links q l) (Join.bounded texts numbers links q l bytes)
 
+  pub numbers-join-only-readers : {m m′ : NumberScene} {k k′ start start′ size size′ : ℕ} {es es′ : List Event}
+      {image image′ : List ℕ} {old old′ words words′ : List ℤ} {cs cs′ : List Call} {os os′ : List (Outcome ℕ)} →
+      FromLoad m k start size es image old words cs os → FromLoad m′ k′ start′ size′ es′ image′ old′ words′ cs′ os′ →
+      (tail tail′ : List ℕ) → Bears (imageOf (q .program) (q .schedule) (q .hypercycle)) tail image →
+      Bears (imageOf (q .program) (q .schedule) (q .hypercycle)) tail′ image′ → length os ≡ length os′ → (i : ℕ) →
+      SameExcept (q .program) (q .schedule) i os os′ (logBy image old cs) (logBy image′ old′ cs′) words words′
+  numbers-join-only-readers f f′ tail tail′ =
+      numbers-apart (q .program) (q .schedule) (q .hypercycle) (Join.feasible texts numbers links q l)
+      (Join.multiple texts numbers links q l) (Join.bounded texts numbers links q l bytes) f f′
+
 -- All else on such a board is the same, whatever images, samples and signals' words that place has: every call's answer, so that
 -- the places are taken in the same order with the same outcomes, the record, and all words of the state but those signals'.
 pub place-confined : (k : ℕ) (s s′ : Scene) (es es′ : List Event) → SceneBut k s s′ → EventsBut k (OtherSamples k) es es′ →
     Confined k s s′ es es′
 place-confined k s s′ es es′ = confined
+
+pub numbers-place-confined : (k : ℕ) (m m′ : NumberScene) (es es′ : List Event) → length (m .numbers) ≡ 17 → NumbersBut k m m′ →
+    EventsBut k (SamplesElsewhere k) es es′ → NumbersConfined k m m′ es es′
+numbers-place-confined k m m′ es es′ = numbers-confined
 
 -- One number tells the answers of a board's calls too: they yield 0, or refuse with a number above 0 at place 0.
 -- A call that has come to an effect.

@@ -49,6 +49,7 @@ use Rattle.theorems.specs.Lists.{
   leftAll,
   ownAnswers,
   ownLog,
+  OwnsBear,
   OthersRefused,
   PartsAlike,
   SameWords,
@@ -154,13 +155,15 @@ module _ (texts numbers links : List ℕ) (q : Pair) (l : JoinLegal texts number
       resetOf lent old .answer ≡ accepted 0 → (cs : List Call) → JoinKeptBy (l .parts) (linksOf links) q lent old cs
   join-calls-hold = Demand.calls-hold texts numbers links q l
 
-  -- The same with calls in between that are lent something else and are refused, a join among them.
+  -- The same with calls in between that are lent something else and are refused, a join among them, and each call of the list
+  -- lent the image with a tail or without.
   pub join-calls-among : AreBytes texts → (size : ℕ) (buffer tail : List ℕ) →
       Bears (imageOf (q .program) (q .schedule) (q .hypercycle)) tail (take size buffer) → (old : List ℤ) →
       resetOf (take size buffer) old .answer ≡ accepted 0 → (ls : List Lent) →
+      OwnsBear (imageOf (q .program) (q .schedule) (q .hypercycle)) buffer ls →
       let m = afterReset size buffer old in
-      OthersRefused size m ls →
-      JoinKept (l .parts) (linksOf links) q old (owns ls) (ownAnswers size m ls) (ownLog size m [] ls) (leftAll size m ls .state)
+      OthersRefused m ls →
+      JoinKept (l .parts) (linksOf links) q old (owns ls) (ownAnswers m ls) (ownLog m [] ls) (leftAll m ls .state)
   join-calls-among = Demand.calls-among texts numbers links q l
 
   -- Request m. In two runs that are alike call by call all calls answer the same, and after each call, the n-th of both, the

@@ -7,4 +7,7 @@ pub mod Confined
 pub mod Runs
 pub mod Samples
 pub mod Courses
+pub mod BoardLent
+pub mod BoardExact
+pub mod BoardCourses
 pub mod BoardPromises

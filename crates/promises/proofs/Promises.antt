@@ -112,6 +112,7 @@ use Rattle.theorems.specs.Lists.{
   leftAll,
   ownAnswers,
   ownLog,
+  OwnsBear,
   OthersRefused,
   AsWithout,
   SettleAlike,
@@ -174,6 +175,7 @@ use Rattle.theorems.proofs.Texts.Enums as Enums
 use Rattle.theorems.proofs.Pairs.Exact as Exact
 use Rattle.theorems.proofs.Examples as Examples
 use Rattle.theorems.proofs.Images.FormedExactly as FormedExactly
+use Rattle.theorems.proofs.Streams.Lending as Lending
 use Rattle.theorems.proofs.Images.Heights.{stack-least, stack-31}
 use Rattle.theorems.proofs.Images.Ran.{cycle-is}
 use Rattle.theorems.proofs.Images.Stretched as Stretched
@@ -433,9 +435,9 @@ settled-exactly program schedule q e = Settled.settled-exactly program schedule 
 
 -- Demand 3, right for ever: calls in between that are lent something else and are refused change nothing and are no part of a
 -- list of calls.
-pub others-nothing : (size : ℕ) (m : Memory) (log : List (List ℤ)) (ls : List Lent) → OthersRefused size m ls →
-    AsWithout size m log ls
-others-nothing = Among.others-nothing
+pub others-nothing : (image : List ℕ) → WellFormed image → (m : Memory) (log : List (List ℤ)) (ls : List Lent) →
+    OwnsBear image (m .buffer) ls → OthersRefused m ls → AsWithout image m log ls
+others-nothing image formed = Among.others-nothing (FormedExactly.well-formed-exactly image .1 formed)
 
 -- Request m. An equation reads w exactly if w is the signal of one of its reads, those that are checked and met.
 pub reads-exactly : (b : Body) (w : ℕ) → OccursIn w b ↔ ((ρ : Read) × (ρ among bodyReads b) × (ρ .operands .signal ≡ w))
@@ -506,16 +508,20 @@ module _ (program schedule : List ℕ) (bytes : AreBytes program) (p : Program) 
       resetOf lent old .answer ≡ accepted 0 → (cs : List Call) → KeptBy program schedule p s h lent old cs
   calls-hold tail lent bears = Demand.calls-hold program schedule bytes p s h e bears
 
-  -- The same with calls in between that are lent something else and are refused: any image with any stretch of the state, or a
-  -- compile, conversion or join with any stretch of the image's own buffer, whose first `size` bytes the calls of the list are lent.
+  -- The same with each call lent the first bytes of a buffer that bear the image, now with its tail and now without; and with
+  -- calls in between that are lent something else and are refused: any image with any stretch of the state, a load or a turn of
+  -- a board with one, or a compile, conversion or join with any stretch of the image's own buffer.
   pub calls-among : (size : ℕ) (buffer tail : List ℕ) → Bears (imageOf p s h) tail (take size buffer) → (old : List ℤ) →
-      resetOf (take size buffer) old .answer ≡ accepted 0 → (ls : List Lent) →
+      resetOf (take size buffer) old .answer ≡ accepted 0 → (ls : List Lent) → OwnsBear (imageOf p s h) buffer ls →
       let m = afterReset size buffer old in
-      OthersRefused size m ls →
-      Kept program schedule p s h old (owns ls) (ownAnswers size m ls) (ownLog size m [] ls) (leftAll size m ls .state)
-  calls-among size buffer tail bears old r ls others =
-      let a = others-nothing size (afterReset size buffer old) [] ls others in
-      rw (a .answers, a .logs, a .state) (calls-hold tail (take size buffer) bears old r (owns ls))
+      OthersRefused m ls →
+      Kept program schedule p s h old (owns ls) (ownAnswers m ls) (ownLog m [] ls) (leftAll m ls .state)
+  calls-among size buffer tail bears old r ls own others =
+      let multiple = pair-multiple program schedule _ e in
+      let a = Lending.among p s h accepts multiple bounded size buffer bears old ls own others in
+      rw (a .0, a .1, a .2)
+      (calls-hold [] (imageOf p s h) (Tails.bears-itself (imageOf p s h)) old
+      (Lending.reset-itself p s h accepts multiple bounded size buffer bears old r) (owns ls))
 
   -- Request m. If the elements of all inputs but i are the same, so are those of every other signal that does not read i, by
   -- itself or through other signals ..
@@ -552,18 +558,22 @@ module _ (program schedule : List ℕ) (bytes : AreBytes program) (p : Program) 
   pub only-readers-among : (size size′ : ℕ) (buffer buffer′ tail tail′ : List ℕ) →
       Bears (imageOf p s h) tail (take size buffer) → Bears (imageOf p s h) tail′ (take size′ buffer′) → (old old′ : List ℤ) →
       resetOf (take size buffer) old .answer ≡ accepted 0 → resetOf (take size′ buffer′) old′ .answer ≡ accepted 0 → (i : ℕ)
-      (ls ls′ : List Lent) → AlikeCalls p (owns ls) (owns ls′) →
+      (ls ls′ : List Lent) → AlikeCalls p (owns ls) (owns ls′) → OwnsBear (imageOf p s h) buffer ls →
+      OwnsBear (imageOf p s h) buffer′ ls′ →
       let m = afterReset size buffer old in
       let m′ = afterReset size′ buffer′ old′ in
-      OthersRefused size m ls → OthersRefused size′ m′ ls′ →
-      SameExcept p s i (ownAnswers size m ls) (ownAnswers size′ m′ ls′) (ownLog size m [] ls) (ownLog size′ m′ [] ls′)
-      (leftAll size m ls .state) (leftAll size′ m′ ls′ .state)
-  only-readers-among size size′ buffer buffer′ tail tail′ b b′ old old′ r r′ i ls ls′ alike others others′ =
-      let a = others-nothing size (afterReset size buffer old) [] ls others in
-      let a′ = others-nothing size′ (afterReset size′ buffer′ old′) [] ls′ others′ in
-      rw (a .answers, a .logs, a .state, a′ .answers, a′ .logs, a′ .state)
-      (Dependence.runs-apart p s h accepts (pair-multiple program schedule _ e) bounded b b′ old old′ r r′ i (owns ls) (owns ls′)
-      alike)
+      OthersRefused m ls → OthersRefused m′ ls′ →
+      SameExcept p s i (ownAnswers m ls) (ownAnswers m′ ls′) (ownLog m [] ls) (ownLog m′ [] ls′) (leftAll m ls .state)
+      (leftAll m′ ls′ .state)
+  only-readers-among size size′ buffer buffer′ tail tail′ b b′ old old′ r r′ i ls ls′ alike own own′ others others′ =
+      let multiple = pair-multiple program schedule _ e in
+      let itself = Tails.bears-itself (imageOf p s h) in
+      let a = Lending.among p s h accepts multiple bounded size buffer b old ls own others in
+      let a′ = Lending.among p s h accepts multiple bounded size′ buffer′ b′ old′ ls′ own′ others′ in
+      rw (a .0, a .1, a .2, a′ .0, a′ .1, a′ .2)
+      (Dependence.runs-apart p s h accepts multiple bounded itself itself old old′
+      (Lending.reset-itself p s h accepts multiple bounded size buffer b old r)
+      (Lending.reset-itself p s h accepts multiple bounded size′ buffer′ b′ old′ r′) i (owns ls) (owns ls′) alike)
 
 -- Two accepted schedules of one program that settle alike: each open read has the same index under both.
 module _ (program schedule schedule′ : List ℕ) (bytes : AreBytes program) (p : Program) (s s′ : Schedule) (h : ℕ)

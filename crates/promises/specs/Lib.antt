@@ -2,3 +2,4 @@
 pub mod Codable
 pub mod Moves
 pub mod Scenes
+pub mod BoardExact

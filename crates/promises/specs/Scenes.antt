@@ -2,6 +2,7 @@
 use Prim.Native.Nat.{ℕ, _+_, _*_, _≤_, _<_}
 use mathlib.Core.Bool.{cond}
 use mathlib.Core.List.{List, [], _∷_}
+use mathlib.Core.Logic.{_⊎_}
 use mathlib.Core.Path.{_≡_}
 use lib.Dec.{eqb}
 use lib.IntN.{ℤ, pos}
@@ -13,6 +14,7 @@ use Rattle.model.specs.Rules.Schedule.{Schedule}
 use Rattle.model.specs.Says.Calls.{Call}
 use Rattle.theorems.specs.Dependence.{SameExcept}
 use Rattle.theorems.specs.Held.{logBy}
+use Rattle.board_words.specs.Calls.{NumberScene, loadAnswer, markAnswer, turnAnswer, afterCall, afterCalls}
 use Rattle.board.specs.Board.{placeWords, placeSamples, Yield, idle, took}
 use Rattle.board.specs.Events.{
   Event,
@@ -151,3 +153,28 @@ module _ (c : Course) where
 abbrev pub CoursesExcept : Program → Schedule → ℕ → Course → Course → Type 0
 CoursesExcept p q i c c′ =
     SameExcept p q i (courseAnswers c) (courseAnswers c′) (courseLog c) (courseLog c′) (courseWords c) (courseWords c′)
+
+-- By the numbers of a record: two scenes, the same but for the signals' words of place k; two turns' samples, the same but for
+-- the 64 of place k.
+pub record NumbersBut (k : ℕ) (m m′ : NumberScene) : Type 0 where
+  pub numbers : m .numbers ≡ m′ .numbers
+  pub images : m .images ≡ m′ .images
+  pub state : StateBut k (m .state) (m′ .state)
+
+abbrev pub SamplesElsewhere : ℕ → List ℤ → List ℤ → Type 0
+SamplesElsewhere k samples samples′ =
+    (v : ℕ) → (v < 64 * k) ⊎ (64 * k + 64 ≤ v) → getD samples v (pos 0) ≡ getD samples′ v (pos 0)
+
+-- What the calls of a list on the numbers answer, in order.
+unfoldable pub callAnswers : NumberScene → List Event → List BoardAnswer
+callAnswers m [] = []
+callAnswers m (load j start size ∷ es) =
+    call (loadAnswer m j start size) ∷ callAnswers (afterCall m (load j start size)) es
+callAnswers m (mark j ∷ es) = call (markAnswer m j) ∷ callAnswers (afterCall m (mark j)) es
+callAnswers m (turn samples ∷ es) = turned (turnAnswer m samples) ∷ callAnswers (afterCall m (turn samples)) es
+callAnswers m (change images state ∷ es) = callAnswers (afterCall m (change images state)) es
+
+-- `Confined` by the numbers.
+pub record NumbersConfined (k : ℕ) (m m′ : NumberScene) (es es′ : List Event) : Type 0 where
+  pub answers : callAnswers m es ≡ callAnswers m′ es′
+  pub scene : NumbersBut k (afterCalls m es) (afterCalls m′ es′)

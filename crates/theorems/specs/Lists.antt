@@ -78,68 +78,89 @@ pub record Memory : Type 0 where
 abbrev pub afterReset : ℕ → List ℕ → List ℤ → Memory
 afterReset size buffer old = record { buffer = buffer; state = resetOf (take size buffer) old .left }
 
--- A call of the list, or one that is lent something else: a reset or cycle with any image, this one or another, and any stretch
--- of
--- this state; a compile, conversion or join with any stretch of the image's own buffer.
+-- A call of another kind that is lent words, as a load or a turn of a board: what it answers and leaves. Refused, it leaves them.
+pub record WordsCall : Type 0 where
+  pub makes : List ℤ → Effect ℕ ℤ
+  pub keeps : (words : List ℤ) (f : Fault) → makes words .answer ≡ refused f → makes words .left ≡ words
+
+-- A call of the list, lent the first `size` bytes of the buffer; or one that is lent something else: a reset or cycle with any
+-- image, this one or another, and any stretch of this state; a call of another kind with any stretch of this state; a compile,
+-- conversion or join with any stretch of the image's own buffer.
 pub data Lent : Type 0 where
-  own : Call → Lent
+  own : (size : ℕ) → Call → Lent
   words : (image : List ℕ) (from n : ℕ) → Call → Lent
+  called : (from n : ℕ) → WordsCall → Lent
   bytes : (from n : ℕ) → Writer → Lent
 
 -- The calls of the list.
 abbrev pub owns : List Lent → List Call
 owns [] = []
-owns (own c ∷ ls) = c ∷ owns ls
+owns (own size c ∷ ls) = c ∷ owns ls
 owns (words image from n c ∷ ls) = owns ls
+owns (called from n c ∷ ls) = owns ls
 owns (bytes from n w ∷ ls) = owns ls
 
--- The calls of the list are lent the first `size` bytes of the buffer.
-module _ (size : ℕ) where
-  abbrev pub answerIn : Memory → Lent → Outcome ℕ
-  answerIn m (own c) = callOf (take size (m .buffer)) (m .state) c .answer
-  answerIn m (words image from n c) = callOf image (partOf from n (m .state)) c .answer
-  answerIn m (bytes from n w) = writerOf (partOf from n (m .buffer)) w .answer
+abbrev pub answerIn : Memory → Lent → Outcome ℕ
+answerIn m (own size c) = callOf (take size (m .buffer)) (m .state) c .answer
+answerIn m (words image from n c) = callOf image (partOf from n (m .state)) c .answer
+answerIn m (called from n c) = c .makes (partOf from n (m .state)) .answer
+answerIn m (bytes from n w) = writerOf (partOf from n (m .buffer)) w .answer
 
-  abbrev pub leftIn : Memory → Lent → Memory
-  leftIn m (own c) = record { buffer = m .buffer; state = callOf (take size (m .buffer)) (m .state) c .left }
-  leftIn m (words image from n c) =
-      record { buffer = m .buffer; state = withPart from n (callOf image (partOf from n (m .state)) c .left) (m .state) }
-  leftIn m (bytes from n w) =
-      record { buffer = withPart from n (writerOf (partOf from n (m .buffer)) w .left) (m .buffer); state = m .state }
+abbrev pub leftIn : Memory → Lent → Memory
+leftIn m (own size c) = record { buffer = m .buffer; state = callOf (take size (m .buffer)) (m .state) c .left }
+leftIn m (words image from n c) =
+    record { buffer = m .buffer; state = withPart from n (callOf image (partOf from n (m .state)) c .left) (m .state) }
+leftIn m (called from n c) =
+    record { buffer = m .buffer; state = withPart from n (c .makes (partOf from n (m .state)) .left) (m .state) }
+leftIn m (bytes from n w) =
+    record { buffer = withPart from n (writerOf (partOf from n (m .buffer)) w .left) (m .buffer); state = m .state }
 
-  -- What all of them leave, and of the calls of the list the answers and the log.
-  abbrev pub leftAll : Memory → List Lent → Memory
-  leftAll m [] = m
-  leftAll m (l ∷ ls) = leftAll (leftIn m l) ls
+-- What all of them leave, and of the calls of the list the answers and the log.
+abbrev pub leftAll : Memory → List Lent → Memory
+leftAll m [] = m
+leftAll m (l ∷ ls) = leftAll (leftIn m l) ls
 
-  abbrev pub ownAnswers : Memory → List Lent → List (Outcome ℕ)
-  ownAnswers m [] = []
-  ownAnswers m (own c ∷ ls) = answerIn m (own c) ∷ ownAnswers (leftIn m (own c)) ls
-  ownAnswers m (words image from n c ∷ ls) = ownAnswers (leftIn m (words image from n c)) ls
-  ownAnswers m (bytes from n w ∷ ls) = ownAnswers (leftIn m (bytes from n w)) ls
+abbrev pub ownAnswers : Memory → List Lent → List (Outcome ℕ)
+ownAnswers m [] = []
+ownAnswers m (own size c ∷ ls) = answerIn m (own size c) ∷ ownAnswers (leftIn m (own size c)) ls
+ownAnswers m (words image from n c ∷ ls) = ownAnswers (leftIn m (words image from n c)) ls
+ownAnswers m (called from n c ∷ ls) = ownAnswers (leftIn m (called from n c)) ls
+ownAnswers m (bytes from n w ∷ ls) = ownAnswers (leftIn m (bytes from n w)) ls
 
-  abbrev pub ownLog : Memory → List (List ℤ) → List Lent → List (List ℤ)
-  ownLog m log [] = log
-  ownLog m log (own c ∷ ls) = ownLog (leftIn m (own c)) (logged c (answerIn m (own c)) log) ls
-  ownLog m log (words image from n c ∷ ls) = ownLog (leftIn m (words image from n c)) log ls
-  ownLog m log (bytes from n w ∷ ls) = ownLog (leftIn m (bytes from n w)) log ls
+abbrev pub ownLog : Memory → List (List ℤ) → List Lent → List (List ℤ)
+ownLog m log [] = log
+ownLog m log (own size c ∷ ls) = ownLog (leftIn m (own size c)) (logged c (answerIn m (own size c)) log) ls
+ownLog m log (words image from n c ∷ ls) = ownLog (leftIn m (words image from n c)) log ls
+ownLog m log (called from n c ∷ ls) = ownLog (leftIn m (called from n c)) log ls
+ownLog m log (bytes from n w ∷ ls) = ownLog (leftIn m (bytes from n w)) log ls
 
-  -- The calls that are lent something else are refused.
-  abbrev pub OtherRefused : Memory → Lent → Type 0
-  OtherRefused m (own c) = Unit {0}
-  OtherRefused m (words image from n c) = (f : Fault) × (answerIn m (words image from n c) ≡ refused f)
-  OtherRefused m (bytes from n w) = (f : Fault) × (answerIn m (bytes from n w) ≡ refused f)
+-- Every call of the list is lent the image, one with a tail, another without.
+abbrev pub OwnsBear : List ℕ → List ℕ → List Lent → Type 0
+OwnsBear image buffer [] = Unit {0}
+OwnsBear image buffer (own size c ∷ ls) =
+    ((tail : List ℕ) × Bears image tail (take size buffer)) × OwnsBear image buffer ls
+OwnsBear image buffer (words other from n c ∷ ls) = OwnsBear image buffer ls
+OwnsBear image buffer (called from n c ∷ ls) = OwnsBear image buffer ls
+OwnsBear image buffer (bytes from n w ∷ ls) = OwnsBear image buffer ls
 
-  abbrev pub OthersRefused : Memory → List Lent → Type 0
-  OthersRefused m [] = Unit {0}
-  OthersRefused m (l ∷ ls) = OtherRefused m l × OthersRefused (leftIn m l) ls
+-- The calls that are lent something else are refused.
+abbrev pub OtherRefused : Memory → Lent → Type 0
+OtherRefused m (own size c) = Unit {0}
+OtherRefused m (words image from n c) = (f : Fault) × (answerIn m (words image from n c) ≡ refused f)
+OtherRefused m (called from n c) = (f : Fault) × (answerIn m (called from n c) ≡ refused f)
+OtherRefused m (bytes from n w) = (f : Fault) × (answerIn m (bytes from n w) ≡ refused f)
 
-  -- They change nothing and are no part of the list: buffer, state, answers and log are those of the list without them.
-  pub record AsWithout (m : Memory) (log : List (List ℤ)) (ls : List Lent) : Type 0 where
-    pub buffer : leftAll m ls .buffer ≡ m .buffer
-    pub state : leftAll m ls .state ≡ after (take size (m .buffer)) (m .state) (owns ls)
-    pub answers : ownAnswers m ls ≡ answersOf (take size (m .buffer)) (m .state) (owns ls)
-    pub logs : ownLog m log ls ≡ logAfter (take size (m .buffer)) (m .state) log (owns ls)
+abbrev pub OthersRefused : Memory → List Lent → Type 0
+OthersRefused m [] = Unit {0}
+OthersRefused m (l ∷ ls) = OtherRefused m l × OthersRefused (leftIn m l) ls
+
+-- They change nothing and are no part of the list: the buffer stays, and state, answers and log are those of the list without
+-- them, lent the image alone.
+pub record AsWithout (image : List ℕ) (m : Memory) (log : List (List ℤ)) (ls : List Lent) : Type 0 where
+  pub buffer : leftAll m ls .buffer ≡ m .buffer
+  pub state : leftAll m ls .state ≡ after image (m .state) (owns ls)
+  pub answers : ownAnswers m ls ≡ answersOf image (m .state) (owns ls)
+  pub logs : ownLog m log ls ≡ logAfter image (m .state) log (owns ls)
 
 -- Two schedules of one program settle alike: each open read has the same index under both.
 abbrev pub SettleAlike : Program → Schedule → Schedule → Type 0

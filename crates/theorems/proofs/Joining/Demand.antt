@@ -47,10 +47,10 @@ use Rattle.theorems.specs.Lists.{
   leftAll,
   ownAnswers,
   ownLog,
+  OwnsBear,
   OthersRefused,
 }
 use Rattle.theorems.specs.Streams.{Satisfies}
-use Rattle.theorems.proofs.Calls.Among.{others-nothing}
 use Rattle.theorems.proofs.Joining.Composed.{links-distinct, composed}
 use Rattle.theorems.proofs.Joining.Bounds.{TextPart, treeOf, textTotal, joined-bounded}
 use Rattle.theorems.proofs.Joining.Exact.{all-named, parts-legal-feasible}
@@ -59,6 +59,7 @@ use Rattle.theorems.proofs.Joining.Timely.{TimelyPart, text-timely, joi
 use Rattle.theorems.proofs.Pairs.Exact.{accepted-exactly}
 use Rattle.theorems.proofs.Pairs.Faults.{all-among}
 use Rattle.theorems.proofs.Streams.Lending as Lending
+use Rattle.model.proofs.Images.Tails as Tails
 use Rattle.theorems.proofs.Streams.Unique as Unique
 
 -- A stretch of bytes is bytes.
@@ -253,9 +254,16 @@ module _ (buffer numbers links : List ℕ) (q : Pair) (l : JoinLegal buffer numb
   pub calls-among : AreBytes buffer → (size : ℕ) (memory tail : List ℕ) →
       Bears (imageOf (q .program) (q .schedule) (q .hypercycle)) tail (take size memory) → (old : List ℤ) →
       resetOf (take size memory) old .answer ≡ accepted 0 → (ls : List Lent) →
+      OwnsBear (imageOf (q .program) (q .schedule) (q .hypercycle)) memory ls →
       let m = afterReset size memory old in
-      OthersRefused size m ls →
-      JoinKept (l .parts) (linksOf links) q old (owns ls) (ownAnswers size m ls) (ownLog size m [] ls) (leftAll size m ls .state)
-  calls-among bytes size memory tail bears old r ls others =
-      let a = others-nothing size (afterReset size memory old) [] ls others in
-      rw (a .answers, a .logs, a .state) (calls-hold bytes tail (take size memory) bears old r (owns ls))
+      OthersRefused m ls →
+      JoinKept (l .parts) (linksOf links) q old (owns ls) (ownAnswers m ls) (ownLog m [] ls) (leftAll m ls .state)
+  calls-among bytes size memory tail bears old r ls own others =
+      let p = q .program in
+      let s = q .schedule in
+      let h = q .hypercycle in
+      let itself = Tails.bears-itself (imageOf p s h) in
+      let a = Lending.among p s h feasible multiple (bounded bytes) size memory bears old ls own others in
+      rw (a .0, a .1, a .2)
+      (calls-hold bytes [] (imageOf p s h) itself old
+      (Lending.reset-itself p s h feasible multiple (bounded bytes) size memory bears old r) (owns ls))

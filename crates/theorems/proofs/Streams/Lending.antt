@@ -7,7 +7,7 @@ use native.Mathlib.Omega.{arith}
 use borrow.Author.Tests.{ltb-true}
 use lib.Dec.{ltb}
 use lib.IntN.{ℤ}
-use lib.ListN.{length}
+use lib.ListN.{length, take}
 use Rattle.model.specs.Says.Feasible.{Feasible, Multiple}
 use Rattle.model.specs.Says.Calls.{Call, callOf, after, logAfter}
 use Rattle.model.specs.Rules.Image.{imageOf}
@@ -19,11 +19,13 @@ use Rattle.model.specs.Rules.Report.{countsOf}
 use Rattle.model.specs.Rules.Schedule.{Schedule}
 use Rattle.model.specs.Rules.Tail.{Bears}
 use Rattle.theorems.specs.Held.{answersOf, stateBy, logBy, answersBy, Answered, Supplied, Holds}
+use Rattle.theorems.specs.Lists.{Lent, afterReset, owns, leftAll, ownAnswers, ownLog, OwnsBear, OthersRefused}
 use Rattle.theorems.specs.Streams.{Satisfies}
 use Rattle.model.proofs.Images.Bounds.{Bounded}
 use Rattle.model.proofs.Images.Formed.{image-well-formed}
 use Rattle.model.proofs.Images.Stretches.{image-count}
 use Rattle.model.proofs.Images.Tails as Tails
+use Rattle.theorems.proofs.Calls.Among.{others-nothing}
 use Rattle.theorems.proofs.Streams.OnBytes as OnBytes
 use Rattle.theorems.proofs.Images.Tailed
 
@@ -82,3 +84,23 @@ module _ (p : Program) (s : Schedule) (h : ℕ) (accepts : Feasible p s) (whole 
         rw (log, state-alike old cs)
         (OnBytes.calls-hold p s h accepts whole bounded old long cs inputs X
         (subst (λ (l : List (List ℤ)). Supplied p s l inputs) log sup) sat)
+
+  -- A list with calls in between that are lent something else and are refused is the list without them, lent the image alone.
+  module _ (size : ℕ) (buffer : List ℕ) {tail : List ℕ} (bears : Bears (imageOf p s h) tail (take size buffer))
+      (old : List ℤ) where
+    pub reset-itself : resetOf (take size buffer) old .answer ≡ accepted 0 → resetOf (imageOf p s h) old .answer ≡ accepted 0
+    reset-itself r = sym (ap (λ (x : Effect ℕ ℤ). x .answer) (reset-alike bears old)) ∙ r
+
+    pub among : (ls : List Lent) → OwnsBear (imageOf p s h) buffer ls →
+        let m = afterReset size buffer old in
+        OthersRefused m ls →
+        (ownAnswers m ls ≡ answersBy (imageOf p s h) old (owns ls)) × (ownLog m [] ls ≡ logBy (imageOf p s h) old (owns ls)) ×
+        (leftAll m ls .state ≡ stateBy (imageOf p s h) old (owns ls))
+    among ls own others =
+        let image = imageOf p s h in
+        let e = reset-alike bears old in
+        let a = others-nothing image-formed (afterReset size buffer old) [] ls own others in (
+          a .answers ∙ ap (λ (x : Effect ℕ ℤ). answersOf image (x .left) (owns ls)) e,
+          a .logs ∙ ap (λ (x : Effect ℕ ℤ). logAfter image (x .left) [] (owns ls)) e,
+          a .state ∙ ap (λ (x : Effect ℕ ℤ). after image (x .left) (owns ls)) e,
+        )
