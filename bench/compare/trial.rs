@@ -11,6 +11,9 @@ mod generate;
 #[path = "../cases/images.rs"]
 mod images;
 #[allow(dead_code)]
+#[path = "../cases/parts.rs"]
+mod parts;
+#[allow(dead_code)]
 #[path = "../cases/random.rs"]
 mod random;
 #[allow(dead_code)]

@@ -7,9 +7,13 @@ ghost use Rattle.model.specs.Rules.Machine.{codeOk};
 
 // The shape of a command: 1 and the words that it takes off the stack, and 8 more for LOAD, whose signal is judged by its number.
 const PUSHES: u8 = 1;
+
 const LOADS: u8 = 9;
+
 const ONE_OPERAND: u8 = 2;
+
 const TWO_OPERANDS: u8 = 3;
+
 const THREE_OPERANDS: u8 = 4;
 
 // No command, or STORE.

@@ -1,11 +1,9 @@
 -- Where the next cycle is, command by command, and what a step leaves. Assumes nothing.
 use Prim.Native.Nat.{ℕ, zero, suc, _+_, _-_, _≤_, _<_}
-use mathlib.Core.Bool.{true, false}
-use mathlib.Core.List.{List, _++_}
+use mathlib.Core.List.{List}
 use mathlib.Core.Path.{_≡_, refl, sym, ap, _∙_}
 use native.Mathlib.Omega.{arith}
 use borrow.Author.Tests.{lt-ltb, le-ltb}
-use lib.Dec.{ltb}
 use lib.IntN.{ℤ}
 use lib.ListN.{length}
 use lib.Seq.{sets}
@@ -25,7 +23,6 @@ use Rattle.trial_step.specs.Steps.{
   seekFrom,
   seekOf,
   nextCycle,
-  stepTo,
   stepOf,
   Stepped,
   Printed,

@@ -7,17 +7,17 @@ ghost use Rattle.machine.specs.Runnable.{Runnable};
 ghost use Rattle.model.specs.Rules.Script.{scriptAt, callsFrom};
 ghost use Rattle.trial_script.specs.Steps.{altered};
 ghost use Rattle.trial_step.specs.Steps.{
-    atStart,
-    soughtCalls,
-    seekOf,
-    stepOf,
-    Stepped,
-    blockOf,
-    FilledTo,
-    Underway,
-    Printed,
-    StepsOn,
-    Filled,
+  atStart,
+  soughtCalls,
+  seekOf,
+  stepOf,
+  Stepped,
+  blockOf,
+  FilledTo,
+  Underway,
+  Printed,
+  StepsOn,
+  Filled,
 };
 
 // How far a trial has come: where the script goes on, the cycles left of the present RUN, and the number of the next line.

@@ -4,7 +4,18 @@ use mathlib.Core.Path.{_≡_, sym, ap, _∙_}
 use native.Mathlib.Omega.{arith}
 use borrow.Author.Needs.{needs}
 use Rattle.model.specs.Rules.Image.{listsAt}
-use Rattle.image_write.proofs.Imaged.{count-is, declared, timed, phased, lists-by, code-by, code-size, table-size, few-rows, length-by}
+use Rattle.image_write.proofs.Imaged.{
+  count-is,
+  declared,
+  timed,
+  phased,
+  lists-by,
+  code-by,
+  code-size,
+  table-size,
+  few-rows,
+  length-by,
+}
 use Rattle.image_write.proofs.lay_out.Statement.{statement}
 use Rattle.image_write.proofs.lay_out.Tie as tie
 

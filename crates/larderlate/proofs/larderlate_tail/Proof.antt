@@ -1,9 +1,7 @@
 -- `larderlate::larderlate_tail` meets its contract. Assumes nothing.
-use mathlib.Core.Path.{_≡_, refl, sym, ap, _∙_}
-use native.Mathlib.Omega.{arith}
+use mathlib.Core.Path.{sym, ap, _∙_}
 use Rattle.model.specs.Rules.Compile.{compiledOf}
-use Rattle.model.specs.Rules.Tail.{tailIn, lengthOfTail}
-use Rattle.larderlate.specs.Code.{codeNumber, startIn}
+use Rattle.larderlate.specs.Code.{codeNumber}
 use Rattle.image_tail.proofs.Answers.{LastBytes, last-bytes, none-read}
 use borrow.Author.Needs.{needs}
 use Rattle.larderlate.proofs.larderlate_tail.Statement.{statement}

@@ -1,7 +1,7 @@
 -- The grammar of both texts, as relations: which bytes are a legal program text, which a legal schedule text, and what they
 -- say. No parser and no decoder is named here; a command and its operands are those that stand written.
 use Prim.Native.Nat.{ℕ, suc, _+_, _≤_, _<_, max}
-use mathlib.Core.Bool.{true, false}
+use mathlib.Core.Bool.{false}
 use mathlib.Core.List.{List, [], _∷_}
 use mathlib.Core.Logic.{_⊎_}
 use mathlib.Core.Path.{_≡_}

@@ -37,17 +37,7 @@ use Rattle.model.specs.Rules.Word.{AreBytes}
 use Rattle.theorems.specs.Conditions.{_among_}
 use Rattle.theorems.specs.Held.{stateBy, logBy, lentAt, IsInput, Supplied, Holds}
 use Rattle.theorems.specs.Streams.{Satisfies}
-use Rattle.theorems.specs.Trials.{
-  heldAt,
-  wordsAfter,
-  Makes,
-  MadeAfter,
-  NoSet,
-  LastSet,
-  SetInputs,
-  SaysWords,
-  SaysLine,
-}
+use Rattle.theorems.specs.Trials.{heldAt, wordsAfter, Makes, MadeAfter, LastSet, SetInputs, SaysWords, SaysLine}
 use Rattle.model.proofs.Images.Bounds.{Bounded}
 use Rattle.model.proofs.Bench.Scripts.{calls-count, lines-count}
 use Rattle.model.proofs.Images.Stretches.{image-count}
@@ -288,25 +278,25 @@ module _ (x m : ℕ) (after : List Action) where
       n ≤ t → t < n + m → LastSet x (getD samples x (pos 0)) before w →
       getD (samplesAt (callsFrom samples (before ++ (run m ∷ after))) t) x (pos 0) ≡ w
   unfolding callsFrom
-  sample-last [] samples inside Makes.none t from to last =
-      ap (λ l. getD l x (pos 0)) (run-at m samples (callsFrom samples after) t (omega arith)) ∙ last-empty last
-  sample-last {n} {w} (alter at y u ∷ before) samples inside (Makes.sets r) t from to last =
+  sample-last [] samples inside Makes.none t from to latest =
+      ap (λ l. getD l x (pos 0)) (run-at m samples (callsFrom samples after) t (omega arith)) ∙ last-empty latest
+  sample-last {n} {w} (alter at y u ∷ before) samples inside (Makes.sets r) t from to latest =
       sample-last before (set samples y u) (omega (arith, length-set samples y u)) r t from to (go (eqb y x) refl)
     where
       go : (b : Bool) → eqb y x ≡ b → LastSet x (getD (set samples y u) x (pos 0)) before w
       go true e =
           let same = eqb-true y x e in
-          rw (same, getD-set-same samples x u (pos 0) inside) (last-own (rw same at last))
+          rw (same, getD-set-same samples x u (pos 0) inside) (last-own (rw same at latest))
       go false e =
           let other = eqb-false y x e in
-          rw (getD-set-other samples y x u (pos 0) (λ q. other (sym q))) (last-other other last)
-  sample-last (run k ∷ before) samples inside (Makes.runs {n = n} r) t from to last =
+          rw (getD-set-other samples y x u (pos 0) (λ q. other (sym q))) (last-other other latest)
+  sample-last (run k ∷ before) samples inside (Makes.runs {n = n} r) t from to latest =
       let e : t ≡ k + (t - k) = omega arith in
       ap (λ i. getD (samplesAt (callsFrom samples (run k ∷ (before ++ (run m ∷ after)))) i) x (pos 0)) e ∙
       ap (λ l. getD l x (pos 0)) (run-past k samples (callsFrom samples (before ++ (run m ∷ after))) (t - k)) ∙
-      sample-last before samples inside r (t - k) (omega arith) (omega arith) (last-run last)
+      sample-last before samples inside r (t - k) (omega arith) (omega arith) (last-run latest)
 
--- A word of the last SET there is, or the start.
+-- A word of the latest SET there is, or the start.
 last-over : {x : ℕ} {start w : ℤ} {actions : List Action} (a : Action) → ((at : ℕ) (v : ℤ) → ¬ (alter at x v ≡ a)) →
     LastSet x start actions w → LastSet x start (a ∷ actions) w
 last-over a other (LastSet.last before after at w e free) = LastSet.last (a ∷ before) after at w (ap (λ l. a ∷ l) e) free
@@ -380,12 +370,12 @@ made-after (run k ∷ actions) t lt = go (decLt t k) (λ h. made-after actions (
 module _ (p : Program) (s : Schedule) (actions : List Action) (few : count p ≤ 64) where
   lent-set : (x k : ℕ) → x < count p → {before : List Action} {w : ℤ} → MadeAfter actions before (runCycle (rateOf p s x) k) →
       LastSet x (pos 0) before w → inputsOf p s (callsFrom noSamples actions) x k ≡ w
-  lent-set x k lt {before} {w} made last =
+  lent-set x k lt {before} {w} made latest =
       let inside : x < length noSamples = omega (arith, length-replicate 64 (pos 0)) in
       let start : getD noSamples x (pos 0) ≡ pos 0 = getD-replicate 64 x (pos 0) (pos 0) (omega arith) in
       ap (λ l. getD (samplesAt (callsFrom noSamples l) (runCycle (rateOf p s x) k)) x (pos 0)) (made .stands) ∙
       sample-last x (made .m) (made .after) before noSamples inside (made .runs) (runCycle (rateOf p s x) k) (made .from) (made .to)
-      (rw start last)
+      (rw start latest)
 
   -- There are inputs that the SETs supply, and all others that they do have the same elements in the cycles made.
   pub set-inputs : SetInputs p s actions (inputsOf p s (callsFrom noSamples actions))

@@ -780,8 +780,8 @@ single-twice When = refl
 single-twice LastWhen = refl
 single-twice Current = refl
 
--- What a program and its conversion have in common, with every schedule: the conditions 7 to 16, 29 and 30 with one hypercycle, the streams,
--- and the image.
+-- What a program and its conversion have in common, with every schedule: the conditions 7 to 16, 29 and 30 with one hypercycle,
+-- the streams, and the image.
 pub record Common (p q : Program) (s : Schedule) : Type 0 where
   pub keeps : (puts : List Put) (h : ℕ) → Keeps p puts s h ↔ Keeps q puts s h
   pub streams : (inputs X : ℕ → ℕ → ℤ) → Satisfies p (settled p s) inputs X ↔ Satisfies q (settled q s) inputs X

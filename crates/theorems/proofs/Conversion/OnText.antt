@@ -18,7 +18,6 @@ use Rattle.model.specs.Rules.Rewrite.{
   declarationWidth,
   operatorWidth,
   widthOf,
-  operatorAfter,
   bytesAfter,
   rewriteAt,
   rewriteFrom,
@@ -41,9 +40,8 @@ use Rattle.model.specs.declared.Sampled.{Sampled}
 use Rattle.model.specs.declared.Unary.{Unary}
 use Rattle.model.specs.declared.Unary.the-variants.{Negate, Table}
 use Rattle.theorems.specs.Conversion.{SingleAt, CommandAt, ConvertedFrom, ConvertedText}
-use Rattle.theorems.specs.Enums.{BytesAt}
 use Rattle.model.proofs.Texts.Commands.{operator-of}
-use Rattle.model.proofs.Texts.Picks.{operator-byte, plain-width, sampled-width}
+use Rattle.model.proofs.Texts.Picks.{operator-byte, sampled-width}
 use Rattle.theorems.proofs.Conversion.Rewritten.{CommandWritten, no-operator, command-decoded, command-inside, none-after}
 use Rattle.theorems.proofs.Conversion.Unchanged.{plain-bytes}
 

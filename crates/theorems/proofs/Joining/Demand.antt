@@ -2,7 +2,7 @@
 -- Assumes nothing.
 use Prim.Native.Nat.{ℕ, zero, suc, _+_, _-_, _≤_, _<_}
 use mathlib.Core.List.{List, [], _∷_, map}
-use mathlib.Core.Path.{_≡_, refl, sym, ap, ap₂, subst, _∙_}
+use mathlib.Core.Path.{_≡_, refl, sym, ap, ap₂, subst}
 use native.Mathlib.Decide.{decLt}
 use native.Mathlib.Nat.{zero-add}
 use native.Mathlib.Omega.{arith}
@@ -11,8 +11,8 @@ use lib.ListN.{length, getD, take, drop, length-take, length-drop}
 use lib.Seq.{getD-take, getD-drop}
 use Rattle.model.specs.Rules.Compile.{Pair}
 use Rattle.model.specs.Rules.Image.{imageOf}
-use Rattle.model.specs.Rules.Join.{PartTexts, partsIn, textsAt, programTotal, programText, scheduleText, linksOf, joinedPairOf}
-use Rattle.model.specs.Rules.Machine.{stretch, wellFormed, resetOf}
+use Rattle.model.specs.Rules.Join.{PartTexts, partsIn, textsAt, programTotal, programText, scheduleText, linksOf}
+use Rattle.model.specs.Rules.Machine.{stretch, resetOf}
 use Rattle.model.specs.Rules.Outcome.{accepted}
 use Rattle.model.specs.Rules.Parts.{Part, partAt, joinedPair}
 use Rattle.model.specs.Rules.Program.{Program, Chain, count}

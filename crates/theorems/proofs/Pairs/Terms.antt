@@ -25,7 +25,7 @@ use Rattle.model.specs.Rules.Latency.{
 use Rattle.model.specs.Rules.Load.{load}
 use Rattle.model.specs.Rules.Program.{Program, Read, Chain, Link, Body, input, equation, count, signalAt, bodyReads, weightOf}
 use Rattle.model.specs.Rules.Rates.{countReads}
-use Rattle.model.specs.Rules.Reads.{Rate, rateOf, runCycle, uses, due, rank, settled}
+use Rattle.model.specs.Rules.Reads.{rateOf, runCycle, uses, due, rank, settled}
 use Rattle.model.specs.Rules.Schedule.{Schedule, Put, phaseOf, putPhase, scheduleOf}
 use Rattle.model.specs.Rules.Search.{tableFrom, table, sum}
 use Rattle.model.specs.Says.Feasible.{All, PutBefore, SettlesAt, Met, Ordered, Feasible}
@@ -35,22 +35,12 @@ use Rattle.model.specs.declared.Kind.{Kind}
 use Rattle.model.specs.declared.Kind.the-variants.{Now, Last, When, LastWhen, Current}
 use Rattle.model.specs.declared.Mode.{Mode}
 use Rattle.model.specs.declared.Mode.the-variants.{Exists, Backward}
-use Rattle.theorems.specs.Conditions.{
-  _among_,
-  ReadIn,
-  linkSignals,
-  putAt,
-  PutsLegal,
-  LegalPlaces,
-  TimelyFrom,
-  KeepsTime,
-}
+use Rattle.theorems.specs.Conditions.{_among_, ReadIn, linkSignals, putAt, PutsLegal, LegalPlaces, KeepsTime}
 use Rattle.theorems.specs.Latency.{Timely}
 use Rattle.theorems.specs.Terms.{
   OneReadOf,
   SaysSchedule,
   StandsBefore,
-  RunsIn,
   Weight,
   Weighs,
   UsesElement,
@@ -146,13 +136,13 @@ pub stands-before : (p : Program) (s : Schedule) → Ordered p s → (w r : ℕ)
     PutBefore s w r ↔ StandsBefore (s .order) w r
 stands-before p s o w r lw lr = (
   λ lt. record {
-        first = rank (s .order) w;
-        second = rank (s .order) r;
-        before = lt;
-        inside = o .put r lr;
-        is = rank-at (s .order) w (o .put w lw);
-        other = rank-at (s .order) r (o .put r lr);
-      },
+    first = rank (s .order) w;
+    second = rank (s .order) r;
+    before = lt;
+    inside = o .put r lr;
+    is = rank-at (s .order) w (o .put w lw);
+    other = rank-at (s .order) r (o .put r lr);
+  },
   λ b.
       let here : rank (s .order) w ≡ b .first =
       ap (rank (s .order)) (sym (b .is)) ∙ o .once (b .first) (omega (arith, b .before, b .inside)) in
@@ -330,17 +320,17 @@ module _ (program schedule : List ℕ) (p : Program) (h : ℕ) (s : Schedule) (c
       unfolding used
       hop k j = (
         λ e. record {
-              read = ρ;
-              within = (lt, found .0);
-              of = found .1;
-              index = settled p s r ρ;
-              settles =
-                  subst
-                  (λ v. SettlesAt (ρ .kind) (rateOf p s v) (rateOf p s r) (ρ .operands .factor) (ρ .operands .index)
-                  (settled p s r ρ))
-                  (found .1) (settles r ρ (lt, found .0) (settled p s r ρ) .1 refl);
-              uses = uses-element (ρ .kind) (ρ .operands .factor) (settled p s r ρ) k j index-below .0 e;
-            },
+          read = ρ;
+          within = (lt, found .0);
+          of = found .1;
+          index = settled p s r ρ;
+          settles =
+              subst
+              (λ v. SettlesAt (ρ .kind) (rateOf p s v) (rateOf p s r) (ρ .operands .factor) (ρ .operands .index)
+              (settled p s r ρ))
+              (found .1) (settles r ρ (lt, found .0) (settled p s r ρ) .1 refl);
+          uses = uses-element (ρ .kind) (ρ .operands .factor) (settled p s r ρ) k j index-below .0 e;
+        },
         λ o. used-by (o .read) (the-one (o .read) (o .within) (o .of)) (o .within) (o .of) (o .index) (o .settles) (o .uses),
       )
         where

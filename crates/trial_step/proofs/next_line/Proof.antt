@@ -86,8 +86,7 @@ returns-2 : tie.Need-returns-2
 unfolding StepsOn
 returns-2 c =
     let k = c .before .before .before in
-    let a = seek-start k .args in
-    (
+    let a = seek-start k .args in (
       none-left (a .image .now) (a .text .now) (a .progress) (a .samples .now) (a .state .now)
           (sought-calls k ∙ ap (soughtCalls (a .text .now) (k .seek .last .1 .1 .0)) (c .enum-told .given .1)),
       stepped-none (a .image .now) (a .text .now) (a .progress) (a .samples .now) (a .state .now) (a .line .now)
