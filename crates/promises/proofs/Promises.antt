@@ -130,9 +130,10 @@ use Rattle.theorems.specs.TrialRefusals.{LegalScript, TrialRefusedAt}
 use Rattle.theorems.specs.WellFormed.{WellFormed}
 use Rattle.theorems.specs.Nearest.{WordsRange, NearestWord}
 use Rattle.theorems.specs.Operators.{OperatorBytes, OperatorsGive}
-use Rattle.theorems.specs.Images.{TailExactly, ReportsExactly, OneImage, Reports}
+use Rattle.theorems.specs.Images.{TailExactly, OneImage, Reports}
 use Rattle.larderlate.specs.Code.{codeNumber, lengthIn}
 use Rattle.promises.specs.Codable.{Codable}
+use Rattle.promises.specs.Reports.{ReportsExactly}
 use Rattle.model.specs.declared.Unary.the-variants.{Table}
 use Rattle.model.specs.declared.Code.{Code}
 use Rattle.model.specs.declared.Declaration.{Declaration}
@@ -251,7 +252,11 @@ call-code lent state c f e = small-code f (omega (arith, places-zero lent state 
 pub report-exactly : (program schedule counts : List ℕ) → ReportsExactly program schedule counts
 unfolding reportOf _▷_
 report-exactly program schedule counts =
-    record { refuses = refuses (pairOf program schedule); tells = tells (pairOf program schedule) }
+    record {
+      refuses = refuses (pairOf program schedule);
+      tells = tells (pairOf program schedule);
+      keeps = λ f e. Refused.refused-left counts (reportJob program schedule) f e;
+    }
   where
     told : Outcome Pair → Effect Sizes ℕ
     told o = effect counts (o ▷ λ q. accepted (needsOf q))
@@ -284,11 +289,6 @@ pub report-code : (program schedule counts : List ℕ) → AreBytes program → 
 unfolding compileOf verdictOf _▷_
 report-code program schedule counts bytes f e =
     small-code f (places-small program schedule [] bytes f (rw (report-exactly program schedule counts .refuses f .0 e) refl))
-
-pub report-keeps : (program schedule counts : List ℕ) (f : Fault) → reportOf program schedule counts .answer ≡ refused f →
-    reportOf program schedule counts .left ≡ counts
-unfolding reportOf
-report-keeps program schedule counts f e = Refused.refused-left counts (reportJob program schedule) f e
 
 -- Whatever a cycle is lent, its count has 32 bits.
 pub count-small : (lent : List ℕ) (state samples : List ℤ) → AreBytes lent → (n : ℕ) →

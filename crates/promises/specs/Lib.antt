@@ -1,5 +1,6 @@
 -- What a promise says of an answer.
 pub mod Codable
+pub mod Reports
 pub mod Moves
 pub mod Scenes
 pub mod BoardExact

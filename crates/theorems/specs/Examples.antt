@@ -171,6 +171,11 @@ one-read command input-period equation-period i =
     0x10 ∷ input-period ∷ 0 ∷ 0 ∷ 0 ∷ 0 ∷
     0x11 ∷ equation-period ∷ 0 ∷ 0 ∷ 0 ∷ 0 ∷ 0 ∷ 0 ∷ command ∷ 0 ∷ i ∷ 2 ∷ 0x00 ∷ []
 
+-- The same with the index byte 0 and n = 1.
+abbrev single-read : ℕ → List ℕ
+single-read command =
+    0x10 ∷ 1 ∷ 0 ∷ 0 ∷ 0 ∷ 0 ∷ 0x11 ∷ 1 ∷ 0 ∷ 0 ∷ 0 ∷ 0 ∷ 0 ∷ 0 ∷ command ∷ 0 ∷ 0 ∷ 1 ∷ 0x00 ∷ []
+
 -- Signal 0 put before signal 1, at given phases.
 abbrev at-phases : ℕ → ℕ → List ℕ
 at-phases a b = 0x40 ∷ 0 ∷ a ∷ 0x40 ∷ 1 ∷ b ∷ 0x00 ∷ []
@@ -273,6 +278,10 @@ cases =
     -- open CURRENT, P_w 4, p_w 3, P_r 2, w put first: p_r 1 settles i = 1; p_r 0 refused 14
     (indices (one-read 0x25 4 2 255) (at-phases 3 1) gives numbers (1 ∷ [])) ∷
     (verdict (one-read 0x25 4 2 255) (at-phases 3 0) gives refuses 14 14) ∷
+    -- n = 1 in WHEN, LASTWHEN and CURRENT: 5 at the read (request g)
+    (verdict (single-read 0x23) (at-phases 0 0) gives refuses 5 14) ∷
+    (verdict (single-read 0x24) (at-phases 0 0) gives refuses 5 14) ∷
+    (verdict (single-read 0x25) (at-phases 0 0) gives refuses 5 14) ∷
     -- 2147483647 ADD 1, NEG of −2147483648 and 65536 MUL 65536 are 2147483647 (request d)
     (binary Add (pos 2147483647) (pos 1) gives signals (pos 2147483647 ∷ [])) ∷
     (negation (negsuc 2147483647) gives signals (pos 2147483647 ∷ [])) ∷

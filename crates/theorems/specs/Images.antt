@@ -6,18 +6,17 @@ use mathlib.Core.Bool.{true}
 use mathlib.Core.Logic.{_↔_}
 use lib.IntN.{ℤ}
 use lib.ListN.{length, getD, drop}
-use Rattle.model.specs.Rules.Image.{codes, runLists, offsets, listsAt, codesAt, imageOf, writtenOf}
+use Rattle.model.specs.Rules.Image.{codes, runLists, offsets, listsAt, codesAt, imageOf}
 use Rattle.model.specs.Rules.Machine.{listOffset, codeOffset, statedLength, codeOf, wellFormed}
 use Rattle.model.specs.Rules.Program.{Program, count, signalAt}
 use Rattle.model.specs.Rules.Schedule.{Schedule, phaseOf}
-use Rattle.model.specs.Rules.Compile.{Pair, pairOf, verdictOf, compileOf}
+use Rattle.model.specs.Rules.Compile.{verdictOf, compileOf}
 use Rattle.model.specs.Rules.Outcome.{accepted, refused, refuse, fault}
 use Rattle.model.specs.Rules.Report.{highest, countsOf, reportOf}
 use Rattle.model.specs.Rules.Tail.{tailIn, Bears, Tells}
 use Rattle.theorems.specs.Height.{Within}
 use Rattle.theorems.specs.Runs.{CycleRuns}
 use Rattle.model.specs.declared.Fault.{Fault}
-use Rattle.model.specs.declared.Sizes.{Sizes}
 
 -- An offset that an image gives is the one of the layout, at most 65,535, and within the image.
 pub record OffsetFits (image : List ℕ) (given layout : ℕ) : Type 0 where
@@ -54,15 +53,6 @@ pub record OneImage (program schedule : List ℕ) (p : Program) (s : Schedule) (
       }
   pub space : (buffer : List ℕ) → length buffer < length image + 4 * count p →
       compileOf program schedule buffer ≡ record { answer = refuse 17 (length image + 4 * count p); left = buffer }
-
--- Request a. A report refuses exactly as the pair is refused, and then leaves the counts as they were. Otherwise the L and
--- the L + 4N that it tells are the lengths of the pair's image and of what compile writes.
-pub record ReportsExactly (program schedule counts : List ℕ) : Type 0 where
-  pub refuses : (f : Fault) → (reportOf program schedule counts .answer ≡ refused f) ↔ (pairOf program schedule ≡ refused f)
-  pub tells : (sizes : Sizes) → reportOf program schedule counts .answer ≡ accepted sizes →
-      (q : Pair) × (pairOf program schedule ≡ accepted q) ×
-      (sizes .length ≡ length (imageOf (q .program) (q .schedule) (q .hypercycle))) ×
-      (sizes .written ≡ length (writtenOf (q .program) (q .schedule) (q .hypercycle)))
 
 -- Of an accepted pair it tells L, the length of its image, and L + 4N, that with its tail; the least number of words that the
 -- code of every signal keeps within on the image's bytes; and 240 counts, those of the hypercycle being the commands that a cycle
