@@ -33,3 +33,23 @@ pub fn tail<'a>(lent: &'a [u8]) -> &'a [u8]
     let start = lent.len() - n;
     &lent[start..]
 }
+
+// The tail of an image: the stretch of what is lent, empty for an image without one and where it is refused; and its length, or
+// the refusal.
+pub struct TailRead<'a> {
+    pub stretch: &'a [u8],
+    pub length: Compiled,
+}
+
+// The tail as one answer by value. `tail` and `tail_length` of crate larderlate are the same two answers, one by one.
+pub fn read_tail<'a>(lent: &'a [u8]) -> TailRead<'a>
+    ensures { λ r. ⌜
+        (now (r .stretch) ≡ stretchIn (tailIn (now (lent .entry)))) ×
+        (compiledOf (r .length) ≡ lengthOfTail (tailIn (now (lent .entry))))
+        ⌝ }
+{
+    TailRead {
+        stretch: tail(lent),
+        length: tail_length(lent),
+    }
+}
