@@ -96,7 +96,8 @@ module _ (p : Program) where
 
         go : (b : Bool) → ltb (ρ .operands .signal) (count p) ≡ b →
             rateJudged b
-            (periodRule (ρ .kind) (periodAt periods (ρ .operands .signal)) (periodAt periods x) (ρ .operands .factor)) (ρ .place) ≡
+            (periodRule (ρ .kind) (periodAt periods (ρ .operands .signal)) (periodAt periods x) (ρ .operands .factor))
+            (ρ .place) ≡
             judgementOf (lowest (cond b
             (cond (periodRule (ρ .kind) (signalAt p (ρ .operands .signal) .period) (signalAt p x .period) (ρ .operands .factor))
             []

@@ -119,7 +119,17 @@ lat-at number test j c a b r = go (test c)
   where
     go : (t : Bool) → Within a (cond t [] (fault number (c .place) ∷ [])) b
     go true = tt
-    go false = ((omega (arith, r .0), omega (arith, rising-le (suc (c .place)) (map (λ (l : Link). l .place) (c .links)) b (r .1))), tt)
+    go false = (
+      (
+        omega (arith, r .0),
+        omega (
+          arith,
+          rising-le (suc (c .place)) (map (λ (l : Link). l .place) (c .links)) b
+              (r .1),
+        ),
+      ),
+      tt,
+    )
 
 -- Its judgement goes by the test.
 pub lat-judged : (f : Fault) (t b : Bool) → t ≡ b → cond b Judged.Fine (Judged.Refused f) ≡ judgementOf

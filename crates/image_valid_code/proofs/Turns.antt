@@ -263,7 +263,8 @@ module _ (left : ℕ) (rows : Bool) (code : List ℕ) (at n own h : ℕ) (two : 
     table-stops false e z = rw e
 
     pub stops : (b : ℕ) → shapeOf rows b ≡ 0 →
-        step (commandOf b code at) left rows code at n own h ≡ (lastOf b (byteAt code (at + 1)) own h && eqb (at + 2) (length code))
+        step (commandOf b code at) left rows code at n own h ≡
+        (lastOf b (byteAt code (at + 1)) own h && eqb (at + 2) (length code))
     unfolding Stops shapeOf lastOf commandOk
     stops b =
         by-byte b Stops more more more store-stops (more, more, more, more, more, more, more) more more

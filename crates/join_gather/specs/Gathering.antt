@@ -16,7 +16,8 @@ use Rattle.join_gather.specs.Rates.{RatesBy}
 use Rattle.join_gather.specs.Rows.{TableOf}
 
 -- The parts before the part named in the answer, each of which is accepted, and their tables.
-pub record Taken (texts numbers : List ℕ) (periods : List ℕ) (inputs : List Bool) (r : Gathered) (parts : List Part) : Type 0 where
+pub record Taken (texts numbers : List ℕ) (periods : List ℕ) (inputs : List Bool) (r : Gathered)
+    (parts : List Part) : Type 0 where
   pub checked : partsFrom texts numbers 0 (r .part) ≡ accepted parts
   pub joint-of : JointOf parts (sum (table (r .part) (λ k. textsAt numbers k .programLength))) (r .joint)
   pub rates : RatesBy parts periods inputs

@@ -167,8 +167,8 @@ module _ (texts numbers links : List ℕ) (q : Pair) (l : JoinLegal texts number
   join-calls-among = Demand.calls-among texts numbers links q l
 
   -- Request m. In two runs that are alike call by call all calls answer the same, and after each call, the n-th of both, the
-  -- position is the same; and if the elements supplied since the latest reset are the same for all inputs but i of part k, so is the
-  -- word of every other signal of any part that does not read it, by itself or through other signals and links.
+  -- position is the same; and if the elements supplied since the latest reset are the same for all inputs but i of part k, so
+  -- is the word of every other signal of any part that does not read it, by itself or through other signals and links.
   pub join-only-readers : AreBytes texts → (tail tail′ lent lent′ : List ℕ) →
       Bears (imageOf (q .program) (q .schedule) (q .hypercycle)) tail lent →
       Bears (imageOf (q .program) (q .schedule) (q .hypercycle)) tail′ lent′ → (old old′ : List ℤ) →

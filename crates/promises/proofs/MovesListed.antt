@@ -420,7 +420,10 @@ moves-exactly program schedule list =
         (told o .answer ≡ refused f) ↔ (effect counts (o ▷ λ q. accepted (needsOf q)) .answer ≡ refused f)
     refuses counts (accepted q) f =
         ((λ e. let z : _≡_ {A = ℕ} 0 1 = cc in absurd (omega arith)), (λ e. let z : _≡_ {A = ℕ} 0 1 = cc in absurd (omega arith)))
-    refuses counts (refused g) f = ((λ e. let same : g ≡ f = cc in ap refused same), (λ e. let same : g ≡ f = cc in ap refused same))
+    refuses counts (refused g) f = (
+      (λ e. let same : g ≡ f = cc in ap refused same),
+      (λ e. let same : g ≡ f = cc in ap refused same),
+    )
 
     keeps : (o : Outcome Pair) (f : Fault) → told o .answer ≡ refused f → told o .left ≡ list
     keeps (accepted q) f e = let z : _≡_ {A = ℕ} 0 1 = cc in absurd (omega arith)

@@ -1,7 +1,6 @@
 -- What the calls promise together: the buyer's three demands. The contracts of crate `larderlate` say that each call answers and
--- leaves what compileOf, resetOf and cycleOf say; here is what these say. Each proof is a few lines over the theorems and the laws
--- of the model.
--- Assumes nothing.
+-- leaves what compileOf, resetOf and cycleOf say; here is what these say. Each proof is a few lines over the theorems and the
+-- laws of the model. Assumes nothing.
 use Prim.Native.Nat.{ℕ, _+_, _*_, _^_, _≤_, _<_}
 use mathlib.Core.Bool.{Bool, true, false}
 use mathlib.Core.List.{List, []}
@@ -226,8 +225,8 @@ pub terms-are : (program schedule : List ℕ) (p : Program) (h : ℕ) (s : Sched
     TermsAre p (c .puts .value) s
 terms-are = Terms.terms-are
 
--- .. and, where every read is met, the latency of a chain: one goes back by the reads from element k of the last link to element m
--- of the first; the latency is 1 more than the cycles from m to k (request c) ..
+-- .. and, where every read is met, the latency of a chain: one goes back by the reads from element k of the last link to
+-- element m of the first; the latency is 1 more than the cycles from m to k (request c) ..
 pub latency-is : (program schedule : List ℕ) (p : Program) (h : ℕ) (s : Schedule) → LegalPlaces program schedule p h s →
     ((r : ℕ) (ρ : Read) → ReadIn p r ρ → Met p s r ρ) → LatencyIs p s
 latency-is = Terms.latency-is
@@ -699,7 +698,8 @@ trial-lines program schedule text bytes q actions legal script =
       prints = trial-accepts program schedule text legal script;
       number = subst (λ acts. Makes acts (length lines)) same (tried-count program schedule text bytes lines tried);
       line = λ inputs X given.
-          tried-line program schedule text bytes lines tried inputs X (subst (λ acts. SetInputs p s acts inputs) (sym same) given);
+          tried-line program schedule text bytes lines tried inputs X
+          (subst (λ acts. SetInputs p s acts inputs) (sym same) given);
     }
 
 -- There are inputs that its SETs supply.

@@ -60,8 +60,8 @@ pub record WrittenTo (es : List Entry) (list left : List ℕ) : Type 0 where
       (byteAt left (2 * j) ≡ entryAt es j .signal) × (byteAt left (2 * j + 1) ≡ entryAt es j .phase)
   pub rest : (j b : ℕ) → b < 2 → (length es ≤ j) ⊎ (length list < 2 * j + 2) → byteAt left (2 * j + b) ≡ byteAt list (2 * j + b)
 
--- The list of an accepted pair q: every move, the present phases included, each once, by signal and then by rising phase; the full
--- count is returned.
+-- The list of an accepted pair q: every move, the present phases included, each once, by signal and then by rising phase; the
+-- full count is returned.
 pub record ListsMoves (program : List ℕ) (q : Pair) (list : List ℕ) (n : ℕ) (left : List ℕ) : Type 0 where
   pub entries : List Entry
   pub exactly : (x f : ℕ) → (moveTo x f among entries) ↔ ((x < count (q .program)) × MayGo program q x f)

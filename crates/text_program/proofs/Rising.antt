@@ -147,4 +147,8 @@ module _ {text : List ℕ} where
 
 pub rising-program : (text : List ℕ) (p : Program) → parseProgram text ≡ accepted p → (end : ℕ) × Rises p end
 rising-program text p e =
-    let d = declared leastFactor text p e in (d .0, rising-declares (d .1) (record { signals = omega arith; chains = omega arith }))
+    let d = declared leastFactor text p e in (
+      d .0,
+      rising-declares (d .1)
+          (record { signals = omega arith; chains = omega arith }),
+    )

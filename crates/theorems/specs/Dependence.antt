@@ -24,8 +24,8 @@ use Rattle.theorems.specs.Held.{IsInput, stateBy, logBy, answersBy}
 use Rattle.theorems.specs.Lists.{sample}
 use Rattle.theorems.specs.Subexpression.{Subexpression}
 
--- Signal w occurs in an expression: in a read of any kind, wherever it stands (under TABLE, in any operand of two, and in each of the
--- three of an IF).
+-- Signal w occurs in an expression: in a read of any kind, wherever it stands (under TABLE, in any operand of two, and in each
+-- of the three of an IF).
 abbrev pub Occurs : ℕ → Expr → Type 0
 Occurs w e = (ρ : Read) × (ρ .operands .signal ≡ w) × Subexpression (read ρ) e
 

@@ -65,7 +65,8 @@ module _ (buffer numbers links image : List ℕ) where
   -- `JoinRefusedAt` says so, and then leaves what was lent.
   pub record JoinExactly : Type 0 where
     pub done : (n : ℕ) (left : List ℕ) →
-        ((joinOf buffer numbers links image .answer ≡ accepted n) × (joinOf buffer numbers links image .left ≡ left)) ↔ Joins n left
+        ((joinOf buffer numbers links image .answer ≡ accepted n) × (joinOf buffer numbers links image .left ≡ left)) ↔
+        Joins n left
     pub refuses : (k : Found) (f : Fault) (left : List ℕ) →
         ((joinOf buffer numbers links image .answer ≡ refused f) × (joinOf buffer numbers links image .left ≡ left) ×
         (partNamed buffer numbers ≡ k)) ↔

@@ -38,8 +38,8 @@ abbrev pub KeptBy : List ℕ → List ℕ → Program → Schedule → ℕ → L
 KeptBy program schedule p s h lent old cs =
     Kept program schedule p s h old cs (answersBy lent old cs) (logBy lent old cs) (stateBy lent old cs)
 
--- The same on the image of joined parts: the state is what `Holds` says with every streams that satisfy the equations of all parts
--- and links together, and a cycle answers the count of its position.
+-- The same on the image of joined parts: the state is what `Holds` says with every streams that satisfy the equations of all
+-- parts and links together, and a cycle answers the count of its position.
 pub record JoinKept (parts : List Part) (links : List PartLink) (q : Pair) (old : List ℤ) (cs : List Call)
     (answers : List (Outcome ℕ)) (log : List (List ℤ)) (state : List ℤ) : Type 0 where
   pub answered :

@@ -29,7 +29,8 @@ module _ (image text : List ℕ) (p : Progress) (samples state : List ℤ) (line
   step-some {k = k} {q = q} s =
       let n = nextCycle text p samples in go (n .sought) (n .samples) (s .next-is)
     where
-      go : (r : Sought) (kept : List ℤ) → Next.Line k q ≡ stepTo image p state line (record { sought = r; samples = kept }) .next →
+      go : (r : Sought) (kept : List ℤ) → Next.Line k q ≡ stepTo image p state line (record { sought = r; samples = kept })
+          .next →
           0 < k
       go (Sought.Cycle at left) kept e =
           let after = cycleWords image state kept in

@@ -97,7 +97,8 @@ module _ (text : List ℕ) (at : ℕ) (samples : List ℤ) where
       )
 
 -- What was found is where the script goes on.
-pub sought-is : (text : List ℕ) (at : ℕ) (samples : List ℤ) {samples′ : List ℤ} {r : Sought} → r ≡ seekOf text at samples .sought →
+pub sought-is : (text : List ℕ) (at : ℕ) (samples : List ℤ) {samples′ : List ℤ} {r : Sought} → r ≡
+    seekOf text at samples .sought →
     samples′ ≡ seekOf text at samples .samples → seekOf text at samples ≡ record { sought = r; samples = samples′ }
 sought-is text at samples f s = λ i. record { sought = sym f i; samples = sym s i }
 
@@ -119,7 +120,8 @@ module _ (image text : List ℕ) (p : Progress) (samples state : List ℤ) (line
   unfolding stepOf
   stepped-cycle {samples′} {state′} {line′} {size} at left e ran =
       let bytes = lineOf (p .line) (signalsOf image (cycleWords image state samples′)) in
-      let same : lineOf (p .line) (signalsOf image state′) ≡ bytes = ap (λ s. lineOf (p .line) (signalsOf image s)) (ran .state-is) in
+      let same : lineOf (p .line) (signalsOf image state′) ≡ bytes =
+      ap (λ s. lineOf (p .line) (signalsOf image s)) (ran .state-is) in
       let long : size ≡ length bytes = omega (arith, ran .line-is .ends, ap length same) in
       rw e
       (record {

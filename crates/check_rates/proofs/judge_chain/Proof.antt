@@ -68,7 +68,8 @@ module _ (c : tie.After-in-program2 Inv-loop μ-loop) where
   -- in the text
   ends : (place + 2 ≤ length (now (start .args .text))) × (length (now (start .args .text)) ≤ 18446744073709551615)
   ends = (
-    link-inside _ (t start) (read start) (read start .0) (read start .1) (x start) (start .pre .1) i (c .before .loop-test .taken),
+    link-inside _ (t start) (read start) (read start .0) (read start .1) (x start) (start .pre .1) i
+        (c .before .loop-test .taken),
     omega (arith, start .good .0 .1),
   )
 
@@ -98,7 +99,8 @@ returns c =
     let a = start s in
     let lt = s .before .loop-test .taken in
     λ p e.
-    check-refuses _ _ _ _ (i s) noLink (link-seen _ (t a) (read a) p e (x a) (a .pre .1) (i s) lt) (s .before .before .loop .inv .1 p e)
+    check-refuses _ _ _ _ (i s) noLink (link-seen _ (t a) (read a) p e (x a) (a .pre .1) (i s) lt)
+    (s .before .before .loop .inv .1 p e)
     _ (one-link _ (t a) (read a) p e (x a) (a .pre .1) (i s) lt _ _ _ (stands s) (j .before .before .wide .ensures .0)
     (j .judge-rate .ensures)) (link-at-place p) _ (c .enum-told2 .given .1)
 
@@ -127,7 +129,8 @@ returns-2 c =
     let l = c .before .loop in
     let a = c .before .before .before .before .before .before in
     λ p e.
-    check-ends _ _ _ _ (l .i) (omega (arith, length-is _ (t a) (read a) p e (x a) (a .pre .1), c .loop-test .left)) (l .inv .1 p e)
+    check-ends _ _ _ _ (l .i) (omega (arith, length-is _ (t a) (read a) p e (x a) (a .pre .1), c .loop-test .left))
+    (l .inv .1 p e)
 
 pub judge-chain-spec : {M : Type 1} → statement M
 judge-chain-spec =

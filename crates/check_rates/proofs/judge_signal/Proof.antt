@@ -136,7 +136,8 @@ loop-again c =
       omega (arith, l .loop-test .taken),
       λ p e m.
           subst (Rest p (x l)) (omega (arith, low l))
-          (check-passes _ _ _ _ _ noRead (left j p e) (l .before .loop .inv .2 p e m) _ (judged j p e m) (c .enum-told .given .1)),
+          (check-passes _ _ _ _ _ noRead (left j p e) (l .before .loop .inv .2 p e m) _ (judged j p e m)
+          (c .enum-told .given .1)),
     )
 
 returns-2 : tie.Need-returns-2 Inv-loop μ-loop

@@ -11,7 +11,8 @@ use Rattle.image_tail.proofs.tail.Statement.{statement}
 use Rattle.image_tail.proofs.tail.Tie as tie
 
 -- what the length says
-told : (c : tie.After-known-told) → LastBytes (c .before .before .before .before .before .args .lent .now) (c .before .length .given .0 .0)
+told : (c : tie.After-known-told) → LastBytes (c .before .before .before .before .before .args .lent .now)
+    (c .before .length .given .0 .0)
 told c =
     let m = c .before .before in
     last-bytes _ (sym (ap compiledOf (c .before .length .given .1)) ∙ m .before .tail-length .ensures)

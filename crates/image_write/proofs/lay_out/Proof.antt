@@ -41,7 +41,15 @@ returns c =
     record {
       lists-at = l .lists-at ∙ sym (lists-by r (s .args .h));
       code-at = omega (arith, code-by r (s .args .h), l .code-at, table-size r);
-      ends = omega (arith, length-by r (s .args .h), l .code-at, l .ends, c .before .wider .ensures .0, code-size r, table-size r);
+      ends = omega (
+        arith,
+        length-by r (s .args .h),
+        l .code-at,
+        l .ends,
+        c .before .wider .ensures .0,
+        code-size r,
+        table-size r,
+      );
       tail-ends =
           omega (
             arith,

@@ -144,7 +144,11 @@ returns-3 c =
     let p = l .inv .3 parts t f in
     let out = link-out links (l .inv .0) (omega (arith, l .inv .1, c .loop-test .left)) in
     let none = p .first ∙ search-none (bad parts links) (l .inv .0) (linksIn links) out in
-    let all : linksIn links ≡ l .inv .0 = omega (arith, out, whole-links links (l .inv .0) (omega (arith, l .inv .1, l .inv .2))) in (
+    let all : linksIn links ≡ l .inv .0 = omega (
+      arith,
+      out,
+      whole-links links (l .inv .0) (omega (arith, l .inv .1, l .inv .2)),
+    ) in (
       sym (ap (λ g. judgementOf (namedOf parts g)) none),
       subst (λ (n : ℕ). FreeInputs parts links n (l .inputs)) (sym (ap (passedOf (linksIn links)) none ∙ all)) (p .free),
     )

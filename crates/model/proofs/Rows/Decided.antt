@@ -276,7 +276,8 @@ module _ (rows : List Row) (up : AllUpright rows) where
           none : (n : ℕ) → Lies rows leastWord n → ⊥
           none n l =
               let s = lies-in leastWord least-word n l in
-              starts-none leastWord p n (l .inside) (same-level (rowAt rows n .low) leastWord (up n (l .inside) .low-word) least-word
+              starts-none leastWord p n (l .inside) (same-level (rowAt rows n .low) leastWord (up n (l .inside) .low-word)
+              least-word
               (omega (arith, s .1)))
       go true p false q h = at (all-false (length rows) (λ n. continues rows (rowAt rows n .high)) q)
         where

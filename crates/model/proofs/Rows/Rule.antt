@@ -30,7 +30,8 @@ table-none (row ∷ rows) w h = rw (h 0 (omega arith)) (table-none rows w (λ k 
 -- A word that lies in one row only has its result.
 pub table-rule : (rows : List Row) (w : ℤ) (n : ℕ) → Lies rows w n → ((m : ℕ) → Lies rows w m → m ≡ n) →
     tableWord rows w ≡ rowAt rows n .result
-table-rule rows w n l once = table-first rows w n (l .inside) (λ k b. other k b (contains (rowAt rows k) w) refl) (lies-contains l)
+table-rule rows w n l once = table-first rows w n (l .inside) (λ k b. other k b (contains (rowAt rows k) w) refl)
+    (lies-contains l)
   where
     other : (k : ℕ) → k < n → (t : Bool) → contains (rowAt rows k) w ≡ t → t ≡ false
     other k b true e = let q : k ≡ n = once k (contains-lies rows w k (omega (arith, l .inside)) e) in absurd (omega arith)

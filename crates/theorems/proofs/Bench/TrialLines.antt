@@ -374,7 +374,8 @@ module _ (p : Program) (s : Schedule) (actions : List Action) (few : count p ≤
       let inside : x < length noSamples = omega (arith, length-replicate 64 (pos 0)) in
       let start : getD noSamples x (pos 0) ≡ pos 0 = getD-replicate 64 x (pos 0) (pos 0) (omega arith) in
       ap (λ l. getD (samplesAt (callsFrom noSamples l) (runCycle (rateOf p s x) k)) x (pos 0)) (made .stands) ∙
-      sample-last x (made .m) (made .after) before noSamples inside (made .runs) (runCycle (rateOf p s x) k) (made .from) (made .to)
+      sample-last x (made .m) (made .after) before noSamples inside (made .runs) (runCycle (rateOf p s x) k) (made .from)
+      (made .to)
       (rw start latest)
 
   -- There are inputs that the SETs supply, and all others that they do have the same elements in the cycles made.

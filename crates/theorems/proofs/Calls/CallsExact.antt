@@ -104,7 +104,8 @@ module _ {A : Type 0} (lent : List A) (Done : ℕ → List A → Type 0) (Refuse
       )
 
 -- A verdict on a pair, and its image written.
-module _ (Legal : Pair → Type 0) (Refused : Fault → Type 0) (o : Outcome Pair) (judged : Judged Legal Refused o) (buffer : List ℕ) where
+module _ (Legal : Pair → Type 0) (Refused : Fault → Type 0) (o : Outcome Pair) (judged : Judged Legal Refused o)
+    (buffer : List ℕ) where
   abbrev written : Pair → List ℕ
   written q = writtenOf (q .program) (q .schedule) (q .hypercycle)
 
@@ -161,7 +162,8 @@ module _ (Legal : Pair → Type 0) (Refused : Fault → Type 0) (o : Outcome Pai
 
 -- Compile does its job, or is refused by 1 to 17, 29 or 30, exactly under its condition.
 pub compile-exactly : (program schedule buffer : List ℕ) →
-    Exactly buffer (Compiles program schedule buffer) (CompileRefusedAt program schedule buffer) (compileOf program schedule buffer)
+    Exactly buffer (Compiles program schedule buffer) (CompileRefusedAt program schedule buffer)
+    (compileOf program schedule buffer)
 unfolding compileOf verdictOf _▷_
 compile-exactly program schedule buffer =
     subst (λ o. Exactly buffer (Compiles program schedule buffer) (CompileRefusedAt program schedule buffer) (effect buffer o))

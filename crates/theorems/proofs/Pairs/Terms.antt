@@ -193,7 +193,8 @@ module _ (p : Program) (s : Schedule) (phases : (x : ℕ) → x < count p → ph
 
 -- What the PUTs say.
 put-phase : (puts : List Put) (j : ℕ) → j < length puts →
-    ((i : ℕ) → i < j → ¬ (putAt puts i .signal ≡ putAt puts j .signal)) → putPhase puts (putAt puts j .signal) ≡ putAt puts j .phase
+    ((i : ℕ) → i < j → ¬ (putAt puts i .signal ≡ putAt puts j .signal)) → putPhase puts (putAt puts j .signal) ≡
+    putAt puts j .phase
 unfolding putPhase
 put-phase [] j lt fresh = absurd (omega arith)
 put-phase (q ∷ qs) zero lt fresh = rw (eq-eqb (q .signal) (q .signal) refl)
@@ -301,7 +302,8 @@ module _ (program schedule : List ℕ) (p : Program) (h : ℕ) (s : Schedule) (c
     settles r ρ within i =
         let met = meets r ρ within in
         settles-once (ρ .kind) (rateOf p s (ρ .operands .signal)) (rateOf p s r) (ρ .operands .factor) (ρ .operands .index)
-        (operator-sound program (ρ .place) _ (read-spelled program p (c .rates .legal) r ρ within) .2) (met .periods) (met .line) i
+        (operator-sound program (ρ .place) _ (read-spelled program p (c .rates .legal) r ρ within) .2) (met .periods)
+        (met .line) i
 
     -- One link back.
     module _ (r w : ℕ) (lt : r < count p) (once : countReads w (bodyReads (signalAt p r .body)) ≡ 1) where

@@ -21,7 +21,8 @@ use Rattle.theorems.proofs.Streams.Lending as Lending
 
 pub words-alike : (p : Program) (s s′ : Schedule) (h : ℕ) → Feasible p s → Feasible p s′ → Multiple p h → Bounded p s h →
     Bounded p s′ h → SettleAlike p s s′ → SameWords p s s′ (imageOf p s h) (imageOf p s′ h)
-words-alike p s s′ h acc acc′ whole bounded bounded′ alike tail tail′ lent lent′ b b′ old old′ r r′ cs cs′ agree x j lt ends ends′ =
+words-alike p s s′ h acc acc′ whole bounded bounded′ alike tail tail′ lent lent′ b b′ old old′ r r′ cs cs′ agree x j lt
+    ends ends′ =
     let log = Lending.log-alike p s h acc whole bounded b old cs in
     let log′ = Lending.log-alike p s′ h acc′ whole bounded′ b′ old′ cs′ in
     rw (

@@ -69,7 +69,11 @@ module _ (rows : List Row) (up : AllUpright rows) (covers : 0 < length rows → 
 
       none : IsWord z ⊎ (IsWord z → ⊥) → times rows z ≤ 1
       none (inl f) = some f (decLt 0 (length rows))
-      none (inr u) = omega (arith, none-times rows z (λ n k. u (contained-word (rowAt rows n) (up n (k .inside)) z (lies-contains k))))
+      none (inr u) = omega (
+        arith,
+        none-times rows z (λ n k. u
+            (contained-word (rowAt rows n) (up n (k .inside)) z (lies-contains k))),
+      )
 
 module _ (p : Program) (s : Schedule) (h : ℕ) (acc : Feasible p s) (whole : Multiple p h) (bounded : Bounded p s h) where
   row-words : (n : ℕ) → n < length (p .rows) → RowWords (rowAt (p .rows) n)

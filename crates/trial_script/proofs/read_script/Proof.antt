@@ -23,7 +23,8 @@ turn w = w .before .before .before
 abbrev text : tie.After-action-width Inv-loop μ-loop → List ℕ
 text w = turn w .before .before .args .text .now
 
-width : (w : tie.After-action-width Inv-loop μ-loop) → w .action-width .result ≡ actionWidth (scriptCommandAt (text w) (turn w .loop .at))
+width : (w : tie.After-action-width Inv-loop μ-loop) → w .action-width .result ≡
+    actionWidth (scriptCommandAt (text w) (turn w .loop .at))
 width w = w .action-width .ensures ∙ ap actionWidth (w .before .script-command-at .ensures)
 
 within : (w : tie.After-action-width Inv-loop μ-loop) → turn w .loop .at + w .action-width .result ≤ length (text w)

@@ -68,7 +68,8 @@ stepped n =
     let a = l .before .before .before .before .args in
     let line = n .next-line .last .1 .1 .1 in
     subst (λ b. Stepped (stepOf (a .image .now) (a .text .now) (l .loop .reached) (l .loop .samples) (l .loop .state) b)
-    (line .0) (line .1 .0) (line .1 .1 .0) (n .next-line .result)) (lent (l .loop .block) (l .loop .size)) (n .next-line .ensures .1)
+    (line .0) (line .1 .0) (line .1 .1 .0) (n .next-line .result)) (lent (l .loop .block) (l .loop .size))
+    (n .next-line .ensures .1)
 
 next-line-requires : tie.Need-next-line-requires Inv-loop μ-loop
 next-line-requires c κs =
@@ -198,5 +199,6 @@ next-block-spec =
     (tie.spec Inv-loop μ-loop loop-holds (λ c. c .loop .inv .0 .fits) (λ c. c .before .before .before .loop .inv .0 .fits)
     (λ c. search needs) (λ c. search needs) next-line-requires (λ c. search needs) (λ c. search needs) same-length same-length-2
     same-length-3 returns add-size (λ c. omega (arith, ap length (this c .next-line))) loop-again
-    (λ c. c .before .loop .inv .0 .samples-kept) (λ c. c .before .loop .inv .0 .state-kept) (λ c. c .before .loop .inv .0 .block-kept)
+    (λ c. c .before .loop .inv .0 .samples-kept) (λ c. c .before .loop .inv .0 .state-kept)
+    (λ c. c .before .loop .inv .0 .block-kept)
     returns-2)
