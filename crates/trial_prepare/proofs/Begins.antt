@@ -11,7 +11,7 @@ use lib.Seq.{take-append-seam}
 use Rattle.model.specs.Rules.Compile.{Pair, pairOf, verdictOf, compileOf}
 use Rattle.model.specs.Rules.Image.{imageOf, tailOf, writtenOf}
 use Rattle.model.specs.Rules.Machine.{Effect, wellFormed, countOf, statedLength, resetWords}
-use Rattle.model.specs.Rules.Outcome.{Outcome, accepted, refused, provided}
+use Rattle.model.specs.Rules.Outcome.{Outcome, accepted, refused, _▷_, provided}
 use Rattle.model.specs.Rules.Program.{Program}
 use Rattle.model.specs.Rules.Schedule.{Schedule}
 use Rattle.model.specs.Rules.Script.{isInputOf, scriptOf, noSamples, checkOf, callsOf}
