@@ -30,6 +30,8 @@ extern "C" {
     ) -> u64;
     fn larderlate_tail(image: *const u8, image_length: usize, start: *mut usize) -> u64;
     fn larderlate_convert(program: *const u8, program_length: usize, result: *mut u8, result_length: usize) -> u64;
+    fn larderlate_assemble(text: *const u8, text_length: usize, bytes: *mut u8, bytes_length: usize) -> u64;
+    fn larderlate_list(bytes: *const u8, bytes_length: usize, text: *mut u8, text_length: usize) -> u64;
     fn larderlate_moves(
         program: *const u8,
         program_length: usize,
@@ -99,6 +101,17 @@ pub fn tail(image: &[u8], start: &mut usize) -> u64 {
 #[allow(dead_code)]
 pub fn convert(program: &[u8], result: &mut [u8]) -> u64 {
     unsafe { larderlate_convert(program.as_ptr(), program.len(), result.as_mut_ptr(), result.len()) }
+}
+
+// The benchmark does not measure the text form.
+#[allow(dead_code)]
+pub fn assemble(text: &[u8], bytes: &mut [u8]) -> u64 {
+    unsafe { larderlate_assemble(text.as_ptr(), text.len(), bytes.as_mut_ptr(), bytes.len()) }
+}
+
+#[allow(dead_code)]
+pub fn list(bytes: &[u8], text: &mut [u8]) -> u64 {
+    unsafe { larderlate_list(bytes.as_ptr(), bytes.len(), text.as_mut_ptr(), text.len()) }
 }
 
 pub fn moves(program: &[u8], schedule: &[u8], list: &mut [u8]) -> u64 {

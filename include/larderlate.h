@@ -8,6 +8,8 @@
  *     larderlate_cycle     runs one cycle on a state
  *     larderlate_tail      finds the labels, periods and phases that stand after an image
  *     larderlate_convert   rewrites a program text that has sampling factors of 1
+ *     larderlate_assemble, larderlate_list
+ *                          words to read for the bytes of a program, a schedule or a script, and back
  *     larderlate_board_new, larderlate_board_load, larderlate_board_mark, larderlate_board_turn
  *                          four programs on one board, run by turns
  *
@@ -22,7 +24,7 @@
  *
  * THE ANSWER is one number of 64 bits: number x 2^32 + value. Number 0 says done; the value is then L + 4N for a compile or a join, L
  * for a report, the count of all entries for a list of moves, 0 for a reset, the number of commands run for a cycle, the tail's
- * length for a tail, and the new text's for a conversion. Any other number is that of the refusal, and the value is its place. The
+ * length for a tail, the new text's for a conversion, and the result's for assemble and list. Any other number is that of the refusal, and the value is its place. The
  * board's calls yield 0, or a refusal with place 0.
  *
  * WHAT IS LENT is a pointer and a length: bytes for uint8_t, words (not bytes) for int32_t, parts for larderlate_part. The caller
@@ -117,7 +119,17 @@ enum {
 
     /* Join: a link that is cut, names no IN or no signal of another part, has the IN of an earlier link, or names two signals of
      * unequal periods (the lowest such link's number); then rows in two parts (0). */
-    LARDERLATE_WRONG_LINK = 31
+    LARDERLATE_WRONG_LINK = 31,
+
+    /* The text form. Assemble gives 47, 40 to 43 and 44 in this order, list 47, 45, 46 and 44. */
+    LARDERLATE_UNKNOWN_WORD = 40,      /* a word that is no command, where one is to follow (the word) */
+    LARDERLATE_OPERAND_MISSING = 41,   /* the text ends where an operand is to follow (its length) */
+    LARDERLATE_NO_NUMBER = 42,         /* a word that is no number and no name of its operand (the word) */
+    LARDERLATE_NUMBER_OUTSIDE = 43,    /* a number outside its operand's range (the word) */
+    LARDERLATE_TEXT_BUFFER_SHORT = 44, /* all else is accepted, but the buffer is shorter than the result (the result's length) */
+    LARDERLATE_UNKNOWN_BYTE = 45,      /* a byte that is no command, where one is to follow (the byte) */
+    LARDERLATE_OPERAND_CUT = 46,       /* the bytes end within an operand (the operand) */
+    LARDERLATE_FORM_TOO_LONG = 47      /* more than 16,777,216 bytes are lent to be read (0) */
 };
 
 /* What a turn that is not refused has done: the first number of its outcome. */
@@ -218,6 +230,18 @@ uint64_t larderlate_tail(const uint8_t *image, size_t image_length, size_t *star
  * 17. Every schedule that the old text was accepted with is accepted with the new one, which has the same streams and image. */
 uint64_t larderlate_convert(const uint8_t *program, size_t program_length,
                             uint8_t *result, size_t result_length);
+
+/* Assembles a text in words to the bytes of a program, a schedule or a script. Words are separated by blanks, a comment goes from ; to the
+ * end of its line; the words are those of the papers, their operands decimal and in the order of the bytes, `open` for index 255,
+ * `exists` and `backward` for the modes. The bytes go to the start of the buffer, the answer's value is how many they are; bytes of
+ * the buffer past them stay. Whether they are legal is for compile to say. Gives 40 to 44 and 47. */
+uint64_t larderlate_assemble(const uint8_t *text, size_t text_length,
+                             uint8_t *bytes, size_t bytes_length);
+
+/* Lists a program, a schedule or a script in that form, and what is listed is assembled to the same bytes. Every text that compile
+ * accepts is listed. The listing goes to the start of the buffer, the answer's value is its length. Gives 44 to 47. */
+uint64_t larderlate_list(const uint8_t *bytes, size_t bytes_length,
+                         uint8_t *text, size_t text_length);
 
 /* Four programs on one board. The caller keeps the record of LARDERLATE_BOARD_RECORD numbers and lends it to each call as the last one
  * left it: for each place its flags (1 loaded, 2 due), start and length of its stretch of the images, and the count of the turns that

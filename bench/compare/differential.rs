@@ -3,11 +3,12 @@
 //!     differential [COUNT [SEED]]
 //!
 //! Each of COUNT rounds lends one pair to compile, to report and to moves, parts and links to join, a program text of the earlier rule
-//! to convert, and then images, states and samples to reset, cycle and tail, and makes calls of a board. After each call the answers and
-//! all that was lent must be equal. It stops at the first difference with the bytes lent. Round r depends on the seed and on r alone. At
-//! the end it prints how often each call gave each number, how often rows or the table were the reason where a number has others too,
-//! and how often a join was refused for each fault put in.
+//! to convert, bytes to list and their text to assemble, and then images, states and samples to reset, cycle and tail, and makes
+//! calls of a board. After each call the answers and all that was lent must be equal. It stops at the first difference with the bytes
+//! lent. Round r depends on the seed and on r alone. At the end it prints how often each call gave each number, how often rows or the
+//! table were the reason where a number has others too, and how often a join was refused for each fault put in.
 mod board;
+mod forms;
 #[path = "../cases/generate.rs"]
 mod generate;
 // The benchmark uses the rest of these.
@@ -37,10 +38,12 @@ const COUNT: u64 = 200_000;
 const SEED: u64 = 20_260_101;
 /// Every image fits, with its tail.
 const IMAGE_BYTES: usize = 24_679;
-/// The refusals of the paper.
-const NUMBERS: [usize; 27] = [1, 2, 3, 4, 5, 6, 7, 8, 9, 10, 29, 30, 11, 12, 13, 14, 15, 16, 31, 17, 20, 21, 22, 23, 26, 27, 28];
+/// The refusals of the papers and of the text form.
+const NUMBERS: [usize; 35] = [
+    1, 2, 3, 4, 5, 6, 7, 8, 9, 10, 29, 30, 11, 12, 13, 14, 15, 16, 31, 17, 20, 21, 22, 23, 26, 27, 28, 40, 41, 42, 43, 44, 45, 46, 47,
+];
 /// One more than the highest.
-const TOP: usize = 32;
+const TOP: usize = 48;
 /// Those of a join, of the whole and inside a part.
 const JOINED: [usize; 8] = [1, 4, 27, 31, 9, 14, 15, 17];
 const INSIDE: [usize; 18] = [1, 2, 3, 4, 5, 6, 7, 8, 9, 10, 29, 30, 11, 12, 13, 14, 15, 16];
@@ -49,23 +52,34 @@ const ROW: u8 = 0x16;
 const LIST_BYTES: usize = 30_720;
 
 /// How many answers of each number a call gave.
+struct Counts([u64; TOP]);
+
+impl Default for Counts {
+    fn default() -> Self {
+        Counts([0; TOP])
+    }
+}
+
+/// By call, and what else is to be met.
 #[derive(Default)]
 struct Seen {
-    compile: [u64; TOP],
+    compile: Counts,
     /// Joins that are refused inside a part count in the second.
-    join: [u64; TOP],
-    part: [u64; TOP],
-    report: [u64; TOP],
-    reset: [u64; TOP],
-    cycle: [u64; TOP],
-    tail: [u64; TOP],
-    convert: [u64; TOP],
-    moves: [u64; TOP],
-    load: [u64; TOP],
-    mark: [u64; TOP],
-    turn: [u64; TOP],
+    join: Counts,
+    part: Counts,
+    report: Counts,
+    reset: Counts,
+    cycle: Counts,
+    tail: Counts,
+    convert: Counts,
+    assemble: Counts,
+    list: Counts,
+    moves: Counts,
+    load: Counts,
+    mark: Counts,
+    turn: Counts,
     /// What the runs of turns answered.
-    run: [u64; TOP],
+    run: Counts,
     /// Compiles refused by 4 and by 5 at a ROW.
     row_counts: u64,
     row_ranges: u64,
@@ -85,7 +99,7 @@ struct Seen {
 
 impl Seen {
     /// With the name of each.
-    fn calls(&self) -> [(&'static str, &[u64; TOP]); 13] {
+    fn calls(&self) -> [(&'static str, &Counts); 15] {
         [
             ("compile", &self.compile),
             ("join", &self.join),
@@ -95,6 +109,8 @@ impl Seen {
             ("cycle", &self.cycle),
             ("tail", &self.tail),
             ("convert", &self.convert),
+            ("assemble", &self.assemble),
+            ("list", &self.list),
             ("moves", &self.moves),
             ("load", &self.load),
             ("mark", &self.mark),
@@ -108,8 +124,8 @@ fn hexadecimal(bytes: &[u8]) -> String {
     bytes.iter().map(|byte| format!("{byte:02X}")).collect::<Vec<_>>().join(" ")
 }
 
-fn count(seen: &mut [u64; TOP], answer: u64) {
-    seen[(answer >> 32) as usize] += 1;
+fn count(seen: &mut Counts, answer: u64) {
+    seen.0[(answer >> 32) as usize] += 1;
 }
 
 fn count_rows(seen: &mut Seen, program: &[u8], answer: u64) {
@@ -367,26 +383,64 @@ impl Round<'_> {
         if random.one_in(3) {
             (0..1 + random.below(3)).for_each(|_| generate::mistake(random, &mut pair.program));
         }
-        let [ours, other] = &mut *self.buffers;
-        let length = match reference::convert(&pair.program, other) {
-            Ok(length) => length + random.below(8) - random.below(4).min(length),
-            Err(_) => random.below(100),
-        };
-        let fill = random.next() as u8;
-        ours[..length].fill(fill);
-        other[..length].fill(fill);
-        let library = library::convert(&pair.program, &mut ours[..length]);
-        let result = reference::convert(&pair.program, &mut other[..length]);
-        let reference = reference::answer(result);
-        let kept = ours[..length] == other[..length];
-        if library != reference || !kept {
-            let program = format!("program: {}", hexadecimal(&pair.program));
-            differ(self.number, "convert", &[program, format!("result: {length} bytes of {fill:02X}")], library, reference, kept);
-        }
-        count(&mut self.seen.convert, library);
-        if let Ok(length) = result {
-            pair.program = ours[..length].to_vec();
+        let (answer, result) = self.written("convert", &pair.program, library::convert, reference::convert);
+        count(&mut self.seen.convert, answer);
+        if let Some(program) = result {
+            pair.program = program;
             self.compile(&pair);
+        }
+    }
+
+    /// Lends bytes and equal buffers to both, mostly long enough. Yields the answer, and what was written.
+    fn written(
+        &mut self,
+        call: &str,
+        lent: &[u8],
+        library: impl Fn(&[u8], &mut [u8]) -> u64,
+        reference: impl Fn(&[u8], &mut [u8]) -> Result<usize, reference::Refusal>,
+    ) -> (u64, Option<Vec<u8>>) {
+        // A listing takes up to nine bytes for one and ends with a newline.
+        let mut whole = vec![0; 9 * lent.len() + 1];
+        let length = match reference(lent, &mut whole) {
+            Ok(length) => length + self.random.below(8) - self.random.below(4).min(length),
+            Err(_) => self.random.below(100),
+        };
+        let fill = self.random.next() as u8;
+        let (mut ours, mut other) = (vec![fill; length], vec![fill; length]);
+        let answer = library(lent, &mut ours);
+        let result = reference(lent, &mut other);
+        let expected = reference::answer(result);
+        if answer != expected || ours != other {
+            let lent = [format!("lent: {}", hexadecimal(lent)), format!("result: {length} bytes of {fill:02X}")];
+            differ(self.number, call, &lent, answer, expected, ours == other);
+        }
+        (answer, result.ok().map(|length| ours[..length].to_vec()))
+    }
+
+    /// Lists bytes, and assembles what comes of them, spelled otherwise.
+    fn forms(&mut self, pair: &Pair) {
+        let mut bytes = match self.random.below(4) {
+            0 | 1 => pair.program.clone(),
+            2 => pair.schedule.clone(),
+            _ => forms::script(&mut self.random),
+        };
+        if self.random.one_in(4) {
+            self.random.damage(&mut bytes);
+        }
+        let (answer, listing) = self.written("list", &bytes, library::list, reference::list);
+        count(&mut self.seen.list, answer);
+        let text = forms::respell(&mut self.random, &listing.unwrap_or(bytes));
+        let (answer, _) = self.written("assemble", &text, library::assemble, reference::assemble);
+        count(&mut self.seen.assemble, answer);
+    }
+
+    /// Texts at the bound of their length and past it.
+    fn long_forms(&mut self) {
+        for length in [1 << 24, (1 << 24) + 1] {
+            let (answer, _) = self.written("assemble", &vec![b' '; length], library::assemble, reference::assemble);
+            count(&mut self.seen.assemble, answer);
+            let (answer, _) = self.written("list", &vec![0x30; length], library::list, reference::list);
+            count(&mut self.seen.list, answer);
         }
     }
 
@@ -549,7 +603,7 @@ impl Round<'_> {
             other.outcome = outcome.words();
             if outcome != Outcome::Idle {
                 board::store(&mut other.record, &board, other.outcome[1] as usize);
-                self.seen.run[if other.outcome[0] == 2 { other.outcome[2] as usize } else { 0 }] += 1;
+                self.seen.run.0[if other.outcome[0] == 2 { other.outcome[2] as usize } else { 0 }] += 1;
             }
         }
         self.compare("turn", library, reference::answer(result.map(|_| 0)), ours, other);
@@ -628,6 +682,7 @@ impl Round<'_> {
             self.calls(&image);
         }
         self.convert();
+        self.forms(&pair);
         let mut image = own.unwrap_or_else(|| images::foreign_image(&mut self.random));
         self.retail(&mut image);
         self.calls(&image);
@@ -651,11 +706,11 @@ fn print_seen(seen: &Seen) -> bool {
     println!("number {}", calls.map(|(name, _)| format!("{name:>10}")).join(" "));
     let mut all = true;
     for number in [0].into_iter().chain(NUMBERS) {
-        let row = calls.map(|(_, counts)| counts[number]);
+        let row = calls.map(|(_, counts)| counts.0[number]);
         println!("{number:>6} {}", row.map(|count| format!("{count:>10}")).join(" "));
         all &= row.iter().sum::<u64>() > 0;
     }
-    let totals = calls.map(|(_, counts)| counts.iter().sum::<u64>());
+    let totals = calls.map(|(_, counts)| counts.0.iter().sum::<u64>());
     println!(" calls {}", totals.map(|total| format!("{total:>10}")).join(" "));
     let by_rows = [seen.row_counts, seen.row_ranges, seen.tables, seen.older];
     let [counts, ranges, tables, older] = by_rows;
@@ -663,7 +718,7 @@ fn print_seen(seen: &Seen) -> bool {
     println!("images refused by 20 for their table alone: {tables}, as from before there were tables: {older}");
     all &= by_rows.iter().all(|&count| count > 0) && print_joins(seen);
     // A join that did its job is no refusal inside a part.
-    all && calls.iter().zip(totals).all(|((name, counts), total)| *name == "in a part" || counts[0] * 4 >= total)
+    all && calls.iter().zip(totals).all(|((name, counts), total)| *name == "in a part" || counts.0[0] * 4 >= total)
 }
 
 fn print_joins(seen: &Seen) -> bool {
@@ -671,7 +726,7 @@ fn print_joins(seen: &Seen) -> bool {
     println!("joins refused for a fault put in: {}", faults.collect::<Vec<_>>().join(", "));
     println!("joins done with links: {}, with a hypercycle over 1: {}", seen.linked, seen.mixed);
     println!("lists of moves too short: {}, with more entries than signals: {}", seen.short, seen.moved);
-    let of_joins = JOINED.iter().all(|&number| seen.join[number] > 0) && INSIDE.iter().all(|&number| seen.part[number] > 0);
+    let of_joins = JOINED.iter().all(|&number| seen.join.0[number] > 0) && INSIDE.iter().all(|&number| seen.part.0[number] > 0);
     of_joins && seen.faults.iter().all(|&count| count > 0) && [seen.linked, seen.mixed, seen.short, seen.moved].iter().all(|&count| count > 0)
 }
 
@@ -686,6 +741,7 @@ fn main() {
         let random = Random(Random(seed ^ number << 32).next());
         Round { number, random, seen: &mut seen, buffers: &mut buffers }.run();
     }
+    Round { number: rounds, random: Random(seed), seen: &mut seen, buffers: &mut buffers }.long_forms();
     let covered = print_seen(&seen);
     println!("no difference");
     if !covered {

@@ -1,4 +1,6 @@
 //! Runs cases with expected answers (docs/VECTORS.md) on the reference: every line must be equal.
+// The text form has no cases.
+#[allow(dead_code)]
 #[path = "../reference/mod.rs"]
 mod reference;
 mod widths;

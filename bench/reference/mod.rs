@@ -1,10 +1,12 @@
-//! The papers in plain Rust: compile, join, report, reset, cycle, tail, trial, convert, moves and a board of four programs.
+//! The papers in plain Rust: compile, join, report, reset, cycle, tail, trial, convert, moves, a board of four programs and the
+//! text form.
 //!
 //! Written from the paper alone and sharing nothing with the crates, so that a misreading on one side shows as a difference.
 //! It is also the baseline of the benchmark: what one would write without a prover, with the same checks.
 mod board;
 mod checks;
 mod convert;
+mod form;
 mod image;
 mod join;
 mod latency;
@@ -21,6 +23,7 @@ mod trial;
 pub use {
     board::{Board, Outcome, Place},
     convert::convert,
+    form::{assemble, list},
     join::{join, Part},
     machine::{cycle, reset, tail},
     moves::moves,

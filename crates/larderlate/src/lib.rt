@@ -1,6 +1,6 @@
-// Larderlate: compile, join, report, reset, cycle, tail, convert and moves; for C the calls of a board too. Each call takes any
-// bytes and words, and its answer and what it leaves are the definition's. What they promise together is in crates `promises` and
-// `board`.
+// Larderlate: compile, join, report, reset, cycle, tail, convert, moves, assemble and list; for C the calls of a board too. Each call
+// takes any bytes and words, and its answer and what it leaves are the definition's. What they promise together is in crates
+// `promises` and `board`.
 use board::Turned;
 use model::Compiled;
 use model::Cycled;
@@ -18,6 +18,7 @@ ghost use Rattle.model.specs.Rules.Outcome.{refused};
 ghost use Rattle.model.specs.Rules.Report.{reportedOf, reportOf};
 ghost use Rattle.model.specs.Rules.Rewrite.{convertOf};
 ghost use Rattle.model.specs.Rules.Tail.{tailIn, lengthOfTail, stretchIn};
+ghost use Rattle.model.specs.Rules.TextForm.{assembleOf, listingOf};
 ghost use Rattle.board.specs.Board.{loadOf, markPlaceOf, turnOf, turnedOf};
 ghost use Rattle.board_words.specs.Record.{boardOf, newWords, loadRecord, markRecord, turnRecord, turnDone, outcomeIn};
 ghost use Rattle.larderlate.specs.Code.{codeNumber, partNumber, lengthIn, writtenIn, stackIn, startIn};
@@ -98,6 +99,22 @@ pub fn moves(program: &[u8], schedule: &[u8], list: &mut [u8]) -> Listed
     ensures left { λ _. ⌜ now (list .exit) ≡ movesOf (now (program .entry)) (now (schedule .entry)) (now (list .entry)) .left ⌝ }
 {
     moves::moves(program, schedule, &mut list[..])
+}
+
+// Assembles a text in words to the start of `bytes`, and yields how many bytes it is.
+pub fn assemble(text: &[u8], bytes: &mut [u8]) -> Compiled
+    ensures answer { λ r. ⌜ compiledOf r ≡ assembleOf (now (text .entry)) (now (bytes .entry)) .answer ⌝ }
+    ensures left { λ _. ⌜ now (bytes .exit) ≡ assembleOf (now (text .entry)) (now (bytes .entry)) .left ⌝ }
+{
+    text_assemble::assemble(text, &mut bytes[..])
+}
+
+// Lists a program, a schedule or a script in words to the start of `text`, and yields how long the listing is.
+pub fn list(bytes: &[u8], text: &mut [u8]) -> Compiled
+    ensures answer { λ r. ⌜ compiledOf r ≡ listingOf (now (bytes .entry)) (now (text .entry)) .answer ⌝ }
+    ensures left { λ _. ⌜ now (text .exit) ≡ listingOf (now (bytes .entry)) (now (text .entry)) .left ⌝ }
+{
+    text_list::list(bytes, &mut text[..])
 }
 
 // A refusal as one number.
@@ -301,6 +318,24 @@ pub extern "C" fn larderlate_moves(program: &[u8], schedule: &[u8], list: &mut [
 {
     let listed = moves(program, schedule, &mut list[..]);
     code_of_listed(listed)
+}
+
+#[no_mangle]
+pub extern "C" fn larderlate_assemble(text: &[u8], bytes: &mut [u8]) -> u64
+    ensures answer { λ r. ⌜ r ≡ codeNumber (assembleOf (now (text .entry)) (now (bytes .entry)) .answer) ⌝ }
+    ensures left { λ _. ⌜ now (bytes .exit) ≡ assembleOf (now (text .entry)) (now (bytes .entry)) .left ⌝ }
+{
+    let assembled = assemble(text, &mut bytes[..]);
+    code_of_compiled(assembled)
+}
+
+#[no_mangle]
+pub extern "C" fn larderlate_list(bytes: &[u8], text: &mut [u8]) -> u64
+    ensures answer { λ r. ⌜ r ≡ codeNumber (listingOf (now (bytes .entry)) (now (text .entry)) .answer) ⌝ }
+    ensures left { λ _. ⌜ now (text .exit) ≡ listingOf (now (bytes .entry)) (now (text .entry)) .left ⌝ }
+{
+    let listed = list(bytes, &mut text[..]);
+    code_of_compiled(listed)
 }
 
 // The board's calls. The record is an array of 17 numbers that the caller keeps (crate `board_words`); a refused call and an idle

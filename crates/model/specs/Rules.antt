@@ -25,3 +25,4 @@ pub mod Trial
 pub mod Parts
 pub mod Join
 pub mod Moves
+pub mod TextForm

@@ -132,6 +132,16 @@ pub enum Width {
     Unlisted,
 }
 
+// An operand of a command: an unsigned number of 1, 2 or 4 bytes, a word, the index of a read, the mode of a LAT.
+pub enum Operand {
+    One,
+    Two,
+    Four,
+    Signed,
+    Index,
+    Mode,
+}
+
 // What a search for an index finds.
 pub enum Found {
     At(usize),

@@ -11,3 +11,4 @@ pub mod BoardLent
 pub mod BoardExact
 pub mod BoardCourses
 pub mod BoardPromises
+pub mod FormPromises

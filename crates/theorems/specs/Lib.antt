@@ -29,4 +29,7 @@ pub mod Conversion
 pub mod Decimals
 pub mod TrialRefusals
 pub mod Trials
+pub mod TextForms
+pub mod TextStops
+pub mod TextWords
 pub mod Examples

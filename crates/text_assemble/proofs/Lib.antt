@@ -1,0 +1,3 @@
+-- Laws of the assembler.
+pub mod Values
+pub mod Walk

@@ -1,0 +1,3 @@
+-- Laws of the lister.
+pub mod Writes
+pub mod Walk

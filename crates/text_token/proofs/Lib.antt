@@ -1,0 +1,2 @@
+-- Laws of reading tokens byte by byte.
+pub mod Scans
