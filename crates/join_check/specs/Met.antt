@@ -1,11 +1,10 @@
 -- The reads of links, by the tables of joined numbers.
-use Prim.Native.Nat.{ℕ, _+_, _*_, _≤_, _<_}
-use mathlib.Core.Bool.{Bool, true}
+use Prim.Native.Nat.{ℕ, _+_, _≤_, _<_}
+use mathlib.Core.Bool.{Bool}
 use mathlib.Core.List.{List}
 use mathlib.Core.Path.{_≡_}
 use lib.Dec.{ltb}
 use lib.ListN.{length, getD}
-use Rattle.model.specs.Rules.Join.{isRight}
 use Rattle.model.specs.Rules.Parts.{Part, joinedParts, base}
 use Rattle.model.specs.Rules.Program.{count}
 use Rattle.model.specs.Rules.Reads.{rank}
@@ -15,6 +14,7 @@ use Rattle.model.specs.Says.Feasible.{Ordered}
 use Rattle.model.specs.declared.Index.the-variants.{Fixed}
 use Rattle.model.specs.declared.Kind.the-variants.{Now}
 use Rattle.read_rule.specs.Reads.{metBy}
+use Rattle.join_links.specs.ByPart.{AllRight}
 use Rattle.text_program.specs.Tables.{PeriodsOf, rateAt}
 
 -- The joined number of the signal that two bytes name by part and number.
@@ -51,7 +51,7 @@ linkMetBy links at bases periods phases ranks =
 
 -- The links are free of 31, and the tables are those of the joined parts, which have at most 64 signals.
 pub record Linking (parts : List Part) (links bases periods phases ranks : List ℕ) : Type 0 where
-  pub right : (i : ℕ) → 4 * i < length links → isRight parts links i ≡ true
+  pub right : AllRight parts links
   pub few : length parts ≤ 8
   pub small : count (joinedParts parts .program) ≤ 64
   pub bases-are : (k : ℕ) → k ≤ length parts → getD bases k 0 ≡ base parts k

@@ -38,6 +38,10 @@ pub record PeriodsBy (parts : List Part) (periods : List ℕ) : Type 0 where
 abbrev pub isFree : List ℕ → ℕ → ℕ → ℕ → Bool
 isFree links i k x = allBelow i (λ j. not (eqb (linkAt links j .inputPart) k && eqb (linkAt links j .input) x))
 
+-- The links are free of 31.
+abbrev pub AllRight : List Part → List ℕ → Type 0
+AllRight parts links = (i : ℕ) → 4 * i < length links → isRight parts links i ≡ true
+
 -- The table of the INs that the first i links do not have.
 pub record FreeInputs (parts : List Part) (links : List ℕ) (i : ℕ) (inputs : List Bool) : Type 0 where
   pub long : length inputs ≡ 512

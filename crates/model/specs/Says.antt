@@ -1,5 +1,5 @@
 -- The statements that code and its laws cite: the paper's words over bytes, runs and calls. Those that judge the definitions as a
--- whole are in crate theorems.
+-- whole are in the crates theorems_*.
 pub mod Words
 pub mod Written
 pub mod Grammar

@@ -21,8 +21,8 @@ use Rattle.model.specs.Rules.Schedule.{Schedule}
 use Rattle.model.specs.Rules.Tail.{Bears}
 use Rattle.model.specs.declared.Fault.{Fault}
 use Rattle.model.proofs.Images.Bounds.{Bounded}
-use Rattle.theorems.specs.Dependence.{DependsOn, SameExcept}
-use Rattle.theorems.specs.Held.{logBy, answersBy}
+use Rattle.theorems_streams.specs.Dependence.{DependsOn, SameExcept}
+use Rattle.theorems_streams.specs.Held.{logBy, answersBy}
 use Rattle.board.specs.Board.{placeWords, placeSamples, Yield, idle, took}
 use Rattle.board.specs.Events.{
   Event,

@@ -13,9 +13,9 @@ use Rattle.model.specs.Rules.Outcome.{Outcome, accepted, refused, fault}
 use Rattle.model.specs.declared.Fault.{Fault}
 use Rattle.model.specs.declared.Found.{Found}
 use Rattle.model.specs.declared.Found.the-variants.{At, Nowhere}
-use Rattle.theorems.specs.Exactness.{ResetRefusedAt, Cycles, CycleRefusedAt}
-use Rattle.theorems.specs.WellFormed.{WellLent}
-use Rattle.theorems.proofs.Calls.CallsExact.{reset-exactly, cycle-exactly}
+use Rattle.theorems_calls.specs.Exactness.{ResetRefusedAt, Cycles, CycleRefusedAt}
+use Rattle.theorems_images.specs.WellFormed.{WellLent}
+use Rattle.theorems_calls.proofs.CallsExact.{reset-exactly, cycle-exactly}
 use Rattle.board.specs.Board.{
   placeAt,
   placeWords,

@@ -6,7 +6,7 @@ use mathlib.Core.Path.{_≡_, sym, ap, _∙_}
 use lib.IntN.{ℤ}
 use Rattle.model.specs.Rules.Outcome.{refused}
 use Rattle.model.specs.declared.Fault.{Fault}
-use Rattle.theorems.specs.Lists.{WordsCall}
+use Rattle.theorems_streams.specs.Lists.{WordsCall}
 use Rattle.board.specs.Board.{BoardEffect, Yield, loadOf, turnOf}
 use Rattle.board.specs.Events.{Scene}
 use Rattle.board.proofs.Cases.{

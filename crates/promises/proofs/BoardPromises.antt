@@ -20,12 +20,13 @@ use Rattle.model.specs.Rules.Schedule.{Schedule}
 use Rattle.model.specs.Rules.Tail.{Bears}
 use Rattle.model.specs.Rules.Word.{AreBytes}
 use Rattle.model.specs.Says.Calls.{Call, callOf}
-use Rattle.theorems.specs.Dependence.{DependsOn, SameExcept}
-use Rattle.theorems.specs.Held.{stateBy, logBy, Supplied, Holds}
-use Rattle.theorems.specs.Join.{LinkedSatisfies, JoinLegal}
-use Rattle.theorems.specs.Lists.{Kept, JoinKept}
-use Rattle.theorems.specs.Streams.{Satisfies}
-use Rattle.theorems.specs.Tables.{WithoutTable}
+use Rattle.theorems_streams.specs.Dependence.{DependsOn, SameExcept}
+use Rattle.theorems_streams.specs.Held.{stateBy, logBy, Supplied, Holds}
+use Rattle.theorems_joins.specs.Join.{LinkedSatisfies, JoinLegal}
+use Rattle.theorems_streams.specs.Lists.{Kept}
+use Rattle.theorems_joins.specs.JoinLists.{JoinKept}
+use Rattle.theorems_streams.specs.Streams.{Satisfies}
+use Rattle.theorems_images.specs.Tables.{WithoutTable}
 use Rattle.board.specs.Board.{
   placeWords,
   placeAt,
@@ -74,7 +75,7 @@ use Rattle.promises.proofs.BoardCourses.{
 use Rattle.promises.proofs.BoardExact as BoardExact
 use Rattle.promises.proofs.JoinPromises.{join-calls-hold}
 use Rattle.model.proofs.Pairs.Verdict.{pair-accepted, pair-multiple, pair-bounded}
-use Rattle.theorems.proofs.Joining.Demand as Join
+use Rattle.theorems_joins.proofs.Demand as Join
 use Rattle.promises.proofs.Confined.{confined}
 use Rattle.promises.proofs.Courses as Courses
 use Rattle.promises.proofs.Courses.{courses-apart, board-apart}

@@ -13,8 +13,8 @@ use Rattle.model.specs.Rules.Outcome.{accepted}
 use Rattle.model.specs.Rules.Program.{Program, count}
 use Rattle.model.specs.Rules.Schedule.{Schedule}
 use Rattle.model.specs.Rules.Tail.{Bears}
-use Rattle.theorems.specs.Dependence.{DependsOn, AlikeCalls}
-use Rattle.theorems.specs.Held.{stateBy, answersBy}
+use Rattle.theorems_streams.specs.Dependence.{DependsOn, AlikeCalls}
+use Rattle.theorems_streams.specs.Held.{stateBy, answersBy}
 use Rattle.board.specs.Events.{Event, Scene, afterEvent, Throughout, Untouched}
 use Rattle.board.specs.declared.Board.{Board}
 use Rattle.promises.specs.Scenes.{
@@ -35,7 +35,7 @@ use Rattle.promises.specs.Scenes.{
   CoursesExcept,
 }
 use Rattle.model.proofs.Images.Bounds.{Bounded}
-use Rattle.theorems.proofs.Streams.Dependence.{runs-apart, lent-agree}
+use Rattle.theorems_streams.proofs.Dependence.{runs-apart, lent-agree}
 use Rattle.board.proofs.Intact.{load-leaves-place}
 use Rattle.board.proofs.Promises.{place-alone, runs-unless-changed}
 use Rattle.promises.proofs.Confined.{load-same, after-load, confined}

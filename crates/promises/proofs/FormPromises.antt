@@ -9,19 +9,21 @@ use Rattle.model.specs.Rules.Outcome.{accepted}
 use Rattle.model.specs.Rules.Script.{Action}
 use Rattle.model.specs.Rules.TextForm.{assembly, listing, assembleOf, listingOf}
 use Rattle.model.specs.Rules.Word.{AreBytes}
-use Rattle.theorems.specs.Conditions.{LegalPair}
-use Rattle.theorems.specs.Exactness.{Exactly}
-use Rattle.theorems.specs.TextForms.{Splits, TokensSay}
-use Rattle.theorems.specs.TextStops.{AssemblesTo, AssembleRefusedAt, ListsTo, ListRefusedAt}
-use Rattle.theorems.specs.TextWords.{DeclarationsMean, OperatorsMean, OthersMean}
-use Rattle.theorems.specs.TrialRefusals.{LegalScript}
-use Rattle.theorems.proofs.Texts.FormCalls as Calls
-use Rattle.theorems.proofs.Texts.FormLegal as Legal
-use Rattle.theorems.proofs.Texts.FormLists as Lists
-use Rattle.theorems.proofs.Texts.FormStops as Stops
-use Rattle.theorems.proofs.Texts.FormTokens as Tokens
-use Rattle.theorems.proofs.Texts.FormWords as Words
-use Rattle.theorems.proofs.Texts.Forms as Forms
+use Rattle.theorems_pairs.specs.Conditions.{LegalPair}
+use Rattle.theorems_calls.specs.Exactness.{Exactly}
+use Rattle.theorems_forms.specs.TextForms.{Splits, TokensSay}
+use Rattle.theorems_forms.specs.TextStops.{AssemblesTo, AssembleRefusedAt, ListsTo, ListRefusedAt}
+use Rattle.theorems_forms.specs.TextWords.{DeclarationsMean, OperatorsMean, OthersMean}
+use Rattle.theorems_trials.specs.TrialRefusals.{LegalScript}
+use Rattle.theorems_examples.specs.TextExamples.{TextExamples}
+use Rattle.theorems_examples.proofs.FormExamples as FormExamples
+use Rattle.theorems_forms.proofs.FormCalls as Calls
+use Rattle.theorems_forms.proofs.FormLegal as Legal
+use Rattle.theorems_forms.proofs.FormLists as Lists
+use Rattle.theorems_forms.proofs.FormStops as Stops
+use Rattle.theorems_forms.proofs.FormTokens as Tokens
+use Rattle.theorems_forms.proofs.FormWords as Words
+use Rattle.theorems_forms.proofs.Forms as Forms
 
 -- What is listed is assembled to the same bytes ..
 pub assemble-lists : (bytes text : List ℕ) → AreBytes bytes → listing bytes ≡ accepted text → assembly text ≡ accepted bytes
@@ -73,3 +75,7 @@ pair-listed program schedule bytes bytes′ q legal = (
 pub script-listed : (q : Pair) (text : List ℕ) (actions : List Action) → AreBytes text → LegalScript (q .program) text actions →
     (listed : List ℕ) × (listing text ≡ accepted listed)
 script-listed q text actions bytes legal = Legal.script-listed text actions bytes (legal .spells)
+
+-- Examples: program A, the ends of ranges, a text of a person, each refusal.
+pub text-examples : TextExamples
+text-examples = FormExamples.text-examples

@@ -33,16 +33,16 @@ use Rattle.model.specs.declared.Found.{Found}
 use Rattle.larderlate.specs.Code.{codeNumber}
 use Rattle.promises.specs.Codable.{Codable}
 use Rattle.promises.proofs.Promises.{small-code}
-use Rattle.theorems.specs.Dependence.{AlikeCalls}
-use Rattle.theorems.specs.Exactness.{sizeOf, JoinExactly}
-use Rattle.theorems.specs.Held.{stateBy, logBy, answersBy}
-use Rattle.theorems.specs.Composed.{Composed}
-use Rattle.theorems.specs.Conditions.{_among_, KeepsTime}
-use Rattle.theorems.specs.JoinDependence.{JoinSameExcept}
-use Rattle.theorems.specs.Join.{LinkedSatisfies, TextsLent, JoinLegal, JoinRefused}
-use Rattle.theorems.specs.Lists.{
-  JoinKept,
-  JoinKeptBy,
+use Rattle.theorems_streams.specs.Dependence.{AlikeCalls}
+use Rattle.theorems_calls.specs.Exactness.{sizeOf}
+use Rattle.theorems_joins.specs.JoinExactness.{JoinExactly}
+use Rattle.theorems_streams.specs.Held.{stateBy, logBy, answersBy}
+use Rattle.theorems_joins.specs.Composed.{Composed}
+use Rattle.theorems_pairs.specs.Conditions.{_among_, KeepsTime}
+use Rattle.theorems_joins.specs.JoinDependence.{JoinSameExcept}
+use Rattle.theorems_joins.specs.Join.{LinkedSatisfies, TextsLent, JoinLegal, JoinRefused}
+use Rattle.theorems_joins.specs.JoinLists.{JoinKept, JoinKeptBy, PartsAlike}
+use Rattle.theorems_streams.specs.Lists.{
   afterReset,
   Lent,
   owns,
@@ -51,18 +51,17 @@ use Rattle.theorems.specs.Lists.{
   ownLog,
   OwnsBear,
   OthersRefused,
-  PartsAlike,
   SameWords,
 }
-use Rattle.theorems.specs.Streams.{Satisfies}
-use Rattle.theorems.proofs.Calls.Refused as Refused
-use Rattle.theorems.proofs.Joining.Alike as Alike
-use Rattle.theorems.proofs.Joining.Alone as Alone
-use Rattle.theorems.proofs.Joining.Called as Called
-use Rattle.theorems.proofs.Joining.Demand as Demand
-use Rattle.theorems.proofs.Joining.Dependence as Dependence
-use Rattle.theorems.proofs.Joining.Exact as Exact
-use Rattle.theorems.proofs.Joining.Places as Places
+use Rattle.theorems_streams.specs.Streams.{Satisfies}
+use Rattle.theorems_streams.proofs.Refused as Refused
+use Rattle.theorems_joins.proofs.Alike as Alike
+use Rattle.theorems_joins.proofs.Alone as Alone
+use Rattle.theorems_joins.proofs.Called as Called
+use Rattle.theorems_joins.proofs.Demand as Demand
+use Rattle.theorems_joins.proofs.Dependence as Dependence
+use Rattle.theorems_joins.proofs.Exact as Exact
+use Rattle.theorems_joins.proofs.Places as Places
 
 -- Demand 1. A refused join changes nothing.
 pub join-keeps : (texts numbers links image : List ℕ) (f : Fault) → joinOf texts numbers links image .answer ≡ refused f →

@@ -25,12 +25,12 @@ use Rattle.model.specs.declared.Fault.{Fault}
 use Rattle.model.proofs.Basics.All.{all-append, all-at, all-map}
 use Rattle.model.proofs.Basics.Outcomes.{accepted-same, accepted-then, then-accepted, table-length}
 use Rattle.model.proofs.Pairs.Verdict.{pair-passed, pair-accepted}
-use Rattle.theorems.specs.Conditions.{_among_, ReadIn, LegalPair}
-use Rattle.theorems.specs.Lists.{SettleAlike}
-use Rattle.theorems.proofs.Pairs.Exact as Exact
-use Rattle.theorems.proofs.Pairs.Faults.{all-among, among-all}
-use Rattle.theorems.proofs.Pairs.Settled.{settled-exactly}
-use Rattle.theorems.proofs.Streams.Alike.{open-alike}
+use Rattle.theorems_pairs.specs.Conditions.{_among_, ReadIn, LegalPair}
+use Rattle.theorems_streams.specs.Lists.{SettleAlike}
+use Rattle.theorems_pairs.proofs.Exact as Exact
+use Rattle.theorems_pairs.proofs.Faults.{all-among, among-all}
+use Rattle.theorems_pairs.proofs.Settled.{settled-exactly}
+use Rattle.theorems_streams.proofs.Alike.{open-alike}
 use Rattle.model.specs.Rules.Moves.{
   Entry,
   movedText,

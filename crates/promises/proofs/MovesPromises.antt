@@ -19,9 +19,9 @@ use Rattle.model.specs.declared.Sizes.{Sizes}
 use Rattle.model.proofs.Basics.All.{all-map}
 use Rattle.model.proofs.Pairs.Verdict.{pair-passed}
 use Rattle.model.proofs.Texts.Legal.{legal, signal-period}
-use Rattle.theorems.specs.Lists.{SameWords}
-use Rattle.theorems.specs.Streams.{Satisfies}
-use Rattle.theorems.proofs.Streams.Alike.{open-alike, alike-satisfy}
+use Rattle.theorems_streams.specs.Lists.{SameWords}
+use Rattle.theorems_streams.specs.Streams.{Satisfies}
+use Rattle.theorems_streams.proofs.Alike.{open-alike, alike-satisfy}
 use Rattle.larderlate.specs.Code.{lengthIn}
 use Rattle.model.specs.Rules.Moves.{mayTake, entryIf, entriesOf, allEntries, written, movesOf}
 use Rattle.model.specs.Rules.Search.{joinBelow}

@@ -82,13 +82,13 @@ use Rattle.model.specs.Says.Written.{
   CodeWritten,
   CodeWhole,
 }
-use Rattle.theorems.specs.Conditions.{_among_, ReadIn, LegalPlaces, LegalPairWith, LegalPair}
-use Rattle.theorems.specs.Dependence.{OccursIn, DependsOn, AlikeCalls, AgreeExcept, LentExcept, SameExcept, SameExceptBy}
-use Rattle.theorems.specs.Dependents.{dependents}
-use Rattle.theorems.specs.Held.{logBy, IsInput}
-use Rattle.theorems.specs.Conversion.{earlierFactor, ConvertedText, Converts, ConversionKeeps}
-use Rattle.theorems.specs.Decimals.{SaysNumber, SaysWord}
-use Rattle.theorems.specs.Enums.{
+use Rattle.theorems_pairs.specs.Conditions.{_among_, ReadIn, LegalPlaces, LegalPairWith, LegalPair}
+use Rattle.theorems_streams.specs.Dependence.{OccursIn, DependsOn, AlikeCalls, AgreeExcept, LentExcept, SameExcept, SameExceptBy}
+use Rattle.theorems_streams.specs.Dependents.{dependents}
+use Rattle.theorems_streams.specs.Held.{logBy, IsInput}
+use Rattle.theorems_conversion.specs.Conversion.{earlierFactor, ConvertedText, Converts, ConversionKeeps}
+use Rattle.theorems_trials.specs.Decimals.{SaysNumber, SaysWord}
+use Rattle.theorems_texts.specs.Enums.{
   declarationBytes,
   operatorBytes,
   putBytes,
@@ -98,9 +98,18 @@ use Rattle.theorems.specs.Enums.{
   CodeRanged,
   BytesAt,
 }
-use Rattle.theorems.specs.Examples.{ExamplesHold}
-use Rattle.theorems.specs.Exactness.{Exactly, sizeOf, Compiles, CompileRefusedAt, Resets, ResetRefusedAt, Cycles, CycleRefusedAt}
-use Rattle.theorems.specs.Lists.{
+use Rattle.theorems_examples.specs.Examples.{ExamplesHold}
+use Rattle.theorems_calls.specs.Exactness.{
+  Exactly,
+  sizeOf,
+  Compiles,
+  CompileRefusedAt,
+  Resets,
+  ResetRefusedAt,
+  Cycles,
+  CycleRefusedAt,
+}
+use Rattle.theorems_streams.specs.Lists.{
   Kept,
   KeptBy,
   Memory,
@@ -117,19 +126,19 @@ use Rattle.theorems.specs.Lists.{
   SettleAlike,
   SameWords,
 }
-use Rattle.theorems.specs.Reach.{WidthsListed}
-use Rattle.theorems.specs.Refusals.{RefusedAt}
-use Rattle.theorems.specs.Streams.{Satisfies, value, wordRead}
-use Rattle.theorems.specs.Stretches.{RowsStand}
-use Rattle.theorems.specs.Subexpression.{Subexpression}
-use Rattle.theorems.specs.Tables.{Yields, StoresRows, WithoutTable}
-use Rattle.theorems.specs.Trials.{Makes, SetInputs, TrialLines}
-use Rattle.theorems.specs.Terms.{TermsAre, LatencyIs}
-use Rattle.theorems.specs.TrialRefusals.{LegalScript, TrialRefusedAt}
-use Rattle.theorems.specs.WellFormed.{WellFormed}
-use Rattle.theorems.specs.Nearest.{WordsRange, NearestWord}
-use Rattle.theorems.specs.Operators.{OperatorBytes, OperatorsGive}
-use Rattle.theorems.specs.Images.{TailExactly, OneImage, Reports}
+use Rattle.theorems_texts.specs.Reach.{WidthsListed}
+use Rattle.theorems_pairs.specs.Refusals.{RefusedAt}
+use Rattle.theorems_streams.specs.Streams.{Satisfies, value, wordRead}
+use Rattle.theorems_images.specs.Stretches.{RowsStand}
+use Rattle.theorems_pairs.specs.Subexpression.{Subexpression}
+use Rattle.theorems_images.specs.Tables.{Yields, StoresRows, WithoutTable}
+use Rattle.theorems_trials.specs.Trials.{Makes, SetInputs, TrialLines}
+use Rattle.theorems_pairs.specs.Terms.{TermsAre, LatencyIs}
+use Rattle.theorems_trials.specs.TrialRefusals.{LegalScript, TrialRefusedAt}
+use Rattle.theorems_images.specs.WellFormed.{WellFormed}
+use Rattle.theorems_images.specs.Nearest.{WordsRange, NearestWord}
+use Rattle.theorems_images.specs.Operators.{OperatorBytes, OperatorsGive}
+use Rattle.theorems_images.specs.Images.{TailExactly, OneImage, Reports}
 use Rattle.larderlate.specs.Code.{codeNumber, lengthIn}
 use Rattle.promises.specs.Codable.{Codable}
 use Rattle.promises.specs.Reports.{ReportsExactly}
@@ -154,48 +163,49 @@ use Rattle.model.proofs.Images.Tails.{lent-formed, tail-length, tail-tells, wri
 use Rattle.model.proofs.Rows.Rule as Rule
 use Rattle.model.proofs.Texts.Written as Commands
 use Rattle.model.proofs.Pairs.Verdict.{pair-passed, pair-accepted, pair-multiple, pair-bounded}
-use Rattle.theorems.proofs.Calls.Among as Among
-use Rattle.theorems.proofs.Calls.CallsExact as CallsExact
-use Rattle.theorems.proofs.Images.Counted.{cycle-count, count-fits}
-use Rattle.theorems.proofs.Conversion.Conversions as Conversions
-use Rattle.theorems.proofs.Conversion.Converted as Converted
-use Rattle.theorems.proofs.Conversion.OnText as OnText
-use Rattle.theorems.proofs.Conversion.Rewritten as Rewritten
-use Rattle.theorems.proofs.Conversion.Unchanged as Unchanged
-use Rattle.theorems.proofs.Texts.Parses as Parses
-use Rattle.theorems.proofs.Bench.Decimals as Decimals
-use Rattle.theorems.proofs.Streams.Alike.{open-alike, alike-satisfy}
-use Rattle.theorems.proofs.Streams.AlikeLent.{words-alike}
-use Rattle.theorems.proofs.Streams.Demand as Demand
-use Rattle.theorems.proofs.Streams.Dependence as Dependence
-use Rattle.theorems.proofs.Streams.Dependents as Dependents
-use Rattle.theorems.proofs.Streams.Looked.{table-of-image, rows-stored}
-use Rattle.theorems.proofs.Streams.Worded.{elements-words, table-yields}
-use Rattle.theorems.proofs.Texts.Enums as Enums
-use Rattle.theorems.proofs.Pairs.Exact as Exact
-use Rattle.theorems.proofs.Examples as Examples
-use Rattle.theorems.proofs.Images.FormedExactly as FormedExactly
-use Rattle.theorems.proofs.Streams.Lending as Lending
-use Rattle.theorems.proofs.Images.Heights.{stack-least, stack-31}
-use Rattle.theorems.proofs.Images.Ran.{cycle-is}
-use Rattle.theorems.proofs.Images.Stretched as Stretched
-use Rattle.theorems.proofs.Pairs.Latency as Latency
-use Rattle.theorems.proofs.Nearest as Nearest
-use Rattle.theorems.proofs.Operators as Operators
-use Rattle.theorems.proofs.Calls.Numbers as Numbers
-use Rattle.theorems.proofs.Images.Offsets.{offsets-fit}
-use Rattle.theorems.proofs.Calls.Places.{refusal-small, places-small, places-zero}
-use Rattle.theorems.proofs.Calls.Refused as Refused
-use Rattle.theorems.proofs.Bench.Scripts.{script-actions}
-use Rattle.theorems.proofs.Pairs.Settled as Settled
-use Rattle.theorems.proofs.Pairs.Terms as Terms
-use Rattle.theorems.proofs.Images.Former.{not-lent}
-use Rattle.theorems.proofs.Images.Tailed
-use Rattle.theorems.proofs.Images.Tailed.{part-bytes}
-use Rattle.theorems.proofs.Bench.TrialLines.{tried-count, tried-line, set-inputs}
-use Rattle.theorems.proofs.Bench.Trials.{linesOf, Tried, trial-refused, trial-accepts}
-use Rattle.theorems.proofs.Streams.Unique as Unique
-use Rattle.theorems.proofs.Texts.Widths as Widths
+use Rattle.theorems_streams.proofs.Among as Among
+use Rattle.theorems_calls.proofs.CallsExact as CallsExact
+use Rattle.theorems_images.proofs.Counted.{cycle-count, count-fits}
+use Rattle.theorems_conversion.proofs.Conversions as Conversions
+use Rattle.theorems_conversion.proofs.Converted as Converted
+use Rattle.theorems_conversion.proofs.OnText as OnText
+use Rattle.theorems_conversion.proofs.Rewritten as Rewritten
+use Rattle.theorems_conversion.proofs.Unchanged as Unchanged
+use Rattle.theorems_texts.proofs.Parses as Parses
+use Rattle.theorems_trials.proofs.Decimals as Decimals
+use Rattle.theorems_streams.proofs.Alike.{open-alike, alike-satisfy}
+use Rattle.theorems_streams.proofs.AlikeLent.{words-alike}
+use Rattle.theorems_streams.proofs.Demand as Demand
+use Rattle.theorems_streams.proofs.Dependence as Dependence
+use Rattle.theorems_streams.proofs.Dependents as Dependents
+use Rattle.theorems_streams.proofs.Looked.{table-of-image, rows-stored}
+use Rattle.theorems_streams.proofs.Worded.{elements-words, table-yields}
+use Rattle.theorems_texts.proofs.Enums as Enums
+use Rattle.theorems_pairs.proofs.Exact as Exact
+use Rattle.theorems_examples.proofs.Examples as Examples
+use Rattle.theorems_images.proofs.FormedExactly as FormedExactly
+use Rattle.theorems_streams.proofs.Lending as Lending
+use Rattle.theorems_images.proofs.Heights.{stack-least, stack-31}
+use Rattle.theorems_images.proofs.Ran.{cycle-is}
+use Rattle.theorems_images.proofs.Stretched as Stretched
+use Rattle.theorems_pairs.proofs.Latency as Latency
+use Rattle.theorems_images.proofs.Nearest as Nearest
+use Rattle.theorems_images.proofs.Operators as Operators
+use Rattle.theorems_calls.proofs.Numbers as Numbers
+use Rattle.theorems_conversion.proofs.ConvertNumbers as ConvertNumbers
+use Rattle.theorems_images.proofs.Offsets.{offsets-fit}
+use Rattle.theorems_calls.proofs.Places.{refusal-small, places-small, places-zero}
+use Rattle.theorems_streams.proofs.Refused as Refused
+use Rattle.theorems_trials.proofs.Scripts.{script-actions}
+use Rattle.theorems_pairs.proofs.Settled as Settled
+use Rattle.theorems_pairs.proofs.Terms as Terms
+use Rattle.theorems_images.proofs.Former.{not-lent}
+use Rattle.theorems_streams.proofs.Tailed
+use Rattle.theorems_streams.proofs.Tailed.{part-bytes}
+use Rattle.theorems_trials.proofs.TrialLines.{tried-count, tried-line, set-inputs}
+use Rattle.theorems_trials.proofs.Trials.{linesOf, Tried, trial-refused, trial-accepts}
+use Rattle.theorems_streams.proofs.Unique as Unique
+use Rattle.theorems_texts.proofs.Widths as Widths
 
 -- Demand 1, total. That every call ends, whatever it is lent, is in the contracts: none has a `requires`. A refused call
 -- changes nothing.
@@ -866,7 +876,7 @@ pub convert-codable : (program buffer : List ℕ) → Codable (convertOf program
 convert-codable program buffer = go (convertOf program buffer .answer) refl
   where
     go : (o : Outcome ℕ) → convertOf program buffer .answer ≡ o → Codable o
-    go (accepted n) e = omega (arith, Numbers.convert-most (convert-exactly program buffer .done n _ .0 (e, refl)))
+    go (accepted n) e = omega (arith, ConvertNumbers.convert-most (convert-exactly program buffer .done n _ .0 (e, refl)))
     go (refused f) e =
         let r = convert-exactly program buffer .refuses f _ .0 (e, refl) .0 in
-        (Numbers.convert-number r, omega (arith, Numbers.convert-place r))
+        (ConvertNumbers.convert-number r, omega (arith, ConvertNumbers.convert-place r))

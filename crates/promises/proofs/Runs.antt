@@ -12,7 +12,7 @@ use Rattle.model.specs.Says.Calls.{Call, reset, cycle, callOf}
 use Rattle.model.specs.Says.Feasible.{All}
 use Rattle.model.specs.Rules.Machine.{Effect, cycleOf}
 use Rattle.model.specs.Rules.Outcome.{Outcome, accepted, refused}
-use Rattle.theorems.specs.Held.{answersOf}
+use Rattle.theorems_streams.specs.Held.{answersOf}
 use Rattle.model.specs.declared.Fault.{Fault}
 use Rattle.board.specs.Board.{placeWords, placeSamples, Yield, idle, took}
 use Rattle.board.specs.Events.{

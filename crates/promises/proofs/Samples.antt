@@ -13,7 +13,7 @@ use lib.Seq.{getD-take, getD-drop, ext-getD}
 use Rattle.model.specs.Says.Calls.{Call, cycle}
 use Rattle.model.specs.Rules.Outcome.{Outcome, accepted, refused}
 use Rattle.model.specs.declared.Fault.{Fault}
-use Rattle.theorems.specs.Dependence.{LentExcept}
+use Rattle.theorems_streams.specs.Dependence.{LentExcept}
 use Rattle.board.specs.Board.{placeSamples, BoardEffect, Yield, idle, took}
 use Rattle.board.specs.Events.{Event, load, mark, turn, change, Scene, turnIn, afterEvent, ownCycle, ownCycles}
 use Rattle.board.proofs.Answers.{turn-state, turn-samples}

@@ -8,8 +8,8 @@ use lib.IntN.{ℤ}
 use lib.ListN.{length}
 use Rattle.model.specs.Rules.Outcome.{Outcome, accepted, refused, fault}
 use Rattle.model.specs.declared.Fault.{Fault}
-use Rattle.theorems.specs.Exactness.{Usable, Resets, Positioned, Cycles}
-use Rattle.theorems.specs.WellFormed.{WellLent}
+use Rattle.theorems_calls.specs.Exactness.{Usable, Resets, Positioned, Cycles}
+use Rattle.theorems_images.specs.WellFormed.{WellLent}
 use Rattle.board.specs.Board.{Yield, idle, took}
 use Rattle.board_words.specs.Calls.{NumberScene}
 use Rattle.board_words.specs.Numbers.{

@@ -15,7 +15,7 @@ use Rattle.model.specs.Rules.Word.{byteAt}
 use Rattle.model.specs.Says.Feasible.{SettlesAt}
 use Rattle.model.specs.declared.Fault.{Fault}
 use Rattle.model.specs.declared.Index.the-variants.{Open}
-use Rattle.theorems.specs.Conditions.{_among_, ReadIn, LegalPair}
+use Rattle.theorems_pairs.specs.Conditions.{_among_, ReadIn, LegalPair}
 
 -- s′ is s with only the phase of signal x set to f, and has the same PUT order.
 pub record OnlyPhase (p : Program) (s : Schedule) (x f : ℕ) (s′ : Schedule) : Type 0 where

@@ -16,38 +16,38 @@ ghost use Rattle.text_keyword.specs.Written.{endedAnswer};
 
 // The commands, a row each, then the names of operands: 9 letters with zeros after the last, whether it starts a line, its byte,
 // its operands by their numbers (`operand_by`) with zeros after the last.
-const TABLE: [u8; 450] = [
-    b'E', b'N', b'D', 0, 0, 0, 0, 0, 0, 1, 0x00, 0, 0, 0, 0,
-    b'I', b'N', 0, 0, 0, 0, 0, 0, 0, 1, 0x10, 1, 4, 0, 0,
-    b'E', b'Q', 0, 0, 0, 0, 0, 0, 0, 1, 0x11, 1, 4, 2, 0,
-    b'L', b'A', b'T', 0, 0, 0, 0, 0, 0, 1, 0x12, 6, 2, 0, 0,
-    b'L', b'I', b'N', b'K', 0, 0, 0, 0, 0, 0, 0x13, 1, 0, 0, 0,
-    b'C', b'A', b'P', 0, 0, 0, 0, 0, 0, 1, 0x14, 3, 0, 0, 0,
-    b'T', b'A', b'G', 0, 0, 0, 0, 0, 0, 1, 0x15, 2, 0, 0, 0,
-    b'C', b'O', b'N', b'S', b'T', 0, 0, 0, 0, 0, 0x20, 4, 0, 0, 0,
-    b'N', b'O', b'W', 0, 0, 0, 0, 0, 0, 0, 0x21, 1, 0, 0, 0,
-    b'L', b'A', b'S', b'T', 0, 0, 0, 0, 0, 0, 0x22, 1, 0, 0, 0,
-    b'W', b'H', b'E', b'N', 0, 0, 0, 0, 0, 0, 0x23, 1, 5, 1, 0,
-    b'L', b'A', b'S', b'T', b'W', b'H', b'E', b'N', 0, 0, 0x24, 1, 5, 1, 0,
-    b'C', b'U', b'R', b'R', b'E', b'N', b'T', 0, 0, 0, 0x25, 1, 5, 1, 0,
-    b'A', b'D', b'D', 0, 0, 0, 0, 0, 0, 0, 0x30, 0, 0, 0, 0,
-    b'S', b'U', b'B', 0, 0, 0, 0, 0, 0, 0, 0x31, 0, 0, 0, 0,
-    b'M', b'U', b'L', 0, 0, 0, 0, 0, 0, 0, 0x32, 0, 0, 0, 0,
-    b'L', b'E', b'S', b'S', 0, 0, 0, 0, 0, 0, 0x33, 0, 0, 0, 0,
-    b'S', b'A', b'M', b'E', 0, 0, 0, 0, 0, 0, 0x34, 0, 0, 0, 0,
-    b'M', b'I', b'N', 0, 0, 0, 0, 0, 0, 0, 0x35, 0, 0, 0, 0,
-    b'M', b'A', b'X', 0, 0, 0, 0, 0, 0, 0, 0x36, 0, 0, 0, 0,
-    b'N', b'E', b'G', 0, 0, 0, 0, 0, 0, 0, 0x38, 0, 0, 0, 0,
-    b'I', b'F', 0, 0, 0, 0, 0, 0, 0, 0, 0x3A, 0, 0, 0, 0,
-    b'P', b'U', b'T', 0, 0, 0, 0, 0, 0, 1, 0x40, 1, 1, 0, 0,
-    b'S', b'E', b'T', 0, 0, 0, 0, 0, 0, 1, 0x70, 1, 4, 0, 0,
-    b'R', b'U', b'N', 0, 0, 0, 0, 0, 0, 1, 0x71, 1, 0, 0, 0,
-    b'R', b'O', b'W', 0, 0, 0, 0, 0, 0, 1, 0x16, 4, 4, 4, 0,
-    b'T', b'A', b'B', b'L', b'E', 0, 0, 0, 0, 0, 0x3B, 0, 0, 0, 0,
-    b'o', b'p', b'e', b'n', 0, 0, 0, 0, 0, 0, 0xFF, 0, 0, 0, 0,
-    b'e', b'x', b'i', b's', b't', b's', 0, 0, 0, 0, 0x00, 0, 0, 0, 0,
-    b'b', b'a', b'c', b'k', b'w', b'a', b'r', b'd', 0, 0, 0x01, 0, 0, 0, 0,
-];
+const TABLE: [u8; 450] = *b"\
+    END\0\0\0\0\0\0\x01\x00\x00\x00\x00\x00\
+    IN\0\0\0\0\0\0\0\x01\x10\x01\x04\x00\x00\
+    EQ\0\0\0\0\0\0\0\x01\x11\x01\x04\x02\x00\
+    LAT\0\0\0\0\0\0\x01\x12\x06\x02\x00\x00\
+    LINK\0\0\0\0\0\x00\x13\x01\x00\x00\x00\
+    CAP\0\0\0\0\0\0\x01\x14\x03\x00\x00\x00\
+    TAG\0\0\0\0\0\0\x01\x15\x02\x00\x00\x00\
+    CONST\0\0\0\0\x00\x20\x04\x00\x00\x00\
+    NOW\0\0\0\0\0\0\x00\x21\x01\x00\x00\x00\
+    LAST\0\0\0\0\0\x00\x22\x01\x00\x00\x00\
+    WHEN\0\0\0\0\0\x00\x23\x01\x05\x01\x00\
+    LASTWHEN\0\x00\x24\x01\x05\x01\x00\
+    CURRENT\0\0\x00\x25\x01\x05\x01\x00\
+    ADD\0\0\0\0\0\0\x00\x30\x00\x00\x00\x00\
+    SUB\0\0\0\0\0\0\x00\x31\x00\x00\x00\x00\
+    MUL\0\0\0\0\0\0\x00\x32\x00\x00\x00\x00\
+    LESS\0\0\0\0\0\x00\x33\x00\x00\x00\x00\
+    SAME\0\0\0\0\0\x00\x34\x00\x00\x00\x00\
+    MIN\0\0\0\0\0\0\x00\x35\x00\x00\x00\x00\
+    MAX\0\0\0\0\0\0\x00\x36\x00\x00\x00\x00\
+    NEG\0\0\0\0\0\0\x00\x38\x00\x00\x00\x00\
+    IF\0\0\0\0\0\0\0\x00\x3a\x00\x00\x00\x00\
+    PUT\0\0\0\0\0\0\x01\x40\x01\x01\x00\x00\
+    SET\0\0\0\0\0\0\x01\x70\x01\x04\x00\x00\
+    RUN\0\0\0\0\0\0\x01\x71\x01\x00\x00\x00\
+    ROW\0\0\0\0\0\0\x01\x16\x04\x04\x04\x00\
+    TABLE\0\0\0\0\x00\x3b\x00\x00\x00\x00\
+    open\0\0\0\0\0\x00\xff\x00\x00\x00\x00\
+    exists\0\0\0\x00\x00\x00\x00\x00\x00\
+    backward\0\x00\x01\x00\x00\x00\x00\
+";
 
 // How many rows are commands; the names of operands follow them.
 pub const COMMANDS: usize = 27;
@@ -89,9 +89,7 @@ fn is_spelled(letters: &[u8], token: &[u8]) -> bool
 // The first of `count` rows from `from` on with this spelling, counted from 0.
 pub fn find_spelling(table: &[u8], from: usize, count: usize, token: &[u8]) -> Found
     requires { ⌜ 15 * (from + count) ≤ length (now table) ⌝ }
-    ensures {
-        λ r. ⌜ r ≡ firstBelow count (λ i. sameBytes (spellingAt (now (table .entry)) (from + i)) (now (token .entry))) ⌝
-    }
+    ensures { λ r. ⌜ r ≡ firstBelow count (λ i. sameBytes (spellingAt (now (table .entry)) (from + i)) (now (token .entry))) ⌝ }
 {
     let mut i: usize = 0;
     while i < count {
@@ -208,7 +206,13 @@ pub fn refuse(number: u8, place: usize) -> Compiled
 }
 
 // The answer where a text or bytes end: no operand is to follow.
-pub fn ended_length(table: &[u8], pending: usize, number: u8, place: usize, total: usize) -> Compiled
+pub fn ended_length(
+    table: &[u8],
+    pending: usize,
+    number: u8,
+    place: usize,
+    total: usize,
+) -> Compiled
     requires { ⌜ now table ≡ cells ⌝ }
     ensures { λ r. ⌜ r ≡ endedAnswer total (ended number place (pendingAt pending)) ⌝ }
 {

@@ -115,7 +115,8 @@ unfolding fourAt fourBytes
 four-at n lt h =
     rw (byte-here h, byte-from 1 (omega arith) h, byte-from 2 (omega arith) h, byte-from 3 (omega arith) h) (four-number n lt)
 
-word-bits : (w : ℤ) → SFits w32 w → wordOf (bitsOf w) ≡ w
+-- A word is read from its own bits.
+pub word-bits : (w : ℤ) → SFits w32 w → wordOf (bitsOf w) ≡ w
 unfolding wordOf bitsOf
 word-bits (pos n) f = ap (toZ w32) (less n (f .sfits)) ∙ toZ-pos w32 n (f .sfits)
   where

@@ -1,5 +1,0 @@
--- A bench trial: its script, its refusals, its lines, its decimals.
-pub mod Scripts
-pub mod Trials
-pub mod TrialLines
-pub mod Decimals

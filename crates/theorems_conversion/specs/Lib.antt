@@ -1,0 +1,3 @@
+-- What a conversion keeps.
+pub mod Convert
+pub mod Conversion

@@ -1,0 +1,3 @@
+-- The examples, by computation.
+pub mod Examples
+pub mod FormExamples

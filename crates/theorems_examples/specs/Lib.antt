@@ -1,0 +1,3 @@
+-- The paper's examples and those of the text form.
+pub mod Examples
+pub mod TextExamples

@@ -1,0 +1,20 @@
+-- Demand 3: the streams, the machine on them, the machine on bytes, calls in between, two schedules, dependence.
+pub mod Values
+pub mod Fix
+pub mod Unique
+pub mod Worded
+pub mod Turns
+pub mod Lists
+pub mod Computes
+pub mod Looked
+pub mod OnBytes
+pub mod Tailed
+pub mod Refused
+pub mod Among
+pub mod Lending
+pub mod Demand
+pub mod Alike
+pub mod AlikeBytes
+pub mod AlikeLent
+pub mod Dependence
+pub mod Dependents

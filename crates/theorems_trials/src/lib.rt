@@ -1,0 +1,1 @@
+// No code: the statements of specs/ and their proofs, over the definitions of model.
