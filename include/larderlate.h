@@ -4,6 +4,8 @@
  *     larderlate_join      the same of up to 8 parts, each a program with its schedule, and links between them
  *     larderlate_report    checks both and tells what they need, with no image
  *     larderlate_moves     lists where one signal of an accepted pair may go
+ *     larderlate_dependents
+ *                          marks the signals of an accepted pair that an input reaches
  *     larderlate_reset     puts a state to its start
  *     larderlate_cycle     runs one cycle on a state
  *     larderlate_tail      finds the labels, periods and phases that stand after an image
@@ -23,9 +25,9 @@
  * bytes, without its tail, or at exactly L + 4N, with a tail of any bytes, and run both alike.
  *
  * THE ANSWER is one number of 64 bits: number x 2^32 + value. Number 0 says done; the value is then L + 4N for a compile or a join, L
- * for a report, the count of all entries for a list of moves, 0 for a reset, the number of commands run for a cycle, the tail's
- * length for a tail, the new text's for a conversion, and the result's for assemble and list. Any other number is that of the refusal, and the value is its place. The
- * board's calls yield 0, or a refusal with place 0.
+ * for a report, the count of all entries for a list of moves, 0 for marks or a reset, the number of commands run for a cycle, the
+ * tail's length for a tail, the new text's for a conversion, and the result's for assemble and list. Any other number is that of the
+ * refusal, and the value is its place. The board's calls yield 0, or a refusal with place 0.
  *
  * WHAT IS LENT is a pointer and a length: bytes for uint8_t, words (not bytes) for int32_t, parts for larderlate_part. The caller
  * keeps these rules, which no call can test:
@@ -33,8 +35,8 @@
  *   - int32_t and uint32_t pointers are aligned to 4 bytes, those to size_t and larderlate_part to 8; uint8_t pointers need no
  *     alignment;
  *   - what a call may change (the image of a compile, the image and the part of a join, the counts and sizes of a report, the list
- *     of moves, the state of a reset or cycle, the start of a tail, the result of a conversion, the record, the state and the outcome
- *     of the board's calls) overlaps nothing else that is lent to the same call; what it only reads may overlap;
+ *     of moves, the marks, the state of a reset or cycle, the start of a tail, the result of a conversion, the record, the state and
+ *     the outcome of the board's calls) overlaps nothing else that is lent to the same call; what it only reads may overlap;
  *   - until the call returns nobody else writes what is lent, nor reads what the call may change;
  *   - nothing lent spans more than PTRDIFF_MAX bytes.
  */
@@ -129,7 +131,10 @@ enum {
     LARDERLATE_TEXT_BUFFER_SHORT = 44, /* all else is accepted, but the buffer is shorter than the result (the result's length) */
     LARDERLATE_UNKNOWN_BYTE = 45,      /* a byte that is no command, where one is to follow (the byte) */
     LARDERLATE_OPERAND_CUT = 46,       /* the bytes end within an operand (the operand) */
-    LARDERLATE_FORM_TOO_LONG = 47      /* more than 16,777,216 bytes are lent to be read (0) */
+    LARDERLATE_FORM_TOO_LONG = 47,     /* more than 16,777,216 bytes are lent to be read (0) */
+
+    /* Dependents: the pair is accepted, but the number given is not that of an input. */
+    LARDERLATE_NO_INPUT = 48 /* an equation's, or not below N (0) */
 };
 
 /* What a turn that is not refused has done: the first number of its outcome. */
@@ -207,6 +212,14 @@ uint64_t larderlate_report(const uint8_t *program, size_t program_length,
 uint64_t larderlate_moves(const uint8_t *program, size_t program_length,
                           const uint8_t *schedule, size_t schedule_length,
                           uint8_t *list, size_t list_length);
+
+/* Marks the signals that input `input` reaches: byte s is 1 where signal s reads it, by itself or through other signals, in a read of
+ * any kind and under any operator, and 0 at every other of the 64. An input reads nothing, so its own byte is 0. Two runs whose samples
+ * differ for this input alone hold the same words of every other signal that is not marked (`only-readers`). The answer's value is 0.
+ * Gives 1 to 16, 29 and 30 as a report, then 48, and then leaves the marks as they were. */
+uint64_t larderlate_dependents(const uint8_t *program, size_t program_length,
+                               const uint8_t *schedule, size_t schedule_length,
+                               size_t input, uint8_t marks[LARDERLATE_SIGNALS]);
 
 /* Puts 0 into word 0 of the state, the position, and each signal's initial word into word 1 + its number. Words beyond the signals
  * stay. Gives 20 and 21. */

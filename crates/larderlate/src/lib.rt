@@ -1,6 +1,6 @@
-// Larderlate: compile, join, report, reset, cycle, tail, convert, moves, assemble and list; for C the calls of a board too. Each call
-// takes any bytes and words, and its answer and what it leaves are the definition's. What they promise together is in crates
-// `promises` and `board`.
+// Larderlate: compile, join, report, reset, cycle, tail, convert, moves, dependents, assemble and list; for C the calls of a board
+// too. Each call takes any bytes and words, and its answer and what it leaves are the definition's. What they promise together is in
+// crates `promises` and `board`.
 use board::Turned;
 use model::Compiled;
 use model::Cycled;
@@ -11,6 +11,7 @@ use model::Ran;
 use model::Reported;
 ghost use mathlib.Core.Path.{_≡_};
 ghost use Rattle.model.specs.Rules.Compile.{compiledOf, compileOf};
+ghost use Rattle.model.specs.Rules.Dependents.{dependentsOf};
 ghost use Rattle.model.specs.Rules.Join.{joinedOf, partIn, joinOf, partNamed};
 ghost use Rattle.model.specs.Rules.Machine.{ranOf, cycledOf, resetOf, cycleOf};
 ghost use Rattle.model.specs.Rules.Moves.{listedOf, movesOf};
@@ -99,6 +100,15 @@ pub fn moves(program: &[u8], schedule: &[u8], list: &mut [u8]) -> Listed
     ensures left { λ _. ⌜ now (list .exit) ≡ movesOf (now (program .entry)) (now (schedule .entry)) (now (list .entry)) .left ⌝ }
 {
     moves::moves(program, schedule, &mut list[..])
+}
+
+// Marks by 1 each signal of an accepted program and schedule that reads an input, by itself or through other signals, and by 0
+// every other of 64.
+pub fn dependents(program: &[u8], schedule: &[u8], input: usize, marks: &mut [u8; 64]) -> Ran
+    ensures answer { λ r. ⌜ ranOf r ≡ dependentsOf (now (program .entry)) (now (schedule .entry)) input (now (marks .entry)) .answer ⌝ }
+    ensures left { λ _. ⌜ now (marks .exit) ≡ dependentsOf (now (program .entry)) (now (schedule .entry)) input (now (marks .entry)) .left ⌝ }
+{
+    dependents::dependents(program, schedule, input, marks)
 }
 
 // Assembles a text in words to the start of `bytes`, and yields how many bytes it is.
@@ -318,6 +328,20 @@ pub extern "C" fn larderlate_moves(program: &[u8], schedule: &[u8], list: &mut [
 {
     let listed = moves(program, schedule, &mut list[..]);
     code_of_listed(listed)
+}
+
+#[no_mangle]
+pub extern "C" fn larderlate_dependents(
+    program: &[u8],
+    schedule: &[u8],
+    input: usize,
+    marks: &mut [u8; 64],
+) -> u64
+    ensures answer { λ r. ⌜ r ≡ codeNumber (dependentsOf (now (program .entry)) (now (schedule .entry)) input (now (marks .entry)) .answer) ⌝ }
+    ensures left { λ _. ⌜ now (marks .exit) ≡ dependentsOf (now (program .entry)) (now (schedule .entry)) input (now (marks .entry)) .left ⌝ }
+{
+    let ran = dependents(program, schedule, input, marks);
+    code_of_ran(ran)
 }
 
 #[no_mangle]

@@ -25,4 +25,5 @@ pub mod Trial
 pub mod Parts
 pub mod Join
 pub mod Moves
+pub mod Dependents
 pub mod TextForm

@@ -84,7 +84,7 @@ use Rattle.model.specs.Says.Written.{
 }
 use Rattle.theorems_pairs.specs.Conditions.{_among_, ReadIn, LegalPlaces, LegalPairWith, LegalPair}
 use Rattle.theorems_streams.specs.Dependence.{OccursIn, DependsOn, AlikeCalls, AgreeExcept, LentExcept, SameExcept, SameExceptBy}
-use Rattle.theorems_streams.specs.Dependents.{dependents}
+use Rattle.model.specs.Rules.Dependents.{dependents}
 use Rattle.theorems_streams.specs.Held.{logBy, IsInput}
 use Rattle.theorems_conversion.specs.Conversion.{earlierFactor, ConvertedText, Converts, ConversionKeeps}
 use Rattle.theorems_trials.specs.Decimals.{SaysNumber, SaysWord}

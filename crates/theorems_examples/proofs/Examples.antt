@@ -146,7 +146,7 @@ use Rattle.model.specs.Rules.Script.{
 use Rattle.model.specs.Rules.Trial.{linesFrom, trialOf}
 use Rattle.theorems_streams.specs.Streams.{value}
 use Rattle.theorems_streams.specs.Held.{lentAt}
-use Rattle.theorems_streams.specs.Dependents.{anyRead, markReaders, marksAfter, dependents}
+use Rattle.model.specs.Rules.Dependents.{anyRead, markReaders, marksAfter, dependents}
 use Rattle.theorems_examples.specs.Examples.{ExamplesHold}
 
 -- The definitions answer every question of the table as the paper does.

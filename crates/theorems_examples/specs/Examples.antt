@@ -19,7 +19,7 @@ use Rattle.model.specs.Rules.Program.{Program, count, bodyReads}
 use Rattle.model.specs.declared.Binary.{Binary}
 use Rattle.model.specs.declared.Sizes.{Sizes}
 use Rattle.model.specs.declared.Binary.the-variants.{Add, Sub, Mul, Less, Same, Min, Max}
-use Rattle.theorems_streams.specs.Dependents.{dependents}
+use Rattle.model.specs.Rules.Dependents.{dependents}
 
 -- A question about a program and its schedule, or about an operator.
 pub data Question : Type 0 where

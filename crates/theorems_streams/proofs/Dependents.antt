@@ -9,11 +9,11 @@ use borrow.Author.Tests.{eqb-true, eq-eqb}
 use lib.Dec.{eqb}
 use lib.ListN.{length, getD}
 use Rattle.model.specs.Says.Feasible.{Met, Feasible}
+use Rattle.model.specs.Rules.Dependents.{anyRead, markReaders, marksAfter, dependents}
 use Rattle.model.specs.Rules.Program.{Program, Read, bodyReads, count, signalAt}
 use Rattle.model.specs.Rules.Schedule.{Schedule}
 use Rattle.theorems_pairs.specs.Conditions.{_among_}
 use Rattle.theorems_streams.specs.Dependence.{Reads, DependsOn}
-use Rattle.theorems_streams.specs.Dependents.{anyRead, markReaders, marksAfter, dependents}
 use Rattle.model.proofs.Basics.Outcomes.{table-length, table-at}
 use Rattle.theorems_pairs.proofs.Faults.{all-among}
 use Rattle.theorems_streams.proofs.Dependence.{reads-exactly}
@@ -111,6 +111,11 @@ among-any test (σ ∷ ρs) ρ (_among_.here e) t =
 among-any test (σ ∷ ρs) ρ (_among_.later m) t =
     or-right (test (σ .operands .signal)) (anyRead test ρs) (among-any test ρs ρ m t)
 
+pub marks-length : (p : Program) (i n : ℕ) → length (marksAfter p i n) ≡ count p
+unfolding marksAfter markReaders
+marks-length p i zero = table-length (count p) _
+marks-length p i (suc n) = table-length (count p) _
+
 module _ (p : Program) (i : ℕ) (declared : (y w : ℕ) → y < count p → Reads p y w → w < count p) where
   -- A signal is marked in a round exactly if it reads i or a signal marked before.
   abbrev Next : List Bool → ℕ → Type 0
@@ -140,11 +145,6 @@ module _ (p : Program) (i : ℕ) (declared : (y w : ℕ) → y < count p → Rea
       which : (w ≡ i) ⊎ Marked marks w → (eqb w i || getD marks w false) ≡ true
       which (inl e) = or-left (eqb w i) (getD marks w false) (eq-eqb w i e)
       which (inr m) = or-right (eqb w i) (getD marks w false) m
-
-  marks-length : (n : ℕ) → length (marksAfter p i n) ≡ count p
-  unfolding marksAfter markReaders
-  marks-length zero = table-length (count p) _
-  marks-length (suc n) = table-length (count p) _
 
   -- What is marked depends on i, and stays marked.
   marks-depend : (n y : ℕ) → y < count p → Marked (marksAfter p i n) y → DependsOn p y i
@@ -204,8 +204,9 @@ module _ (p : Program) (i : ℕ) (declared : (y w : ℕ) → y < count p → Rea
       go (inl h) = inl (closed-next (marksAfter p i n) h)
       go (inr le) =
           grown
-          (same-or-more (marksAfter p i n) (markReaders p i (marksAfter p i n)) (marks-length n ∙ sym (marks-length (suc n)))
-          (λ y lt. marks-stay n y (rw (marks-length n) at lt)))
+          (same-or-more (marksAfter p i n) (markReaders p i (marksAfter p i n))
+          (marks-length p i n ∙ sym (marks-length p i (suc n)))
+          (λ y lt. marks-stay n y (rw (marks-length p i n) at lt)))
           le
 
   all-closed : Closed (marksAfter p i (count p))
@@ -214,7 +215,8 @@ module _ (p : Program) (i : ℕ) (declared : (y w : ℕ) → y < count p → Rea
       go : Closed (marksAfter p i (count p)) ⊎ (count p ≤ trues (marksAfter p i (count p))) → Closed (marksAfter p i (count p))
       go (inl h) = h
       go (inr le) = λ y lt e.
-          trues-all (marksAfter p i (count p)) (omega (arith, marks-length (count p))) y (omega (arith, marks-length (count p)))
+          let n = marks-length p i (count p) in
+          trues-all (marksAfter p i (count p)) (omega (arith, n)) y (omega (arith, n))
 
   marks-exactly : (y : ℕ) → y < count p → Marked (dependents p i) y ↔ DependsOn p y i
   unfolding dependents

@@ -3,4 +3,3 @@ pub mod Held
 pub mod Streams
 pub mod Lists
 pub mod Dependence
-pub mod Dependents

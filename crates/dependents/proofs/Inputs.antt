@@ -1,0 +1,109 @@
+-- Inputs by the byte of their declaration, reads of an accepted pair, what the call answers and leaves. Assumes nothing.
+use Prim.Native.Nat.{ℕ, _≤_, _<_}
+use mathlib.Core.Bool.{true, false, cond}
+use mathlib.Core.List.{List}
+use mathlib.Core.Path.{_≡_, refl, sym, ap, subst, _∙_}
+use native.Mathlib.Omega.{arith}
+use borrow.Author.Tests.{lt-ltb, le-ltb}
+use lib.Dec.{eqb}
+use lib.ListN.{length, getD}
+use Rattle.model.specs.Rules.Compile.{Pair, pairOf}
+use Rattle.model.specs.Rules.Dependents.{markBytes, dependentsOf}
+use Rattle.model.specs.Rules.Outcome.{accepted, refused, fault, _▷_, provided}
+use Rattle.model.specs.Rules.Program.{
+  Program,
+  Signal,
+  Body,
+  input,
+  equation,
+  Read,
+  count,
+  signalAt,
+  bodyReads,
+  parseProgram,
+}
+use Rattle.model.specs.Rules.Script.{isInputBody, isInputOf}
+use Rattle.model.specs.Rules.Word.{byteAt}
+use Rattle.model.specs.declared.Fault.{Fault}
+use Rattle.model.proofs.Texts.Commands.{declaration-sound, written-byte}
+use Rattle.model.proofs.Texts.Written.{as-written}
+use Rattle.model.proofs.Texts.Legal.{legal, SpellsBody, signal-spelled}
+use Rattle.model.specs.Says.Feasible.{All, Met}
+use Rattle.model.proofs.Basics.All.{all-map}
+use Rattle.model.proofs.Basics.Outcomes.{accepted-same}
+use Rattle.model.proofs.Pairs.Verdict.{pair-passed, pair-accepted}
+use Rattle.text_program.specs.Tables.{TablesOf, TabledAs}
+use Rattle.text_program.specs.declared.Tables.{Tables}
+use Rattle.text_program.proofs.ByIndex.{few-signals}
+use Rattle.dependents.specs.Marks.{ReadsDeclared}
+
+input-byte : (text : List ℕ) (σ : Signal) (b : Body) → SpellsBody text σ b → isInputBody b ≡ eqb (byteAt text (σ .place)) 0x10
+input-byte text σ input g = sym (ap (λ (n : ℕ). eqb n 0x10) (written-byte text (σ .place) (as-written _ tt g)))
+input-byte text σ (equation w x) g = sym (ap (λ (n : ℕ). eqb n 0x10) (written-byte text (σ .place) (as-written _ tt (g .0))))
+
+place-inside : (text : List ℕ) (σ : Signal) (b : Body) → SpellsBody text σ b → σ .place < length text
+place-inside text σ input g = omega (arith, declaration-sound text _ _ g .3)
+place-inside text σ (equation w x) g = omega (arith, declaration-sound text _ _ (g .0) .3)
+
+-- A signal of a program that is read.
+module _ (text : List ℕ) (t : Tables) (p : Program) (e : parseProgram text ≡ accepted p) (tables : TablesOf p t) (x : ℕ) where
+  pub no-signal : t .signals ≤ x → isInputOf p x ≡ false
+  unfolding isInputOf
+  no-signal le =
+      ap (λ b. cond b (isInputBody (signalAt p x .body)) false)
+      (le-ltb x (count p) (omega (arith, tables .counts .signals-are)))
+
+  module _ (lt : x < t .signals) where
+    below : x < count p
+    below = omega (arith, tables .counts .signals-are)
+
+    pub stands : getD (t .places) x 0 < length text
+    stands =
+        omega (
+          arith,
+          tables .places x below,
+          place-inside text (signalAt p x) (signalAt p x .body) (signal-spelled (legal text p e .1) x below),
+        )
+
+    pub by-byte : eqb (byteAt text (getD (t .places) x 0)) 0x10 ≡ isInputOf p x
+    unfolding isInputOf
+    by-byte =
+        ap (λ (n : ℕ). eqb (byteAt text n) 0x10) (tables .places x below) ∙
+        sym (input-byte text (signalAt p x) (signalAt p x .body) (signal-spelled (legal text p e .1) x below)) ∙
+        sym (ap (λ b. cond b (isInputBody (signalAt p x .body)) false) (lt-ltb x (count p) below))
+
+-- The reads of an accepted pair are of its signals.
+pub reads-declared : (text schedule reads : List ℕ) (t : Tables) (q : Pair) → pairOf text schedule ≡ accepted q →
+    TabledAs text reads t → ReadsDeclared text reads (t .firsts) (t .signals)
+reads-declared text schedule reads t q e h =
+    let same = accepted-same (q .program) (h .0) (sym (pair-passed text schedule q e .parses) ∙ h .1) in
+    let n : count (q .program) ≡ t .signals = ap (λ (p : Program). count p) same ∙ h .2 .counts .signals-are in
+    record {
+      indexed = record { program = h .0; parsed = h .1; count-is = h .2 .counts .signals-are; reads-are = h .3 };
+      few = few-signals text t (h .0) (h .1) (h .2);
+      declared = λ x lt.
+          subst (λ (p : Program). All (λ (ρ : Read). ρ .operands .signal < t .signals) (bodyReads (signalAt p x .body))) same
+          (all-map (Met (q .program) (q .schedule) x) (λ (ρ : Read). ρ .operands .signal < t .signals)
+          (λ ρ m. omega (arith, m .declared, n)) (bodyReads (signalAt (q .program) x .body))
+          (pair-accepted text schedule q e .met x (omega (arith, n))));
+    }
+
+-- What the call answers and leaves.
+module _ (program schedule : List ℕ) (i : ℕ) (marks : List ℕ) where
+  pub pair-refused : (f : Fault) → pairOf program schedule ≡ refused f →
+      (refused f ≡ dependentsOf program schedule i marks .answer) × (marks ≡ dependentsOf program schedule i marks .left)
+  unfolding dependentsOf _▷_
+  pair-refused f e = rw e (refl, refl)
+
+  module _ (q : Pair) (e : pairOf program schedule ≡ accepted q) where
+    pub input-refused : isInputOf (q .program) i ≡ false →
+        (refused (fault 48 0) ≡ dependentsOf program schedule i marks .answer) ×
+        (marks ≡ dependentsOf program schedule i marks .left)
+    unfolding dependentsOf _▷_ provided
+    input-refused h = rw e (rw h (refl, refl))
+
+    pub marks-done : isInputOf (q .program) i ≡ true →
+        (accepted 0 ≡ dependentsOf program schedule i marks .answer) ×
+        (markBytes (q .program) i ≡ dependentsOf program schedule i marks .left)
+    unfolding dependentsOf _▷_ provided
+    marks-done h = rw e (rw h (refl, refl))

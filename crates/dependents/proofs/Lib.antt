@@ -1,0 +1,3 @@
+-- Laws of marks and of the call.
+pub mod Marks
+pub mod Inputs

@@ -1,0 +1,2 @@
+-- Marks by signal, as bytes.
+pub mod Marks
