@@ -40,6 +40,14 @@ extern "C" {
         list: *mut u8,
         list_length: usize,
     ) -> u64;
+    fn larderlate_dependents(
+        program: *const u8,
+        program_length: usize,
+        schedule: *const u8,
+        schedule_length: usize,
+        input: usize,
+        marks: *mut u8,
+    ) -> u64;
     fn larderlate_reset(image: *const u8, image_length: usize, state: *mut i32, state_words: usize) -> u64;
     fn larderlate_cycle(
         image: *const u8,
@@ -117,6 +125,13 @@ pub fn list(bytes: &[u8], text: &mut [u8]) -> u64 {
 pub fn moves(program: &[u8], schedule: &[u8], list: &mut [u8]) -> u64 {
     let (length, list) = (list.len(), list.as_mut_ptr());
     unsafe { larderlate_moves(program.as_ptr(), program.len(), schedule.as_ptr(), schedule.len(), list, length) }
+}
+
+// The benchmark does not measure it.
+#[allow(dead_code)]
+pub fn dependents(program: &[u8], schedule: &[u8], input: usize, marks: &mut [u8; 64]) -> u64 {
+    let marks = marks.as_mut_ptr();
+    unsafe { larderlate_dependents(program.as_ptr(), program.len(), schedule.as_ptr(), schedule.len(), input, marks) }
 }
 
 pub fn reset(image: &[u8], state: &mut [i32]) -> u64 {

@@ -10,7 +10,7 @@
 enum { STACK_BYTES = 1 << 20, EQUATIONS = 63, DEPTH = 16, ROWS = 32, CHAINS = 16, LINKS = 16 };
 
 static uint8_t program[LARDERLATE_PROGRAM_BYTES], schedule[LARDERLATE_SCHEDULE_BYTES], result[LARDERLATE_PROGRAM_BYTES];
-static uint8_t image[LARDERLATE_IMAGE_BYTES], list[LARDERLATE_MOVES_BYTES];
+static uint8_t image[LARDERLATE_IMAGE_BYTES], list[LARDERLATE_MOVES_BYTES], marks[LARDERLATE_SIGNALS];
 static uint8_t texts[LARDERLATE_PROGRAM_BYTES + LARDERLATE_SCHEDULE_BYTES + 1];
 static struct larderlate_part parts[LARDERLATE_PARTS];
 static size_t program_length, schedule_length, image_length;
@@ -134,6 +134,12 @@ static void moves(void)
     answer = larderlate_moves(program, program_length, schedule, schedule_length, list, sizeof list);
 }
 
+/* The input stands after the equations. */
+static void dependents(void)
+{
+    answer = larderlate_dependents(program, program_length, schedule, schedule_length, EQUATIONS, marks);
+}
+
 static void report(void)
 {
     answer = larderlate_report(program, program_length, schedule, schedule_length, counts, &written, &stack_words);
@@ -235,6 +241,7 @@ int main(int count, char **arguments)
     print_use("join", join);
     print_use("report", report);
     print_use("moves", moves);
+    print_use("dependents", dependents);
     print_use("reset", reset);
     print_use("cycle", cycle);
     print_use("tail", tail);

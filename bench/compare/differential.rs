@@ -2,11 +2,11 @@
 //!
 //!     differential [COUNT [SEED]]
 //!
-//! Each of COUNT rounds lends one pair to compile, to report and to moves, parts and links to join, a program text of the earlier rule
-//! to convert, bytes to list and their text to assemble, and then images, states and samples to reset, cycle and tail, and makes
-//! calls of a board. After each call the answers and all that was lent must be equal. It stops at the first difference with the bytes
-//! lent. Round r depends on the seed and on r alone. At the end it prints how often each call gave each number, how often rows or the
-//! table were the reason where a number has others too, and how often a join was refused for each fault put in.
+//! Each of COUNT rounds lends one pair to compile, to report, to moves and to dependents, parts and links to join, a program text of the
+//! earlier rule to convert, bytes to list and their text to assemble, and then images, states and samples to reset, cycle and tail, and
+//! makes calls of a board. After each call the answers and all that was lent must be equal. It stops at the first difference with the
+//! bytes lent. Round r depends on the seed and on r alone. At the end it prints how often each call gave each number, how often rows or
+//! the table were the reason where a number has others too, and how often a join was refused for each fault put in.
 mod board;
 mod forms;
 #[path = "../cases/generate.rs"]
@@ -38,12 +38,13 @@ const COUNT: u64 = 200_000;
 const SEED: u64 = 20_260_101;
 /// Every image fits, with its tail.
 const IMAGE_BYTES: usize = 24_679;
-/// The refusals of the papers and of the text form.
-const NUMBERS: [usize; 35] = [
+/// The refusals of the papers, of the text form and of dependents.
+const NUMBERS: [usize; 36] = [
     1, 2, 3, 4, 5, 6, 7, 8, 9, 10, 29, 30, 11, 12, 13, 14, 15, 16, 31, 17, 20, 21, 22, 23, 26, 27, 28, 40, 41, 42, 43, 44, 45, 46, 47,
+    48,
 ];
 /// One more than the highest.
-const TOP: usize = 48;
+const TOP: usize = 49;
 /// Those of a join, of the whole and inside a part.
 const JOINED: [usize; 8] = [1, 4, 27, 31, 9, 14, 15, 17];
 const INSIDE: [usize; 18] = [1, 2, 3, 4, 5, 6, 7, 8, 9, 10, 29, 30, 11, 12, 13, 14, 15, 16];
@@ -75,6 +76,7 @@ struct Seen {
     assemble: Counts,
     list: Counts,
     moves: Counts,
+    dependents: Counts,
     load: Counts,
     mark: Counts,
     turn: Counts,
@@ -95,11 +97,14 @@ struct Seen {
     /// Lists of moves that were too short, and those with more entries than signals.
     short: u64,
     moved: u64,
+    /// Inputs that reach no signal, and those that reach several.
+    unread: u64,
+    reaching: u64,
 }
 
 impl Seen {
     /// With the name of each.
-    fn calls(&self) -> [(&'static str, &Counts); 15] {
+    fn calls(&self) -> [(&'static str, &Counts); 16] {
         [
             ("compile", &self.compile),
             ("join", &self.join),
@@ -112,6 +117,7 @@ impl Seen {
             ("assemble", &self.assemble),
             ("list", &self.list),
             ("moves", &self.moves),
+            ("dependents", &self.dependents),
             ("load", &self.load),
             ("mark", &self.mark),
             ("turn", &self.turn),
@@ -298,6 +304,41 @@ impl Round<'_> {
         if let Ok(entries) = result {
             self.seen.short += u64::from(2 * entries > length);
             self.seen.moved += u64::from(entries > pair.schedule.len() / 3);
+        }
+    }
+
+    /// Marks by both the signals that any number reaches, and those that each input of an accepted pair does.
+    fn dependents(&mut self, pair: &Pair, accepted: bool) {
+        let signals = pair.schedule.len() / 3;
+        let any = self.random.below(signals + 2);
+        self.marks(pair, any);
+        for input in 0..if accepted { signals } else { 0 } {
+            if reference::dependents(&pair.program, &pair.schedule, input, &mut [0; 64]).is_ok() {
+                self.marks(pair, input);
+            }
+        }
+    }
+
+    /// Into equal marks.
+    fn marks(&mut self, pair: &Pair, input: usize) {
+        let (program, schedule) = (&pair.program, &pair.schedule);
+        let fill = self.random.next() as u8;
+        let (mut ours, mut other) = ([fill; 64], [fill; 64]);
+        let library = library::dependents(program, schedule, input, &mut ours);
+        let result = reference::dependents(program, schedule, input, &mut other);
+        let reference = reference::answer(result);
+        let kept = ours == other;
+        if library != reference || !kept {
+            let program = format!("program: {}", hexadecimal(program));
+            let schedule = format!("schedule: {}", hexadecimal(schedule));
+            let marks = format!("input {input}, marks of {fill:02X}");
+            differ(self.number, "dependents", &[program, schedule, marks], library, reference, kept);
+        }
+        count(&mut self.seen.dependents, library);
+        if result.is_ok() {
+            let marked = ours.iter().filter(|&&mark| mark == 1).count();
+            self.seen.unread += u64::from(marked == 0);
+            self.seen.reaching += u64::from(marked > 1);
         }
     }
 
@@ -678,6 +719,7 @@ impl Round<'_> {
         let own = self.compile(&pair);
         self.report(&pair);
         self.moves(&pair);
+        self.dependents(&pair, own.is_some());
         if let Some(image) = self.join() {
             self.calls(&image);
         }
@@ -726,8 +768,10 @@ fn print_joins(seen: &Seen) -> bool {
     println!("joins refused for a fault put in: {}", faults.collect::<Vec<_>>().join(", "));
     println!("joins done with links: {}, with a hypercycle over 1: {}", seen.linked, seen.mixed);
     println!("lists of moves too short: {}, with more entries than signals: {}", seen.short, seen.moved);
+    println!("inputs that reach no signal: {}, that reach several: {}", seen.unread, seen.reaching);
     let of_joins = JOINED.iter().all(|&number| seen.join.0[number] > 0) && INSIDE.iter().all(|&number| seen.part.0[number] > 0);
-    of_joins && seen.faults.iter().all(|&count| count > 0) && [seen.linked, seen.mixed, seen.short, seen.moved].iter().all(|&count| count > 0)
+    let others = [seen.linked, seen.mixed, seen.short, seen.moved, seen.unread, seen.reaching];
+    of_joins && seen.faults.iter().chain(&others).all(|&count| count > 0)
 }
 
 fn main() {

@@ -92,7 +92,7 @@ fn joins(parts: &[Accepted], input: [u8; 2], signal: [u8; 2]) -> bool {
     }
 }
 
-fn is_input(program: &Program, signal: &Signal) -> bool {
+pub fn is_input(program: &Program, signal: &Signal) -> bool {
     program.code[signal.code] == 0x52
 }
 

@@ -1,11 +1,12 @@
-//! The papers in plain Rust: compile, join, report, reset, cycle, tail, trial, convert, moves, a board of four programs and the
-//! text form.
+//! The papers in plain Rust: compile, join, report, reset, cycle, tail, trial, convert, moves, dependents, a board of four programs
+//! and the text form.
 //!
 //! Written from the paper alone and sharing nothing with the crates, so that a misreading on one side shows as a difference.
 //! It is also the baseline of the benchmark: what one would write without a prover, with the same checks.
 mod board;
 mod checks;
 mod convert;
+mod dependents;
 mod form;
 mod image;
 mod join;
@@ -23,6 +24,7 @@ mod trial;
 pub use {
     board::{Board, Outcome, Place},
     convert::convert,
+    dependents::dependents,
     form::{assemble, list},
     join::{join, Part},
     machine::{cycle, reset, tail},

@@ -2,6 +2,7 @@
 pub mod Promises
 pub mod MovesListed
 pub mod MovesPromises
+pub mod DependentsPromises
 pub mod JoinPromises
 pub mod Confined
 pub mod Runs

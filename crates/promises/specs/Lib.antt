@@ -2,5 +2,6 @@
 pub mod Codable
 pub mod Reports
 pub mod Moves
+pub mod Dependents
 pub mod Scenes
 pub mod BoardExact
