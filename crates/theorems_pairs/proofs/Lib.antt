@@ -2,6 +2,7 @@
 pub mod Faults
 pub mod Judged
 pub mod JudgedPuts
+pub mod Subexpressions
 pub mod Lookups
 pub mod JudgedRows
 pub mod Window

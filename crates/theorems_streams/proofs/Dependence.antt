@@ -2,7 +2,7 @@
 -- holds the same word. Assumes nothing.
 use Prim.Native.Nat.{ℕ, zero, suc, _-_, _/_, _%_, _<_}
 use mathlib.Core.Bool.{Bool, true, false, cond}
-use mathlib.Core.List.{List, [], _∷_, _++_}
+use mathlib.Core.List.{List, [], _∷_}
 use mathlib.Core.Logic.{_⊎_, inl, inr, _↔_}
 use mathlib.Core.Path.{_≡_, refl, sym, ap, subst, subst₂, _∙_}
 use native.Mathlib.Decide.{decLt}
@@ -22,13 +22,7 @@ use Rattle.model.specs.Rules.Program.{
   Body,
   input,
   equation,
-  Expr,
-  read,
-  binary,
-  unary,
-  choose,
   Read,
-  readsOf,
   bodyReads,
   count,
   signalAt,
@@ -49,55 +43,17 @@ use Rattle.theorems_streams.specs.Dependence.{
 use Rattle.theorems_streams.specs.Held.{stateBy, logBy, answersBy, Answered, lentAt, IsInput, Supplied, Holds}
 use Rattle.theorems_streams.specs.Lists.{sample}
 use Rattle.theorems_streams.specs.Streams.{Satisfies}
-use Rattle.theorems_pairs.specs.Subexpression.{Subexpression}
 use Rattle.model.proofs.Basics.All.{all-both}
 use Rattle.model.proofs.Images.Bounds.{Bounded}
-use Rattle.theorems_pairs.proofs.Faults.{among-all, none-among, among-append, append-left, append-right}
+use Rattle.theorems_pairs.proofs.Faults.{among-all, none-among}
+use Rattle.theorems_pairs.proofs.Subexpressions.{among-part, part-among}
 use Rattle.theorems_streams.proofs.Lists.{logOf}
 use Rattle.theorems_streams.proofs.Lending as Lending
 use Rattle.theorems_streams.proofs.OnBytes.{list-shown}
 use Rattle.theorems_streams.proofs.Unique.{number, used-lower, streams, streams-satisfy}
 use Rattle.theorems_streams.proofs.Values.{next-same, next-given}
 
--- The reads that stand in an expression are its reads.
-among-part : (e : Expr) (ρ : Read) → ρ among readsOf e → Subexpression (read ρ) e
-unfolding readsOf
-among-part (read σ) ρ (_among_.here e) = subst (λ (τ : Read). Subexpression (read ρ) (read τ)) e Subexpression.whole
-among-part (binary operator x y) ρ m = go (among-append ρ (readsOf x) (readsOf y) m) (among-part x ρ) (among-part y ρ)
-  where
-    go : (ρ among readsOf x) ⊎ (ρ among readsOf y) → (ρ among readsOf x → Subexpression (read ρ) x) →
-        (ρ among readsOf y → Subexpression (read ρ) y) → Subexpression (read ρ) (binary operator x y)
-    go (inl n) f g = Subexpression.left (f n)
-    go (inr n) f g = Subexpression.right (g n)
-among-part (unary operator x) ρ m = Subexpression.under (among-part x ρ m)
-among-part (choose x y z) ρ m =
-    go (among-append ρ (readsOf x) (readsOf y ++ readsOf z) m) (among-part x ρ) (among-part y ρ) (among-part z ρ)
-  where
-    branch : (ρ among readsOf y) ⊎ (ρ among readsOf z) → (ρ among readsOf y → Subexpression (read ρ) y) →
-        (ρ among readsOf z → Subexpression (read ρ) z) → Subexpression (read ρ) (choose x y z)
-    branch (inl n) f g = Subexpression.first (f n)
-    branch (inr n) f g = Subexpression.second (g n)
-
-    go : (ρ among readsOf x) ⊎ (ρ among (readsOf y ++ readsOf z)) → (ρ among readsOf x → Subexpression (read ρ) x) →
-        (ρ among readsOf y → Subexpression (read ρ) y) → (ρ among readsOf z → Subexpression (read ρ) z) →
-        Subexpression (read ρ) (choose x y z)
-    go (inl n) f g k = Subexpression.condition (f n)
-    go (inr n) f g k = branch (among-append ρ (readsOf y) (readsOf z) n) g k
-
-part-among : (e : Expr) (ρ : Read) → Subexpression (read ρ) e → ρ among readsOf e
-unfolding readsOf
-part-among (read ρ) σ Subexpression.whole = _among_.here refl
-part-among (binary operator x y) ρ (Subexpression.left s) = append-left ρ (readsOf x) (readsOf y) (part-among x ρ s)
-part-among (binary operator x y) ρ (Subexpression.right s) = append-right ρ (readsOf x) (readsOf y) (part-among y ρ s)
-part-among (unary operator x) ρ (Subexpression.under s) = part-among x ρ s
-part-among (choose x y z) ρ (Subexpression.condition s) =
-    append-left ρ (readsOf x) (readsOf y ++ readsOf z) (part-among x ρ s)
-part-among (choose x y z) ρ (Subexpression.first s) =
-    append-right ρ (readsOf x) (readsOf y ++ readsOf z) (append-left ρ (readsOf y) (readsOf z) (part-among y ρ s))
-part-among (choose x y z) ρ (Subexpression.second s) =
-    append-right ρ (readsOf x) (readsOf y ++ readsOf z) (append-right ρ (readsOf y) (readsOf z) (part-among z ρ s))
-
--- So the equation of a signal reads w exactly if w is the signal of one of its reads.
+-- The equation of a signal reads w exactly if w is the signal of one of its reads.
 pub reads-exactly : (b : Body) (w : ℕ) → OccursIn w b ↔ ((ρ : Read) × (ρ among bodyReads b) × (ρ .operands .signal ≡ w))
 reads-exactly input w = (λ o. absurd o, λ h. none-among [] (h .0) refl (h .1))
 reads-exactly (equation weight e) w =
