@@ -1,6 +1,6 @@
 // A bench trial: reads a program, a schedule and a script from the three files that the arguments name, and prints a line for
-// each cycle of the script, or the number of the refusal. All that is printed is made by `trial_prepare` and `trial_step`; here it is
-// read and written.
+// each cycle of the script, or the number of the refusal; on standard error it says in words what is wrong. All that is printed is
+// made by `trial_prepare` and `trial_step`; here it is read and written.
 use basics::Judged;
 use libc::STDERR_FILENO;
 use libc::STDOUT_FILENO;
@@ -17,6 +17,9 @@ fn read_file(i: usize, space: &mut [u8]) -> usize
     let n = os::arg(i, &mut name);
     let fd = os::open_read(&name[..n]);
     if fd < 0 {
+        if 0 < n {
+            os::fail(&name[..n]);
+        }
         return io::count(0, &space[..]);
     }
     let got = io::read_full(fd, &mut space[..]);
@@ -24,9 +27,18 @@ fn read_file(i: usize, space: &mut [u8]) -> usize
     got
 }
 
-fn print_refusal(fault: Fault) {
+// The number, and in words what it means and where.
+fn print_refusal(fault: Fault, program: &[u8], schedule: &[u8], text: &[u8]) {
     io::print_decimal(STDOUT_FILENO, fault.number as u64);
     io::write_all(STDOUT_FILENO, b"\n");
+    explain::say_refusal(fault);
+    if fault.number < 24 {
+        explain::say_where(fault, program, schedule);
+    } else if fault.number < 26 {
+        explain::say_script(fault, text);
+    } else {
+        explain::say_where(fault, program, schedule);
+    }
 }
 
 // Says on standard error how far a long trial is, every 10,000 lines.
@@ -70,7 +82,7 @@ fn run(program: &[u8], schedule: &[u8], text: &[u8]) {
     let ready = start.ready;
     let judged = ready.judged;
     if let Judged::Refused(fault) = judged {
-        print_refusal(fault);
+        print_refusal(fault, program, schedule, text);
         return;
     }
     let image = start.image;
@@ -91,6 +103,9 @@ fn main() {
     let mut program = [0u8; 8193];
     let mut schedule = [0u8; 194];
     let mut text = [0u8; 2049];
+    if os::arg_count() != 4 {
+        console::say(b"trial PROGRAM SCHEDULE SCRIPT\n");
+    }
     let p = read_file(1, &mut program);
     let s = read_file(2, &mut schedule);
     let t = read_file(3, &mut text);

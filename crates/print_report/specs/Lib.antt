@@ -1,0 +1,2 @@
+-- What the bar of a cycle is.
+pub mod Bar

@@ -1,0 +1,2 @@
+-- What the tables of a pair tell.
+pub mod Tabled

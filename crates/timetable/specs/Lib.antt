@@ -1,0 +1,2 @@
+-- What a timetable tells of a pair.
+pub mod Timetable
