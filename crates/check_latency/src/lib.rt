@@ -9,7 +9,7 @@ use model::Kind;
 use model::Sampled;
 use read_rule::Timing;
 use text_program::Tables;
-use text_schedule::PairTables;
+use text_schedule::Slots;
 ghost use mathlib.Core.Path.{_≡_};
 ghost use Prim.Native.Nat.{_*_, _≤_, _<_};
 ghost use Rattle.model.specs.Rules.Latency.{readAmong, backwards, keeps, timely};
@@ -24,7 +24,7 @@ ghost use Rattle.latency_rule.specs.Hops.{hopOf};
 ghost use Rattle.check_rates.specs.Answers.{periodAt};
 ghost use Rattle.basics.specs.Judgement.{judgementOf};
 ghost use Rattle.text_program.specs.Tables.{chainAt, TabledAs};
-ghost use Rattle.text_schedule.specs.Arranged.{Arranged};
+ghost use Rattle.text_schedule.specs.Arranged.{Arranged, pairTables};
 ghost use Rattle.read_rule.specs.Reads.{rateIn};
 ghost use Rattle.check_latency.specs.Timely.{ByteFound, MetPair, Known, ChainsLinked, Joinable, Timed, Judgeable, RouteOf, windowBy, LeewayOf};
 
@@ -231,15 +231,23 @@ fn judge_chains(
 }
 
 // 16 of a pair by its tables. Its reads are met.
-pub fn check_latency(text: &[u8], reads: &[u16], pair: PairTables) -> Judged
-    requires { ⌜ MetPair (now text) pair × TabledAs (now text) (now reads) (pair .tables) ⌝ }
-    ensures { λ r. ⌜ ((p : Program) (s : Schedule) → Arranged (now (text .entry)) pair p s → met p s ≡ accepted tt → r ≡ judgementOf (timely p s (pair .hypercycle))) ⌝ }
+pub fn check_latency(
+    text: &[u8],
+    reads: &[u16],
+    tables: Tables,
+    slots: Slots,
+    hypercycle: usize,
+) -> Judged
+    requires { ⌜ MetPair (now text) (pairTables tables slots hypercycle) × TabledAs (now text) (now reads) tables ⌝ }
+    ensures { λ r. ⌜ ((p : Program) (s : Schedule) → Arranged (now (text .entry)) (pairTables tables slots hypercycle) p s → met p s ≡ accepted tt →
+        r ≡ judgementOf (timely p s hypercycle)) ⌝ }
 {
-    let tables = pair.tables;
-    let slots = pair.slots;
+    if tables.chains == 0 {
+        return Judged::Fine;
+    }
     let periods = tables.periods;
     let phases = slots.phases;
-    judge_chains(text, reads, tables, &periods, &phases, pair.hypercycle)
+    judge_chains(text, reads, tables, &periods, &phases, hypercycle)
 }
 
 // A chain's first and last link, its bound, and the least bound with which it would keep its limit.

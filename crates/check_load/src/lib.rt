@@ -1,7 +1,8 @@
 // Load: in no cycle of the hypercycle does the summed weight of the signals run exceed CAP (15).
 use basics::Judged;
 use model::Found;
-use text_schedule::PairTables;
+use text_program::Tables;
+use text_schedule::Slots;
 ghost use mathlib.Core.List.{List};
 ghost use mathlib.Core.Path.{_≡_};
 ghost use Prim.Native.Nat.{ℕ, _*_, _≤_, _<_};
@@ -13,7 +14,7 @@ ghost use Rattle.model.specs.Rules.Schedule.{Schedule};
 ghost use Rattle.model.specs.Rules.Search.{firstBelow};
 ghost use Rattle.basics.specs.Judgement.{judgementOf};
 ghost use Rattle.text_program.specs.Tables.{PeriodsOf, WeightsOf, capOf};
-ghost use Rattle.text_schedule.specs.Arranged.{Arranged, Arrangement};
+ghost use Rattle.text_schedule.specs.Arranged.{Arranged, Arrangement, pairTables};
 ghost use Rattle.check_load.specs.Load.{LoadsOf, Raised, PhasesOf};
 
 // Adds a signal's weight to the loads of the cycles in which it runs, stepping from run to run. The loads so far are of at most
@@ -92,12 +93,13 @@ pub fn judge_load(
 }
 
 // 15 of a pair by its tables.
-pub fn check_load(pair: PairTables) -> Judged
-    requires { ⌜ ((text : List ℕ) × Arrangement text pair) ⌝ }
-    ensures { λ r. ⌜ ((text : List ℕ) (p : Program) (s : Schedule) → Arranged text pair p s → r ≡ judgementOf (loaded p s (pair .hypercycle))) ⌝ }
+pub fn check_load(tables: Tables, slots: Slots, hypercycle: usize) -> Judged
+    requires { ⌜ ((text : List ℕ) × Arrangement text (pairTables tables slots hypercycle)) ⌝ }
+    ensures { λ r. ⌜ ((text : List ℕ) (p : Program) (s : Schedule) → Arranged text (pairTables tables slots hypercycle) p s → r ≡ judgementOf (loaded p s hypercycle)) ⌝ }
 {
-    let tables = pair.tables;
-    let slots = pair.slots;
+    if !tables.capped {
+        return Judged::Fine;
+    }
     let periods = tables.periods;
     let phases = slots.phases;
     let weights = tables.weights;
@@ -108,6 +110,6 @@ pub fn check_load(pair: PairTables) -> Judged
         &weights,
         tables.capped,
         tables.limit,
-        pair.hypercycle,
+        hypercycle,
     )
 }

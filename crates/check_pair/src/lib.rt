@@ -17,7 +17,7 @@ ghost use Rattle.model.specs.Rules.Schedule.{Schedule};
 ghost use Rattle.model.specs.declared.Fault.{Fault};
 ghost use Rattle.basics.specs.Judgement.{judgementOf};
 ghost use Rattle.text_program.specs.Tables.{TablesOf, PeriodsOf, TabledAs};
-ghost use Rattle.text_schedule.specs.Arranged.{Arranged, Arrangement};
+ghost use Rattle.text_schedule.specs.Arranged.{Arranged, Arrangement, pairTables};
 ghost use Rattle.text_schedule.specs.Slots.{ScheduledAs};
 ghost use Rattle.check_pair.specs.Answers.{RatedAs, CheckedAs, Spacious};
 ghost use Rattle.check_pair.specs.Steps.{ratesOf, scheduleFor, runsOf};
@@ -111,19 +111,19 @@ fn check_schedule(schedule: &[u8], signals: usize, periods: &[u8; 64]) -> Placin
 }
 
 // The runs of a pair by its tables: 14, 15, 16.
-fn check_runs(text: &[u8], reads: &[u16], pair: PairTables) -> Judged
-    requires { ⌜ Arrangement (now text) pair × TabledAs (now text) (now reads) (pair .tables) ⌝ }
-    ensures { λ r. ⌜ ((p : Program) (s : Schedule) → Arranged (now (text .entry)) pair p s → r ≡ judgementOf (runsOf p s (pair .hypercycle))) ⌝ }
+fn check_runs(text: &[u8], reads: &[u16], tables: Tables, slots: Slots, hypercycle: usize) -> Judged
+    requires { ⌜ Arrangement (now text) (pairTables tables slots hypercycle) × TabledAs (now text) (now reads) tables ⌝ }
+    ensures { λ r. ⌜ ((p : Program) (s : Schedule) → Arranged (now (text .entry)) (pairTables tables slots hypercycle) p s → r ≡ judgementOf (runsOf p s hypercycle)) ⌝ }
 {
-    let of_reads = check_reads::check_reads(text, reads, pair);
+    let of_reads = check_reads::check_reads(text, reads, tables, slots, hypercycle);
     let Judged::Fine = of_reads else {
         return of_reads;
     };
-    let loads = check_load::check_load(pair);
+    let loads = check_load::check_load(tables, slots, hypercycle);
     let Judged::Fine = loads else {
         return loads;
     };
-    check_latency::check_latency(text, reads, pair)
+    check_latency::check_latency(text, reads, tables, slots, hypercycle)
 }
 
 // What the checks of a pair find. The tables are of use where it is fine.
@@ -175,15 +175,14 @@ pub fn check_with(program: &[u8], schedule: &[u8], reads: &mut [u16]) -> Checked
     };
     let slots = placing.slots;
     let h = rated.hypercycle;
-    let pair = PairTables {
-        tables: tables,
-        slots: slots,
-        hypercycle: h,
-    };
-    let runs = check_runs(program, reads, pair);
+    let runs = check_runs(program, reads, tables, slots, h);
     Checked {
         judged: runs,
-        pair: pair,
+        pair: PairTables {
+            tables: tables,
+            slots: slots,
+            hypercycle: h,
+        },
     }
 }
 

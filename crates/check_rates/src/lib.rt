@@ -313,6 +313,9 @@ pub fn linked(text: &[u8], reads: &[u16], tables: Tables) -> Judged
     requires { ⌜ TabledAs (now text) (now reads) tables ⌝ }
     ensures { λ r. ⌜ ((p : Program) → parseProgram (now (text .entry)) ≡ accepted p → TablesOf p tables → r ≡ judgementOf (linked p)) ⌝ }
 {
+    if tables.chains == 0 {
+        return Judged::Fine;
+    }
     let starts = tables.starts;
     let mut chain: usize = 0;
     while chain < tables.chains {

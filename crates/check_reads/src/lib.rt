@@ -3,7 +3,8 @@ use basics::Judged;
 use model::Kind;
 use model::Sampled;
 use read_rule::Timing;
-use text_schedule::PairTables;
+use text_program::Tables;
+use text_schedule::Slots;
 ghost use mathlib.Core.Path.{_≡_};
 ghost use Prim.Native.Nat.{_≤_, _<_};
 ghost use Rattle.model.specs.Rules.Outcome.{accepted, lowest};
@@ -12,7 +13,7 @@ ghost use Rattle.model.specs.Rules.Reads.{met};
 ghost use Rattle.model.specs.Rules.Schedule.{Schedule};
 ghost use Rattle.basics.specs.Judgement.{judgementOf};
 ghost use Rattle.text_program.specs.Tables.{Indexed, TabledAs};
-ghost use Rattle.text_schedule.specs.Arranged.{Arranged, Arrangement};
+ghost use Rattle.text_schedule.specs.Arranged.{Arranged, Arrangement, pairTables};
 ghost use Rattle.check_reads.specs.Met.{Below, PacedAt, readMet, unmet, MetAs};
 
 // One read in the equation of `reader`.
@@ -106,12 +107,16 @@ fn reads_met(
 }
 
 // 14 of a pair by its tables.
-pub fn check_reads(text: &[u8], reads: &[u16], pair: PairTables) -> Judged
-    requires { ⌜ Arrangement (now text) pair × TabledAs (now text) (now reads) (pair .tables) ⌝ }
-    ensures { λ r. ⌜ ((p : Program) (s : Schedule) → Arranged (now (text .entry)) pair p s → r ≡ judgementOf (met p s)) ⌝ }
+pub fn check_reads(
+    text: &[u8],
+    reads: &[u16],
+    tables: Tables,
+    slots: Slots,
+    hypercycle: usize,
+) -> Judged
+    requires { ⌜ Arrangement (now text) (pairTables tables slots hypercycle) × TabledAs (now text) (now reads) tables ⌝ }
+    ensures { λ r. ⌜ ((p : Program) (s : Schedule) → Arranged (now (text .entry)) (pairTables tables slots hypercycle) p s → r ≡ judgementOf (met p s)) ⌝ }
 {
-    let tables = pair.tables;
-    let slots = pair.slots;
     let firsts = tables.firsts;
     let periods = tables.periods;
     let phases = slots.phases;

@@ -7,7 +7,13 @@ use Rattle.model.specs.Rules.Program.{Program, parseProgram}
 use Rattle.model.specs.Rules.Rates.{declaredAndRated, hypercycle, linked}
 use Rattle.model.specs.Rules.Schedule.{Schedule, Put, placed}
 use Rattle.text_program.specs.Tables.{TablesOf, SlotsOf}
+use Rattle.text_program.specs.declared.Tables.{Tables}
 use Rattle.text_schedule.specs.declared.PairTables.{PairTables}
+use Rattle.text_schedule.specs.declared.Slots.{Slots}
+
+-- The tables of a pair.
+abbrev pub pairTables : Tables → Slots → ℕ → PairTables
+pairTables tables slots h = record { tables = tables; slots = slots; hypercycle = h }
 
 -- The tables are those of p and s, which have passed 2 to 13.
 pub record Arranged (text : List ℕ) (t : PairTables) (p : Program) (s : Schedule) : Type 0 where

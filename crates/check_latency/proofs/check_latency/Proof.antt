@@ -1,11 +1,18 @@
 -- `check_latency::check_latency` meets its contract. Assumes nothing.
 use Prim.Native.Nat.{ℕ}
-use mathlib.Core.List.{List}
-use mathlib.Core.Path.{_≡_}
-use Rattle.model.specs.Rules.Outcome.{accepted}
-use Rattle.model.specs.Rules.Program.{Program}
+use mathlib.Core.List.{List, [], _∷_}
+use mathlib.Core.Path.{_≡_, refl, ap}
+use native.Mathlib.Omega.{arith}
+use lib.ListN.{length}
+use Rattle.model.specs.Rules.Latency.{timely}
+use Rattle.model.specs.Rules.Outcome.{accepted, lowest}
+use Rattle.model.specs.Rules.Program.{Program, Chain}
 use Rattle.model.specs.Rules.Reads.{met}
 use Rattle.model.specs.Rules.Schedule.{Schedule}
+use Rattle.model.specs.Rules.Search.{joinFrom}
+use Rattle.basics.specs.Judgement.{judgementOf}
+use Rattle.basics.specs.declared.Judged.{Judged}
+use Rattle.basics.specs.declared.Judged.the-variants as Judged
 use Rattle.model.proofs.Pairs.Hypercycle.{hypercycle-least}
 use Rattle.model.proofs.Pairs.Verdict.{steps-accepted}
 use Rattle.text_schedule.specs.Arranged.{Arranged}
@@ -38,14 +45,27 @@ timed text t p s g m =
       hyper = h .bound;
     }
 
+-- A program without chains keeps every latency.
+unchained : (p : Program) (s : Schedule) (h n : ℕ) → length (p .chains) ≡ n → n ≡ 0 →
+    Judged.Fine ≡ judgementOf (timely p s h)
+unfolding timely joinFrom lowest judgementOf
+unchained p s h n e z = go (p .chains) refl
+  where
+    go : (cs : List Chain) → p .chains ≡ cs → Judged.Fine ≡ judgementOf (timely p s h)
+    go [] q = rw q refl
+    go (c ∷ cs) q = absurd (omega (arith, e, z, ap length q))
+
+returns : tie.Need-returns
+returns c p s g m = unchained p s _ _ (g .tables-are .counts .chains-are) (c .if1 .taken)
+
 judge-chains-requires : tie.Need-judge-chains-requires
 judge-chains-requires c κs =
     let c8 = c .before .before .before .before .before .before .before .before in
     let q = c8 .pre .0 in
     ((q .0, q .1, timed _ _ _ _ (q .2) (q .3)), c8 .pre .1)
 
-returns : tie.Need-returns
-returns c p s g m = c .judge-chains .ensures p s (timed _ _ p s g m)
+returns-2 : tie.Need-returns-2
+returns-2 c p s g m = c .judge-chains .ensures p s (timed _ _ p s g m)
 
 pub check-latency-spec : {M : Type 1} → statement M
-check-latency-spec = tie.close (tie.spec judge-chains-requires returns)
+check-latency-spec = tie.close (tie.spec returns judge-chains-requires returns-2)

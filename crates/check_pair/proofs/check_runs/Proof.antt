@@ -6,7 +6,8 @@ use Rattle.model.specs.Rules.Outcome.{accepted}
 use Rattle.model.specs.Rules.Program.{Program}
 use Rattle.model.specs.Rules.Reads.{met}
 use Rattle.model.specs.Rules.Schedule.{Schedule}
-use Rattle.text_schedule.specs.Arranged.{Arranged}
+use Rattle.text_schedule.specs.Arranged.{Arranged, pairTables}
+use Rattle.text_schedule.specs.declared.PairTables.{PairTables}
 use Rattle.check_pair.specs.Steps.{runsOf}
 use Rattle.basics.proofs.Judgements.{judgement-fine, judgement-refused}
 use Rattle.check_pair.proofs.Verdicts.{answers-then, answers-stop, answers-judgement, judgement-answers}
@@ -17,8 +18,11 @@ use Rattle.check_pair.proofs.check_runs.Tie as tie
 abbrev start : tie.After-enum-told → tie.Start
 start e = e .before .before .before .before .before
 
+abbrev tables : tie.After-enum-told → PairTables
+tables e = pairTables (start e .args .tables) (start e .args .slots) (start e .args .hypercycle)
+
 reads-met : (e : tie.After-enum-told) (p : Program) (s : Schedule) →
-    Arranged (now (start e .args .text)) (start e .args .pair) p s → met p s ≡ accepted tt
+    Arranged (now (start e .args .text)) (tables e) p s → met p s ≡ accepted tt
 reads-met e p s g = judgement-fine _ _ (e .before .before .check-reads .ensures p s g) (e .enum-told .given .1)
 
 returns : tie.Need-returns

@@ -7,10 +7,13 @@ use native.Mathlib.Omega.{arith}
 use lib.ListN.{length}
 use borrow.Author.Needs.{needs}
 use borrow.Author.Tests.{not-true, not-false}
-use Rattle.model.specs.Rules.Outcome.{accepted, fault}
+use Rattle.model.specs.Rules.Outcome.{accepted, fault, lowest}
 use Rattle.model.specs.Rules.Program.{Program, Chain, parseProgram}
 use Rattle.model.specs.Rules.Rates.{isLinked, linked}
+use Rattle.model.specs.Rules.Search.{joinFrom}
 use Rattle.model.specs.declared.Fault.{Fault}
+use Rattle.basics.specs.Judgement.{judgementOf}
+use Rattle.basics.specs.declared.Judged.{Judged}
 use Rattle.text_program.specs.Tables.{noChain, chainAt, TablesOf}
 use Rattle.text_program.proofs.InTurn.{Left, check-starts, check-passes, check-refuses, check-ends}
 use Rattle.text_program.proofs.Rising.{chainPlaces, rising-program}
@@ -34,52 +37,69 @@ Inv-loop text reads tables starts chain₀ chain =
 abbrev μ-loop : tie.MeasureT-loop
 μ-loop text reads tables starts chain₀ chain = tables .chains - chain
 
-few : (c : tie.Then2 Inv-loop μ-loop) → c .before .before .before .before .loop .chain < 16
+few : (c : tie.Then3 Inv-loop μ-loop) → c .before .before .before .before .loop .chain < 16
 few c =
-    let s = c .before .before .before .before .before .before .before .before .pre in
-    omega (arith, c .before .before .if1 .taken, few-chains _ _ (s .0, s .1, s .2))
+    let c5 = c .before .before .before .before .before in
+    let s = c5 .before .before .before .before .before .pre in
+    omega (arith, c .before .before .if2 .taken, few-chains _ _ (s .0, s .1, s .2))
+
+-- A program without chains has none that is wrong.
+unchained : (p : Program) (n : ℕ) → length (p .chains) ≡ n → n ≡ 0 → Judged.Fine ≡ judgementOf (linked p)
+unfolding linked joinFrom lowest judgementOf
+unchained p n e z = go (p .chains) refl
+  where
+    go : (cs : List Chain) → p .chains ≡ cs → Judged.Fine ≡ judgementOf (linked p)
+    go [] q = rw q refl
+    go (c ∷ cs) q = absurd (omega (arith, e, z, ap length q))
+
+returns : tie.Need-returns Inv-loop μ-loop
+returns c p q t = unchained p _ (t .counts .chains-are) (c .if1 .taken)
 
 loop-holds : tie.Need-loop-holds Inv-loop μ-loop
 unfolding linked
 loop-holds c = λ p q t. let h = rising-program _ p q in check-starts _ _ _ _ 0 (h .0) (h .1 .chains) refl
 
 is-linked-requires : tie.Need-is-linked-requires Inv-loop μ-loop
-is-linked-requires c κs = (c .before .before .before .before .before .before .pre, c .if1 .taken)
+is-linked-requires c κs =
+    let c4 = c .before .before .before .before in
+    (c4 .before .before .before .before .pre, c .if2 .taken)
 
-returns : tie.Need-returns Inv-loop μ-loop
-returns c =
+returns-2 : tie.Need-returns-2 Inv-loop μ-loop
+returns-2 c =
     let b = c .before .before in
     let l = b .before .before .before .loop in
     λ p q t.
-    let lt : l .chain < length (p .chains) = omega (arith, b .before .if1 .taken, t .counts .chains-are) in
+    let lt : l .chain < length (p .chains) = omega (arith, b .before .if2 .taken, t .counts .chains-are) in
     let r = c .refuse .ensures ∙ ap (λ n. Judged.Refused (fault 10 n)) (t .starts (l .chain) lt) in
     check-refuses _ _ _ _ (l .chain) noChain lt (l .inv p q t) _
     (r ∙ lat-judged (fault 10 (chainAt p (l .chain) .place)) _ _
-    (sym (b .is-linked .ensures p q t) ∙ not-true (b .is-linked .result) (c .before .if2 .taken)))
+    (sym (b .is-linked .ensures p q t) ∙ not-true (b .is-linked .result) (c .before .if3 .taken)))
     (lat-at 10 (λ k. isLinked p (k .links))) _ r
 
 add-chain : tie.Need-add-chain Inv-loop μ-loop
-add-chain c = let s = c .before .before .before .before .before .before .before .before .pre in
-    omega (arith, c .before .before .if1 .taken, few-chains _ _ (s .0, s .1, s .2))
+add-chain c =
+    let c5 = c .before .before .before .before .before in
+    let s = c5 .before .before .before .before .before .pre in
+    omega (arith, c .before .before .if2 .taken, few-chains _ _ (s .0, s .1, s .2))
 
 loop-again : tie.Need-loop-again Inv-loop μ-loop
 loop-again c =
     let b = c .before in
     let l = b .before .before .before .loop in
     λ p q t.
-    let lt : l .chain < length (p .chains) = omega (arith, b .before .if1 .taken, t .counts .chains-are) in
+    let lt : l .chain < length (p .chains) = omega (arith, b .before .if2 .taken, t .counts .chains-are) in
     subst (Rest p) (omega arith)
     (check-passes _ _ _ _ (l .chain) noChain lt (l .inv p q t) Judged.Fine
     (lat-judged (fault 10 (chainAt p (l .chain) .place)) _ _
-    (sym (b .is-linked .ensures p q t) ∙ not-false (b .is-linked .result) (c .if2 .left))) refl)
+    (sym (b .is-linked .ensures p q t) ∙ not-false (b .is-linked .result) (c .if3 .left))) refl)
 
-returns-2 : tie.Need-returns-2 Inv-loop μ-loop
-returns-2 c =
+returns-3 : tie.Need-returns-3 Inv-loop μ-loop
+returns-3 c =
     let l = c .before .before .loop in
-    λ p q t. check-ends _ _ _ _ (l .chain) (omega (arith, c .if1 .left, t .counts .chains-are)) (l .inv p q t)
+    λ p q t. check-ends _ _ _ _ (l .chain) (omega (arith, c .if2 .left, t .counts .chains-are)) (l .inv p q t)
 
 pub linked-spec : {M : Type 1} → statement M
 linked-spec =
     tie.close
-    (tie.spec Inv-loop μ-loop loop-holds is-linked-requires (λ c. omega (arith, few c)) few (λ c κs. search needs) returns
-    add-chain (λ c. omega (arith, c .before .before .if1 .taken)) loop-again returns-2)
+    (tie.spec Inv-loop μ-loop returns loop-holds is-linked-requires (λ c. omega (arith, few c)) few (λ c κs. search needs)
+    returns-2 add-chain (λ c. omega (arith, c .before .before .if2 .taken)) loop-again returns-3)

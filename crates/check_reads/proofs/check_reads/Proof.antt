@@ -6,10 +6,10 @@ use Rattle.check_reads.proofs.check_reads.Tie as tie
 
 reads-met-requires : tie.Need-reads-met-requires
 reads-met-requires c κs =
-    let c6 = c .before .before .before .before .before .before in
-    let c12 = c6 .before .before .before .before .before .before in
-    let g = c12 .pre .0 .2 in
-    (few-signals _ _ _ (g .parsed) (g .tables-are), phases-below g, indexed _ _ _ (c12 .pre .1))
+    let c5 = c .before .before .before .before .before in
+    let c10 = c5 .before .before .before .before .before in
+    let g = c10 .pre .0 .2 in
+    (few-signals _ _ _ (g .parsed) (g .tables-are), phases-below g, indexed _ _ _ (c10 .pre .1))
 
 returns : tie.Need-returns
 returns c p s g = c .reads-met .ensures p (g .parsed) s _ (g .rated) (g .tables-are .periods) (g .slots-are)
