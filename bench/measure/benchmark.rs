@@ -27,12 +27,13 @@ mod tables;
 use generate::Pair;
 use parts::Join;
 use rows::{
-    image_of, images_of, long_chains, look_ups, measure, open_reads, parts_of_a, print, program_a, program_of, random_parts, row, Row,
-    ROUNDS,
+    balanced, image_of, images_of, long_chains, look_ups, measure, open_reads, parts_of_a, print, program_a, program_of, random_parts,
+    row, Row, ROUNDS,
 };
 use std::hint::black_box;
 
 const LOOK_UPS: &str = "63 TABLEs, 32 rows";
+const BALANCED: &str = "64 signals, balanced";
 
 fn compile_row(name: &str, pair: &Pair) -> Row {
     let image = image_of(pair);
@@ -149,12 +150,13 @@ fn turn_row(name: &str, image: &[u8]) -> Row {
 
 fn main() {
     let (small, large, look_ups) = (program_a(), program_of(64, &[1, 2, 8, 24, 240], 240), look_ups());
-    let pairs = [("program A", &small), ("64 signals", &large), (LOOK_UPS, &look_ups)];
+    let balanced = balanced();
+    let pairs = [("program A", &small), ("64 signals", &large), (LOOK_UPS, &look_ups), (BALANCED, &balanced)];
     let mut rows: Vec<Row> = pairs.iter().map(|(name, pair)| compile_row(name, pair)).collect();
     rows.extend([join_row("8 parts of program A", &parts_of_a()), join_row("8 random parts", &random_parts(4000, 12))]);
     rows.extend(pairs.iter().map(|(name, pair)| report_row(name, pair)));
     let mut images = images_of(&small, &large).to_vec();
-    images.push((LOOK_UPS, image_of(&look_ups)));
+    images.extend([(LOOK_UPS, image_of(&look_ups)), (BALANCED, image_of(&balanced))]);
     rows.extend(images.iter().map(|(name, image)| reset_row(name, image)));
     rows.extend(images.iter().map(|(name, image)| cycle_row(name, image)));
     let calls = rows.len();

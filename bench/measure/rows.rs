@@ -136,6 +136,55 @@ pub fn look_ups() -> Pair {
     pair_of(&commands, &schedule)
 }
 
+/// Eight inputs and 56 equations at the rates 1, 2, 4, 8 and 24, every operand of every operator as deep as its neighbour, so that words lie
+/// on the stack.
+pub fn balanced() -> Pair {
+    let mut random = Random(SEED);
+    let mut periods: Vec<u8> = vec![1; 8];
+    let mut commands = vec![vec![0x10, 1, 0, 0, 0, 0]; 8];
+    for own in 8..64u8 {
+        let period = random.pick(&[1, 2, 4, 8, 24]);
+        let head = [vec![0x11, period], i32::from(own).to_le_bytes().to_vec(), vec![1, 0]].concat();
+        commands.push([head, balanced_of(&mut random, 4, &periods, period)].concat());
+        periods.push(period);
+    }
+    let mut schedule: Vec<u8> = (0..64).flat_map(|signal| [0x40, signal, 0]).collect();
+    schedule.push(0);
+    pair_of(&commands, &schedule)
+}
+
+/// An expression of this depth over the signals before, for an equation of this period.
+fn balanced_of(random: &mut Random, depth: usize, periods: &[u8], period: u8) -> Vec<u8> {
+    if depth == 0 {
+        return balanced_leaf(random, periods, period);
+    }
+    let (operator, operands) = match random.below(14) {
+        0 => (0x3A, 3),
+        1 => (0x38, 1),
+        _ => (random.pick(&[0x30, 0x31, 0x32, 0x33, 0x35, 0x36]), 2),
+    };
+    let mut expression = vec![operator];
+    for _ in 0..operands {
+        expression.extend(balanced_of(random, depth - 1, periods, period));
+    }
+    expression
+}
+
+/// A constant, a read at the same rate, or one of a faster signal.
+fn balanced_leaf(random: &mut Random, periods: &[u8], period: u8) -> Vec<u8> {
+    let signals = |kept: &dyn Fn(u8) -> bool| (0..periods.len()).filter(|&x| kept(periods[x])).map(|x| x as u8).collect::<Vec<u8>>();
+    let (same, faster) = (signals(&|other| other == period), signals(&|other| other < period && period % other == 0));
+    let kind = random.below(4);
+    if kind > 1 && !same.is_empty() {
+        return vec![0x21, random.pick(&same)];
+    }
+    if kind == 1 && !faster.is_empty() {
+        let read = random.pick(&faster);
+        return vec![0x23, read, 0, period / periods[usize::from(read)]];
+    }
+    [vec![0x20], (random.below(2000) as i32 - 1000).to_le_bytes().to_vec()].concat()
+}
+
 /// 64 equations of period 240 that nobody reads: with CAP, under which each has room in every cycle, or without.
 pub fn unread(capped: bool) -> Pair {
     let mut commands = vec![vec![0x11, 240, 0, 0, 0, 0, 1, 0, 0x20, 0, 0, 0, 0]; 64];
