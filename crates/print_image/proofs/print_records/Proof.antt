@@ -10,25 +10,8 @@ Inv-loop image n x₀ x = Unit {0}
 abbrev μ-loop : tie.MeasureT-loop
 μ-loop image n x₀ x = n - x
 
-loop-holds : tie.Need-loop-holds Inv-loop μ-loop
-loop-holds c = search needs
-
-print-record-requires : tie.Need-print-record-requires Inv-loop μ-loop
-print-record-requires c κs = search needs
-
-add-x : tie.Need-add-x Inv-loop μ-loop
-add-x c = search needs
-
-loop-less : tie.Need-loop-less Inv-loop μ-loop
-loop-less c = search needs
-
-loop-again : tie.Need-loop-again Inv-loop μ-loop
-loop-again c = search needs
-
-returns : tie.Need-returns Inv-loop μ-loop
-returns c = search needs
-
 pub print-records-spec : {M : Type 1} → statement M
 print-records-spec =
     tie.close
-    (tie.spec Inv-loop μ-loop loop-holds print-record-requires add-x loop-less loop-again returns)
+    (tie.spec Inv-loop μ-loop (λ c. search needs) (λ c κs. search needs) (λ c. search needs) (λ c. search needs)
+    (λ c. search needs) (λ c. search needs))
