@@ -21,7 +21,8 @@ pair e = answers-fine _ _ _ (e .before .before .check-pair .ensures) (e .enum-to
 returns : tie.Need-returns
 returns c =
     let told = c .before .enum-told2 .given .1 in
-    answers-not _ _ _ _ (answers-refused _ _ _ _ (c .before .before .before .check-pair .ensures) told) (c .refused .ensures ∙ told)
+    let refuses = answers-refused _ _ _ _ (c .before .before .before .check-pair .ensures) told in
+    answers-not _ _ _ _ refuses (c .refused .ensures ∙ told)
 
 abbrev checked : tie.After-weights2 → tie.After-enum-told
 checked w =
