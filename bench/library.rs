@@ -1,13 +1,49 @@
 //! The calls of the static library, as include/larderlate.h declares them.
+
+/// Compile, reset and cycle of a library that exports them under these names.
+macro_rules! stepping_calls {
+    ($compile:ident, $reset:ident, $cycle:ident) => {
+        extern "C" {
+            fn $compile(
+                program: *const u8,
+                program_length: usize,
+                schedule: *const u8,
+                schedule_length: usize,
+                image: *mut u8,
+                image_length: usize,
+            ) -> u64;
+            fn $reset(image: *const u8, image_length: usize, state: *mut i32, state_words: usize) -> u64;
+            fn $cycle(
+                image: *const u8,
+                image_length: usize,
+                state: *mut i32,
+                state_words: usize,
+                samples: *const i32,
+                samples_words: usize,
+            ) -> u64;
+        }
+
+        pub fn compile(program: &[u8], schedule: &[u8], image: &mut [u8]) -> u64 {
+            let (length, image) = (image.len(), image.as_mut_ptr());
+            unsafe { $compile(program.as_ptr(), program.len(), schedule.as_ptr(), schedule.len(), image, length) }
+        }
+
+        pub fn reset(image: &[u8], state: &mut [i32]) -> u64 {
+            unsafe { $reset(image.as_ptr(), image.len(), state.as_mut_ptr(), state.len()) }
+        }
+
+        pub fn cycle(image: &[u8], state: &mut [i32], samples: &[i32]) -> u64 {
+            let (words, state) = (state.len(), state.as_mut_ptr());
+            unsafe { $cycle(image.as_ptr(), image.len(), state, words, samples.as_ptr(), samples.len()) }
+        }
+    };
+}
+#[allow(unused_imports)]
+pub(crate) use stepping_calls;
+
+stepping_calls!(larderlate_compile, larderlate_reset, larderlate_cycle);
+
 extern "C" {
-    fn larderlate_compile(
-        program: *const u8,
-        program_length: usize,
-        schedule: *const u8,
-        schedule_length: usize,
-        image: *mut u8,
-        image_length: usize,
-    ) -> u64;
     fn larderlate_join_numbers(
         texts: *const u8,
         texts_length: usize,
@@ -48,15 +84,6 @@ extern "C" {
         input: usize,
         marks: *mut u8,
     ) -> u64;
-    fn larderlate_reset(image: *const u8, image_length: usize, state: *mut i32, state_words: usize) -> u64;
-    fn larderlate_cycle(
-        image: *const u8,
-        image_length: usize,
-        state: *mut i32,
-        state_words: usize,
-        samples: *const i32,
-        samples_words: usize,
-    ) -> u64;
     fn larderlate_board_new(record: *mut usize);
     fn larderlate_board_load(
         record: *mut usize,
@@ -82,11 +109,6 @@ extern "C" {
 }
 
 // A Rust slice keeps all that the header asks of the caller.
-
-pub fn compile(program: &[u8], schedule: &[u8], image: &mut [u8]) -> u64 {
-    let (length, image) = (image.len(), image.as_mut_ptr());
-    unsafe { larderlate_compile(program.as_ptr(), program.len(), schedule.as_ptr(), schedule.len(), image, length) }
-}
 
 /// Four numbers a part: start and length of its program and of its schedule.
 pub fn join(texts: &[u8], numbers: &[usize], links: &[u8], image: &mut [u8], part: &mut usize) -> u64 {
@@ -132,15 +154,6 @@ pub fn moves(program: &[u8], schedule: &[u8], list: &mut [u8]) -> u64 {
 pub fn dependents(program: &[u8], schedule: &[u8], input: usize, marks: &mut [u8; 64]) -> u64 {
     let marks = marks.as_mut_ptr();
     unsafe { larderlate_dependents(program.as_ptr(), program.len(), schedule.as_ptr(), schedule.len(), input, marks) }
-}
-
-pub fn reset(image: &[u8], state: &mut [i32]) -> u64 {
-    unsafe { larderlate_reset(image.as_ptr(), image.len(), state.as_mut_ptr(), state.len()) }
-}
-
-pub fn cycle(image: &[u8], state: &mut [i32], samples: &[i32]) -> u64 {
-    let (words, state) = (state.len(), state.as_mut_ptr());
-    unsafe { larderlate_cycle(image.as_ptr(), image.len(), state, words, samples.as_ptr(), samples.len()) }
 }
 
 /// The record of a board as its words.

@@ -18,6 +18,7 @@ mod random;
 #[allow(dead_code)]
 #[path = "../reference/mod.rs"]
 mod reference;
+mod growth;
 mod moves;
 mod rows;
 #[allow(dead_code)]
@@ -27,15 +28,15 @@ mod tables;
 use generate::Pair;
 use parts::Join;
 use rows::{
-    balanced, image_of, images_of, long_chains, look_ups, measure, open_reads, parts_of_a, print, program_a, program_of, random_parts,
-    row, Row, ROUNDS,
+    balanced, image_of, images_of, long_chains, look_ups, measure, open_reads, parts_of, print, program_a, program_of, random_parts, row,
+    Row, ROUNDS,
 };
 use std::hint::black_box;
 
 const LOOK_UPS: &str = "63 TABLEs, 32 rows";
 const BALANCED: &str = "64 signals, balanced";
 
-fn compile_row(name: &str, pair: &Pair) -> Row {
+pub fn compile_row(name: &str, pair: &Pair) -> Row {
     let image = image_of(pair);
     let length = image.len();
     let [(program, schedule), (other_program, other_schedule)] = [0; 2].map(|_| (pair.program.clone(), pair.schedule.clone()));
@@ -54,7 +55,7 @@ fn compile_row(name: &str, pair: &Pair) -> Row {
     row(name, length, [Box::new(library), Box::new(reference)])
 }
 
-fn join_row(name: &str, join: &Join) -> Row {
+pub fn join_row(name: &str, join: &Join) -> Row {
     let Join { texts, parts, links, .. } = join;
     let part = |&[a, b, c, d]: &[usize; 4]| reference::Part { program: (a, b), schedule: (c, d) };
     let other_parts: Vec<reference::Part> = parts.iter().map(part).collect();
@@ -95,7 +96,7 @@ fn report_row(name: &str, pair: &Pair) -> Row {
     row(format!("report {name}"), length, [Box::new(library), Box::new(reference)])
 }
 
-fn reset_row(name: &str, image: &[u8]) -> Row {
+pub fn reset_row(name: &str, image: &[u8]) -> Row {
     let words = usize::from(image[1]) + 1;
     let [lent, other_lent] = [0; 2].map(|_| image.to_vec());
     let (mut state, mut other) = (vec![7; words], vec![7; words]);
@@ -104,7 +105,7 @@ fn reset_row(name: &str, image: &[u8]) -> Row {
     row(format!("reset {name}"), image.len(), [Box::new(library), Box::new(reference)])
 }
 
-fn cycle_row(name: &str, image: &[u8]) -> Row {
+pub fn cycle_row(name: &str, image: &[u8]) -> Row {
     let signals = i32::from(image[1]);
     let samples: Vec<i32> = (0..signals).map(|signal| signal * 77 - 5).collect();
     let other_samples = samples.clone();
@@ -150,10 +151,10 @@ fn turn_row(name: &str, image: &[u8]) -> Row {
 
 fn main() {
     let (small, large, look_ups) = (program_a(), program_of(64, &[1, 2, 8, 24, 240], 240), look_ups());
-    let balanced = balanced();
+    let balanced = balanced(8, 64);
     let pairs = [("program A", &small), ("64 signals", &large), (LOOK_UPS, &look_ups), (BALANCED, &balanced)];
     let mut rows: Vec<Row> = pairs.iter().map(|(name, pair)| compile_row(name, pair)).collect();
-    rows.extend([join_row("8 parts of program A", &parts_of_a()), join_row("8 random parts", &random_parts(4000, 12))]);
+    rows.extend([join_row("8 parts of program A", &parts_of(&small, 8, 2)), join_row("8 random parts", &random_parts(4000, 12))]);
     rows.extend(pairs.iter().map(|(name, pair)| report_row(name, pair)));
     let mut images = images_of(&small, &large).to_vec();
     images.extend([(LOOK_UPS, image_of(&look_ups)), (BALANCED, image_of(&balanced))]);
@@ -165,11 +166,12 @@ fn main() {
     for signals in [4, 8, 16, 32, 64] {
         rows.push(compile_row(&format!("{signals} signals"), &program_of(signals, &[1, 2, 4, 8, 24], 24)));
     }
-    rows.extend([compile_row("long chains", &long_chains()), compile_row("open reads", &open_reads())]);
+    rows.extend([compile_row("long chains", &long_chains()), compile_row("open reads", &open_reads(1560))]);
     measure(&mut rows, ROUNDS);
     println!("medians of {ROUNDS} interleaved rounds; buffers and states not cleared between calls\n");
     print("call", "L", ["ours", "Rust"], &mut rows[..calls]);
     print("a turn beside a cycle of its image", "L", ["turn", "cycle"], &mut rows[calls..turns]);
     print("compile by length and shape", "L", ["ours", "Rust"], &mut rows[turns..]);
     moves::run(&small, &large);
+    growth::run();
 }

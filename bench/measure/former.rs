@@ -31,39 +31,7 @@ use rows::{images_of, measure, print, program_a, program_of, row, Call, Row, ROU
 use std::hint::black_box;
 
 mod former {
-    extern "C" {
-        fn former_compile(
-            program: *const u8,
-            program_length: usize,
-            schedule: *const u8,
-            schedule_length: usize,
-            image: *mut u8,
-            image_length: usize,
-        ) -> u64;
-        fn former_reset(image: *const u8, image_length: usize, state: *mut i32, state_words: usize) -> u64;
-        fn former_cycle(
-            image: *const u8,
-            image_length: usize,
-            state: *mut i32,
-            state_words: usize,
-            samples: *const i32,
-            samples_words: usize,
-        ) -> u64;
-    }
-
-    pub fn compile(program: &[u8], schedule: &[u8], image: &mut [u8]) -> u64 {
-        let (length, image) = (image.len(), image.as_mut_ptr());
-        unsafe { former_compile(program.as_ptr(), program.len(), schedule.as_ptr(), schedule.len(), image, length) }
-    }
-
-    pub fn reset(image: &[u8], state: &mut [i32]) -> u64 {
-        unsafe { former_reset(image.as_ptr(), image.len(), state.as_mut_ptr(), state.len()) }
-    }
-
-    pub fn cycle(image: &[u8], state: &mut [i32], samples: &[i32]) -> u64 {
-        let (words, state) = (state.len(), state.as_mut_ptr());
-        unsafe { former_cycle(image.as_ptr(), image.len(), state, words, samples.as_ptr(), samples.len()) }
-    }
+    super::library::stepping_calls!(former_compile, former_reset, former_cycle);
 }
 
 type Compile = fn(&[u8], &[u8], &mut [u8]) -> u64;

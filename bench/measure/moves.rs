@@ -20,7 +20,7 @@ fn entries(pair: &Pair) -> usize {
     count
 }
 
-fn list(pair: &Pair) -> impl FnMut() + use<> {
+pub fn list(pair: &Pair) -> impl FnMut() + use<> {
     let (pair, mut list) = (pair.clone(), vec![0; LIST_BYTES]);
     move || assert!(library::moves(black_box(&pair.program), black_box(&pair.schedule), &mut list) < 1 << 32)
 }
@@ -30,7 +30,7 @@ fn compile(pair: &Pair) -> impl FnMut() + use<> {
     move || assert!(library::compile(black_box(&pair.program), black_box(&pair.schedule), &mut image) < 1 << 32)
 }
 
-fn try_every(pair: &Pair) -> impl FnMut() + use<> {
+pub fn try_every(pair: &Pair) -> impl FnMut() + use<> {
     let (pair, mut list) = (pair.clone(), vec![0; LIST_BYTES]);
     move || assert!(reference::moves(black_box(&pair.program), black_box(&pair.schedule), &mut list).is_ok())
 }
@@ -61,7 +61,7 @@ fn print_random() {
 }
 
 pub fn run(small: &Pair, large: &Pair) {
-    let (free, capped) = (unread(false), unread(true));
+    let (free, capped) = (unread(64, false), unread(64, true));
     let pairs = [("program A", small), ("64 signals", large), ("64 unread signals", &free), ("64 unread signals, CAP", &capped)];
     let named = |name: &str, pair: &Pair, other: Call| row(format!("moves of {name}"), entries(pair), [Box::new(list(pair)), other]);
     let beside = |&(name, pair): &(&str, &Pair)| named(name, pair, Box::new(compile(pair)));

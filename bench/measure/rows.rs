@@ -108,9 +108,9 @@ pub fn long_chains() -> Pair {
     pair_of(&commands, &[0x40, 0, 0, 0x40, 1, 0, 0])
 }
 
-/// 1,560 open reads by 240 that settle at 239.
-pub fn open_reads() -> Pair {
-    let equation = [vec![0x11, 240, 0, 0, 0, 0, 0, 0], sum_of(&vec![vec![0x23, 0, 255, 240]; 1560])].concat();
+/// So many open reads by 240 that settle at 239.
+pub fn open_reads(reads: usize) -> Pair {
+    let equation = [vec![0x11, 240, 0, 0, 0, 0, 0, 0], sum_of(&vec![vec![0x23, 0, 255, 240]; reads])].concat();
     pair_of(&[vec![0x10, 1, 0, 0, 0, 0], equation], &[0x40, 0, 0, 0x40, 1, 239, 0])
 }
 
@@ -131,26 +131,29 @@ pub fn look_ups() -> Pair {
     let mut commands = vec![vec![0x10, 1, 0, 0, 0, 0]];
     commands.extend((0..32).map(next).map(row));
     commands.extend((1..64).map(equation));
-    let mut schedule: Vec<u8> = (0..64).flat_map(|signal| [0x40, signal, 0]).collect();
-    schedule.push(0);
-    pair_of(&commands, &schedule)
+    pair_of(&commands, &in_phase_0(64))
 }
 
-/// Eight inputs and 56 equations at the rates 1, 2, 4, 8 and 24, every operand of every operator as deep as its neighbour, so that words lie
-/// on the stack.
-pub fn balanced() -> Pair {
+/// So many signals: inputs first, then equations at the rates 1, 2, 4, 8 and 24, every operand of every operator as deep as its neighbour,
+/// so that words lie on the stack.
+pub fn balanced(inputs: usize, signals: usize) -> Pair {
     let mut random = Random(SEED);
-    let mut periods: Vec<u8> = vec![1; 8];
-    let mut commands = vec![vec![0x10, 1, 0, 0, 0, 0]; 8];
-    for own in 8..64u8 {
+    let mut periods: Vec<u8> = vec![1; inputs];
+    let mut commands = vec![vec![0x10, 1, 0, 0, 0, 0]; inputs];
+    for own in inputs..signals {
         let period = random.pick(&[1, 2, 4, 8, 24]);
-        let head = [vec![0x11, period], i32::from(own).to_le_bytes().to_vec(), vec![1, 0]].concat();
+        let head = [vec![0x11, period], (own as i32).to_le_bytes().to_vec(), vec![1, 0]].concat();
         commands.push([head, balanced_of(&mut random, 4, &periods, period)].concat());
         periods.push(period);
     }
-    let mut schedule: Vec<u8> = (0..64).flat_map(|signal| [0x40, signal, 0]).collect();
+    pair_of(&commands, &in_phase_0(signals))
+}
+
+/// The schedule that puts so many signals in phase 0, by number.
+fn in_phase_0(signals: usize) -> Vec<u8> {
+    let mut schedule: Vec<u8> = (0..signals).flat_map(|signal| [0x40, signal as u8, 0]).collect();
     schedule.push(0);
-    pair_of(&commands, &schedule)
+    schedule
 }
 
 /// An expression of this depth over the signals before, for an equation of this period.
@@ -185,15 +188,13 @@ fn balanced_leaf(random: &mut Random, periods: &[u8], period: u8) -> Vec<u8> {
     [vec![0x20], (random.below(2000) as i32 - 1000).to_le_bytes().to_vec()].concat()
 }
 
-/// 64 equations of period 240 that nobody reads: with CAP, under which each has room in every cycle, or without.
-pub fn unread(capped: bool) -> Pair {
-    let mut commands = vec![vec![0x11, 240, 0, 0, 0, 0, 1, 0, 0x20, 0, 0, 0, 0]; 64];
+/// Equations of period 240 that nobody reads: with CAP, under which each has room in every cycle, or without.
+pub fn unread(signals: usize, capped: bool) -> Pair {
+    let mut commands = vec![vec![0x11, 240, 0, 0, 0, 0, 1, 0, 0x20, 0, 0, 0, 0]; signals];
     if capped {
         commands.push(vec![0x14, 64, 0, 0, 0]);
     }
-    let mut schedule: Vec<u8> = (0..64).flat_map(|signal| [0x40, signal, 0]).collect();
-    schedule.push(0);
-    pair_of(&commands, &schedule)
+    pair_of(&commands, &in_phase_0(signals))
 }
 
 /// So many legal pairs as the differential test has them.
@@ -206,13 +207,12 @@ pub fn random_pairs(count: usize) -> Vec<Pair> {
     std::iter::repeat_with(&mut pair).filter(|pair| pair.expected == 0).take(count).collect()
 }
 
-/// Eight parts, each program A, the input of each but the first linked to signal 2 of the one before.
-pub fn parts_of_a() -> Join {
-    let pair = program_a();
+/// So many parts, each this pair, the input of each but the first linked to a signal of the one before.
+pub fn parts_of(pair: &Pair, parts: usize, signal: u8) -> Join {
     let texts = [&pair.program[..], &pair.schedule].concat();
     let part = [0, pair.program.len(), pair.program.len(), pair.schedule.len()];
-    let links = (1..8).flat_map(|part| [part, 0, part - 1, 2]).collect();
-    Join { texts, parts: vec![part; 8], links, fault: Fault::None, expected: 0 }
+    let links = (1..parts as u8).flat_map(|part| [part, 0, part - 1, signal]).collect();
+    Join { texts, parts: vec![part; parts], links, fault: Fault::None, expected: 0 }
 }
 
 /// Eight random parts with at least so many bytes of program and so many links.
@@ -254,13 +254,18 @@ fn median(times: &mut [f64]) -> f64 {
     times[times.len() / 2]
 }
 
+/// The medians of both sides of a row.
+pub fn medians(row: &mut Row) -> [f64; 2] {
+    row.times.each_mut().map(|times| median(times))
+}
+
 /// The medians of both sides, named, and their ratio.
 pub fn print(title: &str, length: &str, sides: [&str; 2], rows: &mut [Row]) {
     let [ours, other] = sides.map(|side| format!("{side} (ns)"));
     let each = format!("ns / {length}");
     println!("{title:<52} {length:>7} {ours:>11} {other:>11} {:>6} {each:>11}", "ratio");
     for row in rows {
-        let [ours, other] = row.times.each_mut().map(|times| median(times));
+        let [ours, other] = medians(row);
         let length = row.length;
         println!("{:<52} {length:>7} {ours:>11.0} {other:>11.0} {:>6.2} {:>11.2}", row.name, ours / other, ours / length as f64);
     }

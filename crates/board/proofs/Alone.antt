@@ -51,8 +51,8 @@ use Rattle.board.specs.Events.{
   ownCycles,
   turnBy,
 }
-use Rattle.board.specs.declared.Board.{Board}
-use Rattle.board.specs.declared.Place.{Place}
+use Rattle.board.specs.Board.{Board}
+use Rattle.board.specs.Board.{Place}
 use Rattle.board.proofs.Answers.{boardDone}
 use Rattle.board.proofs.Due.{next-below}
 use Rattle.board.proofs.Round.{set-other}

@@ -23,7 +23,7 @@ use Rattle.board.specs.Board.{
   turnWith,
   turnOf,
 }
-use Rattle.board.specs.declared.Board.{Board}
+use Rattle.board.specs.Board.{Board}
 
 -- a refusal leaves the record and the state as they were
 abbrev pub boardRefusal : {A : Type 0} → Fault → Board → List ℤ → BoardEffect A

@@ -44,8 +44,8 @@ use Rattle.board.specs.Events.{
   held,
   Held,
 }
-use Rattle.board.specs.declared.Board.{Board}
-use Rattle.board.specs.declared.Place.{Place}
+use Rattle.board.specs.Board.{Board}
+use Rattle.board.specs.Board.{Place}
 use Rattle.board.proofs.Cases.{
   LoadCase,
   load-stays,

@@ -31,8 +31,8 @@ use Rattle.board.specs.Events.{
   NotFailed,
   loadBy,
 }
-use Rattle.board.specs.declared.Board.{Board}
-use Rattle.board.specs.declared.Place.{Place}
+use Rattle.board.specs.Board.{Board}
+use Rattle.board.specs.Board.{Place}
 use Rattle.board.proofs.Alone.{stretchOf, Leaves, same, stepped, event-leaves, reset-in-length}
 use Rattle.board.proofs.Cases.{
   LoadCase,

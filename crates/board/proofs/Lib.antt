@@ -1,4 +1,4 @@
--- Laws that the proofs of several functions cite, and what the calls promise together.
+-- Laws that the proofs of several functions cite; what the calls promise together, of the record and of the numbers that stand for it.
 pub mod Answers
 pub mod Stretch
 pub mod Words
@@ -10,3 +10,8 @@ pub mod Alone
 pub mod Others
 pub mod Intact
 pub mod Promises
+pub mod Places
+pub mod Next
+pub mod Held
+pub mod Numbers
+pub mod Lists

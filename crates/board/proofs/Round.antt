@@ -45,7 +45,7 @@ use Rattle.board.specs.Events.{
   markBy,
   turnBy,
 }
-use Rattle.board.specs.declared.Place.{Place}
+use Rattle.board.specs.Board.{Place}
 use Rattle.board.proofs.Answers.{boardDone}
 use Rattle.board.proofs.Due.{true≢false, NextAt, reached, none-due}
 use Rattle.board.proofs.Stretch.{never}

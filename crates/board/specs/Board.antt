@@ -11,10 +11,21 @@ use Rattle.model.specs.Rules.Outcome.{Outcome, accepted, refused, refuse, _▷_
 use Rattle.model.specs.Rules.Search.{firstBelow}
 use Rattle.model.specs.declared.Found.{Found}
 use Rattle.model.specs.declared.Found.the-variants.{At, Nowhere}
-use Rattle.board.specs.declared.Board.{Board}
-use Rattle.board.specs.declared.Place.{Place}
 use Rattle.board.specs.declared.Turned.{Turned}
 use Rattle.board.specs.declared.Turned.the-variants as Turned
+
+-- A place: whether it is loaded and due, its stretch of the images, and the number of turns that took it since its load.
+pub record Place : Type 0 where
+  pub loaded : Bool
+  pub due : Bool
+  pub start : ℕ
+  pub size : ℕ
+  pub count : ℕ
+
+-- A record: the places, and the one last taken.
+pub record Board : Type 0 where
+  pub places : List Place
+  pub last : ℕ
 
 -- A place that was never loaded.
 abbrev pub vacant : Place

@@ -23,7 +23,7 @@ use Rattle.board.specs.Board.{
   idle,
   took,
 }
-use Rattle.board.specs.declared.Board.{Board}
+use Rattle.board.specs.Board.{Board}
 
 -- A load names its place and stretch, a mark its place, a turn is lent samples; a change gives the images and the state that
 -- are lent from then on.

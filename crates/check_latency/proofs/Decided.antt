@@ -27,7 +27,8 @@ use Rattle.model.specs.declared.Mode.{Mode}
 use Rattle.model.proofs.Basics.All.{all-at}
 use Rattle.model.proofs.Declaration.{enum}
 use Rattle.model.proofs.Pairs.Decide.{met-settled}
-use Rattle.model.proofs.Texts.Legal.{legal, SpellsChain}
+use Rattle.model.proofs.Texts.Legal.{legal}
+use Rattle.model.specs.Says.Stands.{SpellsChain}
 use Rattle.model.proofs.Pairs.Links.{LinkedBack, linked-backwards, declared-backwards, chain-met}
 use Rattle.model.proofs.Pairs.Verdict.{links-declared, chains-linked}
 use Rattle.model.proofs.Pairs.Links.{ChainMet, source-count}

@@ -17,7 +17,8 @@ use Rattle.model.specs.Rules.Rates.{countReads, isLinked}
 use Rattle.model.specs.Rules.Schedule.{Schedule}
 use Rattle.model.specs.Rules.Word.{byteAt}
 use Rattle.model.proofs.Basics.All.{all-at}
-use Rattle.model.proofs.Texts.Legal.{legal, SpellsChain}
+use Rattle.model.proofs.Texts.Legal.{legal}
+use Rattle.model.specs.Says.Stands.{SpellsChain}
 use Rattle.model.specs.Says.Grammar.{SpellsLinks}
 use Rattle.model.proofs.Pairs.Verdict.{links-declared, chains-linked}
 use Rattle.text_program.specs.Tables.{noChain, chainAt}

@@ -19,7 +19,8 @@ use Rattle.model.specs.declared.Operator.the-variants as Operator
 use Rattle.model.specs.declared.Found.the-variants.{At, Nowhere}
 use Rattle.model.specs.declared.Kind.{Kind}
 use Rattle.model.specs.declared.Sampled.{Sampled}
-use Rattle.model.proofs.Texts.Legal.{SpellsRead, legal, signal-reads}
+use Rattle.model.proofs.Texts.Legal.{legal, signal-reads}
+use Rattle.model.specs.Says.Stands.{SpellsRead}
 use Rattle.model.proofs.Pairs.Links.{read-of}
 use Rattle.text_command.specs.Operator.{ReadStands}
 use Rattle.text_command.proofs.Shape.{Shape, read-shape}

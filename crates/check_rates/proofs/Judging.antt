@@ -15,7 +15,8 @@ use Rattle.model.specs.Says.Grammar.{SpellsLinks}
 use Rattle.model.specs.Rules.Word.{byteAt}
 use Rattle.model.specs.declared.Fault.{Fault}
 use Rattle.model.proofs.Basics.All.{all-at}
-use Rattle.model.proofs.Texts.Legal.{SpellsChain, legal}
+use Rattle.model.proofs.Texts.Legal.{legal}
+use Rattle.model.specs.Says.Stands.{SpellsChain}
 use Rattle.model.proofs.Basics.Outcomes.{accepted-same}
 use Rattle.text_command.specs.Operator.{ReadTaken}
 use Rattle.text_command.specs.declared.Taken.{Taken}

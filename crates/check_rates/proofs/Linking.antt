@@ -13,7 +13,8 @@ use Rattle.model.specs.Rules.Word.{byteAt}
 use Rattle.model.specs.declared.Fault.{Fault}
 use Rattle.model.proofs.Basics.All.{all-at}
 use Rattle.model.proofs.Texts.Commands.{declaration-sound}
-use Rattle.model.proofs.Texts.Legal.{legal, SpellsChain}
+use Rattle.model.proofs.Texts.Legal.{legal}
+use Rattle.model.specs.Says.Stands.{SpellsChain}
 use Rattle.model.specs.Says.Grammar.{SpellsLinks}
 use Rattle.basics.specs.Judgement.{judgementOf}
 use Rattle.basics.specs.declared.Judged.the-variants as Judged

@@ -15,7 +15,8 @@ use Rattle.model.specs.Rules.Schedule.{Schedule}
 use Rattle.model.specs.Rules.Search.{joinFrom}
 use Rattle.model.specs.declared.Fault.{Fault}
 use Rattle.model.proofs.Basics.All.{all-at}
-use Rattle.model.proofs.Texts.Legal.{SpellsRead, legal, read-sound, signal-reads}
+use Rattle.model.proofs.Texts.Legal.{legal, read-sound, signal-reads}
+use Rattle.model.specs.Says.Stands.{SpellsRead}
 use Rattle.model.proofs.Pairs.Verdict.{Rated, reads-rated}
 use Rattle.text_command.specs.Operator.{ReadTaken}
 use Rattle.text_command.specs.declared.Taken.{Taken}

@@ -27,7 +27,8 @@ use Rattle.model.specs.Rules.Word.{byteAt}
 use Rattle.model.specs.declared.Fault.{Fault}
 use Rattle.model.proofs.Texts.Commands.{declaration-sound, written-byte}
 use Rattle.model.proofs.Texts.Written.{as-written}
-use Rattle.model.proofs.Texts.Legal.{legal, SpellsBody, signal-spelled}
+use Rattle.model.proofs.Texts.Legal.{legal, signal-spelled}
+use Rattle.model.specs.Says.Stands.{SpellsBody}
 use Rattle.model.specs.Says.Feasible.{All, Met}
 use Rattle.model.proofs.Basics.All.{all-map}
 use Rattle.model.proofs.Basics.Outcomes.{accepted-same}

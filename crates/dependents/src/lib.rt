@@ -2,6 +2,7 @@
 use basics::Judged;
 use model::Fault;
 use model::Ran;
+use model::refusals;
 use text_program::Tables;
 ghost use mathlib.Core.Bool.{Bool};
 ghost use mathlib.Core.List.{List};
@@ -9,7 +10,7 @@ ghost use mathlib.Core.Path.{_≡_};
 ghost use Prim.Native.Nat.{ℕ, _≤_, _<_};
 ghost use lib.ListN.{length};
 ghost use Rattle.model.specs.Rules.Dependents.{anyRead, markReaders, markByte, markBytes, dependentsOf};
-ghost use Rattle.model.specs.Rules.Machine.{ranOf};
+ghost use Rattle.model.specs.Rules.Machine.{Does, ranOf};
 ghost use Rattle.model.specs.Rules.Outcome.{accepted};
 ghost use Rattle.model.specs.Rules.Program.{Program, signalAt, bodyReads, parseProgram};
 ghost use Rattle.model.specs.Rules.Script.{isInputOf};
@@ -23,7 +24,7 @@ fn refused(judged: Judged) -> Ran
 {
     match judged {
         Judged::Fine => Ran::Refused(Fault {
-            number: 1,
+            number: refusals::TEXT_TOO_LONG,
             place: 0,
         }),
         Judged::Refused(fault) => Ran::Refused(fault),
@@ -134,8 +135,9 @@ fn dependents_with(
     marks: &mut [u8; 64],
 ) -> Ran
     requires { ⌜ Spacious (length (now program)) (length (now reads)) ⌝ }
-    ensures answer { λ r. ⌜ ranOf r ≡ dependentsOf (now (program .entry)) (now (schedule .entry)) input (now (marks .entry)) .answer ⌝ }
-    ensures left { λ _. ⌜ now (marks .exit) ≡ dependentsOf (now (program .entry)) (now (schedule .entry)) input (now (marks .entry)) .left ⌝ }
+    ensures { λ r. ⌜ Does
+        (dependentsOf (now (program .entry)) (now (schedule .entry)) input (now (marks .entry)))
+        (ranOf r) (now (marks .exit)) ⌝ }
 {
     let checked = check_pair::check_with(program, schedule, reads);
     let judged = checked.judged;
@@ -146,7 +148,7 @@ fn dependents_with(
     let tables = pair.tables;
     if !is_input(program, tables, input) {
         return Ran::Refused(Fault {
-            number: 48,
+            number: refusals::NO_INPUT,
             place: 0,
         });
     }
@@ -158,16 +160,18 @@ fn dependents_with(
 // A program of at most 512 bytes, as its checks take one.
 fn dependents_short(program: &[u8], schedule: &[u8], input: usize, marks: &mut [u8; 64]) -> Ran
     requires { ⌜ length (now program) ≤ 512 ⌝ }
-    ensures answer { λ r. ⌜ ranOf r ≡ dependentsOf (now (program .entry)) (now (schedule .entry)) input (now (marks .entry)) .answer ⌝ }
-    ensures left { λ _. ⌜ now (marks .exit) ≡ dependentsOf (now (program .entry)) (now (schedule .entry)) input (now (marks .entry)) .left ⌝ }
+    ensures { λ r. ⌜ Does
+        (dependentsOf (now (program .entry)) (now (schedule .entry)) input (now (marks .entry)))
+        (ranOf r) (now (marks .exit)) ⌝ }
 {
     let mut reads: [u16; 256] = [0; 256];
     dependents_with(program, schedule, input, &mut reads, marks)
 }
 
 fn dependents_long(program: &[u8], schedule: &[u8], input: usize, marks: &mut [u8; 64]) -> Ran
-    ensures answer { λ r. ⌜ ranOf r ≡ dependentsOf (now (program .entry)) (now (schedule .entry)) input (now (marks .entry)) .answer ⌝ }
-    ensures left { λ _. ⌜ now (marks .exit) ≡ dependentsOf (now (program .entry)) (now (schedule .entry)) input (now (marks .entry)) .left ⌝ }
+    ensures { λ r. ⌜ Does
+        (dependentsOf (now (program .entry)) (now (schedule .entry)) input (now (marks .entry)))
+        (ranOf r) (now (marks .exit)) ⌝ }
 {
     let mut reads: [u16; 4096] = [0; 4096];
     dependents_with(program, schedule, input, &mut reads, marks)
@@ -176,8 +180,9 @@ fn dependents_long(program: &[u8], schedule: &[u8], input: usize, marks: &mut [u
 // Marks by 1 each signal of an accepted pair that depends on an input, and by 0 every other of the 64. A refused call leaves the
 // marks as they were.
 pub fn dependents(program: &[u8], schedule: &[u8], input: usize, marks: &mut [u8; 64]) -> Ran
-    ensures answer { λ r. ⌜ ranOf r ≡ dependentsOf (now (program .entry)) (now (schedule .entry)) input (now (marks .entry)) .answer ⌝ }
-    ensures left { λ _. ⌜ now (marks .exit) ≡ dependentsOf (now (program .entry)) (now (schedule .entry)) input (now (marks .entry)) .left ⌝ }
+    ensures { λ r. ⌜ Does
+        (dependentsOf (now (program .entry)) (now (schedule .entry)) input (now (marks .entry)))
+        (ranOf r) (now (marks .exit)) ⌝ }
 {
     if program.len() <= 512 {
         return dependents_short(program, schedule, input, marks);

@@ -13,7 +13,7 @@ use Rattle.model.specs.Says.Written.{DeclarationWhole}
 use Rattle.model.specs.declared.Declaration.{Declaration}
 use Rattle.model.proofs.Texts.Commands.{byteOf, declaration-sound, written-byte}
 use Rattle.model.proofs.Texts.Written.{as-written}
-use Rattle.model.proofs.Texts.Legal.{SpellsBody, SpellsSignal}
+use Rattle.model.specs.Says.Stands.{SpellsBody, SpellsSignal}
 use Rattle.model.specs.Says.Grammar.{Spells}
 use Rattle.image_code.specs.Code.{Puts, SignalRoom, EmitsSignal}
 use Rattle.image_code.proofs.Operands.{Room, Emits, puts-length, join}

@@ -9,7 +9,7 @@ use Rattle.model.specs.Rules.Image.{exprCode, signalCode}
 use Rattle.model.specs.Rules.Program.{leastFactor, Expr, Signal}
 use Rattle.model.specs.Says.Feasible.{All}
 use Rattle.model.specs.Says.Grammar.{depth, Spells}
-use Rattle.model.proofs.Texts.Legal.{SpellsSignal}
+use Rattle.model.specs.Says.Stands.{SpellsSignal}
 use Rattle.model.specs.declared.Operator.{Operator}
 use Rattle.image_code.specs.Shape.{leadOf}
 

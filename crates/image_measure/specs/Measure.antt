@@ -5,7 +5,7 @@ use mathlib.Core.Path.{_≡_}
 use Rattle.model.specs.Says.Grammar.{depth, Spells}
 use Rattle.model.specs.Rules.Program.{leastFactor, Expr, Signal}
 use Rattle.model.specs.Rules.Report.{exprCommands, exprHeight, bodyCommands, bodyHeight}
-use Rattle.model.proofs.Texts.Legal.{SpellsSignal}
+use Rattle.model.specs.Says.Stands.{SpellsSignal}
 use Rattle.image_measure.specs.declared.Measure.{Measure}
 use Rattle.image_measure.specs.declared.Work.{Work}
 

@@ -1,12 +1,10 @@
 // The tail of an image, for tools that show signals by their labels. Nothing is written or copied.
 use model::Compiled;
 use model::Fault;
+use model::refusals;
 ghost use mathlib.Core.Path.{_≡_};
 ghost use Rattle.model.specs.Rules.Compile.{compiledOf};
 ghost use Rattle.model.specs.Rules.Tail.{tailIn, lengthOfTail, stretchIn};
-
-// The number of the refusal.
-const BAD_IMAGE: u8 = 20;
 
 // How long the tail of what is lent is, 0 for an image without one; or the refusal.
 pub fn tail_length(lent: &[u8]) -> Compiled
@@ -15,7 +13,7 @@ pub fn tail_length(lent: &[u8]) -> Compiled
     let image = image_valid::image_in(lent);
     if !image_valid::well_formed(image) {
         return Compiled::Refused(Fault {
-            number: BAD_IMAGE,
+            number: refusals::IMAGE_NOT_WELL_FORMED,
             place: 0,
         });
     }

@@ -12,7 +12,7 @@ use Rattle.model.specs.Rules.Program.{Program, Signal, Body, input, equation, n
 use Rattle.model.specs.Rules.Search.{joinFrom}
 use Rattle.model.specs.Rules.Word.{twoBytes, fourBytes, wordAt, wordBytes}
 use Rattle.model.proofs.Texts.Commands.{declaration-sound}
-use Rattle.model.proofs.Texts.Legal.{SpellsBody, SpellsSignal}
+use Rattle.model.specs.Says.Stands.{SpellsBody, SpellsSignal}
 use Rattle.text_program.specs.Tables.{Sums, codeIn}
 use Rattle.image_write.specs.Codes.{codesFrom, CodesAt}
 use Rattle.model.proofs.Images.Stretches.{joined-cons}

@@ -7,7 +7,7 @@ use Rattle.model.specs.Rules.Image.{signalCode, joined, offsets}
 use Rattle.model.specs.Rules.Outcome.{Outcome, accepted, refused}
 use Rattle.model.specs.Rules.Program.{Program, Signal, noSignal, parseProgram}
 use Rattle.model.specs.Rules.Search.{joinFrom}
-use Rattle.model.proofs.Texts.Legal.{SpellsSignal}
+use Rattle.model.specs.Says.Stands.{SpellsSignal}
 
 abbrev pub signalsIn : Outcome Program → List Signal
 signalsIn (accepted p) = p .signals

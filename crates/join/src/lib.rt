@@ -5,6 +5,7 @@ use join_gather::Joint;
 use join_verdict::Verdict;
 use model::Fault;
 use model::Joined;
+use model::refusals;
 ghost use mathlib.Core.Bool.{cond};
 ghost use mathlib.Core.Path.{_≡_};
 ghost use Prim.Native.Nat.{_≤_};
@@ -16,9 +17,6 @@ ghost use Rattle.model.specs.declared.Found.the-variants.{At, Nowhere};
 ghost use Rattle.join_emit.specs.Image.{JointTimed};
 ghost use Rattle.join.specs.Ready.{JoinReady, LaidOutJoint, LaidOutJoin};
 
-// The number of the refusal of a buffer.
-const SHORT_BUFFER: u8 = 17;
-
 // A refusal, with its part where it is one inside a part.
 fn refused(judged: Judged, named: bool, part: usize) -> Joined
     ensures { λ r. ⌜ ((f : Fault) → judged ≡ Judged.Refused f →
@@ -26,7 +24,7 @@ fn refused(judged: Judged, named: bool, part: usize) -> Joined
 {
     match judged {
         Judged::Fine => Joined::Refused(Fault {
-            number: SHORT_BUFFER,
+            number: refusals::IMAGE_BUFFER_SHORT,
             place: 0,
         }),
         Judged::Refused(fault) => {
@@ -109,7 +107,7 @@ fn write(
     let written = layout.written;
     if image.len() < written {
         return Joined::Refused(Fault {
-            number: SHORT_BUFFER,
+            number: refusals::IMAGE_BUFFER_SHORT,
             place: written,
         });
     }

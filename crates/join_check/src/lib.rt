@@ -3,6 +3,7 @@ use basics::Judged;
 use model::Index;
 use model::Kind;
 use model::Sampled;
+use model::refusals;
 use read_rule::Timing;
 ghost use mathlib.Core.List.{List};
 ghost use mathlib.Core.Path.{_≡_};
@@ -74,7 +75,7 @@ pub fn links_met(
     let mut at: usize = 0;
     while at < links.len() {
         if !link_met(links, at, bases, periods, phases, ranks) {
-            return basics::refuse(14, at / 4);
+            return basics::refuse(refusals::READ_UNMET, at / 4);
         }
         at = at + 4;
     }

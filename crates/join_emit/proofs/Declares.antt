@@ -37,7 +37,7 @@ use Rattle.model.proofs.Joining.Numbers.{
   wired-count,
   wired-signal,
 }
-use Rattle.model.proofs.Texts.Legal.{SpellsSignal}
+use Rattle.model.specs.Says.Stands.{SpellsSignal}
 use Rattle.model.proofs.Images.Stretches.{joined-cons}
 use Rattle.text_program.specs.Tables.{Sums, codeIn}
 use Rattle.image_write.specs.Codes.{codesFrom}

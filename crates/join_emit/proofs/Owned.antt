@@ -9,7 +9,8 @@ use Rattle.model.specs.Rules.Parts.{Part, partAt}
 use Rattle.model.specs.Rules.Program.{Signal, Read, noSignal, bodyReads, count, signalAt}
 use Rattle.model.proofs.Basics.All.{all-map}
 use Rattle.model.proofs.Pairs.Verdict.{pair-passed, reads-rated}
-use Rattle.model.proofs.Texts.Legal.{SpellsSignal, legal, signal-spelled}
+use Rattle.model.proofs.Texts.Legal.{legal, signal-spelled}
+use Rattle.model.specs.Says.Stands.{SpellsSignal}
 use Rattle.image_write.specs.Codes.{signalsIn, declaredBy}
 use Rattle.join_gather.proofs.Each.{PartOf}
 use Rattle.join_emit.specs.Code.{ReadsFit}

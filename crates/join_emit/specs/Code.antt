@@ -10,7 +10,7 @@ use Rattle.model.specs.Rules.Parts.{renumberBody}
 use Rattle.model.specs.Rules.Program.{Signal, Body, Read, bodyReads}
 use Rattle.model.specs.Rules.Writing.{Wrote}
 use Rattle.model.specs.Says.Feasible.{All}
-use Rattle.model.proofs.Texts.Legal.{SpellsSignal}
+use Rattle.model.specs.Says.Stands.{SpellsSignal}
 
 -- The code of the joined signal x, whose part has this base: of a linked IN a LOAD of its source and a STORE; 255 is no source.
 abbrev pub joinedCode : ℕ → ℕ → ℕ → Body → List ℕ

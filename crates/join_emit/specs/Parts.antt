@@ -9,7 +9,7 @@ use Rattle.model.specs.Rules.Outcome.{accepted}
 use Rattle.model.specs.Rules.Program.{Signal, noSignal}
 use Rattle.model.specs.Rules.Search.{tableFrom}
 use Rattle.model.specs.Rules.Word.{twoBytes, wordBytes}
-use Rattle.model.proofs.Texts.Legal.{SpellsSignal}
+use Rattle.model.specs.Says.Stands.{SpellsSignal}
 use Rattle.image_write.specs.Codes.{declaredBy}
 use Rattle.join_emit.specs.Code.{joinedCode, ReadsFit}
 

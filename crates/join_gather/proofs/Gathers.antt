@@ -29,7 +29,8 @@ use Rattle.model.specs.Rules.Schedule.{Schedule, putsFaults, putPhase, isPut, s
 use Rattle.model.specs.Rules.Search.{firstBelow, allBelow, sum, tableFrom, table, joinFrom}
 use Rattle.model.specs.declared.Fault.{Fault}
 use Rattle.model.specs.declared.Found.the-variants.{At}
-use Rattle.model.proofs.Joining.Parts.{OrderedPart, join-count, join-chains, joined-last}
+use Rattle.model.proofs.Joining.Parts.{join-count, join-chains, joined-last}
+use Rattle.model.specs.Says.Feasible.{OrderedPart}
 use Rattle.model.proofs.Basics.Outcomes.{
   then-then,
   then-same,

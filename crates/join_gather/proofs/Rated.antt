@@ -15,7 +15,8 @@ use Rattle.model.specs.Rules.Program.{Signal, Body, input, equation, count, sig
 use Rattle.model.specs.Rules.Word.{byteAt}
 use Rattle.model.proofs.Texts.Commands.{declaration-sound, written-byte}
 use Rattle.model.proofs.Texts.Written.{as-written}
-use Rattle.model.proofs.Texts.Legal.{legal, SpellsBody, signal-spelled, signal-period}
+use Rattle.model.proofs.Texts.Legal.{legal, signal-spelled, signal-period}
+use Rattle.model.specs.Says.Stands.{SpellsBody}
 use Rattle.text_program.specs.declared.Tables.{Tables}
 use Rattle.join_links.specs.ByPart.{signalIn, valueIn}
 use Rattle.join_gather.specs.Rates.{Filled, RatesOf, RatesBy}

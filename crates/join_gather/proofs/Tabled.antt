@@ -19,7 +19,6 @@ use Rattle.text_schedule.specs.declared.Slots.{Slots}
 use Rattle.model.proofs.Joining.Numbers.{base-all, base-kept}
 use Rattle.model.proofs.Joining.Renumbered.{weight-kept, code-length}
 use Rattle.model.proofs.Joining.Parts.{
-  OrderedPart,
   join-count,
   first-signal,
   second-signal,
@@ -36,6 +35,7 @@ use Rattle.model.proofs.Joining.Parts.{
   join-chains,
   joined-last,
 }
+use Rattle.model.specs.Says.Feasible.{OrderedPart}
 use Rattle.join_gather.specs.Joint.{
   JointSpace,
   Copied,

@@ -6,7 +6,7 @@ use mathlib.Core.Path.{_≡_}
 use lib.ListN.{length, getD}
 use Rattle.model.specs.Rules.Parts.{Part, joinedParts, base}
 use Rattle.model.specs.Rules.Program.{count, signalAt}
-use Rattle.model.proofs.Joining.Parts.{OrderedPart}
+use Rattle.model.specs.Says.Feasible.{OrderedPart}
 use Rattle.text_program.specs.Tables.{capOf, PeriodsOf, WeightsOf, LabelsOf, Sums, codeIn, TablesOf, SlotsOf}
 use Rattle.text_program.specs.declared.Tables.{Tables}
 use Rattle.text_schedule.specs.declared.Slots.{Slots}

@@ -18,7 +18,7 @@ ghost use Rattle.text_program.specs.Tables.{capOf, TablesOf};
 ghost use Rattle.join_gather.specs.Rates.{RatesOf, RatesBy};
 ghost use Rattle.join_gather.specs.Gathering.{GatheredAs};
 ghost use Rattle.join_gather.specs.Rows.{NoTable, TableOf};
-ghost use Rattle.model.proofs.Joining.Parts.{OrderedPart};
+ghost use Rattle.model.specs.Says.Feasible.{OrderedPart};
 ghost use Rattle.join_gather.specs.Joint.{JointSpace, Nothing, AddsSignals, WithSignals, PartTables, CodeWithin, JointOf};
 
 // What the image of the joined parts is made of, by joined number; `bases` has where the signals of each part start, and last

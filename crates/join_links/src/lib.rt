@@ -1,5 +1,6 @@
 // The links of a join: whether each names an IN of one part and a signal of another, of equal periods, and no IN twice (31).
 use basics::Judged;
+use model::refusals;
 ghost use mathlib.Core.List.{List};
 ghost use mathlib.Core.Path.{_≡_};
 ghost use mathlib.Core.Bool.{true};
@@ -62,10 +63,10 @@ pub fn judge_links(links: &[u8], periods: &[u8; 512], inputs: &mut [bool; 512]) 
     let mut at: usize = 0;
     while at < links.len() {
         if links.len() - at < 4 {
-            return basics::refuse(31, at / 4);
+            return basics::refuse(refusals::WRONG_LINK, at / 4);
         }
         if !is_right(links, at, periods, inputs) {
-            return basics::refuse(31, at / 4);
+            return basics::refuse(refusals::WRONG_LINK, at / 4);
         }
         let second = at + 1;
         let entry = 64 * basics::wide(links[at]) + basics::wide(links[second]);

@@ -1,5 +1,6 @@
 // The texts of the parts of a join, before all else: how long they are, how many, and whether they lie in their lent buffer.
 use basics::Judged;
+use model::refusals;
 ghost use mathlib.Core.Path.{_≡_};
 ghost use Prim.Native.Nat.{_<_};
 ghost use lib.Dec.{leb};
@@ -62,13 +63,13 @@ pub fn check_texts(texts: &[u8], numbers: &[usize]) -> Judged
     ensures { λ r. ⌜ r ≡ judgementOf (lent (now (texts .entry)) (now (numbers .entry))) ⌝ }
 {
     if !is_short(numbers) {
-        return basics::refuse(1, 0);
+        return basics::refuse(refusals::TEXT_TOO_LONG, 0);
     }
     if 8 < numbers.len() / 4 {
-        return basics::refuse(4, 0);
+        return basics::refuse(refusals::OVER_A_BOUND, 0);
     }
     if !all_lent(texts, numbers) {
-        return basics::refuse(27, 0);
+        return basics::refuse(refusals::STRETCH_OUTSIDE, 0);
     }
     Judged::Fine
 }

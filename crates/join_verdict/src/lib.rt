@@ -2,6 +2,7 @@
 use basics::Judged;
 use join_gather::Joint;
 use join_gather::Table;
+use model::refusals;
 ghost use mathlib.Core.List.{List};
 ghost use mathlib.Core.Path.{_≡_};
 ghost use Rattle.model.specs.Rules.Join.{oneTable};
@@ -39,7 +40,7 @@ fn one_table(table: Table) -> Judged
     ensures { λ r. ⌜ ((parts : List Part) → TableOf parts table → r ≡ judgementOf (oneTable parts)) ⌝ }
 {
     if 1 < table.parts {
-        return basics::refuse(31, 0);
+        return basics::refuse(refusals::WRONG_LINK, 0);
     }
     Judged::Fine
 }

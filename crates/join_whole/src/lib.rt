@@ -2,6 +2,7 @@
 use basics::Judged;
 use check_rates::Cycles;
 use join_gather::Joint;
+use model::refusals;
 ghost use mathlib.Core.List.{List};
 ghost use mathlib.Core.Path.{_≡_};
 ghost use Prim.Native.Nat.{ℕ};
@@ -31,10 +32,10 @@ pub fn check_joint(links: &[u8], joint: Joint) -> Whole
         WholeAs (joinedVerdict parts (linksOf (now (links .entry)))) r) ⌝ }
 {
     if 64 < joint.signals {
-        return refused(basics::refuse(4, 0));
+        return refused(basics::refuse(refusals::OVER_A_BOUND, 0));
     }
     if 16 < joint.chains {
-        return refused(basics::refuse(4, 0));
+        return refused(basics::refuse(refusals::OVER_A_BOUND, 0));
     }
     let bases = joint.bases;
     let periods = joint.periods;
@@ -43,7 +44,7 @@ pub fn check_joint(links: &[u8], joint: Joint) -> Whole
     let weights = joint.weights;
     let cycles = check_rates::hypercycle(joint.signals, &periods);
     let Cycles::Least(h) = cycles else {
-        return refused(basics::refuse(9, 0));
+        return refused(basics::refuse(refusals::HYPERCYCLE_TOO_LONG, 0));
     };
     let met = join_check::links_met(links, &bases, &periods, &phases, &ranks);
     let Judged::Fine = met else {

@@ -1,7 +1,8 @@
 -- The answer of a call as one number, for a C caller.
 use Prim.Native.Nat.{ℕ, _+_, _*_, _%_}
 use mathlib.Core.List.{List}
-use Rattle.model.specs.Rules.Machine.{statedLength}
+use mathlib.Core.Path.{_≡_}
+use Rattle.model.specs.Rules.Machine.{Effect, statedLength}
 use Rattle.model.specs.Rules.Outcome.{Outcome, accepted, refused}
 use Rattle.model.specs.declared.Found.{Found}
 use Rattle.model.specs.declared.Found.the-variants.{At, Nowhere}
@@ -12,6 +13,10 @@ use Rattle.model.specs.declared.Sizes.{Sizes}
 abbrev pub codeNumber : Outcome ℕ → ℕ
 codeNumber (accepted n) = n
 codeNumber (refused f) = f .number * 4294967296 + f .place % 4294967296
+
+-- A call does what a definition says, its answer told as one number.
+abbrev pub Tells : {A : Type 0} → Effect ℕ A → ℕ → List A → Type 0
+Tells e number left = (number ≡ codeNumber (e .answer)) × (left ≡ e .left)
 
 -- The part that a refusal names, or what was there before.
 abbrev pub partNumber : ℕ → Found → ℕ

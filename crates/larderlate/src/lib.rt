@@ -1,6 +1,6 @@
 // Larderlate: compile, join, report, reset, cycle, tail, convert, moves, dependents, assemble and list; for C the calls of a board
 // too. Each call takes any bytes and words, and its answer and what it leaves are the definition's. What they promise together is in
-// crates `promises` and `board`.
+// crate `promises`.
 use board::Turned;
 use model::Compiled;
 use model::Cycled;
@@ -13,7 +13,7 @@ ghost use mathlib.Core.Path.{_≡_};
 ghost use Rattle.model.specs.Rules.Compile.{compiledOf, compileOf};
 ghost use Rattle.model.specs.Rules.Dependents.{dependentsOf};
 ghost use Rattle.model.specs.Rules.Join.{joinedOf, partIn, joinOf, partNamed};
-ghost use Rattle.model.specs.Rules.Machine.{ranOf, cycledOf, resetOf, cycleOf};
+ghost use Rattle.model.specs.Rules.Machine.{Does, ranOf, cycledOf, resetOf, cycleOf};
 ghost use Rattle.model.specs.Rules.Moves.{listedOf, movesOf};
 ghost use Rattle.model.specs.Rules.Outcome.{refused};
 ghost use Rattle.model.specs.Rules.Report.{reportedOf, reportOf};
@@ -21,13 +21,14 @@ ghost use Rattle.model.specs.Rules.Rewrite.{convertOf};
 ghost use Rattle.model.specs.Rules.Tail.{tailIn, lengthOfTail, stretchIn};
 ghost use Rattle.model.specs.Rules.TextForm.{assembleOf, listingOf};
 ghost use Rattle.board.specs.Board.{loadOf, markPlaceOf, turnOf, turnedOf};
-ghost use Rattle.board_words.specs.Record.{boardOf, newWords, loadRecord, markRecord, turnRecord, turnDone, outcomeIn};
-ghost use Rattle.larderlate.specs.Code.{codeNumber, partNumber, lengthIn, writtenIn, stackIn, startIn};
+ghost use Rattle.board.specs.Record.{boardOf, newWords, loadRecord, markRecord, turnRecord, turnDone, outcomeIn};
+ghost use Rattle.larderlate.specs.Code.{codeNumber, Tells, partNumber, lengthIn, writtenIn, stackIn, startIn};
 
 // Writes the image of an accepted program and schedule and its tail to the start of `image`, and yields how many bytes these are.
 pub fn compile(program: &[u8], schedule: &[u8], image: &mut [u8]) -> Compiled
-    ensures answer { λ r. ⌜ compiledOf r ≡ compileOf (now (program .entry)) (now (schedule .entry)) (now (image .entry)) .answer ⌝ }
-    ensures left { λ _. ⌜ now (image .exit) ≡ compileOf (now (program .entry)) (now (schedule .entry)) (now (image .entry)) .left ⌝ }
+    ensures { λ r. ⌜ Does
+        (compileOf (now (program .entry)) (now (schedule .entry)) (now (image .entry)))
+        (compiledOf r) (now (image .exit)) ⌝ }
 {
     compiler::compile(program, schedule, &mut image[..])
 }
@@ -48,24 +49,25 @@ pub fn join(texts: &[u8], numbers: &[usize], links: &[u8], image: &mut [u8]) -> 
 // Tells what an accepted program and schedule need: the length of their image, that with its tail, the highest stack use of any
 // signal, and in `counts` the commands of each cycle.
 pub fn report(program: &[u8], schedule: &[u8], counts: &mut [u32; 240]) -> Reported
-    ensures answer { λ r. ⌜ reportedOf r ≡ reportOf (now (program .entry)) (now (schedule .entry)) (now (counts .entry)) .answer ⌝ }
-    ensures left { λ _. ⌜ now (counts .exit) ≡ reportOf (now (program .entry)) (now (schedule .entry)) (now (counts .entry)) .left ⌝ }
+    ensures { λ r. ⌜ Does
+        (reportOf (now (program .entry)) (now (schedule .entry)) (now (counts .entry)))
+        (reportedOf r) (now (counts .exit)) ⌝ }
 {
     report::report(program, schedule, counts)
 }
 
 // Puts position 0 and every signal's initial word into the state.
 pub fn reset(image: &[u8], state: &mut [i32]) -> Ran
-    ensures answer { λ r. ⌜ ranOf r ≡ resetOf (now (image .entry)) (now (state .entry)) .answer ⌝ }
-    ensures left { λ _. ⌜ now (state .exit) ≡ resetOf (now (image .entry)) (now (state .entry)) .left ⌝ }
+    ensures { λ r. ⌜ Does (resetOf (now (image .entry)) (now (state .entry))) (ranOf r) (now (state .exit)) ⌝ }
 {
     machine::reset(image, &mut state[..])
 }
 
 // Runs one cycle: the list of the state's position, and then the position moves on. Yields how many commands it ran.
 pub fn cycle(image: &[u8], state: &mut [i32], samples: &[i32]) -> Cycled
-    ensures answer { λ r. ⌜ cycledOf r ≡ cycleOf (now (image .entry)) (now (state .entry)) (now (samples .entry)) .answer ⌝ }
-    ensures left { λ _. ⌜ now (state .exit) ≡ cycleOf (now (image .entry)) (now (state .entry)) (now (samples .entry)) .left ⌝ }
+    ensures { λ r. ⌜ Does
+        (cycleOf (now (image .entry)) (now (state .entry)) (now (samples .entry)))
+        (cycledOf r) (now (state .exit)) ⌝ }
 {
     machine::cycle(image, &mut state[..], samples)
 }
@@ -86,8 +88,7 @@ pub fn tail<'a>(image: &'a [u8]) -> &'a [u8]
 
 // Rewrites a program text of the earlier rule, with a sampling factor of 1, to the start of `result`, and yields its new length.
 pub fn convert(program: &[u8], result: &mut [u8]) -> Compiled
-    ensures answer { λ r. ⌜ compiledOf r ≡ convertOf (now (program .entry)) (now (result .entry)) .answer ⌝ }
-    ensures left { λ _. ⌜ now (result .exit) ≡ convertOf (now (program .entry)) (now (result .entry)) .left ⌝ }
+    ensures { λ r. ⌜ Does (convertOf (now (program .entry)) (now (result .entry))) (compiledOf r) (now (result .exit)) ⌝ }
 {
     text_convert::convert(program, &mut result[..])
 }
@@ -96,8 +97,9 @@ pub fn convert(program: &[u8], result: &mut [u8]) -> Compiled
 // order is accepted and settles every open read as before; as many whole entries as the list has space for. Yields how many there
 // are in all.
 pub fn moves(program: &[u8], schedule: &[u8], list: &mut [u8]) -> Listed
-    ensures answer { λ r. ⌜ listedOf r ≡ movesOf (now (program .entry)) (now (schedule .entry)) (now (list .entry)) .answer ⌝ }
-    ensures left { λ _. ⌜ now (list .exit) ≡ movesOf (now (program .entry)) (now (schedule .entry)) (now (list .entry)) .left ⌝ }
+    ensures { λ r. ⌜ Does
+        (movesOf (now (program .entry)) (now (schedule .entry)) (now (list .entry)))
+        (listedOf r) (now (list .exit)) ⌝ }
 {
     moves::moves(program, schedule, &mut list[..])
 }
@@ -105,24 +107,23 @@ pub fn moves(program: &[u8], schedule: &[u8], list: &mut [u8]) -> Listed
 // Marks by 1 each signal of an accepted program and schedule that reads an input, by itself or through other signals, and by 0
 // every other of 64.
 pub fn dependents(program: &[u8], schedule: &[u8], input: usize, marks: &mut [u8; 64]) -> Ran
-    ensures answer { λ r. ⌜ ranOf r ≡ dependentsOf (now (program .entry)) (now (schedule .entry)) input (now (marks .entry)) .answer ⌝ }
-    ensures left { λ _. ⌜ now (marks .exit) ≡ dependentsOf (now (program .entry)) (now (schedule .entry)) input (now (marks .entry)) .left ⌝ }
+    ensures { λ r. ⌜ Does
+        (dependentsOf (now (program .entry)) (now (schedule .entry)) input (now (marks .entry)))
+        (ranOf r) (now (marks .exit)) ⌝ }
 {
     dependents::dependents(program, schedule, input, marks)
 }
 
 // Assembles a text in words to the start of `bytes`, and yields how many bytes it is.
 pub fn assemble(text: &[u8], bytes: &mut [u8]) -> Compiled
-    ensures answer { λ r. ⌜ compiledOf r ≡ assembleOf (now (text .entry)) (now (bytes .entry)) .answer ⌝ }
-    ensures left { λ _. ⌜ now (bytes .exit) ≡ assembleOf (now (text .entry)) (now (bytes .entry)) .left ⌝ }
+    ensures { λ r. ⌜ Does (assembleOf (now (text .entry)) (now (bytes .entry))) (compiledOf r) (now (bytes .exit)) ⌝ }
 {
     text_assemble::assemble(text, &mut bytes[..])
 }
 
 // Lists a program, a schedule or a script in words to the start of `text`, and yields how long the listing is.
 pub fn list(bytes: &[u8], text: &mut [u8]) -> Compiled
-    ensures answer { λ r. ⌜ compiledOf r ≡ listingOf (now (bytes .entry)) (now (text .entry)) .answer ⌝ }
-    ensures left { λ _. ⌜ now (text .exit) ≡ listingOf (now (bytes .entry)) (now (text .entry)) .left ⌝ }
+    ensures { λ r. ⌜ Does (listingOf (now (bytes .entry)) (now (text .entry))) (compiledOf r) (now (text .exit)) ⌝ }
 {
     text_list::list(bytes, &mut text[..])
 }
@@ -233,8 +234,9 @@ fn written_of_reported(reported: Reported, old: usize) -> usize
 // The same calls for a C caller (include/larderlate.h).
 #[no_mangle]
 pub extern "C" fn larderlate_compile(program: &[u8], schedule: &[u8], image: &mut [u8]) -> u64
-    ensures answer { λ r. ⌜ r ≡ codeNumber (compileOf (now (program .entry)) (now (schedule .entry)) (now (image .entry)) .answer) ⌝ }
-    ensures left { λ _. ⌜ now (image .exit) ≡ compileOf (now (program .entry)) (now (schedule .entry)) (now (image .entry)) .left ⌝ }
+    ensures { λ r. ⌜ Tells
+        (compileOf (now (program .entry)) (now (schedule .entry)) (now (image .entry)))
+        r (now (image .exit)) ⌝ }
 {
     let compiled = compile(program, schedule, &mut image[..]);
     code_of_compiled(compiled)
@@ -282,8 +284,7 @@ pub extern "C" fn larderlate_report(
 
 #[no_mangle]
 pub extern "C" fn larderlate_reset(image: &[u8], state: &mut [i32]) -> u64
-    ensures answer { λ r. ⌜ r ≡ codeNumber (resetOf (now (image .entry)) (now (state .entry)) .answer) ⌝ }
-    ensures left { λ _. ⌜ now (state .exit) ≡ resetOf (now (image .entry)) (now (state .entry)) .left ⌝ }
+    ensures { λ r. ⌜ Tells (resetOf (now (image .entry)) (now (state .entry))) r (now (state .exit)) ⌝ }
 {
     let ran = reset(image, &mut state[..]);
     code_of_ran(ran)
@@ -291,8 +292,7 @@ pub extern "C" fn larderlate_reset(image: &[u8], state: &mut [i32]) -> u64
 
 #[no_mangle]
 pub extern "C" fn larderlate_cycle(image: &[u8], state: &mut [i32], samples: &[i32]) -> u64
-    ensures answer { λ r. ⌜ r ≡ codeNumber (cycleOf (now (image .entry)) (now (state .entry)) (now (samples .entry)) .answer) ⌝ }
-    ensures left { λ _. ⌜ now (state .exit) ≡ cycleOf (now (image .entry)) (now (state .entry)) (now (samples .entry)) .left ⌝ }
+    ensures { λ r. ⌜ Tells (cycleOf (now (image .entry)) (now (state .entry)) (now (samples .entry))) r (now (state .exit)) ⌝ }
 {
     let cycled = cycle(image, &mut state[..], samples);
     code_of_cycled(cycled)
@@ -314,8 +314,7 @@ pub extern "C" fn larderlate_tail(image: &[u8], start: &mut usize) -> u64
 
 #[no_mangle]
 pub extern "C" fn larderlate_convert(program: &[u8], result: &mut [u8]) -> u64
-    ensures answer { λ r. ⌜ r ≡ codeNumber (convertOf (now (program .entry)) (now (result .entry)) .answer) ⌝ }
-    ensures left { λ _. ⌜ now (result .exit) ≡ convertOf (now (program .entry)) (now (result .entry)) .left ⌝ }
+    ensures { λ r. ⌜ Tells (convertOf (now (program .entry)) (now (result .entry))) r (now (result .exit)) ⌝ }
 {
     let converted = convert(program, &mut result[..]);
     code_of_compiled(converted)
@@ -323,8 +322,7 @@ pub extern "C" fn larderlate_convert(program: &[u8], result: &mut [u8]) -> u64
 
 #[no_mangle]
 pub extern "C" fn larderlate_moves(program: &[u8], schedule: &[u8], list: &mut [u8]) -> u64
-    ensures answer { λ r. ⌜ r ≡ codeNumber (movesOf (now (program .entry)) (now (schedule .entry)) (now (list .entry)) .answer) ⌝ }
-    ensures left { λ _. ⌜ now (list .exit) ≡ movesOf (now (program .entry)) (now (schedule .entry)) (now (list .entry)) .left ⌝ }
+    ensures { λ r. ⌜ Tells (movesOf (now (program .entry)) (now (schedule .entry)) (now (list .entry))) r (now (list .exit)) ⌝ }
 {
     let listed = moves(program, schedule, &mut list[..]);
     code_of_listed(listed)
@@ -337,8 +335,9 @@ pub extern "C" fn larderlate_dependents(
     input: usize,
     marks: &mut [u8; 64],
 ) -> u64
-    ensures answer { λ r. ⌜ r ≡ codeNumber (dependentsOf (now (program .entry)) (now (schedule .entry)) input (now (marks .entry)) .answer) ⌝ }
-    ensures left { λ _. ⌜ now (marks .exit) ≡ dependentsOf (now (program .entry)) (now (schedule .entry)) input (now (marks .entry)) .left ⌝ }
+    ensures { λ r. ⌜ Tells
+        (dependentsOf (now (program .entry)) (now (schedule .entry)) input (now (marks .entry)))
+        r (now (marks .exit)) ⌝ }
 {
     let ran = dependents(program, schedule, input, marks);
     code_of_ran(ran)
@@ -346,8 +345,7 @@ pub extern "C" fn larderlate_dependents(
 
 #[no_mangle]
 pub extern "C" fn larderlate_assemble(text: &[u8], bytes: &mut [u8]) -> u64
-    ensures answer { λ r. ⌜ r ≡ codeNumber (assembleOf (now (text .entry)) (now (bytes .entry)) .answer) ⌝ }
-    ensures left { λ _. ⌜ now (bytes .exit) ≡ assembleOf (now (text .entry)) (now (bytes .entry)) .left ⌝ }
+    ensures { λ r. ⌜ Tells (assembleOf (now (text .entry)) (now (bytes .entry))) r (now (bytes .exit)) ⌝ }
 {
     let assembled = assemble(text, &mut bytes[..]);
     code_of_compiled(assembled)
@@ -355,20 +353,19 @@ pub extern "C" fn larderlate_assemble(text: &[u8], bytes: &mut [u8]) -> u64
 
 #[no_mangle]
 pub extern "C" fn larderlate_list(bytes: &[u8], text: &mut [u8]) -> u64
-    ensures answer { λ r. ⌜ r ≡ codeNumber (listingOf (now (bytes .entry)) (now (text .entry)) .answer) ⌝ }
-    ensures left { λ _. ⌜ now (text .exit) ≡ listingOf (now (bytes .entry)) (now (text .entry)) .left ⌝ }
+    ensures { λ r. ⌜ Tells (listingOf (now (bytes .entry)) (now (text .entry))) r (now (text .exit)) ⌝ }
 {
     let listed = list(bytes, &mut text[..]);
     code_of_compiled(listed)
 }
 
-// The board's calls. The record is an array of 17 numbers that the caller keeps (crate `board_words`); a refused call and an idle
+// The board's calls. The record is an array of 17 numbers that the caller keeps (crate `board`); a refused call and an idle
 // turn leave it as it was.
 #[no_mangle]
 pub extern "C" fn larderlate_board_new(words: &mut [usize; 17])
     ensures { λ _. ⌜ now (words .exit) ≡ newWords ⌝ }
 {
-    *words = board_words::new_record();
+    *words = board::new_record();
 }
 
 #[no_mangle]
@@ -384,7 +381,7 @@ pub extern "C" fn larderlate_board_load(
     ensures kept { λ _. ⌜ now (words .exit) ≡ loadRecord (now (words .entry)) place start size (loadOf (boardOf (now (words .entry))) (now (images .entry)) (now (state .entry)) place start size .answer) ⌝ }
     ensures left { λ _. ⌜ now (state .exit) ≡ loadOf (boardOf (now (words .entry))) (now (images .entry)) (now (state .entry)) place start size .left ⌝ }
 {
-    let ran = board_words::load(words, images, &mut state[..], place, start, size);
+    let ran = board::load(words, images, &mut state[..], place, start, size);
     code_of_ran(ran)
 }
 
@@ -393,7 +390,7 @@ pub extern "C" fn larderlate_board_mark(words: &mut [usize; 17], place: usize) -
     ensures answer { λ r. ⌜ r ≡ codeNumber (markPlaceOf (boardOf (now (words .entry))) place .answer) ⌝ }
     ensures kept { λ _. ⌜ now (words .exit) ≡ markRecord (now (words .entry)) place (markPlaceOf (boardOf (now (words .entry))) place .answer) ⌝ }
 {
-    let ran = board_words::mark(words, place);
+    let ran = board::mark(words, place);
     code_of_ran(ran)
 }
 
@@ -410,7 +407,7 @@ pub extern "C" fn larderlate_board_turn(
     ensures left { λ _. ⌜ now (state .exit) ≡ turnOf (boardOf (now (words .entry))) (now (images .entry)) (now (state .entry)) (now (samples .entry)) .left ⌝ }
     ensures told { λ _. ⌜ now (outcome .exit) ≡ outcomeIn (now (outcome .entry)) (turnOf (boardOf (now (words .entry))) (now (images .entry)) (now (state .entry)) (now (samples .entry)) .answer) ⌝ }
 {
-    let turned = board_words::turn(words, images, &mut state[..], samples);
-    board_words::tell_turn(turned, outcome);
+    let turned = board::turn(words, images, &mut state[..], samples);
+    board::tell_turn(turned, outcome);
     code_of_turned(turned)
 }

@@ -2,25 +2,17 @@
 use model::Cycled;
 use model::Fault;
 use model::Ran;
+use model::refusals;
 ghost use mathlib.Core.Path.{_≡_};
 ghost use mathlib.Core.Bool.{true};
 ghost use Prim.Native.Nat.{ℕ, _<_, _≤_};
 ghost use lib.IntN.{pos};
 ghost use lib.ListN.{length, getD};
-ghost use Rattle.model.specs.Rules.Machine.{hyperOf, countOf, wellFormed, isPosition, listOf, runSignals, countSignals, nextPosition, resetWords};
+ghost use Rattle.model.specs.Rules.Machine.{Does, hyperOf, countOf, wellFormed, isPosition, listOf, runSignals, countSignals, nextPosition, resetWords};
 ghost use Rattle.model.specs.Rules.Machine.{cycleWords, cycleCount, ranOf, cycledOf, resetOf, cycleOf};
 ghost use Rattle.machine.specs.Runnable.{tableIn, Runnable, JudgesCycle};
 ghost use Rattle.model.specs.Rules.Outcome.{refuse};
 ghost use Rattle.model.specs.Rules.Word.{byteAt};
-
-// The numbers of the refusals, in their order.
-pub const BAD_IMAGE: u8 = 20;
-
-const SHORT_STATE: u8 = 21;
-
-pub const BAD_POSITION: u8 = 22;
-
-const FEW_SAMPLES: u8 = 23;
 
 fn refused(number: u8) -> Ran
     ensures { λ r. ⌜ ranOf r ≡ refuse number 0 ⌝ }
@@ -113,16 +105,15 @@ fn initial_words(image: &[u8], n: usize, state: &mut [i32])
 
 // Puts a state into its first cycle.
 pub fn reset(lent: &[u8], state: &mut [i32]) -> Ran
-    ensures answer { λ r. ⌜ ranOf r ≡ resetOf (now (lent .entry)) (now (state .entry)) .answer ⌝ }
-    ensures left { λ _. ⌜ now (state .exit) ≡ resetOf (now (lent .entry)) (now (state .entry)) .left ⌝ }
+    ensures { λ r. ⌜ Does (resetOf (now (lent .entry)) (now (state .entry))) (ranOf r) (now (state .exit)) ⌝ }
 {
     let image = image_valid::image_in(lent);
     if !image_valid::well_formed(image) {
-        return refused(BAD_IMAGE);
+        return refused(refusals::IMAGE_NOT_WELL_FORMED);
     }
     let n = basics::wide(image[1]);
     if state.len() <= n {
-        return refused(SHORT_STATE);
+        return refused(refusals::STATE_SHORT);
     }
     initial_words(image, n, &mut state[..]);
     Ran::Done
@@ -166,17 +157,17 @@ pub fn judge_cycle(lent: &[u8], state: &[i32], samples: &[i32]) -> u8
 {
     let image = image_valid::image_in(lent);
     if !image_valid::well_formed(image) {
-        return BAD_IMAGE;
+        return refusals::IMAGE_NOT_WELL_FORMED;
     }
     let count = basics::wide(image[1]);
     if state.len() <= count {
-        return SHORT_STATE;
+        return refusals::STATE_SHORT;
     }
     if !is_positioned(image, state) {
-        return BAD_POSITION;
+        return refusals::POSITION;
     }
     if samples.len() < count {
-        return FEW_SAMPLES;
+        return refusals::SAMPLES_SHORT;
     }
     0
 }
@@ -184,8 +175,9 @@ pub fn judge_cycle(lent: &[u8], state: &[i32], samples: &[i32]) -> u8
 // Runs one cycle, which is a judgement and a run: the list of the state's position, and then the position moves on. Yields how many
 // commands it ran.
 pub fn cycle(lent: &[u8], state: &mut [i32], samples: &[i32]) -> Cycled
-    ensures answer { λ r. ⌜ cycledOf r ≡ cycleOf (now (lent .entry)) (now (state .entry)) (now (samples .entry)) .answer ⌝ }
-    ensures left { λ _. ⌜ now (state .exit) ≡ cycleOf (now (lent .entry)) (now (state .entry)) (now (samples .entry)) .left ⌝ }
+    ensures { λ r. ⌜ Does
+        (cycleOf (now (lent .entry)) (now (state .entry)) (now (samples .entry)))
+        (cycledOf r) (now (state .exit)) ⌝ }
 {
     let number = judge_cycle(lent, &state[..], samples);
     if 0 < number {

@@ -3,6 +3,7 @@
 pub mod Words
 pub mod Written
 pub mod Grammar
+pub mod Stands
 pub mod Feasible
 pub mod Rows
 pub mod Calls

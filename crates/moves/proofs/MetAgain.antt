@@ -24,7 +24,8 @@ use Rattle.model.proofs.Pairs.Decide.{InRange, line-true, true-line, holds-line
 use Rattle.model.proofs.Pairs.Lines.{Indexed}
 use Rattle.model.proofs.Pairs.Verdict.{reads-met}
 use Rattle.model.proofs.Texts.Commands.{operator-sound}
-use Rattle.model.proofs.Texts.Legal.{SpellsRead, legal, signal-reads}
+use Rattle.model.proofs.Texts.Legal.{legal, signal-reads}
+use Rattle.model.specs.Says.Stands.{SpellsRead}
 use Rattle.read_rule.specs.Reads.{metAt}
 use Rattle.model.proofs.Pairs.Moves.{Moved, Alike}
 

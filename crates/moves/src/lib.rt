@@ -2,6 +2,7 @@
 use basics::Judged;
 use model::Fault;
 use model::Listed;
+use model::refusals;
 use text_schedule::PairTables;
 ghost use mathlib.Core.Bool.{true};
 ghost use mathlib.Core.List.{List};
@@ -9,6 +10,7 @@ ghost use mathlib.Core.Logic.{_↔_};
 ghost use mathlib.Core.Path.{_≡_};
 ghost use Prim.Native.Nat.{ℕ, _+_, _*_, _≤_, _<_};
 ghost use lib.ListN.{length, getD};
+ghost use Rattle.model.specs.Rules.Machine.{Does};
 ghost use Rattle.model.specs.Rules.Compile.{Pair};
 ghost use Rattle.model.specs.Rules.Moves.{allEntries, listedOf, movesOf};
 ghost use Rattle.model.specs.Says.Feasible.{Between};
@@ -23,7 +25,7 @@ fn refused(judged: Judged) -> Listed
 {
     match judged {
         Judged::Fine => Listed::Refused(Fault {
-            number: 1,
+            number: refusals::TEXT_TOO_LONG,
             place: 0,
         }),
         Judged::Refused(fault) => Listed::Refused(fault),
@@ -280,8 +282,9 @@ fn list_moves(text: &[u8], reads: &[u16], pair: PairTables, list: &mut [u8]) -> 
 // The moves of a program and a schedule, with a table for the offsets of the reads.
 fn moves_with(program: &[u8], schedule: &[u8], reads: &mut [u16], list: &mut [u8]) -> Listed
     requires { ⌜ Spacious (length (now program)) (length (now reads)) ⌝ }
-    ensures answer { λ r. ⌜ listedOf r ≡ movesOf (now (program .entry)) (now (schedule .entry)) (now (list .entry)) .answer ⌝ }
-    ensures left { λ _. ⌜ now (list .exit) ≡ movesOf (now (program .entry)) (now (schedule .entry)) (now (list .entry)) .left ⌝ }
+    ensures { λ r. ⌜ Does
+        (movesOf (now (program .entry)) (now (schedule .entry)) (now (list .entry)))
+        (listedOf r) (now (list .exit)) ⌝ }
 {
     let checked = check_pair::check_with(program, schedule, reads);
     let judged = checked.judged;
@@ -296,16 +299,18 @@ fn moves_with(program: &[u8], schedule: &[u8], reads: &mut [u16], list: &mut [u8
 // A program of at most 512 bytes, as its checks take one.
 fn moves_short(program: &[u8], schedule: &[u8], list: &mut [u8]) -> Listed
     requires { ⌜ length (now program) ≤ 512 ⌝ }
-    ensures answer { λ r. ⌜ listedOf r ≡ movesOf (now (program .entry)) (now (schedule .entry)) (now (list .entry)) .answer ⌝ }
-    ensures left { λ _. ⌜ now (list .exit) ≡ movesOf (now (program .entry)) (now (schedule .entry)) (now (list .entry)) .left ⌝ }
+    ensures { λ r. ⌜ Does
+        (movesOf (now (program .entry)) (now (schedule .entry)) (now (list .entry)))
+        (listedOf r) (now (list .exit)) ⌝ }
 {
     let mut reads: [u16; 256] = [0; 256];
     moves_with(program, schedule, &mut reads, list)
 }
 
 fn moves_long(program: &[u8], schedule: &[u8], list: &mut [u8]) -> Listed
-    ensures answer { λ r. ⌜ listedOf r ≡ movesOf (now (program .entry)) (now (schedule .entry)) (now (list .entry)) .answer ⌝ }
-    ensures left { λ _. ⌜ now (list .exit) ≡ movesOf (now (program .entry)) (now (schedule .entry)) (now (list .entry)) .left ⌝ }
+    ensures { λ r. ⌜ Does
+        (movesOf (now (program .entry)) (now (schedule .entry)) (now (list .entry)))
+        (listedOf r) (now (list .exit)) ⌝ }
 {
     let mut reads: [u16; 4096] = [0; 4096];
     moves_with(program, schedule, &mut reads, list)
@@ -314,8 +319,9 @@ fn moves_long(program: &[u8], schedule: &[u8], list: &mut [u8]) -> Listed
 // Lists where one job may go: two bytes, signal and phase, for each move, by signal and then by rising phase, as many as the
 // list has space for; the rest of it stays. Yields how many moves there are. A refused call leaves the list as it was.
 pub fn moves(program: &[u8], schedule: &[u8], list: &mut [u8]) -> Listed
-    ensures answer { λ r. ⌜ listedOf r ≡ movesOf (now (program .entry)) (now (schedule .entry)) (now (list .entry)) .answer ⌝ }
-    ensures left { λ _. ⌜ now (list .exit) ≡ movesOf (now (program .entry)) (now (schedule .entry)) (now (list .entry)) .left ⌝ }
+    ensures { λ r. ⌜ Does
+        (movesOf (now (program .entry)) (now (schedule .entry)) (now (list .entry)))
+        (listedOf r) (now (list .exit)) ⌝ }
 {
     if program.len() <= 512 {
         return moves_short(program, schedule, list);

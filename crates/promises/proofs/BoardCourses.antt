@@ -35,7 +35,7 @@ use Rattle.board.specs.Events.{
   NotFailed,
   ownCycles,
 }
-use Rattle.board_words.specs.Calls.{
+use Rattle.board.specs.Calls.{
   NumberScene,
   sceneOf,
   loadAnswer,
@@ -48,7 +48,7 @@ use Rattle.board_words.specs.Calls.{
   RunsOf,
   FromLoad,
 }
-use Rattle.board_words.specs.Record.{boardOf, loadRecord, markRecord, turnRecord}
+use Rattle.board.specs.Record.{boardOf, loadRecord, markRecord, turnRecord}
 use Rattle.promises.specs.Scenes.{
   SceneBut,
   NumbersBut,
@@ -75,10 +75,10 @@ use Rattle.promises.specs.Scenes.{
   courseWords,
 }
 use Rattle.board.proofs.Words.{samples-length}
-use Rattle.board_words.proofs.Numbers.{part-is, stretch-is}
+use Rattle.board.proofs.Numbers.{part-is, stretch-is}
 use Rattle.promises.proofs.Confined.{confined}
 use Rattle.promises.proofs.Courses.{course-alone, courses-apart, board-apart, board-words}
-use Rattle.board_words.proofs.Lists.{
+use Rattle.board.proofs.Lists.{
   call-held,
   call-long,
   calls-held,

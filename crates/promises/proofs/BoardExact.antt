@@ -36,9 +36,9 @@ use Rattle.board.specs.Board.{
   takenAt,
 }
 use Rattle.board.specs.Events.{load, mark, turn}
-use Rattle.board_words.specs.Calls.{NumberScene, loadAnswer, markAnswer, turnAnswer, afterCall}
-use Rattle.board_words.specs.Numbers.{StretchIs, OwnWords, WordsSet, NoneDue, flagsAt, startAt, sizeAt}
-use Rattle.board_words.specs.Record.{boardOf, takenWords, loadRecord, markRecord, turnRecord}
+use Rattle.board.specs.Calls.{NumberScene, loadAnswer, markAnswer, turnAnswer, afterCall}
+use Rattle.board.specs.Numbers.{StretchIs, OwnWords, WordsSet, NoneDue, flagsAt, startAt, sizeAt}
+use Rattle.board.specs.Record.{boardOf, takenWords, loadRecord, markRecord, turnRecord}
 use Rattle.promises.specs.BoardExact.{
   CallExactly,
   Loads,
@@ -67,8 +67,8 @@ use Rattle.board.proofs.Answers.{
 use Rattle.board.proofs.Due.{next-below}
 use Rattle.board.proofs.Stretch.{answerOf, leftOf, never, outside-27, inside-runs, reset-length, cycle-of-length}
 use Rattle.board.proofs.Words.{words-same, words-length, samples-length}
-use Rattle.board_words.proofs.Places.{loaded-held, run-held}
-use Rattle.board_words.proofs.Numbers.{
+use Rattle.board.proofs.Places.{loaded-held, run-held}
+use Rattle.board.proofs.Numbers.{
   part-there,
   part-one,
   stretch-there,

@@ -22,7 +22,7 @@ use Rattle.board.proofs.Cases.{
   callAnswer,
 }
 use Rattle.board.proofs.Stretch.{never}
-use Rattle.board_words.specs.Record.{boardOf, turnDone}
+use Rattle.board.specs.Record.{boardOf, turnDone}
 
 -- With any record and images. A turn that is not refused answers 0 here.
 module _ (numbers images : List ℕ) where

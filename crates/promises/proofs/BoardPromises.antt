@@ -41,8 +41,8 @@ use Rattle.board.specs.Board.{
   turnOf,
 }
 use Rattle.board.specs.Events.{Event, load, mark, turn, Scene, loadBy, afterEvent, afterEvents, Throughout, Untouched, ownCycles}
-use Rattle.board_words.specs.Calls.{NumberScene, loadAnswer, markAnswer, turnAnswer, afterCall, FromLoad}
-use Rattle.board_words.specs.Record.{turnDone}
+use Rattle.board.specs.Calls.{NumberScene, loadAnswer, markAnswer, turnAnswer, afterCall, FromLoad}
+use Rattle.board.specs.Record.{turnDone}
 use Rattle.promises.specs.BoardExact.{CallExactly, Loads, LoadRefusedAt, Marks, MarkRefusedAt, Turns, TurnRefusedAt}
 use Rattle.promises.specs.Codable.{Codable}
 use Rattle.promises.specs.Scenes.{
@@ -62,9 +62,9 @@ use Rattle.promises.specs.Scenes.{
   courseWords,
   CoursesExcept,
 }
-use Rattle.board.specs.declared.Board.{Board}
+use Rattle.board.specs.Board.{Board}
 use Rattle.board.proofs.Promises.{place-alone, place-cycles}
-use Rattle.board_words.proofs.Lists.{numbers-place-alone}
+use Rattle.board.proofs.Lists.{numbers-place-alone}
 use Rattle.promises.proofs.BoardCourses.{
   answers-alone,
   numbers-confined,

@@ -53,7 +53,7 @@ use Rattle.board.specs.Board.{
   turnWith,
   turnOf,
 }
-use Rattle.board.specs.declared.Board.{Board}
+use Rattle.board.specs.Board.{Board}
 use Rattle.board.specs.Events.{Event, load, mark, turn, change, Scene, loadBy, turnBy, afterEvent, afterEvents}
 use Rattle.board.proofs.Alone.{run-length, reset-in-length}
 use Rattle.board.proofs.Answers.{

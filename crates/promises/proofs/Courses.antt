@@ -16,7 +16,7 @@ use Rattle.model.specs.Rules.Tail.{Bears}
 use Rattle.theorems_streams.specs.Dependence.{DependsOn, AlikeCalls}
 use Rattle.theorems_streams.specs.Held.{stateBy, answersBy}
 use Rattle.board.specs.Events.{Event, Scene, afterEvent, Throughout, Untouched}
-use Rattle.board.specs.declared.Board.{Board}
+use Rattle.board.specs.Board.{Board}
 use Rattle.promises.specs.Scenes.{
   SceneBut,
   OtherSamples,

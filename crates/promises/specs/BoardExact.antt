@@ -11,8 +11,8 @@ use Rattle.model.specs.declared.Fault.{Fault}
 use Rattle.theorems_calls.specs.Exactness.{Usable, Resets, Positioned, Cycles}
 use Rattle.theorems_images.specs.WellFormed.{WellLent}
 use Rattle.board.specs.Board.{Yield, idle, took}
-use Rattle.board_words.specs.Calls.{NumberScene}
-use Rattle.board_words.specs.Numbers.{
+use Rattle.board.specs.Calls.{NumberScene}
+use Rattle.board.specs.Numbers.{
   StretchIs,
   OwnWords,
   OwnSamples,

@@ -14,7 +14,7 @@ use Rattle.model.specs.Rules.Schedule.{Schedule}
 use Rattle.model.specs.Says.Calls.{Call}
 use Rattle.theorems_streams.specs.Dependence.{SameExcept}
 use Rattle.theorems_streams.specs.Held.{logBy}
-use Rattle.board_words.specs.Calls.{NumberScene, loadAnswer, markAnswer, turnAnswer, afterCall, afterCalls}
+use Rattle.board.specs.Calls.{NumberScene, loadAnswer, markAnswer, turnAnswer, afterCall, afterCalls}
 use Rattle.board.specs.Board.{placeWords, placeSamples, Yield, idle, took}
 use Rattle.board.specs.Events.{
   Event,

@@ -389,7 +389,7 @@ fn print_counts(w: [usize; 17]) -> u32 {
     hash
 }
 
-// The record of a board, as its words (crate `board_words`).
+// The record of a board, as its words (crate `board`).
 fn print_record(w: [usize; 17]) {
     print_bits(w, 1);
     print_bits(w, 2);

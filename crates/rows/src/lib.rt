@@ -1,6 +1,7 @@
 // The table of rows: its check (29, 30), its area of an image, written and judged, and its lookup.
 use basics::Judged;
 use model::Found;
+use model::refusals;
 ghost use mathlib.Core.Path.{_≡_};
 ghost use mathlib.Core.Bool.{true};
 ghost use Prim.Native.Nat.{ℕ, _+_, _*_, _<_, _≤_};
@@ -237,12 +238,12 @@ pub fn check_rows(text: &[u8], offsets: &[u16; 32], count: usize) -> Judged
 {
     let found = first_meeting(text, offsets, count);
     match found {
-        Found::At(n) => basics::refuse(29, offset_of(offsets, n)),
+        Found::At(n) => basics::refuse(refusals::WORD_IN_TWO_ROWS, offset_of(offsets, n)),
         Found::Nowhere => {
             if no_gap(text, offsets, count) {
                 Judged::Fine
             } else {
-                basics::refuse(30, 0)
+                basics::refuse(refusals::WORD_IN_NO_ROW, 0)
             }
         }
     }

@@ -4,11 +4,13 @@ use model::Compiled;
 use model::Fault;
 use model::Found;
 use model::Operand;
+use model::refusals;
 use text_keyword::COMMANDS;
 ghost use mathlib.Core.List.{List, [], _∷_};
 ghost use mathlib.Core.Path.{_≡_};
 ghost use Prim.Native.Nat.{ℕ, _+_, _-_, _^_, _≤_, _<_};
 ghost use lib.ListN.{length};
+ghost use Rattle.model.specs.Rules.Machine.{Does};
 ghost use Rattle.model.specs.Rules.Compile.{compiledOf};
 ghost use Rattle.model.specs.Rules.Outcome.{accepted, _▷_};
 ghost use Rattle.model.specs.Rules.TextForm.{token, lowBytes, ranged, signedOf};
@@ -48,14 +50,14 @@ fn ranged(place: usize, low: usize, limit: usize, number: Found) -> Valued
     match number {
         Found::At(n) => {
             if n < low {
-                return refuse_value(43, place);
+                return refuse_value(refusals::NUMBER_OUTSIDE, place);
             }
             if limit <= n {
-                return refuse_value(43, place);
+                return refuse_value(refusals::NUMBER_OUTSIDE, place);
             }
             Valued::Value(n)
         }
-        Found::Nowhere => refuse_value(42, place),
+        Found::Nowhere => refuse_value(refusals::NO_NUMBER, place),
     }
 }
 
@@ -159,7 +161,7 @@ fn read_keyword(table: &[u8], place: usize, spelling: &[u8]) -> TokenRead
                 next: next,
             }
         }
-        Found::Nowhere => refuse_read(basics::refuse(40, place)),
+        Found::Nowhere => refuse_read(basics::refuse(refusals::UNKNOWN_WORD, place)),
     }
 }
 
@@ -263,15 +265,14 @@ fn write_assembly(table: &[u8], text: &[u8], out: &mut [u8]) -> usize
 // Assembles a text that is not too long.
 fn assemble_with(table: &[u8], text: &[u8], bytes: &mut [u8]) -> Compiled
     requires { ⌜ (now table ≡ cells) × (length (now text) ≤ 16777216) ⌝ }
-    ensures answer { λ r. ⌜ compiledOf r ≡ assembleOf (now (text .entry)) (now (bytes .entry)) .answer ⌝ }
-    ensures left { λ _. ⌜ now (bytes .exit) ≡ assembleOf (now (text .entry)) (now (bytes .entry)) .left ⌝ }
+    ensures { λ r. ⌜ Does (assembleOf (now (text .entry)) (now (bytes .entry))) (compiledOf r) (now (bytes .exit)) ⌝ }
 {
     let judged = assembled_length(table, text);
     let Compiled::Length(n) = judged else {
         return judged;
     };
     if bytes.len() < n {
-        return text_keyword::refuse(44, n);
+        return text_keyword::refuse(refusals::TEXT_BUFFER_SHORT, n);
     }
     let end = write_assembly(table, text, &mut bytes[..]);
     Compiled::Length(end)
@@ -279,11 +280,10 @@ fn assemble_with(table: &[u8], text: &[u8], bytes: &mut [u8]) -> Compiled
 
 // Assembles a text: the length of the bytes that it writes, or the refusal.
 pub fn assemble(text: &[u8], bytes: &mut [u8]) -> Compiled
-    ensures answer { λ r. ⌜ compiledOf r ≡ assembleOf (now (text .entry)) (now (bytes .entry)) .answer ⌝ }
-    ensures left { λ _. ⌜ now (bytes .exit) ≡ assembleOf (now (text .entry)) (now (bytes .entry)) .left ⌝ }
+    ensures { λ r. ⌜ Does (assembleOf (now (text .entry)) (now (bytes .entry))) (compiledOf r) (now (bytes .exit)) ⌝ }
 {
     if 16777216 < text.len() {
-        return text_keyword::refuse(47, 0);
+        return text_keyword::refuse(refusals::FORM_TOO_LONG, 0);
     }
     let table = text_keyword::table();
     assemble_with(&table, text, bytes)

@@ -9,6 +9,7 @@ use model::Sampled;
 use model::ScheduleCommand;
 use model::Unary;
 ghost use mathlib.Core.Bool.{cond};
+ghost use mathlib.Core.Logic.{_⊎_};
 ghost use mathlib.Core.Path.{_≡_};
 ghost use Prim.Native.Nat.{_<_, _≤_};
 ghost use lib.ListN.{length};
@@ -50,10 +51,11 @@ fn mode_of(byte: u8) -> Mode
     }
 }
 
-// IN: period, initial word. The period is judged before the rest is looked for, so its 2 is no width; likewise in EQ and LAT.
-fn input_at(text: &[u8], at: usize) -> Declaration
-    requires { ⌜ at < length (now text) ⌝ }
-    ensures { λ r. ⌜ r ≡ declarationOf 0x10 (now (text .entry)) at ⌝ }
+// IN: period, initial word; EQ: a weight after them. The period is judged before the rest is looked for, so its 2 is no width; likewise
+// the mode of a LAT.
+fn signal_at(text: &[u8], at: usize, byte: u8) -> Declaration
+    requires { ⌜ (at < length (now text)) × ((byte ≡ 0x10) ⊎ (byte ≡ 0x11)) ⌝ }
+    ensures { λ r. ⌜ r ≡ declarationOf byte (now (text .entry)) at ⌝ }
 {
     let left = text.len() - at;
     if left < 2 {
@@ -63,30 +65,13 @@ fn input_at(text: &[u8], at: usize) -> Declaration
     if !is_period(period) {
         return Declaration::OutOfRange;
     }
-    if left < width::in_program(0x10) {
+    if left < width::in_program(byte) {
         return Declaration::EndsEarly;
     }
     let initial = word::word_at(text, at + 2);
-    Declaration::Input(period, initial)
-}
-
-// EQ: period, initial word, weight.
-fn equation_at(text: &[u8], at: usize) -> Declaration
-    requires { ⌜ at < length (now text) ⌝ }
-    ensures { λ r. ⌜ r ≡ declarationOf 0x11 (now (text .entry)) at ⌝ }
-{
-    let left = text.len() - at;
-    if left < 2 {
-        return Declaration::EndsEarly;
+    if byte == 0x10 {
+        return Declaration::Input(period, initial);
     }
-    let period = text[at + 1];
-    if !is_period(period) {
-        return Declaration::OutOfRange;
-    }
-    if left < width::in_program(0x11) {
-        return Declaration::EndsEarly;
-    }
-    let initial = word::word_at(text, at + 2);
     let weight = word::two_at(text, at + 6);
     Declaration::Equation(period, initial, weight)
 }
@@ -181,8 +166,8 @@ pub fn declaration_at(text: &[u8], at: usize) -> Declaration
     let byte = text[at];
     match byte {
         0x00 => Declaration::End,
-        0x10 => input_at(text, at),
-        0x11 => equation_at(text, at),
+        0x10 => signal_at(text, at, 0x10),
+        0x11 => signal_at(text, at, 0x11),
         0x12 => latency_at(text, at),
         0x13 => link_at(text, at),
         0x14 => cap_at(text, at),

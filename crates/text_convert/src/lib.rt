@@ -6,10 +6,12 @@ use model::Fault;
 use model::Kind;
 use model::Operator;
 use model::Width;
+use model::refusals;
 ghost use mathlib.Core.Path.{_≡_};
 ghost use mathlib.Core.List.{_++_};
 ghost use Prim.Native.Nat.{_+_, _*_, _≤_};
 ghost use lib.ListN.{length, take, drop};
+ghost use Rattle.model.specs.Rules.Machine.{Does};
 ghost use Rattle.model.specs.Rules.Compile.{compiledOf};
 ghost use Rattle.model.specs.Rules.Rewrite.{singleKind};
 ghost use Rattle.model.specs.Rules.Rewrite.{commandAt, declarationWidth, rewrite, convertOf};
@@ -194,8 +196,7 @@ fn refuse(number: u8, place: usize) -> Compiled
 // Converts a program text that passes 1, with a table for the offsets of its reads: an entry for each two bytes.
 fn convert_with(program: &[u8], result: &mut [u8], reads: &mut [u16]) -> Compiled
     requires { ⌜ (length (now program) ≤ 8192) × (length (now program) ≤ 2 * length (now reads)) ⌝ }
-    ensures answer { λ r. ⌜ compiledOf r ≡ convertOf (now (program .entry)) (now (result .entry)) .answer ⌝ }
-    ensures left { λ _. ⌜ now (result .exit) ≡ convertOf (now (program .entry)) (now (result .entry)) .left ⌝ }
+    ensures { λ r. ⌜ Does (convertOf (now (program .entry)) (now (result .entry))) (compiledOf r) (now (result .exit)) ⌝ }
 {
     let read = text_program::read_program(1, program, reads);
     let judged = read.judged;
@@ -204,7 +205,7 @@ fn convert_with(program: &[u8], result: &mut [u8], reads: &mut [u16]) -> Compile
     }
     let length = rewritten_length(program);
     if result.len() < length {
-        return refuse(17, length);
+        return refuse(refusals::IMAGE_BUFFER_SHORT, length);
     }
     let end = write(program, &mut result[..]);
     Compiled::Length(end)
@@ -212,11 +213,10 @@ fn convert_with(program: &[u8], result: &mut [u8], reads: &mut [u16]) -> Compile
 
 // Converts a program text: its new length; 1 to 6 as the reader gives them with n = 1 allowed; or 17 where the buffer is shorter.
 pub fn convert(program: &[u8], result: &mut [u8]) -> Compiled
-    ensures answer { λ r. ⌜ compiledOf r ≡ convertOf (now (program .entry)) (now (result .entry)) .answer ⌝ }
-    ensures left { λ _. ⌜ now (result .exit) ≡ convertOf (now (program .entry)) (now (result .entry)) .left ⌝ }
+    ensures { λ r. ⌜ Does (convertOf (now (program .entry)) (now (result .entry))) (compiledOf r) (now (result .exit)) ⌝ }
 {
     if 8192 < program.len() {
-        return refuse(1, 0);
+        return refuse(refusals::TEXT_TOO_LONG, 0);
     }
     let mut reads: [u16; 4096] = [0; 4096];
     convert_with(program, result, &mut reads)

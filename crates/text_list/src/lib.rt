@@ -3,12 +3,14 @@ use basics::Judged;
 use model::Compiled;
 use model::Found;
 use model::Operand;
+use model::refusals;
 use text_keyword::COMMANDS;
 ghost use mathlib.Core.List.{List, [], _∷_};
 ghost use mathlib.Core.Path.{_≡_};
 ghost use Prim.Native.Nat.{ℕ, _+_, _*_, _^_, _≤_, _<_};
 ghost use lib.Dec.{eqb};
 ghost use lib.ListN.{length};
+ghost use Rattle.model.specs.Rules.Machine.{Does};
 ghost use Rattle.model.specs.Rules.Compile.{compiledOf};
 ghost use Rattle.model.specs.Rules.Search.{firstBelow};
 ghost use Rattle.model.specs.Rules.TextForm.{lowAt, size, numberToken, operandToken, listedAt, listing, listingOf};
@@ -134,7 +136,7 @@ fn list_keyword(table: &[u8], bytes: &[u8], at: usize, out: &mut [u8], to: usize
 {
     let found = text_keyword::find_byte(table, 0, COMMANDS, bytes[at]);
     let Found::At(i) = found else {
-        return refuse_put(45, at);
+        return refuse_put(refusals::UNKNOWN_BYTE, at);
     };
     let row = 15 * i;
     let opens = text_keyword::cell(table, row + 9);
@@ -165,7 +167,7 @@ fn list_operand(
 {
     let width = text_keyword::size(operand);
     if bytes.len() - at < width {
-        return refuse_put(46, at);
+        return refuse_put(refusals::OPERAND_CUT, at);
     }
     let value = value_at(width, bytes, at) as u32;
     let start = put_lead(at, 0, out, to);
@@ -244,15 +246,14 @@ fn write_listing(table: &[u8], bytes: &[u8], out: &mut [u8]) -> usize
 // Lists bytes that are not too many.
 fn list_with(table: &[u8], bytes: &[u8], text: &mut [u8]) -> Compiled
     requires { ⌜ (now table ≡ cells) × (length (now bytes) ≤ 16777216) ⌝ }
-    ensures answer { λ r. ⌜ compiledOf r ≡ listingOf (now (bytes .entry)) (now (text .entry)) .answer ⌝ }
-    ensures left { λ _. ⌜ now (text .exit) ≡ listingOf (now (bytes .entry)) (now (text .entry)) .left ⌝ }
+    ensures { λ r. ⌜ Does (listingOf (now (bytes .entry)) (now (text .entry))) (compiledOf r) (now (text .exit)) ⌝ }
 {
     let judged = listed_length(table, bytes);
     let Compiled::Length(n) = judged else {
         return judged;
     };
     if text.len() < n {
-        return text_keyword::refuse(44, n);
+        return text_keyword::refuse(refusals::TEXT_BUFFER_SHORT, n);
     }
     let end = write_listing(table, bytes, &mut text[..]);
     Compiled::Length(end)
@@ -260,11 +261,10 @@ fn list_with(table: &[u8], bytes: &[u8], text: &mut [u8]) -> Compiled
 
 // Lists bytes: the length of the text that it writes, or the refusal.
 pub fn list(bytes: &[u8], text: &mut [u8]) -> Compiled
-    ensures answer { λ r. ⌜ compiledOf r ≡ listingOf (now (bytes .entry)) (now (text .entry)) .answer ⌝ }
-    ensures left { λ _. ⌜ now (text .exit) ≡ listingOf (now (bytes .entry)) (now (text .entry)) .left ⌝ }
+    ensures { λ r. ⌜ Does (listingOf (now (bytes .entry)) (now (text .entry))) (compiledOf r) (now (text .exit)) ⌝ }
 {
     if 16777216 < bytes.len() {
-        return text_keyword::refuse(47, 0);
+        return text_keyword::refuse(refusals::FORM_TOO_LONG, 0);
     }
     let table = text_keyword::table();
     list_with(&table, bytes, text)

@@ -13,7 +13,8 @@ use Rattle.model.specs.declared.Operator.the-variants as Operator
 use Rattle.model.specs.declared.Index.the-variants.{Fixed}
 use Rattle.model.specs.declared.Kind.the-variants.{Now}
 use Rattle.model.proofs.Basics.All.{all-at}
-use Rattle.model.proofs.Texts.Legal.{SpellsRead, legal, signal-reads}
+use Rattle.model.proofs.Texts.Legal.{legal, signal-reads}
+use Rattle.model.specs.Says.Stands.{SpellsRead}
 use Rattle.model.proofs.Basics.Outcomes.{accepted-same}
 use Rattle.text_command.specs.Operator.{ReadStands, ReadTaken}
 use Rattle.text_command.specs.declared.Taken.{Taken}

@@ -74,7 +74,6 @@ use Rattle.model.specs.declared.Kind.the-variants.{Now, Last, When, LastWhen, C
 use Rattle.model.proofs.Basics.All.{all-of-map, all-map, all-both}
 use Rattle.model.proofs.Joining.Numbers.{wired-count, wired-signal}
 use Rattle.model.proofs.Joining.Parts.{
-  OrderedPart,
   join-count,
   first-signal,
   second-signal,
@@ -86,6 +85,7 @@ use Rattle.model.proofs.Joining.Parts.{
   by-signals,
   join-ordered,
 }
+use Rattle.model.specs.Says.Feasible.{OrderedPart}
 use Rattle.model.proofs.Joining.Renumbered.{renumber-body-none}
 use Rattle.theorems_joins.proofs.Rows.{
   next-rows,

@@ -42,7 +42,8 @@ use Rattle.model.specs.declared.Sampled.{Sampled}
 use Rattle.model.proofs.Pairs.Decide.{true-periods, periods-true}
 use Rattle.model.proofs.Pairs.Hypercycle.{hypercycle-least, hypercycle-none}
 use Rattle.model.proofs.Texts.Commands.{written-byte, operator-of}
-use Rattle.model.proofs.Texts.Legal.{Legal, legal, SpellsRead, SpellsChain, signal-reads, links-command}
+use Rattle.model.proofs.Texts.Legal.{Legal, legal, signal-reads, links-command}
+use Rattle.model.specs.Says.Stands.{SpellsRead, SpellsChain}
 use Rattle.model.proofs.Texts.Picks.{operator-byte}
 use Rattle.model.proofs.Texts.Written.{as-written, operator-as-written}
 use Rattle.model.proofs.Basics.Outcomes.{not-below, not-true-false, accepted≢refused}

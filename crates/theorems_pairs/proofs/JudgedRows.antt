@@ -30,7 +30,8 @@ use Rattle.model.proofs.Rows.Decided.{
   covers-disjoint,
   covers-full,
 }
-use Rattle.model.proofs.Texts.Legal.{Legal, SpellsRow, row-spelled, row-upright, legal}
+use Rattle.model.proofs.Texts.Legal.{Legal, row-spelled, row-upright, legal}
+use Rattle.model.specs.Says.Stands.{SpellsRow}
 use Rattle.theorems_pairs.proofs.Judged.{Judged}
 use Rattle.theorems_pairs.proofs.Lookups.{has-table}
 use Rattle.theorems_texts.proofs.Parses.{program-legal}

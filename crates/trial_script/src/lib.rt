@@ -1,6 +1,7 @@
 // A bench trial's script: its commands, and its check as a whole.
 use basics::Judged;
 use model::ScriptCommand;
+use model::refusals;
 ghost use mathlib.Core.Path.{_≡_};
 ghost use mathlib.Core.Bool.{true};
 ghost use Prim.Native.Nat.{ℕ, _*_, _≤_, _<_};
@@ -69,12 +70,12 @@ fn ending_at(text: &[u8], at: usize, command: ScriptCommand) -> Judged
     ensures { λ r. ⌜ ruledOf r ≡ endingAt (now (text .entry)) at command ⌝ }
 {
     match command {
-        ScriptCommand::EndsEarly => basics::refuse(24, text.len()),
-        ScriptCommand::Unknown => basics::refuse(24, at),
+        ScriptCommand::EndsEarly => basics::refuse(refusals::SCRIPT_TEXT, text.len()),
+        ScriptCommand::Unknown => basics::refuse(refusals::SCRIPT_TEXT, at),
         ScriptCommand::End => {
             let next = at + width::in_script(0x00);
             if next < text.len() {
-                return basics::refuse(24, next);
+                return basics::refuse(refusals::SCRIPT_TEXT, next);
             }
             Judged::Fine
         }
@@ -96,7 +97,7 @@ fn read_script(text: &[u8]) -> Judged
         }
         at = at + width;
     }
-    basics::refuse(24, text.len())
+    basics::refuse(refusals::SCRIPT_TEXT, text.len())
 }
 
 // Whether a signal is an input: its code starts with FETCH.
@@ -167,7 +168,7 @@ fn check_sets(text: &[u8], inputs: &[u8; 256]) -> Judged
             return Judged::Fine;
         }
         if !may_stand(inputs, command) {
-            return basics::refuse(25, at);
+            return basics::refuse(refusals::SET_OF_NO_INPUT, at);
         }
         at = at + width;
     }
@@ -179,7 +180,7 @@ pub fn check_script(text: &[u8], inputs: &[u8; 256]) -> Judged
     ensures { λ r. ⌜ ruledOf r ≡ checkOf (marked (now (inputs .entry))) (now (text .entry)) ⌝ }
 {
     if 2048 < text.len() {
-        return basics::refuse(24, 0);
+        return basics::refuse(refusals::SCRIPT_TEXT, 0);
     }
     let read = read_script(text);
     let Judged::Fine = read else {

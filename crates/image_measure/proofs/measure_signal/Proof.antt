@@ -8,7 +8,7 @@ use lib.ListN.{length}
 use Rattle.model.specs.Rules.Program.{Signal}
 use Rattle.model.specs.Rules.Report.{bodyCommands, bodyHeight}
 use Rattle.model.specs.Rules.Word.{byteAt}
-use Rattle.model.proofs.Texts.Legal.{SpellsSignal}
+use Rattle.model.specs.Says.Stands.{SpellsSignal}
 use Rattle.image_code.proofs.Signals.{Equated, equated, sampled, place-inside}
 use Rattle.image_measure.specs.Measure.{Nests, Measures}
 use Rattle.image_measure.proofs.Operands.{small}

@@ -1,7 +1,7 @@
 -- `larderlate::code_of_turned` meets its contract. Assumes nothing.
 use mathlib.Core.Path.{sym, ap, _∙_}
 use Rattle.board.specs.Board.{turnedOf}
-use Rattle.board_words.specs.Record.{turnDone}
+use Rattle.board.specs.Record.{turnDone}
 use Rattle.larderlate.specs.Code.{codeNumber}
 use borrow.Author.Needs.{needs}
 use Rattle.larderlate.proofs.code_of_turned.Statement.{statement}

@@ -2,7 +2,7 @@
 use mathlib.Core.Path.{ap, _∙_}
 use borrow.Author.Needs.{needs}
 use denote.Ref.{now}
-use Rattle.board_words.specs.Record.{turnDone, outcomeIn}
+use Rattle.board.specs.Record.{turnDone, outcomeIn}
 use Rattle.larderlate.specs.Code.{codeNumber}
 use Rattle.larderlate.proofs.larderlate_board_turn.Statement.{statement}
 use Rattle.larderlate.proofs.larderlate_board_turn.Tie as tie

@@ -14,7 +14,7 @@ use Rattle.model.specs.Rules.Parts.{Part, renumberSignal, renumberChain,
 use Rattle.model.specs.Rules.Program.{Program, Limit, unlimited, limit, noSignal, count, signalAt}
 use Rattle.model.specs.Rules.Reads.{rank}
 use Rattle.model.specs.Rules.Schedule.{Schedule, phaseOf}
-use Rattle.model.specs.Says.Feasible.{Ordered}
+use Rattle.model.specs.Says.Feasible.{OrderedPart}
 use Rattle.model.proofs.Joining.Renumbered.{chain-twice, chain-none, signal-twice, signal-none}
 
 -- Places in two orders that follow one another.
@@ -104,11 +104,6 @@ module _ (a b : Part) where
       (j : ℕ) → j < length ((a ⊕ b) .schedule .order) → P j
   by-puts P f g j lt =
       by-halves (length (a .schedule .order)) (length (b .schedule .order)) P f g j (omega (arith, join-order))
-
--- A part whose phases are below its periods and whose signals are put once, with a phase for each.
-pub record OrderedPart (a : Part) : Type 0 where
-  pub ordered : Ordered (a .program) (a .schedule)
-  pub phased : length (a .schedule .phases) ≡ count (a .program)
 
 -- Two such parts.
 module _ (a b : Part) (ok : OrderedPart a) (ok′ : OrderedPart b) where

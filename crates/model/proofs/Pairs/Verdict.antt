@@ -37,7 +37,6 @@ use Rattle.model.proofs.Images.Bounds.{Bounded}
 use Rattle.model.proofs.Pairs.Decide.{periods-true, met-true}
 use Rattle.model.proofs.Pairs.Hypercycle.{hypercycle-least}
 use Rattle.model.proofs.Texts.Legal.{
-  SpellsRead,
   Legal,
   legal,
   read-sound,
@@ -48,6 +47,7 @@ use Rattle.model.proofs.Texts.Legal.{
   row-upright,
   row-result,
 }
+use Rattle.model.specs.Says.Stands.{SpellsRead}
 use Rattle.model.proofs.Rows.Area.{sorted-bytes}
 use Rattle.model.proofs.Rows.Decided.{judged-covers, covered-some}
 use Rattle.model.specs.Says.Rows.{AllUpright, Covers}

@@ -8,6 +8,7 @@ use mir.Syntax.{w32}
 use mir.Val.{SFits}
 use Rattle.model.specs.Says.Feasible.{All}
 use Rattle.model.specs.Says.Rows.{Upright}
+use Rattle.model.specs.Says.Stands.{SpellsBody, SpellsSignal, SpellsChain, SpellsRead, SpellsRow}
 use Rattle.model.specs.Says.Words.{IsWord}
 use Rattle.model.specs.Rules.Command.{declarationAt, operatorAt}
 use Rattle.model.specs.Rules.Image.{exprCode, signalCode, codes, joined}
@@ -49,32 +50,6 @@ use Rattle.model.proofs.Texts.Commands.{word-fits, two-fits, ReadSound,
 use Rattle.model.proofs.Basics.Outcomes.{joinFrom-append}
 use Rattle.model.proofs.Texts.Spelled.{Spells, SpellsLinks, DeclaresOne, Declares, declared}
 use Rattle.model.proofs.Texts.Written.{decoded, operator-decoded}
-
--- A signal's command and what stands after it.
-abbrev pub SpellsBody : List ℕ → Signal → Body → Type 0
-SpellsBody text x input = declarationAt text (x .place) ≡ Declaration.Input (x .period) (x .initial)
-SpellsBody text x (equation weight e) =
-    (declarationAt text (x .place) ≡ Declaration.Equation (x .period) (x .initial) weight) × (next : ℕ) ×
-    Spells leastFactor text (x .place + inProgram 0x11) e next × (depth e ≤ 16)
-
-abbrev pub SpellsSignal : List ℕ → Signal → Type 0
-SpellsSignal text x = SpellsBody text x (x .body)
-
--- A chain's command and its links.
-pub record SpellsChain (text : List ℕ) (c : Chain) : Type 0 where
-  pub command : declarationAt text (c .place) ≡ Declaration.Latency (c .mode) (c .bound)
-  pub end : ℕ
-  pub links : SpellsLinks text (c .place + 4) (c .links) end
-  pub several : 2 ≤ length (c .links)
-  pub few : length (c .links) ≤ 16
-
--- A read stands where it says.
-abbrev pub SpellsRead : List ℕ → Read → Type 0
-SpellsRead text ρ = operatorAt text (ρ .place) ≡ Operator.Read (ρ .kind) (ρ .operands)
-
--- A row's command.
-abbrev pub SpellsRow : List ℕ → Row → Type 0
-SpellsRow text r = declarationAt text (r .place) ≡ Declaration.Row (r .low) (r .high) (r .result)
 
 -- What the text up to `at` has declared. Its code and its rows take no more bytes than the text.
 pub record Legal (text : List ℕ) (at : ℕ) (p : Program) : Type 0 where

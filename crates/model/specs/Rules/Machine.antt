@@ -3,6 +3,7 @@
 use Prim.Native.Nat.{ℕ, zero, suc, _+_, _-_, _*_}
 use mathlib.Core.Bool.{Bool, true, false, cond, _&&_, _||_}
 use mathlib.Core.List.{List, [], _∷_, _++_}
+use mathlib.Core.Path.{_≡_}
 use lib.Dec.{leb, ltb, eqb}
 use lib.IntN.{ℤ, pos, negsuc}
 use lib.ListN.{length, getD, take, drop, set}
@@ -273,6 +274,10 @@ cycleCount image state = countSignals image (listOf image (positionOf (getD stat
 pub record Effect (Y A : Type 0) : Type 0 where
   pub answer : Outcome Y
   pub left : List A
+
+-- A call does what a definition says: it answers its answer, and leaves what it leaves.
+abbrev pub Does : {Y A : Type 0} → Effect Y A → Outcome Y → List A → Type 0
+Does e answer left = (answer ≡ e .answer) × (left ≡ e .left)
 
 -- What a call that does its job yields and leaves.
 pub record Job (Y A : Type 0) : Type 0 where

@@ -4,6 +4,7 @@ use mathlib.Core.List.{List, [], _∷_}
 use mathlib.Core.Logic.{_⊎_}
 use mathlib.Core.Path.{_≡_}
 use lib.ListN.{length, getD}
+use Rattle.model.specs.Rules.Parts.{Part}
 use Rattle.model.specs.Rules.Program.{Program, Read, count, signalAt, bodyReads}
 use Rattle.model.specs.Rules.Reads.{Rate, rateOf, runCycle, rank}
 use Rattle.model.specs.Rules.Schedule.{Schedule, phaseOf}
@@ -81,6 +82,11 @@ module _ (p : Program) (s : Schedule) where
   pub record Feasible : Type 0 where
     pub ordered : Ordered
     pub met : (x : ℕ) → x < count p → All (Met x) (bodyReads (signalAt p x .body))
+
+-- A part whose phases are below its periods and whose signals are put once, with a phase for each.
+pub record OrderedPart (a : Part) : Type 0 where
+  pub ordered : Ordered (a .program) (a .schedule)
+  pub phased : length (a .schedule .phases) ≡ count (a .program)
 
 -- h is a common multiple of all periods.
 pub record Multiple (p : Program) (h : ℕ) : Type 0 where

@@ -1,7 +1,8 @@
 -- `text_command::declaration_at` meets its contract. Assumes nothing.
 use Prim.Native.Nat.{ℕ, _<_}
 use mathlib.Core.List.{List}
-use mathlib.Core.Path.{_≡_, sym, _∙_}
+use mathlib.Core.Logic.{inl, inr}
+use mathlib.Core.Path.{_≡_, refl, sym, _∙_}
 use native.Mathlib.Omega.{arith}
 use borrow.Author.Tests.{lt-ltb, le-ltb, ne-eqb}
 use denote.Ref.{now}
@@ -36,10 +37,10 @@ unfolding declarationOf
 returns-2 c = sym (inside (c .before .before) ∙ rw (c .match .keys1))
 
 returns-3 : tie.Need-returns-3
-returns-3 c = c .input-at .ensures ∙ sym (inside (c .before .before .before) ∙ rw (c .before .match .keys2))
+returns-3 c = c .signal-at .ensures ∙ sym (inside (c .before .before .before) ∙ rw (c .before .match .keys2))
 
 returns-4 : tie.Need-returns-4
-returns-4 c = c .equation-at .ensures ∙ sym (inside (c .before .before .before) ∙ rw (c .before .match .keys3))
+returns-4 c = c .signal-at2 .ensures ∙ sym (inside (c .before .before .before) ∙ rw (c .before .match .keys3))
 
 returns-5 : tie.Need-returns-5
 returns-5 c = c .latency-at .ensures ∙ sym (inside (c .before .before .before) ∙ rw (c .before .match .keys4))
@@ -77,7 +78,7 @@ returns-10 c =
 pub declaration-at-spec : {M : Type 1} → statement M
 declaration-at-spec =
     tie.close
-    (tie.spec returns (λ c. search needs) (λ c κs. search needs) (λ c κs. search needs) (λ c κs. search needs)
+    (tie.spec returns (λ c. search needs) (λ c κs. (search needs, inl refl)) (λ c κs. (search needs, inr refl)) (λ c κs. search needs)
     (λ c κs. search needs) (λ c κs. search needs) (λ c κs. search needs) (λ c κs. search needs) returns-2 returns-3 returns-4
     returns-5 returns-6
     returns-7 returns-8 returns-9 returns-10)

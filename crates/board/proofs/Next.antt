@@ -8,10 +8,10 @@ use Rattle.model.specs.Rules.Search.{firstFrom}
 use Rattle.model.specs.declared.Found.{Found}
 use Rattle.model.specs.declared.Found.the-variants.{At, Nowhere}
 use Rattle.model.proofs.Pairs.Decide.{IsFirst, from-first}
 use Rattle.board.specs.Board.{placeAt, placeAfter, dueAfter, nextDue}
-use Rattle.board.specs.declared.Board.{Board}
+use Rattle.board.specs.Board.{Board}
 use Rattle.board.proofs.Due.{true≢false, next-at, next-none}
-use Rattle.board_words.specs.Record.{firstDue}
+use Rattle.board.specs.Record.{firstDue}
 
 module _ (b : Board) where
   abbrev dueAt : ℕ → Bool

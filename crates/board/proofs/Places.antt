@@ -5,9 +5,9 @@ use mathlib.Core.Path.{_≡_, refl, ap}
 use native.Mathlib.Omega.{arith}
 use lib.IntN.{ℤ}
 use lib.ListN.{getD}
 use Rattle.board.specs.Board.{placeAt, runIn, runOf}
-use Rattle.board.specs.declared.Place.{Place}
-use Rattle.board_words.specs.Record.{loadedIn, dueIn, placeFrom, boardOf}
+use Rattle.board.specs.Board.{Place}
+use Rattle.board.specs.Record.{loadedIn, dueIn, placeFrom, boardOf}
 
 module _ (w : List ℕ) where
   pub place-held : (k : ℕ) → k < 4 →

@@ -1,15 +1,15 @@
--- `board_words::mark` meets its contract. Assumes nothing.
+-- `board::mark` meets its contract. Assumes nothing.
 use mathlib.Core.Path.{_≡_, sym, ap, _∙_}
 use borrow.Author.Needs.{needs}
 use borrow.Author.Tests.{lt-ltb, le-ltb, not-true, not-false}
 use denote.Ref.{now}
 use Rattle.board.specs.Board.{placeAt}
 use Rattle.board.proofs.Answers.{mark-place, mark-loaded, mark-done}
 use Rattle.board.proofs.Cases.{callAnswer}
-use Rattle.board_words.specs.Record.{boardOf, markRecord}
-use Rattle.board_words.proofs.Places.{loaded-held}
-use Rattle.board_words.proofs.mark.Statement.{statement}
-use Rattle.board_words.proofs.mark.Tie as tie
+use Rattle.board.specs.Record.{boardOf, markRecord}
+use Rattle.board.proofs.Places.{loaded-held}
+use Rattle.board.proofs.mark.Statement.{statement}
+use Rattle.board.proofs.mark.Tie as tie
 
 -- whether the place is loaded
 held : (l : tie.After-is-loaded) → let a = l .before .before .before .args in

@@ -1,4 +1,4 @@
--- `board_words::first_due` meets its contract. Assumes nothing.
+-- `board::first_due` meets its contract. Assumes nothing.
 use Prim.Native.Nat.{ℕ, _+_, _-_, _≤_, _<_}
 use mathlib.Core.Bool.{true, false}
 use mathlib.Core.Logic.{⊎-elim}
@@ -8,13 +8,13 @@ use native.Mathlib.Omega.{arith}
 use borrow.Author.Needs.{needs}
 use denote.Ref.{now}
 use Rattle.model.specs.declared.Found.the-variants.{At, Nowhere}
 use Rattle.board.specs.Board.{placeAt}
-use Rattle.board.specs.declared.Board.{Board}
-use Rattle.board_words.specs.Record.{boardOf}
+use Rattle.board.specs.Board.{Board}
+use Rattle.board.specs.Record.{boardOf}
 use Rattle.model.proofs.Pairs.Decide.{first-is}
-use Rattle.board_words.proofs.Places.{due-held}
-use Rattle.board_words.proofs.first_due.Statement.{statement}
-use Rattle.board_words.proofs.first_due.Tie as tie
+use Rattle.board.proofs.Places.{due-held}
+use Rattle.board.proofs.first_due.Statement.{statement}
+use Rattle.board.proofs.first_due.Tie as tie
 
 abbrev Inv-loop : tie.InvT-loop
 Inv-loop words from place₀ place = (m : ℕ) → from ≤ m → m < place → placeAt (boardOf words) m .due ≡ false

@@ -23,8 +23,8 @@ use Rattle.board.specs.Board.{
   markPlaceOf,
   turnOf,
 }
-use Rattle.board.specs.declared.Place.{Place}
+use Rattle.board.specs.Board.{Place}
 use Rattle.board.proofs.Cases.{
   LoadCase,
   load-stays,
   load-does,
@@ -39,8 +39,8 @@ use Rattle.board.proofs.Cases.{
   turn-takes,
   turn-case,
 }
 use Rattle.board.proofs.Due.{next-below}
-use Rattle.board_words.specs.Record.{
+use Rattle.board.specs.Record.{
   countIn,
   placeFrom,
   boardOf,
@@ -52,7 +52,7 @@ use Rattle.board_words.specs.Record.{
   markRecord,
   turnRecord,
 }
-use Rattle.board_words.proofs.Places.{place-held}
+use Rattle.board.proofs.Places.{place-held}
 
 -- A place by its four numbers, and the record by its places.
 abbrev placeIn : List ℕ → ℕ → Place

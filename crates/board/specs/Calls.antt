@@ -8,10 +8,10 @@ use lib.ListN.{length}
 use Rattle.model.specs.Says.Calls.{Call, cycle, after, logAfter}
 use Rattle.model.specs.Rules.Machine.{resetOf}
 use Rattle.model.specs.Rules.Outcome.{Outcome, accepted}
 use Rattle.board.specs.Board.{Yield, took, loadOf, markPlaceOf, turnOf}
 use Rattle.board.specs.Events.{Event, load, mark, turn, change, Scene, NotLoaded}
-use Rattle.board_words.specs.Numbers.{PartAt, StretchIs, OwnWords, OwnSamples, startAt, sizeAt}
-use Rattle.board_words.specs.Record.{boardOf, loadRecord, markRecord, turnRecord}
+use Rattle.board.specs.Numbers.{PartAt, StretchIs, OwnWords, OwnSamples, startAt, sizeAt}
+use Rattle.board.specs.Record.{boardOf, loadRecord, markRecord, turnRecord}
 
 -- The numbers of the record, and the images and the state that the next call is lent.
 pub record NumberScene : Type 0 where

@@ -1,10 +1,10 @@
--- `board_words::outcome_of` meets its contract. Assumes nothing.
+-- `board::outcome_of` meets its contract. Assumes nothing.
 use mathlib.Core.Path.{sym, ap}
 use borrow.Author.Needs.{needs}
 use Rattle.model.specs.Rules.Machine.{cycledOf}
-use Rattle.board_words.specs.Record.{runOutcome}
-use Rattle.board_words.proofs.outcome_of.Statement.{statement}
-use Rattle.board_words.proofs.outcome_of.Tie as tie
+use Rattle.board.specs.Record.{runOutcome}
+use Rattle.board.proofs.outcome_of.Statement.{statement}
+use Rattle.board.proofs.outcome_of.Tie as tie
 
 returns : tie.Need-returns
 returns c =

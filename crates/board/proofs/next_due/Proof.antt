@@ -1,16 +1,16 @@
--- `board_words::next_due` meets its contract. Assumes nothing.
+-- `board::next_due` meets its contract. Assumes nothing.
 use Prim.Native.Nat.{_+_, _%_}
 use mathlib.Core.Path.{_≡_, sym, _∙_}
 use borrow.Author.Needs.{needs}
 use denote.Ref.{now}
 use Rattle.model.specs.declared.Found.{Found}
 use Rattle.model.specs.declared.Found.the-variants.{At, Nowhere}
 use Rattle.board.specs.Board.{nextDue}
-use Rattle.board.specs.declared.Board.{Board}
-use Rattle.board_words.specs.Record.{boardOf, firstDue}
-use Rattle.board_words.proofs.Next.{next-after, next-again, next-nowhere}
-use Rattle.board_words.proofs.next_due.Statement.{statement}
-use Rattle.board_words.proofs.next_due.Tie as tie
+use Rattle.board.specs.Board.{Board}
+use Rattle.board.specs.Record.{boardOf, firstDue}
+use Rattle.board.proofs.Next.{next-after, next-again, next-nowhere}
+use Rattle.board.proofs.next_due.Statement.{statement}
+use Rattle.board.proofs.next_due.Tie as tie
 
 returns : tie.Need-returns
 unfolding boardOf

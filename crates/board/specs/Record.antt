@@ -7,9 +7,9 @@ use lib.ListN.{getD, set}
 use Rattle.model.specs.Rules.Outcome.{Outcome, accepted, refused}
 use Rattle.model.specs.Rules.Search.{firstFrom}
 use Rattle.model.specs.declared.Found.{Found}
 use Rattle.board.specs.Board.{countUp, placeAt, Yield, idle, took}
-use Rattle.board.specs.declared.Board.{Board}
-use Rattle.board.specs.declared.Place.{Place}
+use Rattle.board.specs.Board.{Board}
+use Rattle.board.specs.Board.{Place}
 
 -- The flags of a place: 1 loaded, 2 due.
 abbrev pub loadedIn : ℕ → Bool

@@ -1,11 +1,11 @@
--- `board_words::tell_turn` meets its contract. Assumes nothing.
+-- `board::tell_turn` meets its contract. Assumes nothing.
 use mathlib.Core.Path.{sym, ap, _∙_}
 use borrow.Author.Needs.{needs}
 use denote.Ref.{now}
 use Rattle.board.specs.Board.{turnedOf}
-use Rattle.board_words.specs.Record.{outcomeIn}
-use Rattle.board_words.proofs.tell_turn.Statement.{statement}
-use Rattle.board_words.proofs.tell_turn.Tie as tie
+use Rattle.board.specs.Record.{outcomeIn}
+use Rattle.board.proofs.tell_turn.Statement.{statement}
+use Rattle.board.proofs.tell_turn.Tie as tie
 
 returns-2 : tie.Need-returns-2
 returns-2 c =

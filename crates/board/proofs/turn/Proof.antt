@@ -1,4 +1,4 @@
--- `board_words::turn` meets its contract. Assumes nothing.
+-- `board::turn` meets its contract. Assumes nothing.
 use Prim.Native.Nat.{ℕ, _+_, _*_, _%_, _<_}
 use mathlib.Core.List.{List}
 use mathlib.Core.Path.{_≡_, refl, sym, ap, subst, _∙_}
@@ -11,13 +11,13 @@ use lib.ListN.{getD, set}
 use Rattle.model.specs.Rules.Machine.{Effect}
 use Rattle.model.specs.Rules.Outcome.{Outcome, accepted}
 use Rattle.model.specs.declared.Found.the-variants.{At, Nowhere}
 use Rattle.board.specs.Board.{withWords, nextDue, BoardEffect, Yield, took, turnWith}
 use Rattle.board.proofs.Answers.{turn-state, turn-samples, turn-done}
 use Rattle.board.proofs.Due.{next-below}
-use Rattle.board_words.specs.Record.{boardOf, takenWords, turnRecord}
-use Rattle.board_words.proofs.Places.{run-held}
-use Rattle.board_words.proofs.turn.Statement.{statement}
-use Rattle.board_words.proofs.turn.Tie as tie
+use Rattle.board.specs.Record.{boardOf, takenWords, turnRecord}
+use Rattle.board.proofs.Places.{run-held}
+use Rattle.board.proofs.turn.Statement.{statement}
+use Rattle.board.proofs.turn.Tie as tie
 
 -- what a turn hands back, once its definition is known
 abbrev Gives : List ℕ → Outcome Yield → List ℕ → List ℤ → BoardEffect Yield → Type 0

@@ -38,9 +38,9 @@ use Rattle.board.specs.Events.{
   loadBy,
   turnBy,
 }
-use Rattle.board.specs.declared.Board.{Board}
-use Rattle.board.specs.declared.Place.{Place}
+use Rattle.board.specs.Board.{Board}
+use Rattle.board.specs.Board.{Place}
 use Rattle.board.proofs.Cases.{
   LoadCase,
   load-stays,
   load-does,
@@ -52,13 +52,13 @@ use Rattle.board.proofs.Cases.{
   turn-takes,
   turn-case,
 }
 use Rattle.board.proofs.Counts.{held-is}
 use Rattle.board.proofs.Due.{next-below}
 use Rattle.board.proofs.Intact.{load-leaves-place}
 use Rattle.board.proofs.Promises as Board
 use Rattle.board.proofs.Stretch.{never, accepted-inside, reset-length, cycle-of-length}
 use Rattle.board.proofs.Words.{words-length}
-use Rattle.board_words.specs.Calls.{
+use Rattle.board.specs.Calls.{
   NumberScene,
   sceneOf,
   loadAnswer,
@@ -75,11 +75,11 @@ use Rattle.board_words.specs.Calls.{
   FromLoad,
   AsAlone,
 }
-use Rattle.board_words.specs.Numbers.{OwnSamples, startAt, sizeAt, countAt}
-use Rattle.board_words.specs.Record.{boardOf, loadedWords, takenWords, loadRecord, markRecord, turnRecord}
-use Rattle.board_words.proofs.Numbers.{part-there, part-is, stretch-there, stretch-is, counted-most}
-use Rattle.board_words.proofs.Places.{place-held}
-use Rattle.board_words.proofs.Promises.{
+use Rattle.board.specs.Numbers.{OwnSamples, startAt, sizeAt, countAt}
+use Rattle.board.specs.Record.{boardOf, loadedWords, takenWords, loadRecord, markRecord, turnRecord}
+use Rattle.board.proofs.Numbers.{part-there, part-is, stretch-there, stretch-is, counted-most}
+use Rattle.board.proofs.Places.{place-held}
+use Rattle.board.proofs.Held.{
   load-held,
   mark-held,
   turn-held,

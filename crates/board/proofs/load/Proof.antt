@@ -1,4 +1,4 @@
--- `board_words::load` meets its contract. Assumes nothing.
+-- `board::load` meets its contract. Assumes nothing.
 use Prim.Native.Nat.{ℕ}
 use mathlib.Core.Bool.{true}
 use mathlib.Core.List.{List}
@@ -11,14 +11,14 @@ use lib.IntN.{ℤ}
 use lib.ListN.{length}
 use Rattle.model.specs.Rules.Machine.{ranOf, resetOf}
 use Rattle.model.specs.Rules.Outcome.{Outcome, refused}
 use Rattle.board.specs.Board.{placeWords, withWords, resetIn, BoardEffect}
 use Rattle.board.proofs.Answers.{load-place, load-state, load-refused, load-done}
 use Rattle.board.proofs.Cases.{callAnswer}
 use Rattle.board.proofs.Stretch.{reset-keeps, on-keeps}
 use Rattle.board.proofs.Words.{words-same}
-use Rattle.board_words.specs.Record.{loadedWords, loadRecord}
-use Rattle.board_words.proofs.load.Statement.{statement}
-use Rattle.board_words.proofs.load.Tie as tie
+use Rattle.board.specs.Record.{loadedWords, loadRecord}
+use Rattle.board.proofs.load.Statement.{statement}
+use Rattle.board.proofs.load.Tie as tie
 
 -- what a load hands back, once its definition is known
 gives : (w : List ℕ) (k start size : ℕ) {t u : BoardEffect ℕ} {answer : Outcome ℕ} {array : List ℕ} {left : List ℤ} → t ≡ u →

@@ -13,11 +13,11 @@ use lib.ListN.{length, getD, take, drop, set, length-set, length-drop}
 use lib.Seq.{length-take-le, getD-take, getD-drop, ext-getD}
 use Rattle.model.specs.Rules.Machine.{stretch}
 use Rattle.model.specs.declared.Found.the-variants.{At, Nowhere}
 use Rattle.board.specs.Board.{withWords, placeAt, placeAfter, countUp, nextDue}
 use Rattle.board.proofs.Due.{next-below, reached, none-due}
 use Rattle.board.proofs.Words.{put-length, words-own, words-elsewhere}
-use Rattle.board_words.specs.Record.{boardOf, dueIn, loadedIn, countIn, loadedWords, markedWords, takenWords}
-use Rattle.board_words.specs.Numbers.{
+use Rattle.board.specs.Record.{boardOf, dueIn, loadedIn, countIn, loadedWords, markedWords, takenWords}
+use Rattle.board.specs.Numbers.{
   PartAt,
   StretchIs,
   WordsSet,
@@ -35,8 +35,8 @@ use Rattle.board_words.specs.Numbers.{
   NextPlace,
   NoneDue,
 }
-use Rattle.board_words.proofs.Places.{due-held}
-use Rattle.board_words.proofs.Promises.{
+use Rattle.board.proofs.Places.{due-held}
+use Rattle.board.proofs.Held.{
   load-flags,
   load-start,
   load-size,
