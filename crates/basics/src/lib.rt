@@ -1,5 +1,6 @@
 // What several crates share: numbers by their width, a choice, and what a check answers.
 use model::Fault;
+use model::Yielded;
 ghost use mathlib.Core.Bool.{cond};
 ghost use mathlib.Core.Path.{_≡_};
 ghost use Prim.Native.Nat.{_+_, _<_};
@@ -20,6 +21,29 @@ pub fn refuse(number: u8, place: usize) -> Judged
         number: number,
         place: place,
     })
+}
+
+// The refusal of a number at a place, where a number is to be yielded.
+pub fn refuse_number(number: u8, place: usize) -> Yielded
+    ensures { λ r. ⌜ r ≡ Yielded.Refused (record { number = number; place = place }) ⌝ }
+{
+    Yielded::Refused(Fault {
+        number: number,
+        place: place,
+    })
+}
+
+// The refusal that a check has given, where a number is to be yielded. A check that is fine is none: no caller asks.
+pub fn refused(judged: Judged) -> Yielded
+    ensures { λ r. ⌜ ((f : Fault) → judged ≡ Judged.Refused f → r ≡ Yielded.Refused f) ⌝ }
+{
+    match judged {
+        Judged::Fine => Yielded::Refused(Fault {
+            number: 0,
+            place: 0,
+        }),
+        Judged::Refused(fault) => Yielded::Refused(fault),
+    }
 }
 
 // A byte as a number.

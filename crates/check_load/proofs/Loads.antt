@@ -20,7 +20,8 @@ use Rattle.text_program.specs.Tables.{PeriodsOf, WeightsOf, capOf}
 use Rattle.basics.specs.declared.Judged.{Judged}
 use Rattle.basics.specs.declared.Judged.the-variants as Judged
 use Rattle.basics.specs.Judgement.{judgementOf}
-use Rattle.check_load.specs.Load.{addedIn, loadIn, LoadsOf, Raised, PhasesOf}
+use Rattle.check_load.specs.Load.{addedIn, loadIn, LoadsOf, PhasesOf}
+use Rattle.runs.specs.Raised.{Raised}
 
 module _ (periods phases weights : List ℕ) (c : ℕ) where
   pub load-none : loadIn periods phases weights 0 c ≡ 0

@@ -22,14 +22,6 @@ loadIn periods phases weights n c = sum (table n (addedIn periods phases weights
 abbrev pub LoadsOf : List ℕ → List ℕ → List ℕ → ℕ → ℕ → List ℕ → Type 0
 LoadsOf periods phases weights n h loads = (c : ℕ) → c < h → getD loads c 0 ≡ loadIn periods phases weights n c
 
--- Of a table of loads, `old`, the table `new` has a signal's weight added in the cycles below h in which it is due. A weight
--- has 2 bytes.
-pub record Raised (a : Rate) (weight h : ℕ) (old new : List ℕ) : Type 0 where
-  pub long : length new ≡ 240
-  pub raised : (c : ℕ) → c < h → getD new c 0 ≡ getD old c 0 + cond (due a c) weight 0
-  pub bounded : (c : ℕ) → c < h → getD new c 0 ≤ getD old c 0 + 65535
-  pub beyond : (c : ℕ) → h ≤ c → getD new c 0 ≡ getD old c 0
-
 -- A table has the phase of every signal by its number.
 abbrev pub PhasesOf : Program → Schedule → List ℕ → Type 0
 PhasesOf p s phases = (x : ℕ) → x < count p → getD phases x 0 ≡ phaseOf s x

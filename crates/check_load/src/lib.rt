@@ -15,22 +15,7 @@ ghost use Rattle.model.specs.Rules.Search.{firstBelow};
 ghost use Rattle.basics.specs.Judgement.{judgementOf};
 ghost use Rattle.text_program.specs.Tables.{PeriodsOf, WeightsOf, capOf};
 ghost use Rattle.text_schedule.specs.Arranged.{Arranged, Arrangement, pairTables};
-ghost use Rattle.check_load.specs.Load.{LoadsOf, Raised, PhasesOf};
-
-// Adds a signal's weight to the loads of the cycles in which it runs, stepping from run to run. The loads so far are of at most
-// 63 signals, so that no sum wraps.
-pub fn add_runs(loads: &mut [u32; 240], period: u8, phase: u8, weight: u16, hypercycle: usize)
-    requires { ⌜ (phase < period) × (hypercycle ≤ 240) × (length (now loads) ≡ 240) × ((c : ℕ) → c < hypercycle → getD (now loads) c 0 ≤ 63 * 65535) ⌝ }
-    ensures { λ r. ⌜ Raised (record { period = period; phase = phase }) weight hypercycle (now (loads .entry)) (now (loads .exit)) ⌝ }
-{
-    let step = period as usize;
-    let more = weight as u32;
-    let mut next = phase as usize;
-    while next < hypercycle {
-        loads[next] = loads[next] + more;
-        next = next + step;
-    }
-}
+ghost use Rattle.check_load.specs.Load.{LoadsOf, PhasesOf};
 
 // The load of each cycle below the hypercycle. A step for each run of each signal.
 pub fn loads_of(
@@ -46,7 +31,7 @@ pub fn loads_of(
     let mut loads: [u32; 240] = [0; 240];
     let mut x: usize = 0;
     while x < signals {
-        add_runs(&mut loads, periods[x], phases[x], weights[x], hypercycle);
+        runs::add_runs(&mut loads, periods[x], phases[x], weights[x], hypercycle);
         x = x + 1;
     }
     loads

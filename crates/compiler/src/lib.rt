@@ -1,37 +1,26 @@
 // The compiler: a program and a schedule to an image with its tail, or the first refusal.
 use basics::Judged;
-use model::Compiled;
 use model::Fault;
+use model::Yielded;
 use text_program::Tables;
 use text_schedule::Slots;
 ghost use mathlib.Core.Path.{_≡_};
-ghost use Rattle.model.specs.Rules.Compile.{compiledOf, compileOf};
+ghost use Rattle.model.specs.Rules.Compile.{compileOf};
+ghost use Rattle.model.specs.Rules.Outcome.{yieldedOf};
 ghost use Rattle.model.specs.declared.Fault.{Fault};
 
 // The number of the refusal of a buffer.
 const SHORT_BUFFER: u8 = 17;
 
-fn refused(judged: Judged) -> Compiled
-    ensures { λ r. ⌜ ((f : Fault) → judged ≡ Judged.Refused f → r ≡ Compiled.Refused f) ⌝ }
-{
-    match judged {
-        Judged::Fine => Compiled::Refused(Fault {
-            number: SHORT_BUFFER,
-            place: 0,
-        }),
-        Judged::Refused(fault) => Compiled::Refused(fault),
-    }
-}
-
 // Writes the image of an accepted pair and its tail, and yields how many bytes these are. A refused call changes nothing.
-pub fn compile(program: &[u8], schedule: &[u8], image: &mut [u8]) -> Compiled
-    ensures answer { λ r. ⌜ compiledOf r ≡ compileOf (now (program .entry)) (now (schedule .entry)) (now (image .entry)) .answer ⌝ }
+pub fn compile(program: &[u8], schedule: &[u8], image: &mut [u8]) -> Yielded
+    ensures answer { λ r. ⌜ yieldedOf r ≡ compileOf (now (program .entry)) (now (schedule .entry)) (now (image .entry)) .answer ⌝ }
     ensures left { λ _. ⌜ now (image .exit) ≡ compileOf (now (program .entry)) (now (schedule .entry)) (now (image .entry)) .left ⌝ }
 {
     let checked = check_pair::check_pair(program, schedule);
     let judged = checked.judged;
     let Judged::Fine = judged else {
-        return refused(judged);
+        return basics::refused(judged);
     };
     let pair = checked.pair;
     let tables: Tables = pair.tables;
@@ -43,7 +32,7 @@ pub fn compile(program: &[u8], schedule: &[u8], image: &mut [u8]) -> Compiled
     let layout = image_write::lay_out(tables, &periods, &order, &phases, h);
     let written = layout.written;
     if image.len() < written {
-        return Compiled::Refused(Fault {
+        return Yielded::Refused(Fault {
             number: SHORT_BUFFER,
             place: written,
         });
@@ -61,5 +50,5 @@ pub fn compile(program: &[u8], schedule: &[u8], image: &mut [u8]) -> Compiled
     let n = tables.signals;
     let labels = tables.labels;
     image_write::emit_tail(&labels, &periods, &phases, n, &mut image[..], layout.end);
-    Compiled::Length(written)
+    Yielded::Number(written)
 }

@@ -1,10 +1,10 @@
 // The paper's program A: compiled into too small a buffer and into one that is large enough, then run on the machine. It writes
 // the answer of each call and the words after each.
 use libc::STDOUT_FILENO;
-use model::Compiled;
 use model::Cycled;
 use model::Fault;
 use model::Ran;
+use model::Yielded;
 ghost use Prim.Native.Nat.{_≤_};
 ghost use lib.ListN.{length};
 
@@ -96,15 +96,15 @@ fn write_fault(fault: Fault) {
     write(b"\n");
 }
 
-fn write_compiled(name: &[u8], compiled: Compiled) {
+fn write_compiled(name: &[u8], compiled: Yielded) {
     write(name);
     match compiled {
-        Compiled::Length(n) => {
+        Yielded::Number(n) => {
             write(b"image and tail of ");
             io::print_decimal(STDOUT_FILENO, n as u64);
             write(b" bytes\n");
         }
-        Compiled::Refused(fault) => write_fault(fault),
+        Yielded::Refused(fault) => write_fault(fault),
     }
 }
 

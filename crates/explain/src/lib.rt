@@ -1,6 +1,6 @@
 // What a refusal means and where, in words on standard error; on standard output its number and place, for a script.
-use model::Compiled;
 use model::Fault;
+use model::Yielded;
 use text_program::Tables;
 use text_schedule::Slots;
 
@@ -105,7 +105,7 @@ fn say_stretch(bytes: &[u8], place: usize, width: usize) -> bool {
     }
     let mut text = io::buffer();
     let listed = text_list::list(&bytes[place..place + width], &mut text);
-    let Compiled::Length(n) = listed else {
+    let Yielded::Number(n) = listed else {
         return false;
     };
     if n < 1 {

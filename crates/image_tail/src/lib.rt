@@ -1,23 +1,23 @@
 // The tail of an image, for tools that show signals by their labels. Nothing is written or copied.
-use model::Compiled;
 use model::Fault;
+use model::Yielded;
 use model::refusals;
 ghost use mathlib.Core.Path.{_≡_};
-ghost use Rattle.model.specs.Rules.Compile.{compiledOf};
+ghost use Rattle.model.specs.Rules.Outcome.{yieldedOf};
 ghost use Rattle.model.specs.Rules.Tail.{tailIn, lengthOfTail, stretchIn};
 
 // How long the tail of what is lent is, 0 for an image without one; or the refusal.
-pub fn tail_length(lent: &[u8]) -> Compiled
-    ensures { λ r. ⌜ compiledOf r ≡ lengthOfTail (tailIn (now (lent .entry))) ⌝ }
+pub fn tail_length(lent: &[u8]) -> Yielded
+    ensures { λ r. ⌜ yieldedOf r ≡ lengthOfTail (tailIn (now (lent .entry))) ⌝ }
 {
     let image = image_valid::image_in(lent);
     if !image_valid::well_formed(image) {
-        return Compiled::Refused(Fault {
+        return Yielded::Refused(Fault {
             number: refusals::IMAGE_NOT_WELL_FORMED,
             place: 0,
         });
     }
-    Compiled::Length(lent.len() - image.len())
+    Yielded::Number(lent.len() - image.len())
 }
 
 // The tail of what is lent: a stretch of it, empty for an image without a tail and where `tail_length` refuses.
@@ -25,7 +25,7 @@ pub fn tail<'a>(lent: &'a [u8]) -> &'a [u8]
     ensures { λ r. ⌜ now r ≡ stretchIn (tailIn (now (lent .entry))) ⌝ }
 {
     let length = tail_length(lent);
-    let Compiled::Length(n) = length else {
+    let Yielded::Number(n) = length else {
         return &lent[lent.len()..];
     };
     let start = lent.len() - n;
@@ -36,14 +36,14 @@ pub fn tail<'a>(lent: &'a [u8]) -> &'a [u8]
 // the refusal.
 pub struct TailRead<'a> {
     pub stretch: &'a [u8],
-    pub length: Compiled,
+    pub length: Yielded,
 }
 
 // The tail as one answer by value. `tail` and `tail_length` of crate larderlate are the same two answers, one by one.
 pub fn read_tail<'a>(lent: &'a [u8]) -> TailRead<'a>
     ensures { λ r. ⌜
         (now (r .stretch) ≡ stretchIn (tailIn (now (lent .entry)))) ×
-        (compiledOf (r .length) ≡ lengthOfTail (tailIn (now (lent .entry))))
+        (yieldedOf (r .length) ≡ lengthOfTail (tailIn (now (lent .entry))))
         ⌝ }
 {
     TailRead {

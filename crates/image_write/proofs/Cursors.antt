@@ -9,7 +9,7 @@ use borrow.Author.Tests.{lt-ltb, le-ltb}
 use lib.Dec.{ltb}
 use lib.ListN.{length, getD, set, length-set, length-append, List·getD-append}
 use lib.Seq.{sets, length-sets, getD-append-add, getD-set-same, getD-set-other, ext-getD}
-use Rattle.check_load.proofs.Runs.{due-before, due-between}
+use Rattle.runs.proofs.Runs.{due-before, due-between}
 use Rattle.model.specs.Rules.Image.{joined}
 use Rattle.model.specs.Rules.Reads.{Rate, due}
 use Rattle.model.specs.Rules.Search.{table}

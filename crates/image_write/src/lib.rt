@@ -42,7 +42,7 @@ fn count_runs(
     let mut i: usize = 0;
     while i < n {
         let x = basics::wide(order[i]);
-        check_load::add_runs(&mut counts, periods[x], phases[x], 1, h);
+        runs::add_runs(&mut counts, periods[x], phases[x], 1, h);
         i = i + 1;
     }
     counts

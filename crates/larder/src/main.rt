@@ -1,11 +1,11 @@
 // The shop's tool: one command a call, on files. All that is decided is decided by the calls of larderlate; here files are read and
 // written, and answers are put in words. `larder run FILE` takes the commands from a file, a line each.
 use libc::STDOUT_FILENO;
-use model::Compiled;
 use model::Fault;
 use model::Found;
 use model::Joined;
 use model::Ran;
+use model::Yielded;
 
 fn say_use() {
     console::print(b"failed\n");
@@ -67,8 +67,8 @@ fn compile(line: &[u8], program: &[u8], schedule: &[u8]) {
     let mut image: [u8; 24679] = [0; 24679];
     let compiled = larderlate::compile(program, schedule, &mut image);
     match compiled {
-        Compiled::Length(n) => write_image(console::word_of(line, 3), &image, n),
-        Compiled::Refused(fault) => explain::refuse_pair(fault, program, schedule),
+        Yielded::Number(n) => write_image(console::word_of(line, 3), &image, n),
+        Yielded::Refused(fault) => explain::refuse_pair(fault, program, schedule),
     }
 }
 
@@ -158,13 +158,13 @@ fn print_listing(bytes: &[u8]) {
     let mut text: [u8; 131072] = [0; 131072];
     let listed = larderlate::list(bytes, &mut text);
     match listed {
-        Compiled::Length(n) => {
+        Yielded::Number(n) => {
             if n <= 131072 {
                 let size = io::count(n as isize, &text);
                 console::print(&text[..size]);
             }
         }
-        Compiled::Refused(fault) => explain::refuse_bytes(fault, bytes),
+        Yielded::Refused(fault) => explain::refuse_bytes(fault, bytes),
     }
 }
 
@@ -197,8 +197,8 @@ fn assemble_text(line: &[u8], text: &[u8]) {
     let mut bytes: [u8; 8192] = [0; 8192];
     let assembled = larderlate::assemble(text, &mut bytes);
     match assembled {
-        Compiled::Length(n) => write_bytes(line, &bytes, n),
-        Compiled::Refused(fault) => explain::refuse_text(fault, text),
+        Yielded::Number(n) => write_bytes(line, &bytes, n),
+        Yielded::Refused(fault) => explain::refuse_text(fault, text),
     }
 }
 
@@ -226,8 +226,8 @@ fn convert(line: &[u8]) {
     let p = console::read(fd, &mut program);
     let converted = larderlate::convert(&program[..p], &mut result);
     match converted {
-        Compiled::Length(n) => write_bytes(line, &result, n),
-        Compiled::Refused(fault) => explain::refuse_bytes(fault, &program[..p]),
+        Yielded::Number(n) => write_bytes(line, &result, n),
+        Yielded::Refused(fault) => explain::refuse_bytes(fault, &program[..p]),
     }
 }
 
@@ -261,8 +261,8 @@ fn print_tail(tail: &[u8]) {
 fn print_labels(image: &[u8]) {
     let length = larderlate::tail_length(image);
     match length {
-        Compiled::Length(_) => print_tail(larderlate::tail(image)),
-        Compiled::Refused(fault) => explain::refuse_call(fault),
+        Yielded::Number(_) => print_tail(larderlate::tail(image)),
+        Yielded::Refused(fault) => explain::refuse_call(fault),
     }
 }
 

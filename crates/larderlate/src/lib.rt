@@ -2,20 +2,19 @@
 // too. Each call takes any bytes and words, and its answer and what it leaves are the definition's. What they promise together is in
 // crate `promises`.
 use board::Turned;
-use model::Compiled;
 use model::Cycled;
 use model::Fault;
 use model::Joined;
-use model::Listed;
 use model::Ran;
 use model::Reported;
+use model::Yielded;
 ghost use mathlib.Core.Path.{_≡_};
-ghost use Rattle.model.specs.Rules.Compile.{compiledOf, compileOf};
+ghost use Rattle.model.specs.Rules.Compile.{compileOf};
+ghost use Rattle.model.specs.Rules.Outcome.{yieldedOf, refused};
 ghost use Rattle.model.specs.Rules.Dependents.{dependentsOf};
 ghost use Rattle.model.specs.Rules.Join.{joinedOf, partIn, joinOf, partNamed};
 ghost use Rattle.model.specs.Rules.Machine.{Does, ranOf, cycledOf, resetOf, cycleOf};
-ghost use Rattle.model.specs.Rules.Moves.{listedOf, movesOf};
-ghost use Rattle.model.specs.Rules.Outcome.{refused};
+ghost use Rattle.model.specs.Rules.Moves.{movesOf};
 ghost use Rattle.model.specs.Rules.Report.{reportedOf, reportOf};
 ghost use Rattle.model.specs.Rules.Rewrite.{convertOf};
 ghost use Rattle.model.specs.Rules.Tail.{tailIn, lengthOfTail, stretchIn};
@@ -25,10 +24,10 @@ ghost use Rattle.board.specs.Record.{boardOf, newWords, loadRecord, markRecord,
 ghost use Rattle.larderlate.specs.Code.{codeNumber, Tells, partNumber, lengthIn, writtenIn, stackIn, startIn};
 
 // Writes the image of an accepted program and schedule and its tail to the start of `image`, and yields how many bytes these are.
-pub fn compile(program: &[u8], schedule: &[u8], image: &mut [u8]) -> Compiled
+pub fn compile(program: &[u8], schedule: &[u8], image: &mut [u8]) -> Yielded
     ensures { λ r. ⌜ Does
         (compileOf (now (program .entry)) (now (schedule .entry)) (now (image .entry)))
-        (compiledOf r) (now (image .exit)) ⌝ }
+        (yieldedOf r) (now (image .exit)) ⌝ }
 {
     compiler::compile(program, schedule, &mut image[..])
 }
@@ -73,8 +72,8 @@ pub fn cycle(image: &[u8], state: &mut [i32], samples: &[i32]) -> Cycled
 }
 
 // How long the tail of an image is, 0 for an image without one; or the refusal.
-pub fn tail_length(image: &[u8]) -> Compiled
-    ensures { λ r. ⌜ compiledOf r ≡ lengthOfTail (tailIn (now (image .entry))) ⌝ }
+pub fn tail_length(image: &[u8]) -> Yielded
+    ensures { λ r. ⌜ yieldedOf r ≡ lengthOfTail (tailIn (now (image .entry))) ⌝ }
 {
     image_tail::tail_length(image)
 }
@@ -87,8 +86,8 @@ pub fn tail<'a>(image: &'a [u8]) -> &'a [u8]
 }
 
 // Rewrites a program text of the earlier rule, with a sampling factor of 1, to the start of `result`, and yields its new length.
-pub fn convert(program: &[u8], result: &mut [u8]) -> Compiled
-    ensures { λ r. ⌜ Does (convertOf (now (program .entry)) (now (result .entry))) (compiledOf r) (now (result .exit)) ⌝ }
+pub fn convert(program: &[u8], result: &mut [u8]) -> Yielded
+    ensures { λ r. ⌜ Does (convertOf (now (program .entry)) (now (result .entry))) (yieldedOf r) (now (result .exit)) ⌝ }
 {
     text_convert::convert(program, &mut result[..])
 }
@@ -96,10 +95,10 @@ pub fn convert(program: &[u8], result: &mut [u8]) -> Compiled
 // Lists where one job may go: each signal and phase, two bytes, such that the pair with only that phase changed and the same PUT
 // order is accepted and settles every open read as before; as many whole entries as the list has space for. Yields how many there
 // are in all.
-pub fn moves(program: &[u8], schedule: &[u8], list: &mut [u8]) -> Listed
+pub fn moves(program: &[u8], schedule: &[u8], list: &mut [u8]) -> Yielded
     ensures { λ r. ⌜ Does
         (movesOf (now (program .entry)) (now (schedule .entry)) (now (list .entry)))
-        (listedOf r) (now (list .exit)) ⌝ }
+        (yieldedOf r) (now (list .exit)) ⌝ }
 {
     moves::moves(program, schedule, &mut list[..])
 }
@@ -115,15 +114,15 @@ pub fn dependents(program: &[u8], schedule: &[u8], input: usize, marks: &mut [u8
 }
 
 // Assembles a text in words to the start of `bytes`, and yields how many bytes it is.
-pub fn assemble(text: &[u8], bytes: &mut [u8]) -> Compiled
-    ensures { λ r. ⌜ Does (assembleOf (now (text .entry)) (now (bytes .entry))) (compiledOf r) (now (bytes .exit)) ⌝ }
+pub fn assemble(text: &[u8], bytes: &mut [u8]) -> Yielded
+    ensures { λ r. ⌜ Does (assembleOf (now (text .entry)) (now (bytes .entry))) (yieldedOf r) (now (bytes .exit)) ⌝ }
 {
     text_assemble::assemble(text, &mut bytes[..])
 }
 
 // Lists a program, a schedule or a script in words to the start of `text`, and yields how long the listing is.
-pub fn list(bytes: &[u8], text: &mut [u8]) -> Compiled
-    ensures { λ r. ⌜ Does (listingOf (now (bytes .entry)) (now (text .entry))) (compiledOf r) (now (text .exit)) ⌝ }
+pub fn list(bytes: &[u8], text: &mut [u8]) -> Yielded
+    ensures { λ r. ⌜ Does (listingOf (now (bytes .entry)) (now (text .entry))) (yieldedOf r) (now (text .exit)) ⌝ }
 {
     text_list::list(bytes, &mut text[..])
 }
@@ -135,12 +134,12 @@ fn code_of_fault(fault: Fault) -> u64
     (fault.number as u64) * 4294967296 + (fault.place as u64) % 4294967296
 }
 
-fn code_of_compiled(compiled: Compiled) -> u64
-    ensures { λ r. ⌜ r ≡ codeNumber (compiledOf compiled) ⌝ }
+fn code_of_yielded(yielded: Yielded) -> u64
+    ensures { λ r. ⌜ r ≡ codeNumber (yieldedOf yielded) ⌝ }
 {
-    match compiled {
-        Compiled::Length(n) => n as u64,
-        Compiled::Refused(fault) => code_of_fault(fault),
+    match yielded {
+        Yielded::Number(n) => n as u64,
+        Yielded::Refused(fault) => code_of_fault(fault),
     }
 }
 
@@ -202,15 +201,6 @@ fn code_of_reported(reported: Reported) -> u64
     }
 }
 
-fn code_of_listed(listed: Listed) -> u64
-    ensures { λ r. ⌜ r ≡ codeNumber (listedOf listed) ⌝ }
-{
-    match listed {
-        Listed::Moves(n) => n as u64,
-        Listed::Refused(fault) => code_of_fault(fault),
-    }
-}
-
 // The stack use of a report, or what is there where it is refused.
 fn stack_of_reported(reported: Reported, old: usize) -> usize
     ensures { λ r. ⌜ r ≡ stackIn old (reportedOf reported) ⌝ }
@@ -239,7 +229,7 @@ pub extern "C" fn larderlate_compile(program: &[u8], schedule: &[u8], image: &mu
         r (now (image .exit)) ⌝ }
 {
     let compiled = compile(program, schedule, &mut image[..]);
-    code_of_compiled(compiled)
+    code_of_yielded(compiled)
 }
 
 // The part that a refusal names stands behind a pointer. The header's larderlate_join lends it whole parts.
@@ -305,8 +295,8 @@ pub extern "C" fn larderlate_tail(image: &[u8], start: &mut usize) -> u64
     ensures place { λ _. ⌜ now (start .exit) ≡ startIn (now (start .entry)) (now (image .entry)) (tailIn (now (image .entry))) ⌝ }
 {
     let length = tail_length(image);
-    let Compiled::Length(n) = length else {
-        return code_of_compiled(length);
+    let Yielded::Number(n) = length else {
+        return code_of_yielded(length);
     };
     *start = image.len() - n;
     n as u64
@@ -317,7 +307,7 @@ pub extern "C" fn larderlate_convert(program: &[u8], result: &mut [u8]) -> u64
     ensures { λ r. ⌜ Tells (convertOf (now (program .entry)) (now (result .entry))) r (now (result .exit)) ⌝ }
 {
     let converted = convert(program, &mut result[..]);
-    code_of_compiled(converted)
+    code_of_yielded(converted)
 }
 
 #[no_mangle]
@@ -325,7 +315,7 @@ pub extern "C" fn larderlate_moves(program: &[u8], schedule: &[u8], list: &mut [
     ensures { λ r. ⌜ Tells (movesOf (now (program .entry)) (now (schedule .entry)) (now (list .entry))) r (now (list .exit)) ⌝ }
 {
     let listed = moves(program, schedule, &mut list[..]);
-    code_of_listed(listed)
+    code_of_yielded(listed)
 }
 
 #[no_mangle]
@@ -348,7 +338,7 @@ pub extern "C" fn larderlate_assemble(text: &[u8], bytes: &mut [u8]) -> u64
     ensures { λ r. ⌜ Tells (assembleOf (now (text .entry)) (now (bytes .entry))) r (now (bytes .exit)) ⌝ }
 {
     let assembled = assemble(text, &mut bytes[..]);
-    code_of_compiled(assembled)
+    code_of_yielded(assembled)
 }
 
 #[no_mangle]
@@ -356,7 +346,7 @@ pub extern "C" fn larderlate_list(bytes: &[u8], text: &mut [u8]) -> u64
     ensures { λ r. ⌜ Tells (listingOf (now (bytes .entry)) (now (text .entry))) r (now (text .exit)) ⌝ }
 {
     let listed = list(bytes, &mut text[..]);
-    code_of_compiled(listed)
+    code_of_yielded(listed)
 }
 
 // The board's calls. The record is an array of 17 numbers that the caller keeps (crate `board`); a refused call and an idle

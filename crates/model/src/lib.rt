@@ -155,9 +155,9 @@ pub struct Fault {
     pub place: usize,
 }
 
-// What `compile` answers: the length of the image with its tail, or the refusal.
-pub enum Compiled {
-    Length(usize),
+// What a call or a step yields: a number, or the refusal.
+pub enum Yielded {
+    Number(usize),
     Refused(Fault),
 }
 
@@ -190,11 +190,5 @@ pub struct Sizes {
 // What `report` answers.
 pub enum Reported {
     Sizes(Sizes),
-    Refused(Fault),
-}
-
-// What `moves` answers: how many entries there are, or the refusal.
-pub enum Listed {
-    Moves(usize),
     Refused(Fault),
 }

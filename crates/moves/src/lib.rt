@@ -1,8 +1,6 @@
 // Where one job may go: the phases that each signal of an accepted pair may take while all else stays.
 use basics::Judged;
-use model::Fault;
-use model::Listed;
-use model::refusals;
+use model::Yielded;
 use text_schedule::PairTables;
 ghost use mathlib.Core.Bool.{true};
 ghost use mathlib.Core.List.{List};
@@ -12,25 +10,13 @@ ghost use Prim.Native.Nat.{ℕ, _+_, _*_, _≤_, _<_};
 ghost use lib.ListN.{length, getD};
 ghost use Rattle.model.specs.Rules.Machine.{Does};
 ghost use Rattle.model.specs.Rules.Compile.{Pair};
-ghost use Rattle.model.specs.Rules.Moves.{allEntries, listedOf, movesOf};
+ghost use Rattle.model.specs.Rules.Moves.{allEntries, movesOf};
+ghost use Rattle.model.specs.Rules.Outcome.{yieldedOf};
 ghost use Rattle.model.specs.Says.Feasible.{Between};
-ghost use Rattle.model.specs.declared.Fault.{Fault};
 ghost use Rattle.check_pair.specs.Answers.{Spacious};
 ghost use Rattle.move_rule.specs.Narrowing.{Long};
 ghost use Rattle.moves.specs.Listing.{Spare, FitsAt, putEntry, ListsOne, Lists, LeftBelow, ListsAll, Written};
 ghost use Rattle.moves.specs.Listing.{AcceptedBy, Accepted, NarrowedBy};
-
-fn refused(judged: Judged) -> Listed
-    ensures { λ r. ⌜ ((f : Fault) → judged ≡ Judged.Refused f → r ≡ Listed.Refused f) ⌝ }
-{
-    match judged {
-        Judged::Fine => Listed::Refused(Fault {
-            number: refusals::TEXT_TOO_LONG,
-            place: 0,
-        }),
-        Judged::Refused(fault) => Listed::Refused(fault),
-    }
-}
 
 // The load of a cycle with a weight more.
 fn load_with(load: u32, weight: u16) -> u64
@@ -280,37 +266,37 @@ fn list_moves(text: &[u8], reads: &[u16], pair: PairTables, list: &mut [u8]) -> 
 }
 
 // The moves of a program and a schedule, with a table for the offsets of the reads.
-fn moves_with(program: &[u8], schedule: &[u8], reads: &mut [u16], list: &mut [u8]) -> Listed
+fn moves_with(program: &[u8], schedule: &[u8], reads: &mut [u16], list: &mut [u8]) -> Yielded
     requires { ⌜ Spacious (length (now program)) (length (now reads)) ⌝ }
     ensures { λ r. ⌜ Does
         (movesOf (now (program .entry)) (now (schedule .entry)) (now (list .entry)))
-        (listedOf r) (now (list .exit)) ⌝ }
+        (yieldedOf r) (now (list .exit)) ⌝ }
 {
     let checked = check_pair::check_with(program, schedule, reads);
     let judged = checked.judged;
     let Judged::Fine = judged else {
-        return refused(judged);
+        return basics::refused(judged);
     };
     let pair = checked.pair;
     let count = list_moves(program, reads, pair, list);
-    Listed::Moves(count)
+    Yielded::Number(count)
 }
 
 // A program of at most 512 bytes, as its checks take one.
-fn moves_short(program: &[u8], schedule: &[u8], list: &mut [u8]) -> Listed
+fn moves_short(program: &[u8], schedule: &[u8], list: &mut [u8]) -> Yielded
     requires { ⌜ length (now program) ≤ 512 ⌝ }
     ensures { λ r. ⌜ Does
         (movesOf (now (program .entry)) (now (schedule .entry)) (now (list .entry)))
-        (listedOf r) (now (list .exit)) ⌝ }
+        (yieldedOf r) (now (list .exit)) ⌝ }
 {
     let mut reads: [u16; 256] = [0; 256];
     moves_with(program, schedule, &mut reads, list)
 }
 
-fn moves_long(program: &[u8], schedule: &[u8], list: &mut [u8]) -> Listed
+fn moves_long(program: &[u8], schedule: &[u8], list: &mut [u8]) -> Yielded
     ensures { λ r. ⌜ Does
         (movesOf (now (program .entry)) (now (schedule .entry)) (now (list .entry)))
-        (listedOf r) (now (list .exit)) ⌝ }
+        (yieldedOf r) (now (list .exit)) ⌝ }
 {
     let mut reads: [u16; 4096] = [0; 4096];
     moves_with(program, schedule, &mut reads, list)
@@ -318,10 +304,10 @@ fn moves_long(program: &[u8], schedule: &[u8], list: &mut [u8]) -> Listed
 
 // Lists where one job may go: two bytes, signal and phase, for each move, by signal and then by rising phase, as many as the
 // list has space for; the rest of it stays. Yields how many moves there are. A refused call leaves the list as it was.
-pub fn moves(program: &[u8], schedule: &[u8], list: &mut [u8]) -> Listed
+pub fn moves(program: &[u8], schedule: &[u8], list: &mut [u8]) -> Yielded
     ensures { λ r. ⌜ Does
         (movesOf (now (program .entry)) (now (schedule .entry)) (now (list .entry)))
-        (listedOf r) (now (list .exit)) ⌝ }
+        (yieldedOf r) (now (list .exit)) ⌝ }
 {
     if program.len() <= 512 {
         return moves_short(program, schedule, list);

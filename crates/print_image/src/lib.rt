@@ -1,6 +1,6 @@
 // An image in words: head, records, run lists, rows, code and tail, each with its offset. It is well formed; what is read past its
 // end would be 0.
-use model::Compiled;
+use model::Yielded;
 ghost use Prim.Native.Nat.{_≤_, _<_};
 
 fn byte(image: &[u8], at: usize) -> usize
@@ -242,7 +242,7 @@ fn print_tail(image: &[u8], n: usize, end: usize) {
 // Prints an image from a file, or that it is none.
 pub fn print_image(image: &[u8]) {
     let length = image_tail::tail_length(image);
-    if let Compiled::Refused(fault) = length {
+    if let Yielded::Refused(fault) = length {
         explain::refuse(fault);
         console::say(b"\n");
         return;

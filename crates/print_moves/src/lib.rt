@@ -1,5 +1,5 @@
 // The list of moves in words: signal by signal its number, label, present phase and the phases that it may have, as ranges.
-use model::Listed;
+use model::Yielded;
 use timetable::Timetable;
 
 // Whether the phase is one that the signal may have.
@@ -98,10 +98,10 @@ pub fn print_moves(program: &[u8], schedule: &[u8]) {
     let mut list: [u8; 30720] = [0; 30720];
     let listed = moves::moves(program, schedule, &mut list);
     match listed {
-        Listed::Moves(count) => {
+        Yielded::Number(count) => {
             let table = timetable::of_pair(program, schedule);
             print_signals(&list, count, table, table.signals);
         }
-        Listed::Refused(fault) => explain::refuse_pair(fault, program, schedule),
+        Yielded::Refused(fault) => explain::refuse_pair(fault, program, schedule),
     }
 }

@@ -27,8 +27,8 @@ use Rattle.model.specs.Rules.TextForm.{
   assembly,
 }
 use Rattle.model.specs.Rules.Word.{byteAt}
-use Rattle.model.specs.declared.Compiled.{Compiled}
-use Rattle.model.specs.declared.Compiled.the-variants as Compiled
+use Rattle.model.specs.declared.Yielded.{Yielded}
+use Rattle.model.specs.declared.Yielded.the-variants as Yielded
 use Rattle.model.specs.declared.Fault.{Fault}
 use Rattle.model.specs.declared.Found.the-variants.{At, Nowhere}
 use Rattle.model.specs.declared.Operand.{Operand}
@@ -196,7 +196,7 @@ module _ (text : List ℕ) where
       go : (os : List Operand) →
           lengthAnswer (ended 41 (length text) os ▷ λ rest. accepted (done ++ rest)) ≡
           endedAnswer (length done) (ended 41 (length text) os)
-      go [] = ap (λ (l : List ℕ). Compiled.Length (length l)) (append-nil done)
+      go [] = ap (λ (l : List ℕ). Yielded.Number (length l)) (append-nil done)
       go (o ∷ os) = refl
 
   -- A rest that is accepted, token after token.

@@ -10,12 +10,6 @@ use Rattle.basics.specs.declared.Judged.{Judged}
 use Rattle.basics.specs.declared.Judged.the-variants as Judged
 use Rattle.text_keyword.specs.Cells.{pendingAt}
 use Rattle.text_assemble.specs.declared.TokenRead.{TokenRead}
-use Rattle.text_assemble.specs.declared.Valued.{Valued}
-use Rattle.text_assemble.specs.declared.Valued.the-variants as Valued
-
-abbrev pub valuedOf : Valued → Outcome ℕ
-valuedOf (Valued.Value v) = accepted v
-valuedOf (Valued.Refused f) = refused f
 
 abbrev pub judgedRead : Assembled → Judged → Outcome Assembled
 judgedRead x Judged.Fine = accepted x

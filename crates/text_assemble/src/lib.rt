@@ -1,9 +1,8 @@
 // The assembler: the bytes of a text, token after token.
 use basics::Judged;
-use model::Compiled;
-use model::Fault;
 use model::Found;
 use model::Operand;
+use model::Yielded;
 use model::refusals;
 use text_keyword::COMMANDS;
 ghost use mathlib.Core.List.{List, [], _∷_};
@@ -11,20 +10,13 @@ ghost use mathlib.Core.Path.{_≡_};
 ghost use Prim.Native.Nat.{ℕ, _+_, _-_, _^_, _≤_, _<_};
 ghost use lib.ListN.{length};
 ghost use Rattle.model.specs.Rules.Machine.{Does};
-ghost use Rattle.model.specs.Rules.Compile.{compiledOf};
-ghost use Rattle.model.specs.Rules.Outcome.{accepted, _▷_};
+ghost use Rattle.model.specs.Rules.Outcome.{yieldedOf, accepted, _▷_};
 ghost use Rattle.model.specs.Rules.TextForm.{token, lowBytes, ranged, signedOf};
 ghost use Rattle.model.specs.Rules.TextForm.{operandOf, assembledOf, assembly, assembleOf, size};
 ghost use Rattle.model.specs.Rules.Writing.{Wrote};
 ghost use Rattle.text_keyword.specs.Cells.{cells, pendingAt};
 ghost use Rattle.text_keyword.specs.Written.{lengthAnswer, FitsIn, bytesWritten};
-ghost use Rattle.text_assemble.specs.Answers.{valuedOf, numberValue, ReadsAs};
-
-// The value of an operand, or the refusal of its token.
-enum Valued {
-    Value(usize),
-    Refused(Fault),
-}
+ghost use Rattle.text_assemble.specs.Answers.{numberValue, ReadsAs};
 
 // What a token stands for: so many bytes with this value, low byte first; and where in the table the operands to follow stand.
 struct TokenRead {
@@ -34,51 +26,42 @@ struct TokenRead {
     next: usize,
 }
 
-fn refuse_value(number: u8, place: usize) -> Valued
-    ensures { λ r. ⌜ r ≡ Valued.Refused (record { number = number; place = place }) ⌝ }
-{
-    Valued::Refused(Fault {
-        number: number,
-        place: place,
-    })
-}
-
 // A number from `low` on and below `limit`.
-fn ranged(place: usize, low: usize, limit: usize, number: Found) -> Valued
-    ensures { λ r. ⌜ valuedOf r ≡ ranged place low limit number ⌝ }
+fn ranged(place: usize, low: usize, limit: usize, number: Found) -> Yielded
+    ensures { λ r. ⌜ yieldedOf r ≡ ranged place low limit number ⌝ }
 {
     match number {
         Found::At(n) => {
             if n < low {
-                return refuse_value(refusals::NUMBER_OUTSIDE, place);
+                return basics::refuse_number(refusals::NUMBER_OUTSIDE, place);
             }
             if limit <= n {
-                return refuse_value(refusals::NUMBER_OUTSIDE, place);
+                return basics::refuse_number(refusals::NUMBER_OUTSIDE, place);
             }
-            Valued::Value(n)
+            Yielded::Number(n)
         }
-        Found::Nowhere => refuse_value(refusals::NO_NUMBER, place),
+        Found::Nowhere => basics::refuse_number(refusals::NO_NUMBER, place),
     }
 }
 
 // The bits of a negative word.
-fn negated(value: Valued) -> Valued
-    ensures { λ r. ⌜ valuedOf r ≡ (valuedOf value ▷ λ n. accepted (2 ^ 32 - n)) ⌝ }
+fn negated(value: Yielded) -> Yielded
+    ensures { λ r. ⌜ yieldedOf r ≡ (yieldedOf value ▷ λ n. accepted (2 ^ 32 - n)) ⌝ }
 {
     match value {
-        Valued::Value(n) => {
+        Yielded::Number(n) => {
             if n <= 4294967296 {
-                return Valued::Value(4294967296 - n);
+                return Yielded::Number(4294967296 - n);
             }
-            Valued::Value(0)
+            Yielded::Number(0)
         }
-        Valued::Refused(fault) => Valued::Refused(fault),
+        Yielded::Refused(fault) => Yielded::Refused(fault),
     }
 }
 
 // The bits of a word.
-fn signed_of(place: usize, spelling: &[u8]) -> Valued
-    ensures { λ r. ⌜ valuedOf r ≡ signedOf place (now (spelling .entry)) ⌝ }
+fn signed_of(place: usize, spelling: &[u8]) -> Yielded
+    ensures { λ r. ⌜ yieldedOf r ≡ signedOf place (now (spelling .entry)) ⌝ }
 {
     let first = text_keyword::cell(spelling, 0);
     if first == 45 {
@@ -105,8 +88,8 @@ fn limit(operand: Operand) -> usize
 }
 
 // The value of an operand's number.
-fn number_value(operand: Operand, place: usize, spelling: &[u8]) -> Valued
-    ensures { λ r. ⌜ valuedOf r ≡ numberValue operand place (now (spelling .entry)) ⌝ }
+fn number_value(operand: Operand, place: usize, spelling: &[u8]) -> Yielded
+    ensures { λ r. ⌜ yieldedOf r ≡ numberValue operand place (now (spelling .entry)) ⌝ }
 {
     if text_keyword::is_signed(operand) {
         return signed_of(place, spelling);
@@ -117,9 +100,9 @@ fn number_value(operand: Operand, place: usize, spelling: &[u8]) -> Valued
 }
 
 // The value of an operand's token: of a name, or of a number.
-fn operand_of(table: &[u8], operand: Operand, place: usize, spelling: &[u8]) -> Valued
+fn operand_of(table: &[u8], operand: Operand, place: usize, spelling: &[u8]) -> Yielded
     requires { ⌜ now table ≡ cells ⌝ }
-    ensures { λ r. ⌜ valuedOf r ≡ operandOf operand (token place (now (spelling .entry))) ⌝ }
+    ensures { λ r. ⌜ yieldedOf r ≡ operandOf operand (token place (now (spelling .entry))) ⌝ }
 {
     let from = text_keyword::names_from(operand);
     let count = text_keyword::names_count(operand);
@@ -127,7 +110,7 @@ fn operand_of(table: &[u8], operand: Operand, place: usize, spelling: &[u8]) -> 
     match found {
         Found::At(i) => {
             let row = from + i;
-            Valued::Value(text_keyword::byte_of(table, row))
+            Yielded::Number(text_keyword::byte_of(table, row))
         }
         Found::Nowhere => number_value(operand, place, spelling),
     }
@@ -178,7 +161,7 @@ fn read_operand(
 {
     let valued = operand_of(table, operand, place, spelling);
     match valued {
-        Valued::Value(value) => {
+        Yielded::Number(value) => {
             let size = text_keyword::size(operand);
             TokenRead {
                 judged: Judged::Fine,
@@ -187,7 +170,7 @@ fn read_operand(
                 next: next,
             }
         }
-        Valued::Refused(fault) => refuse_read(Judged::Refused(fault)),
+        Yielded::Refused(fault) => refuse_read(Judged::Refused(fault)),
     }
 }
 
@@ -206,7 +189,7 @@ fn read_token(table: &[u8], pending: usize, place: usize, spelling: &[u8]) -> To
 }
 
 // The length of what a text is assembled to, or its refusal.
-fn assembled_length(table: &[u8], text: &[u8]) -> Compiled
+fn assembled_length(table: &[u8], text: &[u8]) -> Yielded
     requires { ⌜ (now table ≡ cells) × (length (now text) ≤ 16777216) ⌝ }
     ensures { λ r. ⌜ r ≡ lengthAnswer (assembly (now (text .entry))) ⌝ }
 {
@@ -218,7 +201,7 @@ fn assembled_length(table: &[u8], text: &[u8]) -> Compiled
         let read = read_token(table, pending, start, &text[start..end]);
         let judged = read.judged;
         if let Judged::Refused(fault) = judged {
-            return Compiled::Refused(fault);
+            return Yielded::Refused(fault);
         }
         total = total + read.size;
         pending = read.next;
@@ -263,27 +246,27 @@ fn write_assembly(table: &[u8], text: &[u8], out: &mut [u8]) -> usize
 }
 
 // Assembles a text that is not too long.
-fn assemble_with(table: &[u8], text: &[u8], bytes: &mut [u8]) -> Compiled
+fn assemble_with(table: &[u8], text: &[u8], bytes: &mut [u8]) -> Yielded
     requires { ⌜ (now table ≡ cells) × (length (now text) ≤ 16777216) ⌝ }
-    ensures { λ r. ⌜ Does (assembleOf (now (text .entry)) (now (bytes .entry))) (compiledOf r) (now (bytes .exit)) ⌝ }
+    ensures { λ r. ⌜ Does (assembleOf (now (text .entry)) (now (bytes .entry))) (yieldedOf r) (now (bytes .exit)) ⌝ }
 {
     let judged = assembled_length(table, text);
-    let Compiled::Length(n) = judged else {
+    let Yielded::Number(n) = judged else {
         return judged;
     };
     if bytes.len() < n {
-        return text_keyword::refuse(refusals::TEXT_BUFFER_SHORT, n);
+        return basics::refuse_number(refusals::TEXT_BUFFER_SHORT, n);
     }
     let end = write_assembly(table, text, &mut bytes[..]);
-    Compiled::Length(end)
+    Yielded::Number(end)
 }
 
 // Assembles a text: the length of the bytes that it writes, or the refusal.
-pub fn assemble(text: &[u8], bytes: &mut [u8]) -> Compiled
-    ensures { λ r. ⌜ Does (assembleOf (now (text .entry)) (now (bytes .entry))) (compiledOf r) (now (bytes .exit)) ⌝ }
+pub fn assemble(text: &[u8], bytes: &mut [u8]) -> Yielded
+    ensures { λ r. ⌜ Does (assembleOf (now (text .entry)) (now (bytes .entry))) (yieldedOf r) (now (bytes .exit)) ⌝ }
 {
     if 16777216 < text.len() {
-        return text_keyword::refuse(refusals::FORM_TOO_LONG, 0);
+        return basics::refuse_number(refusals::FORM_TOO_LONG, 0);
     }
     let table = text_keyword::table();
     assemble_with(&table, text, bytes)

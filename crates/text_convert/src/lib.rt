@@ -1,18 +1,17 @@
 // The converter: a program text with each read of factor 1 written as NOW or LAST.
 use basics::Judged;
-use model::Compiled;
 use model::Declaration;
-use model::Fault;
 use model::Kind;
 use model::Operator;
 use model::Width;
+use model::Yielded;
 use model::refusals;
 ghost use mathlib.Core.Path.{_≡_};
 ghost use mathlib.Core.List.{_++_};
 ghost use Prim.Native.Nat.{_+_, _*_, _≤_};
 ghost use lib.ListN.{length, take, drop};
 ghost use Rattle.model.specs.Rules.Machine.{Does};
-ghost use Rattle.model.specs.Rules.Compile.{compiledOf};
+ghost use Rattle.model.specs.Rules.Outcome.{yieldedOf};
 ghost use Rattle.model.specs.Rules.Rewrite.{singleKind};
 ghost use Rattle.model.specs.Rules.Rewrite.{commandAt, declarationWidth, rewrite, convertOf};
 ghost use Rattle.model.specs.Says.Written.{readByte};
@@ -184,39 +183,30 @@ fn write(text: &[u8], out: &mut [u8]) -> usize
     to
 }
 
-fn refuse(number: u8, place: usize) -> Compiled
-    ensures { λ r. ⌜ r ≡ Compiled.Refused (record { number = number; place = place }) ⌝ }
-{
-    Compiled::Refused(Fault {
-        number: number,
-        place: place,
-    })
-}
-
 // Converts a program text that passes 1, with a table for the offsets of its reads: an entry for each two bytes.
-fn convert_with(program: &[u8], result: &mut [u8], reads: &mut [u16]) -> Compiled
+fn convert_with(program: &[u8], result: &mut [u8], reads: &mut [u16]) -> Yielded
     requires { ⌜ (length (now program) ≤ 8192) × (length (now program) ≤ 2 * length (now reads)) ⌝ }
-    ensures { λ r. ⌜ Does (convertOf (now (program .entry)) (now (result .entry))) (compiledOf r) (now (result .exit)) ⌝ }
+    ensures { λ r. ⌜ Does (convertOf (now (program .entry)) (now (result .entry))) (yieldedOf r) (now (result .exit)) ⌝ }
 {
     let read = text_program::read_program(1, program, reads);
     let judged = read.judged;
     if let Judged::Refused(fault) = judged {
-        return Compiled::Refused(fault);
+        return Yielded::Refused(fault);
     }
     let length = rewritten_length(program);
     if result.len() < length {
-        return refuse(refusals::IMAGE_BUFFER_SHORT, length);
+        return basics::refuse_number(refusals::IMAGE_BUFFER_SHORT, length);
     }
     let end = write(program, &mut result[..]);
-    Compiled::Length(end)
+    Yielded::Number(end)
 }
 
 // Converts a program text: its new length; 1 to 6 as the reader gives them with n = 1 allowed; or 17 where the buffer is shorter.
-pub fn convert(program: &[u8], result: &mut [u8]) -> Compiled
-    ensures { λ r. ⌜ Does (convertOf (now (program .entry)) (now (result .entry))) (compiledOf r) (now (result .exit)) ⌝ }
+pub fn convert(program: &[u8], result: &mut [u8]) -> Yielded
+    ensures { λ r. ⌜ Does (convertOf (now (program .entry)) (now (result .entry))) (yieldedOf r) (now (result .exit)) ⌝ }
 {
     if 8192 < program.len() {
-        return refuse(refusals::TEXT_TOO_LONG, 0);
+        return basics::refuse_number(refusals::TEXT_TOO_LONG, 0);
     }
     let mut reads: [u16; 4096] = [0; 4096];
     convert_with(program, result, &mut reads)

@@ -12,17 +12,17 @@ use Rattle.model.specs.Rules.Machine.{effect}
 use Rattle.model.specs.Rules.Outcome.{Outcome, accepted, refused, refuse, _▷_, provided}
 use Rattle.model.specs.Rules.TextForm.{writeJob}
 use Rattle.model.specs.Rules.Writing.{Wrote}
-use Rattle.model.specs.declared.Compiled.{Compiled}
-use Rattle.model.specs.declared.Compiled.the-variants as Compiled
+use Rattle.model.specs.declared.Yielded.{Yielded}
+use Rattle.model.specs.declared.Yielded.the-variants as Yielded
 use Rattle.model.specs.declared.Fault.{Fault}
 use Rattle.text_keyword.specs.Written.{lengthAnswer}
 
 -- What a measured length tells.
-pub length-refused : (o : Outcome (List ℕ)) (f : Fault) → Compiled.Refused f ≡ lengthAnswer o → o ≡ refused f
+pub length-refused : (o : Outcome (List ℕ)) (f : Fault) → Yielded.Refused f ≡ lengthAnswer o → o ≡ refused f
 length-refused (accepted l) f e = let z : _≡_ {A = ℕ} 0 1 = cc in absurd (omega arith)
 length-refused (refused g) f e = let z : f ≡ g = cc in ap refused (sym z)
 
-pub length-done : (o : Outcome (List ℕ)) (n : ℕ) → Compiled.Length n ≡ lengthAnswer o → (l : List ℕ) × (o ≡ accepted l) ×
+pub length-done : (o : Outcome (List ℕ)) (n : ℕ) → Yielded.Number n ≡ lengthAnswer o → (l : List ℕ) × (o ≡ accepted l) ×
     (length l ≡ n)
 length-done (accepted l) n e = let z : n ≡ length l = cc in (l, refl, sym z)
 length-done (refused g) n e = let z : _≡_ {A = ℕ} 0 1 = cc in absurd (omega arith)

@@ -4,17 +4,17 @@ use mathlib.Core.List.{List, []}
 use mathlib.Core.Path.{_≡_}
 use lib.ListN.{length}
 use Rattle.model.specs.Rules.Outcome.{Outcome, accepted, refused}
-use Rattle.model.specs.declared.Compiled.{Compiled}
-use Rattle.model.specs.declared.Compiled.the-variants as Compiled
+use Rattle.model.specs.declared.Yielded.{Yielded}
+use Rattle.model.specs.declared.Yielded.the-variants as Yielded
 
 -- The length of what is written, or the refusal; so many bytes before the end.
-abbrev pub lengthAnswer : Outcome (List ℕ) → Compiled
-lengthAnswer (accepted written) = Compiled.Length (length written)
-lengthAnswer (refused f) = Compiled.Refused f
+abbrev pub lengthAnswer : Outcome (List ℕ) → Yielded
+lengthAnswer (accepted written) = Yielded.Number (length written)
+lengthAnswer (refused f) = Yielded.Refused f
 
-abbrev pub endedAnswer : ℕ → Outcome (List ℕ) → Compiled
-endedAnswer total (accepted written) = Compiled.Length total
-endedAnswer total (refused f) = Compiled.Refused f
+abbrev pub endedAnswer : ℕ → Outcome (List ℕ) → Yielded
+endedAnswer total (accepted written) = Yielded.Number total
+endedAnswer total (refused f) = Yielded.Refused f
 
 -- What is written, and that it fits a buffer.
 abbrev pub bytesWritten : Outcome (List ℕ) → List ℕ

@@ -1,8 +1,7 @@
 // The table of the text form, and looking it up.
-use model::Compiled;
-use model::Fault;
 use model::Found;
 use model::Operand;
+use model::Yielded;
 ghost use mathlib.Core.Path.{_≡_};
 ghost use Prim.Native.Nat.{_+_, _*_, _≤_, _<_};
 ghost use lib.Dec.{eqb};
@@ -196,29 +195,14 @@ pub fn is_signed(operand: Operand) -> bool
     }
 }
 
-pub fn refuse(number: u8, place: usize) -> Compiled
-    ensures { λ r. ⌜ r ≡ Compiled.Refused (record { number = number; place = place }) ⌝ }
-{
-    Compiled::Refused(Fault {
-        number: number,
-        place: place,
-    })
-}
-
 // The answer where a text or bytes end: no operand is to follow.
-pub fn ended_length(
-    table: &[u8],
-    pending: usize,
-    number: u8,
-    place: usize,
-    total: usize,
-) -> Compiled
+pub fn ended_length(table: &[u8], pending: usize, number: u8, place: usize, total: usize) -> Yielded
     requires { ⌜ now table ≡ cells ⌝ }
     ensures { λ r. ⌜ r ≡ endedAnswer total (ended number place (pendingAt pending)) ⌝ }
 {
     let operand = cell(table, pending);
     if operand == 0 {
-        return Compiled::Length(total);
+        return Yielded::Number(total);
     }
-    refuse(number, place)
+    basics::refuse_number(number, place)
 }

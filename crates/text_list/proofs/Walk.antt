@@ -35,8 +35,8 @@ use Rattle.model.specs.Rules.TextForm.{
 }
 use Rattle.model.specs.Rules.Word.{wordOf, byteAt, AreBytes}
 use Rattle.model.specs.Rules.Writing.{Wrote}
-use Rattle.model.specs.declared.Compiled.{Compiled}
-use Rattle.model.specs.declared.Compiled.the-variants as Compiled
+use Rattle.model.specs.declared.Yielded.{Yielded}
+use Rattle.model.specs.declared.Yielded.the-variants as Yielded
 use Rattle.model.specs.declared.Fault.{Fault}
 use Rattle.model.specs.declared.Found.{Found}
 use Rattle.model.specs.declared.Found.the-variants.{At, Nowhere}
@@ -303,7 +303,7 @@ module _ (bytes : List ℕ) where
 
       go : (os : List Operand) →
           lengthAnswer (ended 46 at os ▷ λ rest. accepted ((m .text ++ rest) ++ (10 ∷ []))) ≡ endedAnswer total (ended 46 at os)
-      go [] = ap Compiled.Length whole
+      go [] = ap Yielded.Number whole
       go (o ∷ os) = refl
 
   -- So far written.

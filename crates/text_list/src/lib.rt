@@ -1,8 +1,8 @@
 // The lister: the text of bytes, token after token.
 use basics::Judged;
-use model::Compiled;
 use model::Found;
 use model::Operand;
+use model::Yielded;
 use model::refusals;
 use text_keyword::COMMANDS;
 ghost use mathlib.Core.List.{List, [], _∷_};
@@ -11,7 +11,7 @@ ghost use Prim.Native.Nat.{ℕ, _+_, _*_, _^_, _≤_, _<_};
 ghost use lib.Dec.{eqb};
 ghost use lib.ListN.{length};
 ghost use Rattle.model.specs.Rules.Machine.{Does};
-ghost use Rattle.model.specs.Rules.Compile.{compiledOf};
+ghost use Rattle.model.specs.Rules.Outcome.{yieldedOf};
 ghost use Rattle.model.specs.Rules.Search.{firstBelow};
 ghost use Rattle.model.specs.Rules.TextForm.{lowAt, size, numberToken, operandToken, listedAt, listing, listingOf};
 ghost use Rattle.model.specs.Rules.Writing.{Wrote};
@@ -204,7 +204,7 @@ fn list_token(
 }
 
 // The length of the listing of bytes, or the refusal.
-fn listed_length(table: &[u8], bytes: &[u8]) -> Compiled
+fn listed_length(table: &[u8], bytes: &[u8]) -> Yielded
     requires { ⌜ (now table ≡ cells) × (length (now bytes) ≤ 16777216) ⌝ }
     ensures { λ r. ⌜ r ≡ lengthAnswer (listing (now (bytes .entry))) ⌝ }
 {
@@ -216,7 +216,7 @@ fn listed_length(table: &[u8], bytes: &[u8]) -> Compiled
         let put = list_token(table, pending, bytes, at, &mut token, 0);
         let judged = put.judged;
         if let Judged::Refused(fault) = judged {
-            return Compiled::Refused(fault);
+            return Yielded::Refused(fault);
         }
         total = total + put.end;
         pending = put.next;
@@ -244,27 +244,27 @@ fn write_listing(table: &[u8], bytes: &[u8], out: &mut [u8]) -> usize
 }
 
 // Lists bytes that are not too many.
-fn list_with(table: &[u8], bytes: &[u8], text: &mut [u8]) -> Compiled
+fn list_with(table: &[u8], bytes: &[u8], text: &mut [u8]) -> Yielded
     requires { ⌜ (now table ≡ cells) × (length (now bytes) ≤ 16777216) ⌝ }
-    ensures { λ r. ⌜ Does (listingOf (now (bytes .entry)) (now (text .entry))) (compiledOf r) (now (text .exit)) ⌝ }
+    ensures { λ r. ⌜ Does (listingOf (now (bytes .entry)) (now (text .entry))) (yieldedOf r) (now (text .exit)) ⌝ }
 {
     let judged = listed_length(table, bytes);
-    let Compiled::Length(n) = judged else {
+    let Yielded::Number(n) = judged else {
         return judged;
     };
     if text.len() < n {
-        return text_keyword::refuse(refusals::TEXT_BUFFER_SHORT, n);
+        return basics::refuse_number(refusals::TEXT_BUFFER_SHORT, n);
     }
     let end = write_listing(table, bytes, &mut text[..]);
-    Compiled::Length(end)
+    Yielded::Number(end)
 }
 
 // Lists bytes: the length of the text that it writes, or the refusal.
-pub fn list(bytes: &[u8], text: &mut [u8]) -> Compiled
-    ensures { λ r. ⌜ Does (listingOf (now (bytes .entry)) (now (text .entry))) (compiledOf r) (now (text .exit)) ⌝ }
+pub fn list(bytes: &[u8], text: &mut [u8]) -> Yielded
+    ensures { λ r. ⌜ Does (listingOf (now (bytes .entry)) (now (text .entry))) (yieldedOf r) (now (text .exit)) ⌝ }
 {
     if 16777216 < bytes.len() {
-        return text_keyword::refuse(refusals::FORM_TOO_LONG, 0);
+        return basics::refuse_number(refusals::FORM_TOO_LONG, 0);
     }
     let table = text_keyword::table();
     list_with(&table, bytes, text)

@@ -1,6 +1,6 @@
 -- The enums of the texts and of image code, case by case: the paper's byte and values for each. (Those of the answers stand with
 -- their
--- calls: `compiledOf`, `reportedOf`, `ranOf`, `cycledOf`.)
+-- calls: `yieldedOf`, `reportedOf`, `ranOf`, `cycledOf`.)
 use Prim.Native.Nat.{ℕ, _≤_, _<_, _^_}
 use mathlib.Core.List.{List, [], _∷_, _++_}
 use mathlib.Core.Path.{_≡_}

@@ -1,7 +1,7 @@
 // The start of a bench trial: the pair is compiled, the script checked and the state reset, before any line.
 use basics::Judged;
-use model::Compiled;
 use model::Fault;
+use model::Yielded;
 ghost use mathlib.Core.Path.{_≡_};
 ghost use mathlib.Core.Bool.{true};
 ghost use Rattle.model.specs.Rules.Machine.{wellFormed};
@@ -66,7 +66,7 @@ pub fn prepare(program: &[u8], schedule: &[u8], text: &[u8]) -> Start
     let mut image: [u8; 65792] = [0; 65792];
     let compiled = compiler::compile(program, schedule, &mut image);
     match compiled {
-        Compiled::Length(n) => {
+        Yielded::Number(n) => {
             let length = image_valid::stated_length(&image[..n]);
             let ready = prepare_image(&image[..length], text);
             Start {
@@ -75,7 +75,7 @@ pub fn prepare(program: &[u8], schedule: &[u8], text: &[u8]) -> Start
                 length: length,
             }
         }
-        Compiled::Refused(fault) => {
+        Yielded::Refused(fault) => {
             let ready = refused(fault);
             Start {
                 ready: ready,

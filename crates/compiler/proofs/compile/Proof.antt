@@ -5,9 +5,9 @@ use native.Mathlib.Omega.{arith}
 use lib.ListN.{drop}
 use denote.Ref.{now}
 use borrow.Author.Needs.{needs}
-use Rattle.model.specs.Rules.Compile.{Pair, pairOf, compiledOf}
+use Rattle.model.specs.Rules.Compile.{Pair, pairOf}
+use Rattle.model.specs.Rules.Outcome.{yieldedOf, accepted}
 use Rattle.model.specs.Rules.Image.{lengthOf, imageOf, tailOf}
-use Rattle.model.specs.Rules.Outcome.{accepted}
 use Rattle.image_write.specs.Tail.{tailBy}
 use Rattle.image_write.specs.Prepared.{LaidOut, Ready}
 use Rattle.image_write.proofs.Imaged.{declared, tail-by}
@@ -48,7 +48,7 @@ returns : tie.Need-returns
 returns c =
     let told = c .before .enum-told2 .given .1 in
     let g = compile-refused _ _ _ _ (answers-refused _ _ _ _ (c .before .before .before .check-pair .ensures) told) in
-    (ap compiledOf (c .refused .ensures _ told) ∙ g .0, g .1)
+    (ap yieldedOf (c .refused .ensures _ told) ∙ g .0, g .1)
 
 lay-out-requires : tie.Need-lay-out-requires
 lay-out-requires c κs =

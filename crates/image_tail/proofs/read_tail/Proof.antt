@@ -43,11 +43,11 @@ use denote.Triple.Table.{entered, cited}
 use denote.Triple.Walked.{says, Stays, stay-none-slice, walkOf, goes-none-slice, ends-at, walked, walk-meets}
 use denote.Exit.{yes}
 use denote.Triple.Clauses.{ensured, lasts}
-use Rattle.model.specs.Rules.Compile.{compiledOf}
+use Rattle.model.specs.Rules.Outcome.{yieldedOf}
 use Rattle.model.specs.Rules.Tail.{tailIn, lengthOfTail, stretchIn}
-use Rattle.model.specs.declared.Compiled.{Compiled}
-use Rattle.model.proofs.Compiled as S
-use Rattle.model.proofs.Compiled.Laws as S′
+use Rattle.model.specs.declared.Yielded.{Yielded}
+use Rattle.model.proofs.Yielded as S
+use Rattle.model.proofs.Yielded.Laws as S′
 use Rattle.image_tail.specs.declared.TailRead.{TailRead}
 use Rattle.image_tail.proofs.TailRead as T
 use Rattle.image_tail.proofs.TailRead.Laws as T′
@@ -111,26 +111,26 @@ module _ {M : Type 1} (𝓤 : URA M) (H : Heap 𝓤) (A : Atoms 𝓤) (W : Given
     abbrev Stretch : RefT (List ℕ) → Type 0
     Stretch r = now r ≡ stretchIn (tailIn (now s))
 
-    abbrev Length : Compiled → Type 0
-    Length t = compiledOf t ≡ lengthOfTail (tailIn (now s))
+    abbrev Length : Yielded → Type 0
+    Length t = yieldedOf t ≡ lengthOfTail (tailIn (now s))
 
     abbrev Tail-ensures : RefT (List ℕ) → SProp 𝓤
     Tail-ensures = ensured 𝓤 H A tail.ended (tail.clauses 𝓤 H A mem run) (κ, tt) (s, tt) tt
 
-    abbrev Size-ensures : Compiled → SProp 𝓤
+    abbrev Size-ensures : Yielded → SProp 𝓤
     Size-ensures = ensured 𝓤 H A size.ended (size.clauses 𝓤 H A mem run) (κ, tt) (s, tt) tt
 
     stretch-said : (r : RefT (List ℕ)) → ent 𝓤 (Tail-ensures r) (fact 𝓤 (Stretch r))
     stretch-said r = exE 𝓤 _ (λ ws. snd∗ 𝓤 (sem 𝓤 H A (lasts tail.ended (κ, tt) (s, tt) ws)) (fact 𝓤 (Stretch r)))
 
-    length-said : (t : Compiled) → ent 𝓤 (Size-ensures t) (fact 𝓤 (Length t))
+    length-said : (t : Yielded) → ent 𝓤 (Size-ensures t) (fact 𝓤 (Length t))
     length-said t = exE 𝓤 _ (λ ws. snd∗ 𝓤 (sem 𝓤 H A (lasts size.ended (κ, tt) (s, tt) ws)) (fact 𝓤 (Length t)))
 
     -- the struct of what the calls return, r and t, with the machine values u and w
     abbrev D : Declared
     D = T.the-type (namedLft 1 0 tt (κ, tt))
 
-    module _ (r : RefT (List ℕ)) (t : Compiled) (u w : Val) where
+    module _ (r : RefT (List ℕ)) (t : Yielded) (u w : Val) where
       abbrev made : TailRead
       made = record { stretch = r; length = t }
 
@@ -173,7 +173,7 @@ module _ {M : Type 1} (𝓤 : URA M) (H : Heap 𝓤) (A : Atoms 𝓤) (W : Given
           land ! (from ! (stop !)) (init ! 5 refl (shr-slice-lawful 𝓤 H A W erased κ u8 .typed r (u ∷ []) is .0)) $
           move ! (1 ∷ 2 ∷ []) $ use2 W (raw (Size .pre to) ⊛ ‵ Owns) goes $ split ! $
           calls-at ! fm Size known-size to (and-then ! (load ! (from ! (stop !)) (look ! 7 refl)) (no-more !)) (λ w.
-          use1 W (later (some (λ (t : Compiled). (Token ⊛ ‵ (S.the-row .own t (w ∷ []))) ⊛ raw (Size-ensures t)))) (id⊢ 𝓤 _) $
+          use1 W (later (some (λ (t : Yielded). (Token ⊛ ‵ (S.the-row .own t (w ∷ []))) ⊛ raw (Size-ensures t)))) (id⊢ 𝓤 _) $
           await ! tt $ pick ! (λ t. split ! $ move ! (1 ∷ []) $ use1 W (raw (fact 𝓤 (Length t))) (length-said t) $
           heard ! (Length t) (λ e′. split ! $ move ! (1 ∷ []) $
           -- [what t owns; the token; what s owns; what r owns; room for _3; …; _2; …; _1; …; room for _0; …]

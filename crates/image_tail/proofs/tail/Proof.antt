@@ -4,7 +4,7 @@ use mathlib.Core.Path.{_≡_, sym, ap, _∙_}
 use native.Mathlib.Omega.{arith}
 use lib.ListN.{length, take, drop, length-drop}
 use lib.Seq.{take-all}
-use Rattle.model.specs.Rules.Compile.{compiledOf}
+use Rattle.model.specs.Rules.Outcome.{yieldedOf}
 use Rattle.image_tail.proofs.Answers.{LastBytes, last-bytes, no-bytes}
 use borrow.Author.Needs.{needs}
 use Rattle.image_tail.proofs.tail.Statement.{statement}
@@ -15,7 +15,7 @@ told : (c : tie.After-known-told) → LastBytes (c .before .before .before .befo
     (c .before .length .given .0 .0)
 told c =
     let m = c .before .before in
-    last-bytes _ (sym (ap compiledOf (c .before .length .given .1)) ∙ m .before .tail-length .ensures)
+    last-bytes _ (sym (ap yieldedOf (c .before .length .given .1)) ∙ m .before .tail-length .ensures)
 
 returns : tie.Need-returns
 returns c =
@@ -23,7 +23,7 @@ returns c =
     let lent = m .before .before .before .args .lent .now in
     let none : length lent - length lent ≡ 0 = omega arith in
     ap (λ (k : ℕ). take k (drop (length lent) lent)) none ∙
-    sym (no-bytes lent (sym (ap compiledOf (c .before .enum-told .given .1)) ∙ m .before .tail-length .ensures))
+    sym (no-bytes lent (sym (ap yieldedOf (c .before .enum-told .given .1)) ∙ m .before .tail-length .ensures))
 
 sub-start : tie.Need-sub-start
 sub-start c = told c .inside

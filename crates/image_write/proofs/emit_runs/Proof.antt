@@ -6,7 +6,7 @@ use mathlib.Core.Path.{_≡_, sym, ap, _∙_}
 use native.Mathlib.Omega.{arith}
 use borrow.Author.Needs.{needs}
 use lib.ListN.{length, length-set}
-use Rattle.check_load.proofs.Runs.{due-first, due-next}
+use Rattle.runs.proofs.Runs.{due-first, due-next}
 use Rattle.model.specs.Rules.Reads.{Rate, due}
 use Rattle.image_write.specs.Cursors.{Pending, Splits, Open}
 use Rattle.image_write.proofs.Cursors.{

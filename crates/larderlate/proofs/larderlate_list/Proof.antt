@@ -8,7 +8,7 @@ use Rattle.larderlate.proofs.larderlate_list.Tie as tie
 returns : tie.Need-returns
 returns c =
     let e = c .before .before .before .list .ensures in
-    (c .code-of-compiled .ensures ∙ ap codeNumber (e .0), e .1)
+    (c .code-of-yielded .ensures ∙ ap codeNumber (e .0), e .1)
 
 pub larderlate-list-spec : {M : Type 1} → statement M
 larderlate-list-spec =

@@ -1,6 +1,6 @@
 -- `larderlate::larderlate_tail` meets its contract. Assumes nothing.
 use mathlib.Core.Path.{sym, ap, _∙_}
-use Rattle.model.specs.Rules.Compile.{compiledOf}
+use Rattle.model.specs.Rules.Outcome.{yieldedOf}
 use Rattle.larderlate.specs.Code.{codeNumber}
 use Rattle.image_tail.proofs.Answers.{LastBytes, last-bytes, none-read}
 use borrow.Author.Needs.{needs}
@@ -12,13 +12,13 @@ told : (c : tie.After-known-told) →
     LastBytes (c .before .before .before .before .before .args .image .now) (c .before .length .given .0 .0)
 told c =
     let m = c .before .before in
-    last-bytes _ (sym (ap compiledOf (c .before .length .given .1)) ∙ m .before .tail-length .ensures)
+    last-bytes _ (sym (ap yieldedOf (c .before .length .given .1)) ∙ m .before .tail-length .ensures)
 
 returns : tie.Need-returns
 returns c =
     let m = c .before .before in
-    let e = sym (ap compiledOf (c .before .enum-told .given .1)) ∙ m .before .tail-length .ensures in
-    (c .code-of-compiled .ensures ∙ ap codeNumber (m .before .tail-length .ensures), rw (none-read _ e))
+    let e = sym (ap yieldedOf (c .before .enum-told .given .1)) ∙ m .before .tail-length .ensures in
+    (c .code-of-yielded .ensures ∙ ap codeNumber (m .before .tail-length .ensures), rw (none-read _ e))
 
 sub-start : tie.Need-sub-start
 sub-start c = told c .inside
@@ -27,7 +27,7 @@ returns-2 : tie.Need-returns-2
 returns-2 c =
     let t = told c in
     let m = c .before .before in
-    let e = sym (ap compiledOf (c .before .length .given .1)) ∙ m .before .tail-length .ensures in
+    let e = sym (ap yieldedOf (c .before .length .given .1)) ∙ m .before .tail-length .ensures in
     (ap codeNumber e, t .from ∙ rw (t .accepts))
 
 pub larderlate-tail-spec : {M : Type 1} → statement M

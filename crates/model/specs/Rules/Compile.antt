@@ -14,8 +14,6 @@ use Rattle.model.specs.Rules.Program.{Program, parseProgram}
 use Rattle.model.specs.Rules.Rates.{declaredAndRated, hypercycle, linked}
 use Rattle.model.specs.Rules.Reads.{met}
 use Rattle.model.specs.Rules.Schedule.{Schedule, parseSchedule, placed}
-use Rattle.model.specs.declared.Compiled.{Compiled}
-use Rattle.model.specs.declared.Compiled.the-variants as Compiled
 
 -- Program 8,192 bytes, schedule 193.
 unfoldable pub shortEnough : List ℕ → List ℕ → Outcome (Unit {0})
@@ -47,11 +45,6 @@ pairOf program schedule =
 unfoldable pub verdictOf : List ℕ → List ℕ → Outcome (List ℕ)
 verdictOf program schedule =
     pairOf program schedule ▷ λ q. accepted (writtenOf (q .program) (q .schedule) (q .hypercycle))
-
--- What the answer of compile stands for: L + 4N, or the refusal's number and place.
-abbrev pub compiledOf : Compiled → Outcome ℕ
-compiledOf (Compiled.Length n) = accepted n
-compiledOf (Compiled.Refused f) = refused f
 
 -- The job of compile: 17 where the buffer is shorter than L + 4N; bytes past that stay.
 abbrev pub compileJob : List ℕ → List ℕ → List ℕ → Outcome (Job ℕ ℕ)

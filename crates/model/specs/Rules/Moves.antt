@@ -13,8 +13,6 @@ use Rattle.model.specs.Rules.Reads.{rank, settled}
 use Rattle.model.specs.Rules.Schedule.{Schedule}
 use Rattle.model.specs.Rules.Search.{allBelow, joinBelow}
 use Rattle.model.specs.Rules.Width.{inSchedule}
-use Rattle.model.specs.declared.Listed.{Listed}
-use Rattle.model.specs.declared.Listed.the-variants as Listed
 
 -- Where the phase of signal x stands in the text of schedule s: PUTs stand one after another from byte 0 on.
 abbrev pub phaseOffset : Schedule → ℕ → ℕ
@@ -77,8 +75,3 @@ movesJob program schedule list =
 
 unfoldable pub movesOf : List ℕ → List ℕ → List ℕ → Effect ℕ ℕ
 movesOf program schedule list = effect list (movesJob program schedule list)
-
--- What the answer of moves stands for.
-abbrev pub listedOf : Listed → Outcome ℕ
-listedOf (Listed.Moves n) = accepted n
-listedOf (Listed.Refused f) = refused f

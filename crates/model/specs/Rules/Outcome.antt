@@ -4,6 +4,8 @@ use mathlib.Core.Bool.{Bool, true, false, cond}
 use mathlib.Core.List.{List, [], _∷_}
 use lib.Dec.{ltb}
 use Rattle.model.specs.declared.Fault.{Fault}
+use Rattle.model.specs.declared.Yielded.{Yielded}
+use Rattle.model.specs.declared.Yielded.the-variants as Yielded
 
 pub data Outcome (A : Type 0) : Type 0 where
   accepted : A → Outcome A
@@ -14,6 +16,11 @@ fault number place = record { number = number; place = place }
 
 abbrev pub refuse : {A : Type 0} → ℕ → ℕ → Outcome A
 refuse number place = refused (fault number place)
+
+-- What the answer of a call that yields a number stands for.
+abbrev pub yieldedOf : Yielded → Outcome ℕ
+yieldedOf (Yielded.Number n) = accepted n
+yieldedOf (Yielded.Refused f) = refused f
 
 -- One step after another. The first fault met is the one given.
 infixr 10 _▷_

@@ -11,7 +11,7 @@ use denote.Ref.{now}
 use lib.ListN.{getD}
 use lib.Dec.{ltb}
 use Rattle.model.specs.Rules.Reads.{Rate, due}
-use Rattle.check_load.proofs.Runs.{due-first, due-next, due-before, due-between}
+use Rattle.runs.proofs.Runs.{due-first, due-next, due-before, due-between}
 use Rattle.moves.proofs.has_room.Statement.{statement}
 use Rattle.moves.proofs.has_room.Tie as tie
 

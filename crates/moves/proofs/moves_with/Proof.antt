@@ -3,9 +3,8 @@ use mathlib.Core.Path.{_≡_, ap, _∙_}
 use borrow.Author.Needs.{needs}
 use denote.Ref.{now}
 use Rattle.model.specs.Rules.Compile.{Pair, pairOf}
-use Rattle.model.specs.Rules.Outcome.{accepted}
+use Rattle.model.specs.Rules.Outcome.{accepted, yieldedOf}
 use Rattle.check_pair.proofs.Verdicts.{answers-fine, answers-refused}
-use Rattle.model.specs.Rules.Moves.{listedOf}
 use Rattle.moves.specs.Listing.{AcceptedBy}
 use Rattle.moves.proofs.Tables.{moves-refused, moves-done}
 use Rattle.moves.proofs.moves_with.Statement.{statement}
@@ -30,7 +29,7 @@ returns c =
     let told = c .before .enum-told2 .given .1 in
     let k = c .before .before .before .before .before in
     let g = moves-refused _ _ _ _ (answers-refused _ _ _ _ (k .check-with .ensures .0) told) in
-    (ap listedOf (c .refused .ensures _ told) ∙ g .0, g .1)
+    (ap yieldedOf (c .refused .ensures _ told) ∙ g .0, g .1)
 
 list-moves-requires : tie.Need-list-moves-requires
 list-moves-requires c κs =

@@ -1,7 +1,7 @@
 -- `text_assemble::assemble` meets its contract. Assumes nothing.
 use mathlib.Core.Path.{_≡_, ap, _∙_}
 use borrow.Author.Needs.{needs}
-use Rattle.model.specs.Rules.Compile.{compiledOf}
+use Rattle.model.specs.Rules.Outcome.{yieldedOf}
 use Rattle.model.specs.Rules.TextForm.{assembly, assembleOf}
 use Rattle.text_keyword.proofs.Answered.{answered-long}
 use Rattle.text_assemble.proofs.assemble.Statement.{statement}
@@ -12,7 +12,7 @@ unfolding assembleOf
 returns c =
     let s = c .before .before .before .before .args in
     let g = answered-long (s .text .now) (assembly (s .text .now)) (s .bytes .now) (c .before .if1 .taken) in
-    (ap compiledOf (c .refuse .ensures) ∙ g .0, g .1)
+    (ap yieldedOf (c .refuse-number .ensures) ∙ g .0, g .1)
 
 pub assemble-spec : {M : Type 1} → statement M
 assemble-spec =

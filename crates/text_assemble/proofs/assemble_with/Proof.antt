@@ -5,8 +5,7 @@ use mathlib.Core.Path.{_≡_, sym, ap, subst, _∙_}
 use native.Mathlib.Omega.{arith}
 use borrow.Author.Needs.{needs}
 use lib.ListN.{length}
-use Rattle.model.specs.Rules.Compile.{compiledOf}
-use Rattle.model.specs.Rules.Outcome.{accepted}
+use Rattle.model.specs.Rules.Outcome.{yieldedOf, accepted}
 use Rattle.model.specs.Rules.TextForm.{assembly, assembleOf}
 use Rattle.model.specs.Rules.Writing.{Wrote}
 use Rattle.text_keyword.specs.Written.{bytesWritten}
@@ -31,7 +30,7 @@ returns c =
     let o = assembly (s .args .text .now) in
     let g = answered-refused (s .args .text .now) o (s .args .bytes .now) (s .pre .1) _
     (length-refused o _ (sym e ∙ m .assembled-length .ensures)) in
-    (ap compiledOf e ∙ g .0, g .1)
+    (ap yieldedOf e ∙ g .0, g .1)
 
 returns-2 : tie.Need-returns-2
 unfolding assembleOf
@@ -42,7 +41,7 @@ returns-2 c =
     let l = measured k in
     let g = answered-short (s .args .text .now) (assembly (s .args .text .now)) (s .args .bytes .now) (s .pre .1) (l .0) (l .1) _
     (l .2) (t .if1 .taken) in
-    (ap compiledOf (c .refuse .ensures) ∙ g .0, g .1)
+    (ap yieldedOf (c .refuse-number .ensures) ∙ g .0, g .1)
 
 write-requires : tie.Need-write-assembly-requires
 write-requires c κs =

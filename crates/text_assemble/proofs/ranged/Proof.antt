@@ -2,7 +2,7 @@
 use mathlib.Core.Path.{_≡_, ap, _∙_}
 use native.Mathlib.Omega.{arith}
 use borrow.Author.Needs.{needs}
-use Rattle.text_assemble.specs.Answers.{valuedOf}
+use Rattle.model.specs.Rules.Outcome.{yieldedOf}
 use Rattle.text_assemble.proofs.Values.{ranged-low, ranged-high, ranged-in, ranged-none}
 use Rattle.text_assemble.proofs.ranged.Statement.{statement}
 use Rattle.text_assemble.proofs.ranged.Tie as tie
@@ -12,7 +12,7 @@ returns c =
     let t = c .before in
     let n = t .before .before in
     let a = n .before .before .args in
-    rw (n .number .given .1) (ap valuedOf (c .refuse-value .ensures) ∙ ranged-low (a .place) (a .low) (a .limit) _
+    rw (n .number .given .1) (ap yieldedOf (c .refuse-number .ensures) ∙ ranged-low (a .place) (a .low) (a .limit) _
     (t .if1 .taken))
 
 returns-2 : tie.Need-returns-2
@@ -20,7 +20,7 @@ returns-2 c =
     let t = c .before in
     let n = t .before .before .before in
     let a = n .before .before .args in
-    rw (n .number .given .1) (ap valuedOf (c .refuse-value2 .ensures) ∙ ranged-high (a .place) (a .low) (a .limit) _
+    rw (n .number .given .1) (ap yieldedOf (c .refuse-number2 .ensures) ∙ ranged-high (a .place) (a .low) (a .limit) _
     (t .if2 .taken))
 
 returns-3 : tie.Need-returns-3
@@ -32,7 +32,7 @@ returns-3 c =
 returns-4 : tie.Need-returns-4
 returns-4 c =
     let a = c .before .before .before .args in
-    rw (c .before .enum-told .given .1) (ap valuedOf (c .refuse-value3 .ensures) ∙ ranged-none (a .place) (a .low) (a .limit))
+    rw (c .before .enum-told .given .1) (ap yieldedOf (c .refuse-number3 .ensures) ∙ ranged-none (a .place) (a .low) (a .limit))
 
 pub ranged-spec : {M : Type 1} → statement M
 ranged-spec =

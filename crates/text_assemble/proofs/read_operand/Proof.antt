@@ -6,7 +6,8 @@ use borrow.Author.Needs.{needs}
 use Rattle.model.specs.Rules.Outcome.{accepted, refused}
 use Rattle.model.specs.Rules.TextForm.{token, lowBytes}
 use Rattle.text_keyword.specs.Cells.{pendingAt}
-use Rattle.text_assemble.specs.Answers.{valuedOf, readOf}
+use Rattle.model.specs.Rules.Outcome.{yieldedOf}
+use Rattle.text_assemble.specs.Answers.{readOf}
 use Rattle.text_assemble.proofs.Walk.{operand-read, operand-refused, size-small}
 use Rattle.text_assemble.proofs.read_operand.Statement.{statement}
 use Rattle.text_assemble.proofs.read_operand.Tie as tie
@@ -21,7 +22,7 @@ returns c =
       answer =
           ap (λ (n : ℕ). accepted (record { bytes = lowBytes n v; pending = pendingAt (s .next) })) (c .size .ensures) ∙
           sym (operand-read (s .operand) (pendingAt (s .next)) (token (s .place) (s .spelling .now)) v
-          (sym (f .operand-of .ensures) ∙ ap valuedOf (k .valued .given .1)));
+          (sym (f .operand-of .ensures) ∙ ap yieldedOf (k .valued .given .1)));
       small = omega (arith, c .size .ensures, size-small (s .operand));
     }
 
@@ -35,7 +36,7 @@ returns-2 c =
       answer =
           ap readOf e ∙
           sym (operand-refused (s .operand) (pendingAt (s .next)) (token (s .place) (s .spelling .now)) _
-          (sym (f .operand-of .ensures) ∙ ap valuedOf (k .valued2 .given .1)));
+          (sym (f .operand-of .ensures) ∙ ap yieldedOf (k .valued2 .given .1)));
       small = rw e (omega arith);
     }
 

@@ -1,8 +1,7 @@
 -- `text_convert::convert_with` meets its contract. Assumes nothing.
 use mathlib.Core.Path.{_≡_, ap, _∙_}
 use denote.Ref.{now}
-use Rattle.model.specs.Rules.Compile.{compiledOf}
-use Rattle.model.specs.Rules.Outcome.{accepted}
+use Rattle.model.specs.Rules.Outcome.{yieldedOf, accepted}
 use Rattle.model.specs.Rules.Program.{Program, parseWith}
 use Rattle.text_convert.proofs.Walk.{convert-refused, convert-short, convert-done, read-refused, read-fine}
 use borrow.Author.Needs.{needs}
@@ -32,7 +31,7 @@ returns-2 c =
     let k = fine (l .before) in
     let g =
     convert-short _ _ (start (l .before) .pre .0) (k .0) (k .1) _ (l .rewritten-length .ensures) (c .before .if1 .taken) in
-    (ap compiledOf (c .refuse .ensures) ∙ g .0, g .1)
+    (ap yieldedOf (c .refuse-number .ensures) ∙ g .0, g .1)
 
 returns-3 : tie.Need-returns-3
 returns-3 c =

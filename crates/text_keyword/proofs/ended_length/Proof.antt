@@ -24,7 +24,7 @@ returns-2 c =
     let s = e .before .before .before in
     let m = pending-more (s .args .pending)
     (λ q. e .if1 .left (e .before .cell .ensures ∙ ap (λ (t : List ℕ). byteAt t (s .args .pending)) (s .pre) ∙ q)) in
-    rw (m .1) (c .refuse .ensures)
+    rw (m .1) (c .refuse-number .ensures)
 
 pub ended-length-spec : {M : Type 1} → statement M
 ended-length-spec = tie.close (tie.spec (λ c κs. search needs) returns (λ c κs. search needs) returns-2)

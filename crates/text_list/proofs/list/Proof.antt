@@ -1,7 +1,7 @@
 -- `text_list::list` meets its contract. Assumes nothing.
 use mathlib.Core.Path.{_≡_, ap, _∙_}
 use borrow.Author.Needs.{needs}
-use Rattle.model.specs.Rules.Compile.{compiledOf}
+use Rattle.model.specs.Rules.Outcome.{yieldedOf}
 use Rattle.model.specs.Rules.TextForm.{listing, listingOf}
 use Rattle.text_keyword.proofs.Answered.{answered-long}
 use Rattle.text_list.proofs.list.Statement.{statement}
@@ -12,7 +12,7 @@ unfolding listingOf
 returns c =
     let s = c .before .before .before .before .args in
     let g = answered-long (s .bytes .now) (listing (s .bytes .now)) (s .text .now) (c .before .if1 .taken) in
-    (ap compiledOf (c .refuse .ensures) ∙ g .0, g .1)
+    (ap yieldedOf (c .refuse-number .ensures) ∙ g .0, g .1)
 
 pub list-spec : {M : Type 1} → statement M
 list-spec =

@@ -1,7 +1,7 @@
--- `moves::refused` meets its contract. Assumes nothing.
+-- `basics::refused` meets its contract. Assumes nothing.
 use borrow.Author.Needs.{needs}
-use Rattle.moves.proofs.refused.Statement.{statement}
-use Rattle.moves.proofs.refused.Tie as tie
+use Rattle.basics.proofs.refused.Statement.{statement}
+use Rattle.basics.proofs.refused.Tie as tie
 
 returns : tie.Need-returns
 returns c f e = cc (c .enum-told .given .1)

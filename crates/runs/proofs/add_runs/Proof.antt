@@ -1,4 +1,4 @@
--- `check_load::add_runs` meets its contract. Assumes nothing.
+-- `runs::add_runs` meets its contract. Assumes nothing.
 use Prim.Native.Nat.{ℕ, _*_, _-_, _≤_, _<_}
 use mathlib.Core.Bool.{true}
 use mathlib.Core.Path.{_≡_, refl, _∙_}
@@ -8,27 +8,27 @@ use lib.ListN.{length, getD, length-set}
 use lib.Seq.{getD-set-other}
 use borrow.Author.Needs.{needs}
 use Rattle.model.specs.Rules.Reads.{due}
-use Rattle.check_load.proofs.Runs.{RaisedTo, due-first, due-next, raised-none, raised-next, added-most}
-use Rattle.check_load.proofs.add_runs.Statement.{statement}
-use Rattle.check_load.proofs.add_runs.Tie as tie
+use Rattle.runs.proofs.Runs.{RaisedTo, due-first, due-next, raised-none, raised-next, added-most}
+use Rattle.runs.proofs.add_runs.Statement.{statement}
+use Rattle.runs.proofs.add_runs.Tie as tie
 
 abbrev Inv-loop : tie.InvT-loop
-Inv-loop loads₀ period phase weight hypercycle step more next₀ loads next =
-    (phase < period) × (hypercycle ≤ 240) × ((c : ℕ) → c < hypercycle → getD loads₀ c 0 ≤ 63 * 65535) × (length loads ≡ 240) ×
+Inv-loop sums₀ period phase weight hypercycle step more next₀ sums next =
+    (phase < period) × (hypercycle ≤ 240) × ((c : ℕ) → c < hypercycle → getD sums₀ c 0 ≤ 63 * 65535) × (length sums ≡ 240) ×
     (due (record { period = period; phase = phase }) next ≡ true) ×
-    RaisedTo (record { period = period; phase = phase }) weight loads₀ loads next ×
-    ((c : ℕ) → hypercycle ≤ c → getD loads c 0 ≡ getD loads₀ c 0)
+    RaisedTo (record { period = period; phase = phase }) weight sums₀ sums next ×
+    ((c : ℕ) → hypercycle ≤ c → getD sums c 0 ≡ getD sums₀ c 0)
 
 abbrev μ-loop : tie.MeasureT-loop
-μ-loop loads₀ period phase weight hypercycle step more next₀ loads next = hypercycle - next
+μ-loop sums₀ period phase weight hypercycle step more next₀ sums next = hypercycle - next
 
 loop-holds : tie.Need-loop-holds Inv-loop μ-loop
 loop-holds c =
     let v = c .pre .0 in
-    (v, c .pre .1, c .pre .3, c .pre .2, due-first _ v, raised-none _ v (c .args .weight) (now (c .args .loads)), (λ d le. refl))
+    (v, c .pre .1, c .pre .3, c .pre .2, due-first _ v, raised-none _ v (c .args .weight) (now (c .args .sums)), (λ d le. refl))
 
-add-loads : tie.Need-add-loads Inv-loop μ-loop
-add-loads c =
+add-sums : tie.Need-add-sums Inv-loop μ-loop
+add-sums c =
     let l = c .before .before .loop in
     omega (arith, l .inv .2 (l .next) (omega arith), l .inv .5 .1 (l .next) (omega arith))
 
@@ -40,10 +40,10 @@ loop-again c =
       v,
       i .1,
       i .2,
-      length-set (l .loads) (l .next) _ ∙ i .3,
+      length-set (l .sums) (l .next) _ ∙ i .3,
       due-next _ v (l .next) (i .4),
-      raised-next _ v _ (now (c .before .before .before .args .loads)) (l .loads) (l .next) (i .4) (omega arith) (i .5),
-      (λ d le. getD-set-other (l .loads) (l .next) d _ 0 (λ e. omega arith) ∙ i .6 d le),
+      raised-next _ v _ (now (c .before .before .before .args .sums)) (l .sums) (l .next) (i .4) (omega arith) (i .5),
+      (λ d le. getD-set-other (l .sums) (l .next) d _ 0 (λ e. omega arith) ∙ i .6 d le),
     )
 
 returns : tie.Need-returns Inv-loop μ-loop
@@ -64,5 +64,5 @@ returns c =
 pub add-runs-spec : {M : Type 1} → statement M
 add-runs-spec =
     tie.close
-    (tie.spec Inv-loop μ-loop loop-holds (λ c. search needs) (λ c. omega arith) add-loads (λ c. search needs) (λ c. omega arith)
+    (tie.spec Inv-loop μ-loop loop-holds (λ c. search needs) (λ c. omega arith) add-sums (λ c. search needs) (λ c. omega arith)
     (λ c. omega arith) (λ c. omega arith) loop-again returns)

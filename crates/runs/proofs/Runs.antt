@@ -1,4 +1,4 @@
--- Laws of the runs of a signal, and of loads raised by its weight from run to run. Assumes nothing.
+-- Laws of the runs of a signal, and of sums raised by its weight from run to run. Assumes nothing.
 use Prim.Native.Nat.{ℕ, suc, _+_, _/_, _%_, _≤_, _<_}
 use mathlib.Core.Bool.{Bool, true, false, cond}
 use mathlib.Core.List.{List}
@@ -13,11 +13,11 @@ use Rattle.model.specs.Rules.Reads.{Rate, runCycle, due}
 use Rattle.model.proofs.Pairs.Rate.{stored-is}
 use Rattle.model.proofs.Pairs.Rate.{due-run}
 
--- What a signal of weight w adds to the load of cycle c.
+-- What a signal of weight w adds to the sum of cycle c.
 abbrev added : Rate → ℕ → ℕ → ℕ
 added a w c = cond (due a c) w 0
 
--- The loads below `next` have the weight added where the signal is due, the others have not.
+-- The sums below `next` have the weight added where the signal is due, the others have not.
 abbrev pub RaisedTo : Rate → ℕ → List ℕ → List ℕ → ℕ → Type 0
 RaisedTo a w old new next =
     ((c : ℕ) → c < next → getD new c 0 ≡ getD old c 0 + added a w c) × ((c : ℕ) → next ≤ c → getD new c 0 ≡ getD old c 0)

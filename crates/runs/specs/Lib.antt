@@ -1,0 +1,2 @@
+-- What the sums over runs stand for.
+pub mod Raised
