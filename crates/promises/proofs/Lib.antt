@@ -1,9 +1,17 @@
--- The promises of the calls.
-pub mod Promises
+-- The proofs of the promises, in the order in which they stand on one another. Each record of `specs` is inhabited in the file of
+-- its name, those of requests c and d in Requests.
+pub mod Total
+pub mod Exact
+pub mod ForEver
+pub mod Commands
+pub mod Reports
+pub mod Requests
+pub mod Trials
+pub mod Tails
+pub mod Conversion
+pub mod Tables
 pub mod MovesListed
-pub mod MovesPromises
-pub mod DependentsPromises
-pub mod JoinPromises
+pub mod Moves
 pub mod Confined
 pub mod Runs
 pub mod Samples
@@ -11,5 +19,11 @@ pub mod Courses
 pub mod BoardLent
 pub mod BoardExact
 pub mod BoardCourses
-pub mod BoardPromises
-pub mod FormPromises
+pub mod Places
+pub mod Boards
+pub mod Joins
+pub mod Dependents
+pub mod Readers
+pub mod TextForm
+pub mod Codes
+pub mod Promises

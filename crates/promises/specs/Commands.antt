@@ -1,0 +1,84 @@
+-- Request b: command widths read off the table. And how commands are decoded: one byte of command, then operands.
+use Prim.Native.Nat.{ℕ, _≤_, _<_}
+use mathlib.Core.List.{List}
+use mathlib.Core.Logic.{_↔_, _⊎_}
+use mathlib.Core.Path.{_≡_}
+use lib.ListN.{length}
+use Rattle.model.specs.Rules.Command.{declarationAt, operatorAt}
+use Rattle.model.specs.Rules.Machine.{codeAt}
+use Rattle.model.specs.Rules.Schedule.{scheduleCommandAt}
+use Rattle.model.specs.Rules.Word.{byteAt}
+use Rattle.model.specs.Says.Written.{
+  DeclarationWritten,
+  DeclarationCut,
+  DeclarationOutside,
+  DeclarationByte,
+  OperatorWritten,
+  OperatorCut,
+  OperatorOutside,
+  OperatorByte,
+  PutWritten,
+  PutCut,
+  NoPutByte,
+  CodeWritten,
+  DeclarationWhole,
+  OperatorWhole,
+  PutWhole,
+  CodeWhole,
+}
+use Rattle.model.specs.declared.Code.{Code}
+use Rattle.model.specs.declared.Declaration.{Declaration}
+use Rattle.model.specs.declared.Operator.{Operator}
+use Rattle.model.specs.declared.ScheduleCommand.{ScheduleCommand}
+use Rattle.theorems_texts.specs.Enums.{
+  declarationBytes,
+  operatorBytes,
+  putBytes,
+  codeBytes,
+  DeclarationRanged,
+  OperatorRanged,
+  CodeRanged,
+  BytesAt,
+}
+use Rattle.theorems_texts.specs.Reach.{WidthsListed}
+
+pub record RequestB : Type 0 where
+  -- A byte not listed for its kind of text (program, expression, schedule, image code) has no width: over all 256 bytes of each
+  -- kind a byte has one exactly if its decoder knows it, and a command that is read whole reaches exactly as far as its width.
+  pub widths-listed : WidthsListed
+
+pub record Commands : Type 0 where
+  -- Each decoded command is an enum case carrying its operands: it is decoded exactly where its bytes are written.
+  pub declaration-written : (text : List ℕ) (at : ℕ) (c : Declaration) →
+      ((declarationAt text at ≡ c) × DeclarationWhole c) ↔ DeclarationWritten text at c
+  pub operator-written : (text : List ℕ) (at : ℕ) (c : Operator) →
+      ((operatorAt text at ≡ c) × OperatorWhole c) ↔ OperatorWritten text at c
+  pub put-written : (text : List ℕ) (at : ℕ) (c : ScheduleCommand) →
+      ((scheduleCommandAt text at ≡ c) × PutWhole c) ↔ PutWritten text at c
+  pub code-written : (code : List ℕ) (at : ℕ) (c : Code) → ((codeAt code at ≡ c) × CodeWhole c) ↔ CodeWritten code at c
+  -- A definition gives the paper's number and values for each case: where these bytes stand, the command is written.
+  pub declaration-bytes : (text : List ℕ) (at : ℕ) (c : Declaration) → DeclarationRanged c →
+      BytesAt text at (declarationBytes c) → DeclarationWritten text at c
+  pub operator-bytes : (text : List ℕ) (at : ℕ) (c : Operator) → OperatorRanged c → BytesAt text at (operatorBytes c) →
+      OperatorWritten text at c
+  pub put-bytes : (text : List ℕ) (at : ℕ) (c : ScheduleCommand) → PutWhole c → BytesAt text at (putBytes c) →
+      PutWritten text at c
+  pub code-bytes : (code : List ℕ) (at : ℕ) (c : Code) → CodeRanged c → BytesAt code at (codeBytes c) → CodeWritten code at c
+  -- It ends early exactly if no byte is left or one is cut, is outside its range exactly if an operand is, operands in turn, and
+  -- unknown exactly if its byte is no command.
+  pub declaration-cut : (text : List ℕ) (at : ℕ) →
+      (declarationAt text at ≡ Declaration.EndsEarly) ↔ ((length text ≤ at) ⊎ DeclarationCut text at)
+  pub declaration-outside : (text : List ℕ) (at : ℕ) →
+      (declarationAt text at ≡ Declaration.OutOfRange) ↔ DeclarationOutside text at
+  pub declaration-unknown : (text : List ℕ) (at : ℕ) →
+      (declarationAt text at ≡ Declaration.Unknown) ↔
+      ((at < length text) × ¬ DeclarationByte (byteAt text at) × ¬ (byteAt text at ≡ 0x13))
+  pub operator-cut : (text : List ℕ) (at : ℕ) →
+      (operatorAt text at ≡ Operator.EndsEarly) ↔ ((length text ≤ at) ⊎ OperatorCut text at)
+  pub operator-outside : (text : List ℕ) (at : ℕ) → (operatorAt text at ≡ Operator.OutOfRange) ↔ OperatorOutside text at
+  pub operator-unknown : (text : List ℕ) (at : ℕ) →
+      (operatorAt text at ≡ Operator.Unknown) ↔ ((at < length text) × ¬ OperatorByte (byteAt text at))
+  pub put-cut : (text : List ℕ) (at : ℕ) →
+      (scheduleCommandAt text at ≡ ScheduleCommand.EndsEarly) ↔ ((length text ≤ at) ⊎ PutCut text at)
+  pub put-unknown : (text : List ℕ) (at : ℕ) →
+      (scheduleCommandAt text at ≡ ScheduleCommand.Unknown) ↔ ((at < length text) × NoPutByte (byteAt text at))
