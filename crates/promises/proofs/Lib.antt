@@ -1,11 +1,12 @@
 -- The proofs of the promises, in the order in which they stand on one another. Each record of `specs` is inhabited in the file of
--- its name, those of requests c and d in Requests.
+-- its name.
 pub mod Total
 pub mod Exact
 pub mod ForEver
 pub mod Commands
 pub mod Reports
-pub mod Requests
+pub mod Latency
+pub mod Arithmetic
 pub mod Trials
 pub mod Tails
 pub mod Conversion

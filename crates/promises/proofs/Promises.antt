@@ -1,5 +1,6 @@
 -- Everything that is promised is proved. Assumes nothing.
 use Rattle.promises.specs.Promises.{Promises}
+use Rattle.promises.proofs.Arithmetic.{request-d}
 use Rattle.promises.proofs.Boards.{request-h, request-i, board-record}
 use Rattle.promises.proofs.Codes.{codes}
 use Rattle.promises.proofs.Commands.{request-b, commands}
@@ -7,10 +8,10 @@ use Rattle.promises.proofs.Conversion.{request-g}
 use Rattle.promises.proofs.Exact.{exact}
 use Rattle.promises.proofs.ForEver.{for-ever}
 use Rattle.promises.proofs.Joins.{request-k}
+use Rattle.promises.proofs.Latency.{request-c}
 use Rattle.promises.proofs.Moves.{request-l}
 use Rattle.promises.proofs.Readers.{request-m}
 use Rattle.promises.proofs.Reports.{request-a}
-use Rattle.promises.proofs.Requests.{request-c, request-d}
 use Rattle.promises.proofs.Tables.{request-j}
 use Rattle.promises.proofs.Tails.{request-f}
 use Rattle.promises.proofs.TextForm.{text-form}

@@ -120,6 +120,7 @@ pub record RequestH : Type 0 where
       ThroughoutIn (UntouchedIn k) (afterCall m (load k start size)) es →
       (image : List ℕ) × (old : List ℤ) × (words : List ℤ) × (cs : List Call) × (os : List (Outcome ℕ)) ×
       FromLoad m k start size es image old words cs os
+  -- With the image of an accepted pair: what its equations give.
   pub of-place : (program schedule : List ℕ) → AreBytes program → (p : Program) (q : Schedule) (h : ℕ) →
       pairOf program schedule ≡ accepted (record { program = p; schedule = q; hypercycle = h }) →
       PlaceForEver program schedule p q h

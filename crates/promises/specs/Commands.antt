@@ -48,36 +48,46 @@ pub record RequestB : Type 0 where
   pub widths-listed : WidthsListed
 
 pub record Commands : Type 0 where
-  -- Each decoded command is an enum case carrying its operands: it is decoded exactly where its bytes are written.
+  -- Each decoded command is an enum case carrying its operands. A declaration of a program is decoded exactly where its bytes are
+  -- written ..
   pub declaration-written : (text : List ℕ) (at : ℕ) (c : Declaration) →
       ((declarationAt text at ≡ c) × DeclarationWhole c) ↔ DeclarationWritten text at c
+  -- .. so is an operator of an expression ..
   pub operator-written : (text : List ℕ) (at : ℕ) (c : Operator) →
       ((operatorAt text at ≡ c) × OperatorWhole c) ↔ OperatorWritten text at c
+  -- .. a command of a schedule ..
   pub put-written : (text : List ℕ) (at : ℕ) (c : ScheduleCommand) →
       ((scheduleCommandAt text at ≡ c) × PutWhole c) ↔ PutWritten text at c
+  -- .. and one of image code.
   pub code-written : (code : List ℕ) (at : ℕ) (c : Code) → ((codeAt code at ≡ c) × CodeWhole c) ↔ CodeWritten code at c
-  -- A definition gives the paper's number and values for each case: where these bytes stand, the command is written.
+  -- A definition gives the paper's number and values for each case: where these bytes stand, the declaration is written ..
   pub declaration-bytes : (text : List ℕ) (at : ℕ) (c : Declaration) → DeclarationRanged c →
       BytesAt text at (declarationBytes c) → DeclarationWritten text at c
+  -- .. the operator ..
   pub operator-bytes : (text : List ℕ) (at : ℕ) (c : Operator) → OperatorRanged c → BytesAt text at (operatorBytes c) →
       OperatorWritten text at c
+  -- .. the command of a schedule ..
   pub put-bytes : (text : List ℕ) (at : ℕ) (c : ScheduleCommand) → PutWhole c → BytesAt text at (putBytes c) →
       PutWritten text at c
+  -- .. and of image code.
   pub code-bytes : (code : List ℕ) (at : ℕ) (c : Code) → CodeRanged c → BytesAt code at (codeBytes c) → CodeWritten code at c
-  -- It ends early exactly if no byte is left or one is cut, is outside its range exactly if an operand is, operands in turn, and
-  -- unknown exactly if its byte is no command.
+  -- At each command: ends early if no byte is left or an operand is cut ..
   pub declaration-cut : (text : List ℕ) (at : ℕ) →
       (declarationAt text at ≡ Declaration.EndsEarly) ↔ ((length text ≤ at) ⊎ DeclarationCut text at)
+  -- .. outside its range if an operand is, operands in turn ..
   pub declaration-outside : (text : List ℕ) (at : ℕ) →
       (declarationAt text at ≡ Declaration.OutOfRange) ↔ DeclarationOutside text at
+  -- .. and unknown if there is no such command; LINK stands in a chain alone.
   pub declaration-unknown : (text : List ℕ) (at : ℕ) →
       (declarationAt text at ≡ Declaration.Unknown) ↔
       ((at < length text) × ¬ DeclarationByte (byteAt text at) × ¬ (byteAt text at ≡ 0x13))
+  -- At each operator: the same three.
   pub operator-cut : (text : List ℕ) (at : ℕ) →
       (operatorAt text at ≡ Operator.EndsEarly) ↔ ((length text ≤ at) ⊎ OperatorCut text at)
   pub operator-outside : (text : List ℕ) (at : ℕ) → (operatorAt text at ≡ Operator.OutOfRange) ↔ OperatorOutside text at
   pub operator-unknown : (text : List ℕ) (at : ℕ) →
       (operatorAt text at ≡ Operator.Unknown) ↔ ((at < length text) × ¬ OperatorByte (byteAt text at))
+  -- Schedule ends early, or unknown command.
   pub put-cut : (text : List ℕ) (at : ℕ) →
       (scheduleCommandAt text at ≡ ScheduleCommand.EndsEarly) ↔ ((length text ≤ at) ⊎ PutCut text at)
   pub put-unknown : (text : List ℕ) (at : ℕ) →

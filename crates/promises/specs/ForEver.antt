@@ -75,6 +75,7 @@ pub record ForEver : Type 0 where
       let s = q .schedule in
       let x = ρ .operands in
       SettlesAt (ρ .kind) (rateOf p s (x .signal)) (rateOf p s r) (x .factor) (x .index) i ↔ (i ≡ settled p s r ρ)
+  -- What holds of an accepted pair.
   pub of-pair : (program schedule : List ℕ) → AreBytes program → (p : Program) (s : Schedule) (h : ℕ) →
       pairOf program schedule ≡ accepted (record { program = p; schedule = s; hypercycle = h }) →
       PairForEver program schedule p s h

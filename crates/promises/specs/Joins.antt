@@ -112,6 +112,7 @@ pub record RequestK : Type 0 where
   -- Demand 3 holds for it with the equations of all parts and links together.
   pub of-join : (texts numbers links : List ℕ) (q : Pair) (l : JoinLegal texts numbers links q) →
       JoinForEver texts numbers links q l
+  -- Two joins that settle alike.
   pub of-alike : (texts numbers texts′ numbers′ links : List ℕ) (q q′ : Pair) (l : JoinLegal texts numbers links q)
       (l′ : JoinLegal texts′ numbers′ links q′) → PartsAlike (l .parts) (l′ .parts) →
       JoinsAlike texts numbers texts′ numbers′ links q q′ l l′

@@ -123,6 +123,7 @@ pub record PlaceReaders (p : Program) (q : Schedule) (h : ℕ) : Type 0 where
 pub record RequestM : Type 0 where
   -- An equation reads w exactly if w is the signal of one of its reads, those that are checked and met.
   pub reads-exactly : (b : Body) (w : ℕ) → OccursIn w b ↔ ((ρ : Read) × (ρ among bodyReads b) × (ρ .operands .signal ≡ w))
+  -- For an accepted pair.
   pub of-pair : (program schedule : List ℕ) → AreBytes program → (p : Program) (s : Schedule) (h : ℕ) →
       pairOf program schedule ≡ accepted (record { program = p; schedule = s; hypercycle = h }) → PairReaders p s h
   -- With joined parts this includes the reads made by links.
@@ -134,15 +135,17 @@ pub record RequestM : Type 0 where
       JoinSameExcept (l .parts) (linksOf links) q k i (answersBy lent old (take n cs)) (answersBy lent′ old′ (take n cs′))
       (logBy lent old (take n cs)) (logBy lent′ old′ (take n cs′)) (stateBy lent old (take n cs))
       (stateBy lent′ old′ (take n cs′))
-  -- On a board, of a place that holds the image of an accepted pair, and of one that holds a joined image.
+  -- On a board of four it is said of each place: of one that holds the image of an accepted pair ..
   pub of-place : (program schedule : List ℕ) → AreBytes program → (p : Program) (q : Schedule) (h : ℕ) →
       pairOf program schedule ≡ accepted (record { program = p; schedule = q; hypercycle = h }) → PlaceReaders p q h
+  -- .. and of one that holds a joined image.
   pub of-join-place : (texts numbers links : List ℕ) → AreBytes texts → (q : Pair) → JoinLegal texts numbers links q →
       PlaceReaders (q .program) (q .schedule) (q .hypercycle)
   -- All else on such a board is the same, whatever images, samples and signals' words that place has: every call's answer, so
   -- that the places are taken in the same order with the same outcomes, the record, and all words but those signals'.
   pub place-confined : (k : ℕ) (s s′ : Scene) (es es′ : List Event) → SceneBut k s s′ → EventsBut k (OtherSamples k) es es′ →
       Confined k s s′ es es′
+  -- The same by the numbers, none of which differs either.
   pub numbers-place-confined : (k : ℕ) (m m′ : NumberScene) (es es′ : List Event) → length (m .numbers) ≡ 17 →
       NumbersBut k m m′ → EventsBut k (SamplesElsewhere k) es es′ → NumbersConfined k m m′ es es′
   -- The signals that an input reaches, as the call dependents marks them: 1 of each signal that reads i, by itself or through

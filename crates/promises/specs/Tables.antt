@@ -37,11 +37,14 @@ pub record TableStreams (p : Program) (s : Schedule) (X : ℕ → ℕ → ℤ) :
       Yields (p .rows) (value (p .rows) (wordRead (settled p s) X x k) operand)
       (value (p .rows) (wordRead (settled p s) X x k) (unary Table operand))
 
--- On a board, of a stretch that holds an image from before: a load is refused 20, and so is the run of a turn.
+-- On a board, of a stretch that holds an older image.
 pub record FormerPlace (images : List ℕ) (start size : ℕ) : Type 0 where
+  -- A load is refused 20 ..
   pub former-load : (b : Board) (state : List ℤ) (k : ℕ) → k < 4 → 260 ≤ length state →
       loadOf b images state k start size .answer ≡ refuse 20 0
+  -- .. as its reset is ..
   pub former-reset : (words : List ℤ) → resetIn images start size words .answer ≡ refuse 20 0
+  -- .. and were one in a place's stretch, so is the run of a turn.
   pub former-cycle : (words samples : List ℤ) → cycleIn images start size words samples .answer ≡ refuse 20 0
 
 pub record RequestJ : Type 0 where
@@ -70,5 +73,6 @@ pub record RequestJ : Type 0 where
   -- Older images are refused 20, with their tail or without.
   pub former-refused : (image tail lent : List ℕ) → WithoutTable image → Bears image tail lent →
       ((state : List ℤ) (c : Call) → callOf lent state c .answer ≡ refuse 20 0) × (tailIn lent ≡ refuse 20 0)
+  -- So it is on a board.
   pub former-place : {image tail : List ℕ} → WithoutTable image → (images : List ℕ) (start size : ℕ) →
       start + size ≤ length images → Bears image tail (stretch images start (start + size)) → FormerPlace images start size

@@ -28,7 +28,7 @@ pub record RequestE : Type 0 where
   -- All samples start at 0; SET alters the named input's sample until its next SET. There are such inputs.
   pub trial-inputs : (program schedule : List ℕ) → AreBytes program → (q : Pair) → LegalPair program schedule q →
       (actions : List Action) → (inputs : ℕ → ℕ → ℤ) × SetInputs (q .program) (q .schedule) actions inputs
-  -- Decimal: digits, the fewest, that read back give the number; a word's have one minus sign before them exactly if it is
-  -- negative.
+  -- Decimal: digits, the fewest, that read back give the number ..
   pub natural-says : (n : ℕ) → SaysNumber n (natural n)
+  -- .. and before a word's one minus sign exactly if it is negative.
   pub decimal-says : (z : ℤ) → SaysWord z (decimal z)
