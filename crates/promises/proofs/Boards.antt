@@ -12,7 +12,7 @@ use Rattle.board_words.proofs.Lists.{four}
 use Rattle.board_words.proofs.Lists as BoardLists
 use Rattle.board_words.proofs.Promises as BoardWords
 use Rattle.promises.proofs.BoardCourses.{answers-alone}
-use Rattle.promises.proofs.BoardExact as BoardExact
+use Rattle.promises.proofs.BoardExact.{board-calls}
 use Rattle.promises.proofs.BoardLent.{load-leaves, turn-leaves}
 use Rattle.promises.proofs.ForEver.{for-ever}
 use Rattle.promises.proofs.Places.{place-holds}
@@ -20,9 +20,7 @@ use Rattle.promises.proofs.Places.{place-holds}
 pub request-h : RequestH
 request-h =
     record {
-      load-exactly = BoardExact.load-exactly;
-      mark-exactly = BoardExact.mark-exactly;
-      turn-exactly = BoardExact.turn-exactly;
+      calls-exactly = board-calls;
       numbers-taken-by-fourth = BoardLists.numbers-taken-by-fourth;
       numbers-place-alone = BoardLists.numbers-place-alone;
       numbers-run-unless-changed = BoardLists.numbers-run-unless-changed;

@@ -15,8 +15,8 @@ use Rattle.larderlate.specs.Code.{codeNumber, lengthIn}
 use Rattle.model.specs.Rules.Compile.{Pair, pairOf, compileOf}
 use Rattle.model.specs.Rules.Dependents.{dependentsOf}
 use Rattle.model.specs.Rules.Join.{joinOf}
-use Rattle.model.specs.Rules.Machine.{stretch, effect, resetOf, cycleOf}
-use Rattle.model.specs.Rules.Moves.{allEntries, written, movesOf}
+use Rattle.model.specs.Rules.Machine.{stretch, resetOf, cycleOf}
+use Rattle.model.specs.Rules.Moves.{movesOf}
 use Rattle.model.specs.Rules.Outcome.{Outcome, accepted, refused, fault, refuse, _▷_}
 use Rattle.model.specs.Rules.Report.{reportOf}
 use Rattle.model.specs.Rules.Rewrite.{convertOf}
@@ -46,6 +46,7 @@ use Rattle.model.proofs.Texts.Legal.{legal}
 use Rattle.promises.proofs.Conversion.{request-g}
 use Rattle.promises.proofs.Exact.{exact}
 use Rattle.promises.proofs.Moves.{request-l}
+use Rattle.promises.proofs.MovesListed.{movesBy}
 use Rattle.promises.proofs.Readers.{request-m}
 use Rattle.promises.proofs.Reports.{request-a}
 use Rattle.promises.proofs.Tails.{request-f}
@@ -56,17 +57,6 @@ use Rattle.theorems_joins.proofs.Places as JoinPlaces
 
 small-code : (f : Fault) → f .place ≤ 65791 → codeNumber (refused f) ≡ f .number * 4294967296 + f .place
 small-code f le = ap (λ n. f .number * 4294967296 + n) (mod-eq-of-lt (omega arith))
-
-tells-all : (o o′ : Outcome ℕ) → Codable o → Codable o′ → codeNumber o ≡ codeNumber o′ → o ≡ o′
-tells-all (accepted n) (accepted m) c d e = ap accepted e
-tells-all (accepted n) (refused g) c d e = absurd (omega arith)
-tells-all (refused f) (accepted m) c d e = absurd (omega arith)
-tells-all (refused f) (refused g) c d e =
-    let p = mod-eq-of-lt (c .1) in
-    let q = mod-eq-of-lt (d .1) in
-    let number : f .number ≡ g .number = omega arith in
-    let place : f .place ≡ g .place = omega arith in
-    ap₂ (λ (n x : ℕ). refused (fault n x)) number place
 
 -- Call by call, by what it answers.
 compiled : (program schedule buffer : List ℕ) → AreBytes program → (o : Outcome ℕ) →
@@ -128,10 +118,7 @@ joined texts numbers links image bytes (refused f) e = (
 )
 
 listed : (program schedule list : List ℕ) → AreBytes program → (o : Outcome Pair) → pairOf program schedule ≡ o →
-    Codable (effect list (o ▷ λ q. accepted (record {
-      yields = length (allEntries program schedule q);
-      leaves = written (allEntries program schedule q) list;
-    })) .answer)
+    Codable (movesBy program schedule list o .answer)
 unfolding _▷_
 listed program schedule list bytes (accepted q) g = omega (arith, request-l .moves-few program schedule q g)
 listed program schedule list bytes (refused f) g =
@@ -215,7 +202,20 @@ codes =
       call-code = λ lent state c f e. small-code f (omega (arith, places-zero lent state c f e));
       join-code = λ texts numbers links image bytes f e.
           small-code f (omega (arith, JoinPlaces.join-places-small texts numbers links image bytes f e));
-      code-tells = tells-all;
+      code-tells =
+          elim [
+            | accepted n ↦ elim [ accepted m ↦ λ c d e. ap accepted e | refused g ↦ λ c d e. absurd (omega arith) ]
+            | refused f ↦
+                elim [
+                  | accepted m ↦ λ c d e. absurd (omega arith)
+                  | refused g ↦ λ c d e.
+                      let p = mod-eq-of-lt (c .1) in
+                      let q = mod-eq-of-lt (d .1) in
+                      let number : f .number ≡ g .number = omega arith in
+                      let place : f .place ≡ g .place = omega arith in
+                      ap₂ (λ (n x : ℕ). refused (fault n x)) number place
+                ]
+          ];
       compile-codable = λ program schedule buffer bytes. compiled program schedule buffer bytes _ refl;
       report-codable = λ program schedule counts bytes. reported program schedule counts bytes _ refl;
       reset-codable = λ lent state. was-reset lent state _ refl;

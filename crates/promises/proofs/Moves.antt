@@ -2,12 +2,15 @@
 use Prim.Native.Nat.{ℕ, zero, suc, _*_, _≤_, _<_}
 use mathlib.Core.Bool.{Bool, true, false}
 use mathlib.Core.List.{List}
-use mathlib.Core.Path.{_≡_, sym}
+use mathlib.Core.Path.{_≡_, refl, sym}
 use native.Mathlib.Omega.{arith}
 use lib.ListN.{length, length-append}
-use Rattle.model.specs.Rules.Moves.{mayTake, entryIf, entriesOf, allEntries}
+use Rattle.model.specs.Rules.Compile.{pairOf}
+use Rattle.model.specs.Rules.Moves.{mayTake, entryIf, entriesOf, allEntries, movesOf}
+use Rattle.model.specs.Rules.Outcome.{_▷_}
 use Rattle.model.specs.Rules.Program.{count, signalAt, bodyReads}
 use Rattle.model.specs.Rules.Reads.{settled}
+use Rattle.model.specs.Rules.Report.{reportOf}
 use Rattle.model.specs.Rules.Search.{joinBelow}
 use Rattle.promises.specs.Moves.{RequestL}
 use Rattle.model.proofs.Basics.All.{all-map}
@@ -15,6 +18,7 @@ use Rattle.model.proofs.Pairs.Verdict.{pair-passed}
 use Rattle.model.proofs.Texts.Legal.{legal, signal-period}
 use Rattle.promises.proofs.ForEver.{for-ever}
 use Rattle.promises.proofs.MovesListed as Listed
+use Rattle.theorems_pairs.proofs.Exact as Pairs
 use Rattle.theorems_streams.proofs.Alike.{open-alike, alike-satisfy}
 
 -- A list joined of short ones.
@@ -31,7 +35,15 @@ one-entry false x f = omega arith
 pub request-l : RequestL
 request-l =
     record {
-      moves-exactly = Listed.moves-exactly;
+      moves-exactly = λ program schedule list.
+          unfold movesOf reportOf _▷_ in
+          (record {
+            refuses = λ counts. Listed.refuses program schedule list counts (pairOf program schedule);
+            keeps = Listed.keeps program schedule list (pairOf program schedule);
+            lists = λ q l.
+                let e = Pairs.accepted-exactly program schedule q .1 l in
+                rw e (length (allEntries program schedule q), refl, Listed.lists program schedule q e list);
+          });
       moves-streams = λ program schedule q e x f lt m inputs X.
           let p = q .program in
           let s = q .schedule in

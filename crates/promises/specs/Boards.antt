@@ -86,20 +86,25 @@ pub record PlaceForEver (program schedule : List ℕ) (p : Program) (q : Schedul
       {cs : List Call} {os : List (Outcome ℕ)} → FromLoad m k start size es image old words cs os → (tail : List ℕ) →
       Bears (imageOf p q h) tail image → Kept program schedule p q h old cs os (logBy image old cs) words
 
-pub record RequestH : Type 0 where
+-- The calls on any numbers, images and state that a caller lends.
+pub record BoardCalls (m : NumberScene) : Type 0 where
   -- Loading a place resets it and clears its due mark. Turned away: 26 place above 3, first of all; fewer than 260 state words is
   -- 21, after 26 and before the rest; 27 image stretch outside its buffer, before 20.
-  pub load-exactly : (m : NumberScene) → length (m .numbers) ≡ 17 → (k start size : ℕ) →
+  pub load-exactly : (k start size : ℕ) →
       CallExactly m (Loads m k start size) (LoadRefusedAt m k start size) (loadAnswer m k start size)
       (afterCall m (load k start size))
   -- Turned away: 28 marking a place never loaded, after 26.
-  pub mark-exactly : (m : NumberScene) → length (m .numbers) ≡ 17 → (k : ℕ) →
+  pub mark-exactly : (k : ℕ) →
       CallExactly m (Marks m k) (MarkRefusedAt m k) (markAnswer m k) (afterCall m (mark k))
   -- A turn runs the next due place in cyclic order after the one last taken, and clears its mark; a run refused 20, 22 or 27 does
   -- the same, counts as taken and leaves the state. Fewer than 260 state words is 21, fewer than 256 samples 23, and such a turn
   -- takes no place.
-  pub turn-exactly : (m : NumberScene) → length (m .numbers) ≡ 17 → (samples : List ℤ) →
+  pub turn-exactly : (samples : List ℤ) →
       CallExactly m (Turns m samples) (TurnRefusedAt m samples) (turnAnswer m samples) (afterCall m (turn samples))
+
+pub record RequestH : Type 0 where
+  -- Each call is done, or refused with each number, exactly under its condition with all earlier ones absent.
+  pub calls-exactly : (m : NumberScene) → length (m .numbers) ≡ 17 → BoardCalls m
   -- Where each call gets the record as the last one left it, a due place not loaded again is taken by the fourth turn after its
   -- mark at the latest, turns refused 21 or 23 left out, whichever places the others mark.
   pub numbers-taken-by-fourth : (m : NumberScene) → length (m .numbers) ≡ 17 → (k : ℕ) → markAnswer m k ≡ accepted 0 →
