@@ -11,9 +11,9 @@ use Rattle.theorems_streams.specs.Lists.{owns}
 use Rattle.model.proofs.Images.Bounds.{Bounded}
 use Rattle.model.proofs.Images.Tails as Tails
 use Rattle.model.proofs.Pairs.Verdict.{pair-multiple, pair-accepted, pair-bounded}
-use Rattle.promises.proofs.BoardCourses.{numbers-confined, numbers-apart, numbers-board-apart, numbers-words-apart}
+use Rattle.promises.proofs.BoardCourses.{numbers-confined, number-readers}
 use Rattle.promises.proofs.Confined.{confined}
-use Rattle.promises.proofs.Courses.{courses-apart, board-apart, board-words}
+use Rattle.promises.proofs.Courses.{course-readers, board-readers}
 use Rattle.promises.proofs.Dependents as Marks
 use Rattle.theorems_calls.proofs.CallsExact.{both-ways, exactly}
 use Rattle.theorems_joins.proofs.Demand as JoinDemand
@@ -26,13 +26,9 @@ use Rattle.theorems_streams.proofs.Lending as Lending
 place-readers : (p : Program) (q : Schedule) (h : ℕ) → Feasible p q → Multiple p h → Bounded p q h → PlaceReaders p q h
 place-readers p q h acc whole bounded =
     record {
-      place-only-readers = λ c c′ u u′ tail tail′. courses-apart p q h acc whole bounded c c′ u u′;
-      board-only-readers = board-apart p q h acc whole bounded;
-      board-words = board-words p q h acc whole bounded;
-      numbers-only-readers = λ f f′ tail tail′. numbers-apart p q h acc whole bounded f f′;
-      numbers-board-readers = λ but alike f f′ tail b. numbers-board-apart p q h acc whole bounded but f f′ tail b alike;
-      numbers-board-words = λ but i small alike f f′ tail b.
-          numbers-words-apart p q h acc whole bounded but f f′ tail b i small alike;
+      courses = course-readers p q h acc whole bounded;
+      boards = board-readers p q h acc whole bounded;
+      numbers = number-readers p q h acc whole bounded;
     }
 
 pub request-m : RequestM

@@ -81,13 +81,16 @@ pub record PairReaders (p : Program) (s : Schedule) (h : ℕ) : Type 0 where
       SameExcept p s i (ownAnswers m ls) (ownAnswers m′ ls′) (ownLog m [] ls) (ownLog m′ [] ls′) (leftAll m ls .state)
       (leftAll m′ ls′ .state)
 
--- On a board of four it is said of each place, its stretch and state not changed from outside.
-pub record PlaceReaders (p : Program) (q : Schedule) (h : ℕ) : Type 0 where
-  -- Two courses of places, on one board or on two, after as many runs.
+-- On a board of four it is said of each place, its stretch and state not changed from outside: of two places ..
+pub record CourseReaders (p : Program) (q : Schedule) (h : ℕ) : Type 0 where
+  -- On one board or on two, after as many runs.
   pub place-only-readers : (c c′ : Course) → Undisturbed c → Undisturbed c′ → (tail tail′ : List ℕ) →
       Bears (imageOf p q h) tail (courseImage c) → Bears (imageOf p q h) tail′ (courseImage c′) →
       length (courseAnswers c) ≡ length (courseAnswers c′) → (i : ℕ) → CoursesExcept p q i c c′
-  -- A board in two courses of events that are the same but for the samples of that place. They may end after any event.
+
+-- .. of one place of a board in two courses of events that are the same but for its samples ..
+pub record BoardReaders (p : Program) (q : Schedule) (h : ℕ) : Type 0 where
+  -- The events may end after any of them.
   pub board-only-readers : (s s′ : Scene) (k start size : ℕ) (es es′ : List Event) → SceneBut k s s′ →
       EventsBut k (OtherSamples k) es es′ →
       let c : Course = record { scene = s; place = k; start = start; size = size; events = es } in
@@ -103,22 +106,33 @@ pub record PlaceReaders (p : Program) (q : Schedule) (h : ℕ) : Type 0 where
       Undisturbed c → Throughout (Untouched k) (afterLoad c′) es′ → (tail : List ℕ) →
       Bears (imageOf p q h) tail (courseImage c) → (y : ℕ) → y < count p → ¬ (y ≡ i) → ¬ DependsOn p y i →
       getD (courseWords c) (suc y) (pos 0) ≡ getD (courseWords c′) (suc y) (pos 0)
-  -- The same three by the numbers of the record, of a place from its load on.
+
+-- .. and of both by the numbers of the record, of a place from its load on.
+pub record NumberReaders (p : Program) (q : Schedule) (h : ℕ) : Type 0 where
+  -- Two places, after as many runs.
   pub numbers-only-readers : {m m′ : NumberScene} {k k′ start start′ size size′ : ℕ} {es es′ : List Event}
       {image image′ : List ℕ} {old old′ words words′ : List ℤ} {cs cs′ : List Call} {os os′ : List (Outcome ℕ)} →
       FromLoad m k start size es image old words cs os → FromLoad m′ k′ start′ size′ es′ image′ old′ words′ cs′ os′ →
       (tail tail′ : List ℕ) → Bears (imageOf p q h) tail image → Bears (imageOf p q h) tail′ image′ → length os ≡ length os′ →
       (i : ℕ) → SameExcept p q i os os′ (logBy image old cs) (logBy image′ old′ cs′) words words′
+  -- One place in two courses of events.
   pub numbers-board-readers : {m m′ : NumberScene} {k start size : ℕ} {es es′ : List Event} {image image′ : List ℕ}
       {old old′ words words′ : List ℤ} {cs cs′ : List Call} {os os′ : List (Outcome ℕ)} → NumbersBut k m m′ →
       EventsBut k (SamplesElsewhere k) es es′ → FromLoad m k start size es image old words cs os →
       FromLoad m′ k start size es′ image′ old′ words′ cs′ os′ → (tail : List ℕ) → Bears (imageOf p q h) tail image →
       (i : ℕ) → SameExcept p q i os os′ (logBy image old cs) (logBy image′ old′ cs′) words words′
+  -- The turns' samples differ only in word i of that place.
   pub numbers-board-words : {m m′ : NumberScene} {k start size : ℕ} {es es′ : List Event} {image image′ : List ℕ}
       {old old′ words words′ : List ℤ} {cs cs′ : List Call} {os os′ : List (Outcome ℕ)} → NumbersBut k m m′ → (i : ℕ) →
       i < 64 → EventsBut k (SamplesExcept k i) es es′ → FromLoad m k start size es image old words cs os →
       FromLoad m′ k start size es′ image′ old′ words′ cs′ os′ → (tail : List ℕ) → Bears (imageOf p q h) tail image →
       (y : ℕ) → y < count p → ¬ (y ≡ i) → ¬ DependsOn p y i → getD words (suc y) (pos 0) ≡ getD words′ (suc y) (pos 0)
+
+-- All of it, of places that hold the image of one program, schedule and hypercycle.
+pub record PlaceReaders (p : Program) (q : Schedule) (h : ℕ) : Type 0 where
+  pub courses : CourseReaders p q h
+  pub boards : BoardReaders p q h
+  pub numbers : NumberReaders p q h
 
 pub record RequestM : Type 0 where
   -- An equation reads w exactly if w is the signal of one of its reads, those that are checked and met.
