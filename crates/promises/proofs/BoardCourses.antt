@@ -1,5 +1,5 @@
 -- A place from its load on, by the numbers, is a course of the record that they stand for. Assumes nothing.
-use Prim.Native.Nat.{ℕ, suc, _+_, _*_, _≤_, _<_}
+use Prim.Native.Nat.{ℕ, _+_, _*_, _≤_, _<_}
 use mathlib.Core.Bool.{Bool, true, false, cond}
 use mathlib.Core.List.{List, [], _∷_}
 use mathlib.Core.Logic.{_⊎_, inl, inr}
@@ -13,15 +13,12 @@ use lib.ListN.{length, getD, drop}
 use lib.Seq.{getD-take, getD-drop, ext-getD}
 use Rattle.model.specs.Says.Calls.{Call}
 use Rattle.model.specs.Says.Feasible.{Feasible, Multiple}
-use Rattle.model.specs.Rules.Image.{imageOf}
 use Rattle.model.specs.Rules.Machine.{stretch}
 use Rattle.model.specs.Rules.Outcome.{Outcome, accepted, refused}
-use Rattle.model.specs.Rules.Program.{Program, count}
+use Rattle.model.specs.Rules.Program.{Program}
 use Rattle.model.specs.Rules.Schedule.{Schedule}
-use Rattle.model.specs.Rules.Tail.{Bears}
 use Rattle.model.specs.declared.Fault.{Fault}
 use Rattle.model.proofs.Images.Bounds.{Bounded}
-use Rattle.theorems_streams.specs.Dependence.{DependsOn, SameExcept}
 use Rattle.theorems_streams.specs.Held.{logBy, answersBy}
 use Rattle.board.specs.Board.{placeWords, placeSamples, Yield, idle, took}
 use Rattle.board.specs.Events.{
@@ -49,12 +46,12 @@ use Rattle.board.specs.Calls.{
   FromLoad,
 }
 use Rattle.board.specs.Record.{boardOf, loadRecord, markRecord, turnRecord}
+use Rattle.promises.specs.Readers.{NumberReaders}
 use Rattle.promises.specs.Scenes.{
   SceneBut,
   NumbersBut,
   OtherSamples,
   SamplesElsewhere,
-  SamplesExcept,
   EventsBut,
   BoardAnswer,
   call,
@@ -77,7 +74,7 @@ use Rattle.promises.specs.Scenes.{
 use Rattle.board.proofs.Words.{samples-length}
 use Rattle.board.proofs.Numbers.{part-is, stretch-is}
 use Rattle.promises.proofs.Confined.{confined}
-use Rattle.promises.proofs.Courses.{course-alone, courses-apart, board-apart, board-words}
+use Rattle.promises.proofs.Courses.{course-alone, course-readers, board-readers}
 use Rattle.board.proofs.Lists.{
   call-held,
   call-long,
@@ -262,39 +259,31 @@ numbers-confined {k} {m} {m′} {es} {es′} long but alike =
 
 -- Request m by the numbers, of a program, schedule and hypercycle whose image the stretches hold.
 module _ (p : Program) (q : Schedule) (h : ℕ) (acc : Feasible p q) (whole : Multiple p h) (bounded : Bounded p q h) where
-  module _ {m m′ : NumberScene} {k k′ start start′ size size′ : ℕ} {es es′ : List Event} {image image′ : List ℕ}
-      {old old′ words words′ : List ℤ} {cs cs′ : List Call} {os os′ : List (Outcome ℕ)}
-      (f : FromLoad m k start size es image old words cs os)
-      (f′ : FromLoad m′ k′ start′ size′ es′ image′ old′ words′ cs′ os′) where
-    pub numbers-apart : {tail tail′ : List ℕ} → Bears (imageOf p q h) tail image → Bears (imageOf p q h) tail′ image′ →
-        length os ≡ length os′ → (i : ℕ) → SameExcept p q i os os′ (logBy image old cs) (logBy image′ old′ cs′) words words′
-    numbers-apart {tail} {tail′} b b′ many i =
-        let c = course-is f in
-        let c′ = course-is f′ in
-        let bears : Bears (imageOf p q h) tail (courseImage (courseOf m k start size es)) = rw (c .image-is) b in
-        let bears′ : Bears (imageOf p q h) tail′ (courseImage (courseOf m′ k′ start′ size′ es′)) = rw (c′ .image-is) b′ in
-        rw (← (c .answers-are), ← (c′ .answers-are), ← (c .log-is), ← (c′ .log-is), ← (c .words-are), ← (c′ .words-are))
-        (courses-apart p q h acc whole bounded (courseOf m k start size es) (courseOf m′ k′ start′ size′ es′) (c .undisturbed)
-        (c′ .undisturbed) bears bears′ (rw (c .answers-are, c′ .answers-are) many) i)
-
-  module _ {m m′ : NumberScene} {k start size : ℕ} {es es′ : List Event} {image image′ : List ℕ}
-      {old old′ words words′ : List ℤ} {cs cs′ : List Call} {os os′ : List (Outcome ℕ)} (but : NumbersBut k m m′)
-      (f : FromLoad m k start size es image old words cs os)
-      (f′ : FromLoad m′ k start size es′ image′ old′ words′ cs′ os′) (tail : List ℕ) (b : Bears (imageOf p q h) tail image) where
-    pub numbers-board-apart : EventsBut k (SamplesElsewhere k) es es′ → (i : ℕ) →
-        SameExcept p q i os os′ (logBy image old cs) (logBy image′ old′ cs′) words words′
-    numbers-board-apart alike i =
-        let c = course-is f in
-        let c′ = course-is f′ in
-        rw (← (c .answers-are), ← (c′ .answers-are), ← (c .log-is), ← (c′ .log-is), ← (c .words-are), ← (c′ .words-are))
-        (board-apart p q h acc whole bounded (sceneOf m) (sceneOf m′) k start size es es′ (scenes-but but) (events-but alike)
-        (c .undisturbed) (c′ .undisturbed .untouched) tail (rw (c .image-is) b) i)
-
-    pub numbers-words-apart : (i : ℕ) → i < 64 → EventsBut k (SamplesExcept k i) es es′ → (y : ℕ) → y < count p → ¬ (y ≡ i) →
-        ¬ DependsOn p y i → getD words (suc y) (pos 0) ≡ getD words′ (suc y) (pos 0)
-    numbers-words-apart i small alike y lt ne apart =
-        let c = course-is f in
-        let c′ = course-is f′ in
-        rw (← (c .words-are), ← (c′ .words-are))
-        (board-words p q h acc whole bounded (sceneOf m) (sceneOf m′) k start size es es′ (scenes-but but) i small alike
-        (c .undisturbed) (c′ .undisturbed .untouched) tail (rw (c .image-is) b) y lt ne apart)
+  pub number-readers : NumberReaders p q h
+  number-readers =
+      record {
+        numbers-only-readers =
+            λ {m = m} {m′ = m′} {k = k} {k′ = k′} {start = start} {start′ = start′} {size = size} {size′ = size′} {es = es}
+            {es′ = es′} f f′ tail tail′ b b′ many i.
+            let c = course-is f in
+            let c′ = course-is f′ in
+            rw (← (c .answers-are), ← (c′ .answers-are), ← (c .log-is), ← (c′ .log-is), ← (c .words-are), ← (c′ .words-are))
+            (course-readers p q h acc whole bounded .place-only-readers (courseOf m k start size es)
+            (courseOf m′ k′ start′ size′ es′) (c .undisturbed) (c′ .undisturbed) tail tail′ (rw (c .image-is) b)
+            (rw (c′ .image-is) b′) (rw (c .answers-are, c′ .answers-are) many) i);
+        numbers-board-readers =
+            λ {m = m} {m′ = m′} {k = k} {start = start} {size = size} {es = es} {es′ = es′} but alike f f′ tail b i.
+            let c = course-is f in
+            let c′ = course-is f′ in
+            rw (← (c .answers-are), ← (c′ .answers-are), ← (c .log-is), ← (c′ .log-is), ← (c .words-are), ← (c′ .words-are))
+            (board-readers p q h acc whole bounded .board-only-readers (sceneOf m) (sceneOf m′) k start size es es′
+            (scenes-but but) (events-but alike) (c .undisturbed) (c′ .undisturbed .untouched) tail (rw (c .image-is) b) i);
+        numbers-board-words =
+            λ {m = m} {m′ = m′} {k = k} {start = start} {size = size} {es = es} {es′ = es′} but i small alike f f′ tail b y lt ne
+            apart.
+            let c = course-is f in
+            let c′ = course-is f′ in
+            rw (← (c .words-are), ← (c′ .words-are))
+            (board-readers p q h acc whole bounded .board-words (sceneOf m) (sceneOf m′) k start size es es′ (scenes-but but) i
+            small alike (c .undisturbed) (c′ .undisturbed .untouched) tail (rw (c .image-is) b) y lt ne apart);
+      }

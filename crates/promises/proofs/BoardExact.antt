@@ -39,6 +39,7 @@ use Rattle.board.specs.Events.{load, mark, turn}
 use Rattle.board.specs.Calls.{NumberScene, loadAnswer, markAnswer, turnAnswer, afterCall}
 use Rattle.board.specs.Numbers.{StretchIs, OwnWords, WordsSet, NoneDue, flagsAt, startAt, sizeAt}
 use Rattle.board.specs.Record.{boardOf, takenWords, loadRecord, markRecord, turnRecord}
+use Rattle.promises.specs.Boards.{BoardCalls}
 use Rattle.promises.specs.BoardExact.{
   CallExactly,
   Loads,
@@ -277,11 +278,6 @@ module _ (m : NumberScene) (seventeen : length (m .numbers) ≡ 17) where
         (subst (λ (i : List ℕ). WellLent i (d .resets .image)) (part-one 0 (m .images) start size (d .stretch) s)
         (d .resets .usable .lends))
 
-    pub load-exactly :
-        CallExactly m (Loads m k start size) (LoadRefusedAt m k start size) (loadAnswer m k start size)
-        (afterCall m (load k start size))
-    load-exactly = exactly load-ends loads-one load-faults-one load-apart
-
   module _ (k : ℕ) where
     abbrev MarkEndsAt : NumberScene → Type 0
     MarkEndsAt = Ends m (Marks m k) (MarkRefusedAt m k) (markAnswer m k)
@@ -349,9 +345,6 @@ module _ (m : NumberScene) (seventeen : length (m .numbers) ≡ 17) where
     mark-apart : (n : ℕ) (l : NumberScene) (f : Fault) → Marks m k n l → MarkRefusedAt m k f → ⊥
     mark-apart n l f d (MarkRefusedAt.no-place a) = omega (arith, d .place)
     mark-apart n l f d (MarkRefusedAt.unloaded a b) = b (d .loaded)
-
-    pub mark-exactly : CallExactly m (Marks m k) (MarkRefusedAt m k) (markAnswer m k) (afterCall m (mark k))
-    mark-exactly = exactly mark-ends marks-one mark-faults-one mark-apart
 
   module _ (samples : List ℤ) where
     abbrev TurnEndsAt : NumberScene → Type 0
@@ -606,6 +599,12 @@ module _ (m : NumberScene) (seventeen : length (m .numbers) ≡ 17) where
         go (p, q) (TurnRefusedAt.short a) = omega arith
         go (p, q) (TurnRefusedAt.few a b) = omega arith
 
-    pub turn-exactly :
-        CallExactly m (Turns m samples) (TurnRefusedAt m samples) (turnAnswer m samples) (afterCall m (turn samples))
-    turn-exactly = exactly turn-ends turns-one turn-faults-one turn-apart
+  pub board-calls : BoardCalls m
+  board-calls =
+      record {
+        load-exactly = λ k start size.
+            exactly (load-ends k start size) (loads-one k start size) (load-faults-one k start size) (load-apart k start size);
+        mark-exactly = λ k. exactly (mark-ends k) (marks-one k) (mark-faults-one k) (mark-apart k);
+        turn-exactly = λ samples.
+            exactly (turn-ends samples) (turns-one samples) (turn-faults-one samples) (turn-apart samples);
+      }

@@ -1,26 +1,24 @@
 -- Two courses of a place that differ only in the elements of one input of its program. Assumes nothing.
-use Prim.Native.Nat.{ℕ, suc, _+_, _≤_, _<_}
+use Prim.Native.Nat.{ℕ, _+_, _≤_, _<_}
 use mathlib.Core.List.{List, [], _∷_}
 use mathlib.Core.Path.{_≡_, sym, ap, subst, _∙_}
 use native.Mathlib.Omega.{arith}
-use lib.IntN.{pos}
-use lib.ListN.{length, getD}
+use lib.ListN.{length}
 use Rattle.model.specs.Says.Calls.{Call, reset, cycle}
 use Rattle.model.specs.Says.Feasible.{All, Feasible, Multiple}
-use Rattle.model.specs.Rules.Image.{imageOf}
 use Rattle.model.specs.Rules.Machine.{stretch, resetOf}
 use Rattle.model.specs.Rules.Outcome.{accepted}
 use Rattle.model.specs.Rules.Program.{Program, count}
 use Rattle.model.specs.Rules.Schedule.{Schedule}
 use Rattle.model.specs.Rules.Tail.{Bears}
-use Rattle.theorems_streams.specs.Dependence.{DependsOn, AlikeCalls}
+use Rattle.theorems_streams.specs.Dependence.{AlikeCalls}
 use Rattle.theorems_streams.specs.Held.{stateBy, answersBy}
 use Rattle.board.specs.Events.{Event, Scene, afterEvent, Throughout, Untouched}
 use Rattle.board.specs.Board.{Board}
+use Rattle.promises.specs.Readers.{CourseReaders, BoardReaders}
 use Rattle.promises.specs.Scenes.{
   SceneBut,
   OtherSamples,
-  SamplesExcept,
   EventsBut,
   BoardAnswer,
   runsAmong,
@@ -32,7 +30,6 @@ use Rattle.promises.specs.Scenes.{
   courseCycles,
   courseAnswers,
   courseWords,
-  CoursesExcept,
 }
 use Rattle.model.proofs.Images.Bounds.{Bounded}
 use Rattle.theorems_streams.proofs.Dependence.{runs-apart, lent-agree}
@@ -118,42 +115,35 @@ module _ (s s′ : Scene) (k start size : ℕ) (es es′ : List Event) (but : Sc
 
 -- A program, schedule and hypercycle whose image the stretches hold.
 module _ (p : Program) (q : Schedule) (h : ℕ) (acc : Feasible p q) (whole : Multiple p h) (bounded : Bounded p q h) where
-  pub courses-apart : (c c′ : Course) → Undisturbed c → Undisturbed c′ → {tail tail′ : List ℕ} →
-      Bears (imageOf p q h) tail (courseImage c) → Bears (imageOf p q h) tail′ (courseImage c′) →
-      length (courseAnswers c) ≡ length (courseAnswers c′) → (i : ℕ) → CoursesExcept p q i c c′
-  courses-apart c c′ u u′ bears bears′ many i =
-      let a = course-alone c u in
-      let a′ = course-alone c′ u′ in
-      rw (a .answers, a′ .answers, a .words, a′ .words)
-      (runs-apart p q h acc whole bounded bears bears′ (wordsBefore c) (wordsBefore c′) (a .resets) (a′ .resets) i
-      (courseCycles c) (courseCycles c′) (courses-alike p (bounded .signals) c c′ a a′ many))
+  pub course-readers : CourseReaders p q h
+  course-readers =
+      record {
+        place-only-readers = λ c c′ u u′ tail tail′ bears bears′ many i.
+            let a = course-alone c u in
+            let a′ = course-alone c′ u′ in
+            rw (a .answers, a′ .answers, a .words, a′ .words)
+            (runs-apart p q h acc whole bounded bears bears′ (wordsBefore c) (wordsBefore c′) (a .resets) (a′ .resets) i
+            (courseCycles c) (courseCycles c′) (courses-alike p (bounded .signals) c c′ a a′ many));
+      }
 
-  module _ (s s′ : Scene) (k start size : ℕ) (es es′ : List Event) (but : SceneBut k s s′) where
-    pub board-apart : EventsBut k (OtherSamples k) es es′ →
-        let c : Course = record { scene = s; place = k; start = start; size = size; events = es } in
-        let c′ : Course = record { scene = s′; place = k; start = start; size = size; events = es′ } in
-        Undisturbed c → Throughout (Untouched k) (afterLoad c′) es′ → (tail : List ℕ) →
-        Bears (imageOf p q h) tail (courseImage c) → (i : ℕ) → CoursesExcept p q i c c′
-    board-apart alike u free tail bears =
-        courses-apart (course s s′ k start size es es′ but alike) (course′ s s′ k start size es es′ but alike) u
-        (also-undisturbed s s′ k start size es es′ but alike u free) bears
-        (also-bears s s′ k start size es es′ but alike bears) (as-often s s′ k start size es es′ but alike)
-
-    -- Where the turns' samples differ only in word i of the place, so do the elements that its runs were lent.
-    pub board-words : (i : ℕ) → i < 64 → EventsBut k (SamplesExcept k i) es es′ →
-        let c : Course = record { scene = s; place = k; start = start; size = size; events = es } in
-        let c′ : Course = record { scene = s′; place = k; start = start; size = size; events = es′ } in
-        Undisturbed c → Throughout (Untouched k) (afterLoad c′) es′ → (tail : List ℕ) →
-        Bears (imageOf p q h) tail (courseImage c) → (y : ℕ) → y < count p → ¬ (y ≡ i) → ¬ DependsOn p y i →
-        getD (courseWords c) (suc y) (pos 0) ≡ getD (courseWords c′) (suc y) (pos 0)
-    board-words i below except u free tail bears =
-        let alike = except-but below except in
-        let c = course s s′ k start size es es′ but alike in
-        let c′ = course′ s s′ k start size es es′ but alike in
-        let a = course-alone c u in
-        let a′ = course-alone c′ (also-undisturbed s s′ k start size es es′ but alike u free) in
-        board-apart alike u free tail bears i .words
-        (lent-agree p q h acc whole bounded bears (also-bears s s′ k start size es es′ but alike bears) (wordsBefore c)
-        (wordsBefore c′) (a .resets) (a′ .resets) i (courseCycles c) (courseCycles c′)
-        (courses-alike p (bounded .signals) c c′ a a′ (as-often s s′ k start size es es′ but alike))
-        (own-lent k i (a .below) below (afterLoad c) (afterLoad c′) (after-load k s s′ but k start size) except))
+  pub board-readers : BoardReaders p q h
+  board-readers =
+      record {
+        board-only-readers = λ s s′ k start size es es′ but alike u free tail bears.
+            course-readers .place-only-readers (course s s′ k start size es es′ but alike)
+            (course′ s s′ k start size es es′ but alike) u (also-undisturbed s s′ k start size es es′ but alike u free) tail tail
+            bears (also-bears s s′ k start size es es′ but alike bears) (as-often s s′ k start size es es′ but alike);
+        board-words = λ s s′ k start size es es′ but i below except u free tail bears.
+            let alike = except-but below except in
+            let c = course s s′ k start size es es′ but alike in
+            let c′ = course′ s s′ k start size es es′ but alike in
+            let u′ = also-undisturbed s s′ k start size es es′ but alike u free in
+            let bears′ = also-bears s s′ k start size es es′ but alike bears in
+            let many = as-often s s′ k start size es es′ but alike in
+            let a = course-alone c u in
+            let a′ = course-alone c′ u′ in
+            course-readers .place-only-readers c c′ u u′ tail tail bears bears′ many i .words
+            (lent-agree p q h acc whole bounded bears bears′ (wordsBefore c) (wordsBefore c′) (a .resets) (a′ .resets) i
+            (courseCycles c) (courseCycles c′) (courses-alike p (bounded .signals) c c′ a a′ many)
+            (own-lent k i (a .below) below (afterLoad c) (afterLoad c′) (after-load k s s′ but k start size) except));
+      }

@@ -1,9 +1,18 @@
--- The promises of the calls.
-pub mod Promises
+-- The proofs of the promises, in the order in which they stand on one another. Each record of `specs` is inhabited in the file of
+-- its name.
+pub mod Total
+pub mod Exact
+pub mod ForEver
+pub mod Commands
+pub mod Reports
+pub mod Latency
+pub mod Arithmetic
+pub mod Trials
+pub mod Tails
+pub mod Conversion
+pub mod Tables
 pub mod MovesListed
-pub mod MovesPromises
-pub mod DependentsPromises
-pub mod JoinPromises
+pub mod Moves
 pub mod Confined
 pub mod Runs
 pub mod Samples
@@ -11,5 +20,11 @@ pub mod Courses
 pub mod BoardLent
 pub mod BoardExact
 pub mod BoardCourses
-pub mod BoardPromises
-pub mod FormPromises
+pub mod Places
+pub mod Boards
+pub mod Joins
+pub mod Dependents
+pub mod Readers
+pub mod TextForm
+pub mod Codes
+pub mod Promises

@@ -17,7 +17,7 @@ use Rattle.model.specs.Rules.Outcome.{Outcome, accepted, refused, _▷_, Parsed
 use Rattle.model.specs.Rules.Program.{Program, Read, count, signalAt, bodyReads}
 use Rattle.model.specs.Rules.Rates.{hypercycle}
 use Rattle.model.specs.Rules.Reads.{met, settled}
-use Rattle.model.specs.Rules.Report.{reportOf, needsOf}
+use Rattle.model.specs.Rules.Report.{needsOf}
 use Rattle.model.specs.Rules.Schedule.{Schedule, Put, phaseOf, placed, scheduleOf, putPhase}
 use Rattle.model.specs.Rules.Word.{byteAt}
 use Rattle.model.specs.Says.Feasible.{All}
@@ -41,11 +41,10 @@ use Rattle.model.specs.Rules.Moves.{
   entriesOf,
   allEntries,
   written,
-  movesOf,
 }
 use Rattle.model.specs.Rules.Search.{joinBelow}
 use Rattle.model.proofs.Pairs.Moves.{Moved, moved-pair, alike-decides}
-use Rattle.promises.specs.Moves.{SettlesIn, SettlesAsBefore, MayGo, moveTo, Before, entryAt, WrittenTo, MovesExactly}
+use Rattle.promises.specs.Moves.{SettlesIn, SettlesAsBefore, MayGo, moveTo, Before, entryAt, WrittenTo, ListsMoves}
 
 -- Membership in joined lists.
 none-in : {A : Type 0} (e : A) (xs : List A) → e among xs → 0 < length xs
@@ -388,43 +387,39 @@ module _ (program schedule : List ℕ) (q : Pair) (e : pairOf program schedule �
       sorted-at (joinBelow (count p) (each (λ x. signalAt p x .period) (mayTake program schedule q)))
       (sorted-all (λ x. signalAt p x .period) (mayTake program schedule q) (count p))
 
-pub moves-exactly : (program schedule list : List ℕ) → MovesExactly program schedule list
-unfolding movesOf reportOf _▷_
-moves-exactly program schedule list =
-    record {
-      refuses = λ counts. refuses counts (pairOf program schedule);
-      keeps = keeps (pairOf program schedule);
-      lists = λ q l. let e = Exact.accepted-exactly program schedule q .1 l in
-          rw e (
-            length (allEntries program schedule q),
-            refl,
-            record {
-              entries = allEntries program schedule q;
-              exactly = entries-exactly program schedule q e;
-              present = λ x lt. entries-exactly program schedule q e x _ .1 (lt, stays program schedule q e x);
-              rising = entries-rising program schedule q e;
-              full = refl;
-              left-is = written-to (allEntries program schedule q) list;
-            },
-          );
-    }
-  where
-    told : Outcome Pair → Effect ℕ ℕ
-    told o =
-        effect list (o ▷ λ q. accepted (record {
-          yields = length (allEntries program schedule q);
-          leaves = written (allEntries program schedule q) list;
-        }))
+  -- The list of an accepted pair.
+  pub lists : (list : List ℕ) →
+      ListsMoves program q list (length (allEntries program schedule q)) (written (allEntries program schedule q) list)
+  lists list =
+      record {
+        entries = allEntries program schedule q;
+        exactly = entries-exactly;
+        present = λ x lt. entries-exactly x _ .1 (lt, stays x);
+        rising = entries-rising;
+        full = refl;
+        left-is = written-to (allEntries program schedule q) list;
+      }
 
-    refuses : (counts : List ℕ) (o : Outcome Pair) (f : Fault) →
-        (told o .answer ≡ refused f) ↔ (effect counts (o ▷ λ q. accepted (needsOf q)) .answer ≡ refused f)
-    refuses counts (accepted q) f =
-        ((λ e. let z : _≡_ {A = ℕ} 0 1 = cc in absurd (omega arith)), (λ e. let z : _≡_ {A = ℕ} 0 1 = cc in absurd (omega arith)))
-    refuses counts (refused g) f = (
-      (λ e. let same : g ≡ f = cc in ap refused same),
-      (λ e. let same : g ≡ f = cc in ap refused same),
-    )
+-- What `moves` answers and leaves, by the pair's answer.
+module _ (program schedule list : List ℕ) where
+  abbrev pub movesBy : Outcome Pair → Effect ℕ ℕ
+  movesBy o =
+      effect list (o ▷ λ q. accepted (record {
+        yields = length (allEntries program schedule q);
+        leaves = written (allEntries program schedule q) list;
+      }))
 
-    keeps : (o : Outcome Pair) (f : Fault) → told o .answer ≡ refused f → told o .left ≡ list
-    keeps (accepted q) f e = let z : _≡_ {A = ℕ} 0 1 = cc in absurd (omega arith)
-    keeps (refused g) f e = refl
+  pub refuses : (counts : List ℕ) (o : Outcome Pair) (f : Fault) →
+      (movesBy o .answer ≡ refused f) ↔ (effect counts (o ▷ λ q. accepted (needsOf q)) .answer ≡ refused f)
+  unfolding _▷_
+  refuses counts (accepted q) f =
+      ((λ e. let z : _≡_ {A = ℕ} 0 1 = cc in absurd (omega arith)), (λ e. let z : _≡_ {A = ℕ} 0 1 = cc in absurd (omega arith)))
+  refuses counts (refused g) f = (
+    (λ e. let same : g ≡ f = cc in ap refused same),
+    (λ e. let same : g ≡ f = cc in ap refused same),
+  )
+
+  pub keeps : (o : Outcome Pair) (f : Fault) → movesBy o .answer ≡ refused f → movesBy o .left ≡ list
+  unfolding _▷_
+  keeps (accepted q) f e = let z : _≡_ {A = ℕ} 0 1 = cc in absurd (omega arith)
+  keeps (refused g) f e = refl

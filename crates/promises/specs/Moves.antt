@@ -1,21 +1,25 @@
--- What a list of moves is (request l), in the paper's words.
+-- Request l: where one job may go. What a list of moves is, in the paper's words, and what `moves` promises.
 use Prim.Native.Nat.{ℕ, _+_, _*_, _≤_, _<_}
 use mathlib.Core.List.{List}
 use mathlib.Core.Logic.{_↔_, _⊎_}
 use mathlib.Core.Path.{_≡_}
+use lib.IntN.{ℤ}
 use lib.ListN.{length, getD}
-use Rattle.model.specs.Rules.Compile.{Pair}
-use Rattle.model.specs.Rules.Moves.{Entry, movesOf}
+use Rattle.model.specs.Rules.Compile.{Pair, pairOf}
+use Rattle.model.specs.Rules.Image.{imageOf}
+use Rattle.model.specs.Rules.Moves.{Entry, allEntries, movesOf}
 use Rattle.model.specs.Rules.Outcome.{accepted, refused}
-use Rattle.model.specs.Rules.Program.{Program, Read, count}
-use Rattle.model.specs.Rules.Reads.{rateOf}
+use Rattle.model.specs.Rules.Program.{Read, Program, count}
+use Rattle.model.specs.Rules.Reads.{rateOf, settled}
 use Rattle.model.specs.Rules.Report.{reportOf}
 use Rattle.model.specs.Rules.Schedule.{Schedule, phaseOf}
-use Rattle.model.specs.Rules.Word.{byteAt}
+use Rattle.model.specs.Rules.Word.{byteAt, AreBytes}
 use Rattle.model.specs.Says.Feasible.{SettlesAt}
 use Rattle.model.specs.declared.Fault.{Fault}
 use Rattle.model.specs.declared.Index.the-variants.{Open}
 use Rattle.theorems_pairs.specs.Conditions.{_among_, ReadIn, LegalPair}
+use Rattle.theorems_streams.specs.Lists.{SameWords}
+use Rattle.theorems_streams.specs.Streams.{Satisfies}
 
 -- s′ is s with only the phase of signal x set to f, and has the same PUT order.
 pub record OnlyPhase (p : Program) (s : Schedule) (x f : ℕ) (s′ : Schedule) : Type 0 where
@@ -78,3 +82,24 @@ pub record MovesExactly (program schedule list : List ℕ) : Type 0 where
   pub lists : (q : Pair) → LegalPair program schedule q →
       (n : ℕ) × (movesOf program schedule list .answer ≡ accepted n) ×
       ListsMoves program q list n (movesOf program schedule list .left)
+
+pub record RequestL : Type 0 where
+  -- List every signal and phase, the present phase included, such that the pair with only that signal's phase set to it and the
+  -- same PUT order is accepted and settles each open read as before. As many whole entries as the lent list has space for are
+  -- written, the rest of it stays, and the full count is returned. A pair that isn't accepted is refused as by the report.
+  pub moves-exactly : (program schedule list : List ℕ) → MovesExactly program schedule list
+  -- From the same input elements every listed pair yields the streams of the first ..
+  pub moves-streams : (program schedule : List ℕ) (q : Pair) → pairOf program schedule ≡ accepted q → (x f : ℕ) →
+      x < count (q .program) → (m : MayGo program q x f) → (inputs X : ℕ → ℕ → ℤ) →
+      let p = q .program in
+      Satisfies p (settled p (q .schedule)) inputs X ↔ Satisfies p (settled p (m .pair .schedule)) inputs X
+  -- .. and its words, where two lists of calls both end holding one element of a signal.
+  pub moves-words : (program schedule : List ℕ) (q : Pair) → pairOf program schedule ≡ accepted q → (x f : ℕ) →
+      x < count (q .program) → (m : MayGo program q x f) → AreBytes program →
+      let p = q .program in
+      let s = q .schedule in
+      let s′ = m .pair .schedule in
+      SameWords p s s′ (imageOf p s (q .hypercycle)) (imageOf p s′ (q .hypercycle))
+  -- There are at most 64 × 240 moves.
+  pub moves-few : (program schedule : List ℕ) (q : Pair) → pairOf program schedule ≡ accepted q →
+      length (allEntries program schedule q) ≤ 15360

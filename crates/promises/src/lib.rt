@@ -1,2 +1,1 @@
-// No code: what the calls of crate `larderlate` promise together (proofs/Promises.antt), a join (proofs/JoinPromises.antt), and those
-// of a board (proofs/BoardPromises.antt).
+// No code: what the calls of crate `larderlate` and of a board promise together, as records in specs/, which proofs/ inhabits.

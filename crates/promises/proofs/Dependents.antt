@@ -1,4 +1,4 @@
--- What `dependents` promises (request m). Assumes nothing.
+-- What `dependents` marks, and when it is refused. Assumes nothing.
 use Prim.Native.Nat.{ℕ, _<_}
 use mathlib.Core.Bool.{Bool, true, false, cond, false≢true}
 use mathlib.Core.List.{List}
@@ -6,32 +6,28 @@ use mathlib.Core.Logic.{_↔_}
 use mathlib.Core.Path.{_≡_, refl, sym, ap, ap₂, _∙_}
 use native.Mathlib.Decide.{decLt}
 use native.Mathlib.Omega.{arith}
-use borrow.Author.Tests.{ltb-true, lt-ltb}
+use borrow.Author.Tests.{lt-ltb, ltb-true}
 use lib.Dec.{ltb}
 use lib.ListN.{length, getD, List·getD-eq-default}
 use lib.Seq.{ext-getD}
 use Rattle.model.specs.Rules.Compile.{Pair, pairOf}
-use Rattle.model.specs.Rules.Dependents.{dependents, markByte, markBytes, dependentsJob, dependentsOf}
+use Rattle.model.specs.Rules.Dependents.{dependents, markByte, markBytes, dependentsJob}
 use Rattle.model.specs.Rules.Machine.{Job}
-use Rattle.model.specs.Rules.Outcome.{Outcome, accepted, refused, fault, provided}
-use Rattle.model.specs.Rules.Program.{Program, Body, input, equation, count, signalAt}
+use Rattle.model.specs.Rules.Outcome.{accepted, refused, fault, provided}
+use Rattle.model.specs.Rules.Program.{Body, input, equation, Program, count, signalAt}
 use Rattle.model.specs.Rules.Script.{isInputBody, isInputOf}
 use Rattle.model.specs.declared.Fault.{Fault}
+use Rattle.promises.specs.Dependents.{InputOf, Reached, MarksDependents, DependentsRefusedAt}
+use Rattle.theorems_pairs.specs.Conditions.{LegalPair}
+use Rattle.theorems_streams.specs.Dependence.{DependsOn}
+use Rattle.theorems_streams.specs.Held.{IsInput}
 use Rattle.model.proofs.Basics.Outcomes.{accepted-then, refused-then, table-length, table-at}
 use Rattle.model.proofs.Pairs.Verdict.{pair-passed, pair-accepted}
 use Rattle.model.proofs.Texts.Legal.{legal}
-use Rattle.theorems_pairs.specs.Conditions.{LegalPair}
+use Rattle.theorems_calls.proofs.CallsExact.{Does}
 use Rattle.theorems_pairs.proofs.Exact.{accepted-exactly, pair-judged}
-use Rattle.theorems_pairs.proofs.Judged.{Judged, Only, provided-judged, Answers, answers-then}
-use Rattle.theorems_streams.specs.Dependence.{DependsOn}
-use Rattle.theorems_streams.specs.Held.{IsInput}
+use Rattle.theorems_pairs.proofs.Judged.{Answers, answers-then, Only, provided-judged, Judged}
 use Rattle.theorems_streams.proofs.Dependents.{marks-length, dependents-exactly}
-use Rattle.theorems_calls.specs.Exactness.{Exactly}
-use Rattle.theorems_calls.proofs.CallsExact.{both-ways, Does, exactly}
-use Rattle.theorems_calls.proofs.Numbers as Numbers
-use Rattle.theorems_calls.proofs.Places.{refusal-small}
-use Rattle.promises.specs.Codable.{Codable}
-use Rattle.promises.specs.Dependents.{InputOf, Reached, MarksDependents, DependentsRefusedAt}
 
 -- The test of an input.
 body-input : (b : Body) → (isInputBody b ≡ true) ↔ IsInput b
@@ -116,7 +112,7 @@ module _ (program schedule : List ℕ) (i : ℕ) where
       provided-judged _ 48 0 (InputOf p i) (¬ InputOf p i) (input-exactly p i)
       (λ e h. false≢true (sym e ∙ input-exactly p i .1 h)) (λ h. h)
 
-  answers : Answers (Does (MarksDependents program schedule i)) (DependentsRefusedAt program schedule i)
+  pub answers : Answers (Does (MarksDependents program schedule i)) (DependentsRefusedAt program schedule i)
       (dependentsJob program schedule i)
   answers =
       answers-then _ _ _ _ (pair-judged program schedule) (λ g f. DependentsRefusedAt.pair f) (λ q legal.
@@ -127,7 +123,7 @@ module _ (program schedule : List ℕ) (i : ℕ) where
           DependentsRefusedAt program schedule i f
       unsampled legal (Only.only h) = DependentsRefusedAt.noInput legal h
 
-  marks-done : (j : Job ℕ ℕ) → MarksDependents program schedule i (j .yields) (j .leaves) →
+  pub marks-done : (j : Job ℕ ℕ) → MarksDependents program schedule i (j .yields) (j .leaves) →
       dependentsJob program schedule i ≡ accepted j
   marks-done j d =
       let e = accepted-exactly program schedule (d .pair) .1 (d .legal) in
@@ -135,30 +131,8 @@ module _ (program schedule : List ℕ) (i : ℕ) where
       ap₂ (λ (n : ℕ) (l : List ℕ). accepted (record { yields = n; leaves = l })) (sym (d .is))
       (marks-only (d .pair) e (j .leaves) (d .long) (d .marked) (d .unmarked))
 
-  marks-refused : {f : Fault} → DependentsRefusedAt program schedule i f → dependentsJob program schedule i ≡ refused f
+  pub marks-refused : {f : Fault} → DependentsRefusedAt program schedule i f → dependentsJob program schedule i ≡ refused f
   marks-refused (DependentsRefusedAt.pair r) = refused-then _ _ _ (pair-judged program schedule .refuses _ .1 r)
   marks-refused (DependentsRefusedAt.noInput {q = q} legal h) =
       accepted-then _ _ _ (accepted-exactly program schedule q .1 legal) ∙
       refused-then _ _ _ (input-judged (q .program) .refuses (fault 48 0) .1 (Only.only h))
-
-  module _ (marks : List ℕ) where
-    -- It is done exactly if the pair is legal and i an input, and then has marked by 1 each signal that i reaches and by 0 every
-    -- other of 64. It is refused exactly as the pair is, or by 48 where i is no input, and then leaves the marks as they were.
-    pub dependents-call : Exactly marks (MarksDependents program schedule i) (DependentsRefusedAt program schedule i)
-        (dependentsOf program schedule i marks)
-    unfolding dependentsOf
-    dependents-call =
-        exactly marks (MarksDependents program schedule i) (DependentsRefusedAt program schedule i) _
-        (both-ways _ answers marks-done (λ g r. marks-refused r))
-
-    -- One number tells the answer to a C caller.
-    pub dependents-codable : Codable (dependentsOf program schedule i marks .answer)
-    dependents-codable = go (dependentsOf program schedule i marks .answer) refl
-      where
-        told : {f : Fault} → DependentsRefusedAt program schedule i f → Codable (refused f)
-        told (DependentsRefusedAt.pair r) = (Numbers.pair-number r, omega (arith, refusal-small r))
-        told (DependentsRefusedAt.noInput legal h) = (omega arith, omega arith)
-
-        go : (o : Outcome ℕ) → dependentsOf program schedule i marks .answer ≡ o → Codable o
-        go (accepted n) e = omega (arith, dependents-call .done n _ .0 (e, refl) .is)
-        go (refused f) e = told (dependents-call .refuses f _ .0 (e, refl) .0)
