@@ -193,7 +193,7 @@ pub fn read_expressions(
 
 // What reading the LINKs of a chain finds: how many there are and where they end, or the refusal.
 pub enum LinksRead {
-    Links(usize, usize),
+    Links(u8, usize),
     Refused(Fault),
 }
 
@@ -211,7 +211,7 @@ pub fn read_links(text: &[u8], at: usize) -> LinksRead
     ensures { λ r. ⌜ r ≡ linksOf (parseLinks 16 (now (text .entry)) at []) ⌝ }
 {
     let mut next = at;
-    let mut count: usize = 0;
+    let mut count: u8 = 0;
     while next < text.len() {
         if text[next] != 0x13 {
             return LinksRead::Links(count, next);
@@ -233,7 +233,7 @@ pub fn read_links(text: &[u8], at: usize) -> LinksRead
 // after it, a row.
 pub enum Entry {
     Signal(u8, u16),
-    Chain(usize),
+    Chain(u8),
     Cap(u32),
     Label(u16),
     Row,
@@ -475,8 +475,8 @@ pub struct Tables {
     pub firsts: [u16; 65],
     pub codes: [u16; 65],
     pub chains: usize,
-    pub starts: [usize; 16],
-    pub lengths: [usize; 16],
+    pub starts: [u16; 16],
+    pub lengths: [u8; 16],
     pub capped: bool,
     pub limit: u32,
     pub rows: usize,
@@ -576,7 +576,7 @@ pub fn read_program(least: u8, text: &[u8], reads: &mut [u16]) -> ProgramRead
                 label = 0;
             }
             Entry::Chain(links) => {
-                tables.starts[chains] = place;
+                tables.starts[chains] = place as u16;
                 tables.lengths[chains] = links;
                 tables.chains = chains + 1;
                 label = 0;
