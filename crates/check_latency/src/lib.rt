@@ -127,8 +127,8 @@ fn follow(
 {
     let starts = tables.starts;
     let lengths = tables.lengths;
-    let mut at = starts[chain] + width::in_program(0x12);
-    let mut left = lengths[chain];
+    let mut at = basics::wider(starts[chain]) + width::in_program(0x12);
+    let mut left = basics::wide(lengths[chain]);
     let source = text[at + 1];
     let mut last = source;
     let mut count: usize = 0;
@@ -181,7 +181,7 @@ fn keeps_time(
     ensures { λ r. ⌜ ((p : Program) (s : Schedule) → Timed (now (text .entry)) tables (now (periods .entry)) (now (phases .entry)) h p s → r ≡ keeps p s h (chainAt p chain)) ⌝ }
 {
     let starts = tables.starts;
-    let declaration = text_command::declaration_at(text, starts[chain]);
+    let declaration = text_command::declaration_at(text, basics::wider(starts[chain]));
     let Declaration::Latency(mode, bound) = declaration else {
         return false;
     };
@@ -222,7 +222,7 @@ fn judge_chains(
         if !keeps_time(text, reads, tables, periods, phases, h, chain) {
             return Judged::Refused(Fault {
                 number: 16,
-                place: starts[chain],
+                place: basics::wider(starts[chain]),
             });
         }
         chain = chain + 1;
@@ -272,7 +272,7 @@ pub fn leeway_of(
     ensures { λ r. ⌜ ((p : Program) (s : Schedule) → Timed (now (text .entry)) tables (now (periods .entry)) (now (phases .entry)) h p s → LeewayOf p s h (chainAt p chain) r) ⌝ }
 {
     let starts = tables.starts;
-    let declaration = text_command::declaration_at(text, starts[chain]);
+    let declaration = text_command::declaration_at(text, basics::wider(starts[chain]));
     let Declaration::Latency(mode, bound) = declaration else {
         return Leeway {
             source: 0,

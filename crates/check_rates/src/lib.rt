@@ -136,8 +136,8 @@ fn judge_chain(text: &[u8], tables: Tables, chain: usize) -> Judged
 {
     let starts = tables.starts;
     let lengths = tables.lengths;
-    let first = starts[chain] + width::in_program(0x12);
-    let links = lengths[chain];
+    let first = basics::wider(starts[chain]) + width::in_program(0x12);
+    let links = basics::wide(lengths[chain]);
     let mut i: usize = 0;
     while i < links {
         let at = first + width::in_program(0x13) * i;
@@ -292,8 +292,8 @@ fn is_linked(text: &[u8], reads: &[u16], tables: Tables, chain: usize) -> bool
     let firsts = tables.firsts;
     let starts = tables.starts;
     let lengths = tables.lengths;
-    let mut at = starts[chain] + width::in_program(0x12);
-    let mut left = lengths[chain];
+    let mut at = basics::wider(starts[chain]) + width::in_program(0x12);
+    let mut left = basics::wide(lengths[chain]);
     while 1 < left {
         let second = at + width::in_program(0x13);
         let before = text[at + 1];
@@ -320,7 +320,7 @@ pub fn linked(text: &[u8], reads: &[u16], tables: Tables) -> Judged
     let mut chain: usize = 0;
     while chain < tables.chains {
         if !is_linked(text, reads, tables, chain) {
-            return basics::refuse(10, starts[chain]);
+            return basics::refuse(10, basics::wider(starts[chain]));
         }
         chain = chain + 1;
     }

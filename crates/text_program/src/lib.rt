@@ -95,35 +95,25 @@ fn too_deep(text: &[u8], at: usize) -> Walked
 }
 
 // Reads an operator that has no operands: a leaf, or what is refused. Keeps the offset of a read in the table.
-fn read_leaf(
-    operator: Operator,
-    size: usize,
-    at: usize,
-    count: usize,
-    to: usize,
-    looks: usize,
-    reads: &mut [u16],
-) -> Walked
-    requires { ⌜ LeafRoom operator size at count to looks (length (now reads)) ⌝ }
-    ensures { λ r. ⌜ Walks (leafOf size at operator) (now (reads .entry)) count to looks (now (reads .exit)) r ⌝ }
+fn read_leaf(operator: Operator, size: usize, walk: Walk, reads: &mut [u16]) -> Walked
+    requires { ⌜ LeafRoom operator size (walk .at) (walk .reads) (walk .code) (walk .lookups) (length (now reads)) ⌝ }
+    ensures { λ r. ⌜ Walks (leafOf size (walk .at) operator) (now (reads .entry)) (walk .reads) (walk .code) (walk .lookups) (now (reads .exit)) r ⌝ }
 {
+    let at = walk.at;
+    let count = walk.reads;
+    let to = walk.code;
+    let looks = walk.lookups;
     match operator {
         Operator::EndsEarly => refuse_walk(2, size),
         Operator::OutOfRange => refuse_walk(5, at),
-        Operator::Constant(_) => moved_on(
-            at + width::in_expression(0x20),
-            count,
-            to + width::in_code(0x50),
-            looks,
-        ),
+        Operator::Constant(_) => {
+            let next = at + width::in_expression(0x20);
+            moved_on(next, count, to + width::in_code(0x50), looks)
+        }
         Operator::Read(kind, _) => {
             reads[count] = at as u16;
-            moved_on(
-                at + width::of_read(kind),
-                count + 1,
-                to + width::in_code(0x51),
-                looks,
-            )
+            let next = at + width::of_read(kind);
+            moved_on(next, count + 1, to + width::in_code(0x51), looks)
         }
         _ => refuse_walk(3, at),
     }
@@ -159,18 +149,14 @@ pub fn read_expressions(
         }
         let operator = text_command::operator_from(least, *text, walk.at);
         let operands = text_command::operands_of(operator);
-        let step = if operands == 0 {
-            read_leaf(
-                operator,
-                text.len(),
-                walk.at,
-                walk.reads,
-                walk.code,
-                walk.lookups,
-                reads,
-            )
+        if operands == 0 {
+            let leaf = read_leaf(operator, text.len(), walk, reads);
+            let Walked::Next(next) = leaf else {
+                return leaf;
+            };
+            walk = next;
         } else {
-            read_expressions(
+            let below = read_expressions(
                 least,
                 text,
                 operands,
@@ -180,12 +166,12 @@ pub fn read_expressions(
                 walk.lookups + text_command::lookups_of(operator),
                 depth - 1,
                 reads,
-            )
-        };
-        let Walked::Next(next) = step else {
-            return step;
-        };
-        walk = next;
+            );
+            let Walked::Next(next) = below else {
+                return below;
+            };
+            walk = next;
+        }
         left = left - 1;
     }
     Walked::Next(walk)
@@ -193,7 +179,7 @@ pub fn read_expressions(
 
 // What reading the LINKs of a chain finds: how many there are and where they end, or the refusal.
 pub enum LinksRead {
-    Links(usize, usize),
+    Links(u8, usize),
     Refused(Fault),
 }
 
@@ -211,7 +197,7 @@ pub fn read_links(text: &[u8], at: usize) -> LinksRead
     ensures { λ r. ⌜ r ≡ linksOf (parseLinks 16 (now (text .entry)) at []) ⌝ }
 {
     let mut next = at;
-    let mut count: usize = 0;
+    let mut count: u8 = 0;
     while next < text.len() {
         if text[next] != 0x13 {
             return LinksRead::Links(count, next);
@@ -233,7 +219,7 @@ pub fn read_links(text: &[u8], at: usize) -> LinksRead
 // after it, a row.
 pub enum Entry {
     Signal(u8, u16),
-    Chain(usize),
+    Chain(u8),
     Cap(u32),
     Label(u16),
     Row,
@@ -475,8 +461,8 @@ pub struct Tables {
     pub firsts: [u16; 65],
     pub codes: [u16; 65],
     pub chains: usize,
-    pub starts: [usize; 16],
-    pub lengths: [usize; 16],
+    pub starts: [u16; 16],
+    pub lengths: [u8; 16],
     pub capped: bool,
     pub limit: u32,
     pub rows: usize,
@@ -576,7 +562,7 @@ pub fn read_program(least: u8, text: &[u8], reads: &mut [u16]) -> ProgramRead
                 label = 0;
             }
             Entry::Chain(links) => {
-                tables.starts[chains] = place;
+                tables.starts[chains] = place as u16;
                 tables.lengths[chains] = links;
                 tables.chains = chains + 1;
                 label = 0;

@@ -24,13 +24,12 @@ abbrev μ-loop : tie.MeasureT-loop
 μ-loop text reads tables periods phases chain at₀ left₀ source last₀ count₀ hops₀ at left last count hops = left
 
 -- the first link lies within the text
-begins : (c : tie.After-lengths Inv-loop μ-loop) →
-    Begun (now (c .before .before .before .before .args .text)) (c .before .before .before .before .args .tables)
-    (c .before .before .before .before .pre .0 .0) (c .before .before .before .before .pre .0 .1)
-    (c .before .before .before .before .args .chain)
-begins c =
-    let s = c .before .before .before .before in
-    begun _ _ _ _ _ _ _ (s .pre .0 .2) (s .pre .1)
+module _ (c : tie.After-in-program Inv-loop μ-loop) where
+  abbrev start : tie.Start Inv-loop μ-loop
+  start = c .before .before .before .before .before .before
+
+  begins : Begun (now (start .args .text)) (start .args .tables) (start .pre .0 .0) (start .pre .0 .1) (start .args .chain)
+  begins = begun _ _ _ _ _ _ _ (start .pre .0 .2) (start .pre .1)
 
 few : (c : tie.After-lengths Inv-loop μ-loop) → c .before .before .before .before .args .chain < 16
 few c =
@@ -40,22 +39,25 @@ few c =
 -- and so do the two at hand
 next : (c : tie.In-loop Inv-loop μ-loop) →
     let c5 = c .before .before .before .before .before in
-    (c .before .loop .at + 4 ≤ length (now (c5 .before .before .before .before .args .text))) × (c .before .loop .count < 15)
+    (c .before .loop .at + 4 ≤ length (now (start c5 .args .text))) × (c .before .loop .count < 15)
 next c =
     let c5 = c .before .before .before .before .before in
-    let c9 = c5 .before .before .before .before in
-    let s = c9 in
+    let s = start c5 in
     let n = next-link _ _ _ _ _ _ _ _ _ _ (c .before .loop .inv (s .pre .0 .0) (s .pre .0 .1) (s .pre .0 .2))
     (c .loop-test .taken) in
     (n .inside, n .room)
 
 shared-slice-read-source : tie.Need-shared-slice-read-source Inv-loop μ-loop
-shared-slice-read-source c = omega (arith, begins (c .before .before) .inside)
+shared-slice-read-source c =
+    let c2 = c .before .before in
+    omega (arith, begins c2 .inside, c2 .before .wider .ensures .0)
 
 loop-holds : tie.Need-loop-holds Inv-loop μ-loop
 loop-holds c =
-    let s = c .before .before .before .before .before .before .before in
-    λ p s₀ j. rw (c .before .before .in-program .ensures) (begun _ _ _ _ p s₀ _ j (s .pre .1) .start _ refl)
+    let c3 = c .before .before .before in
+    λ p s j.
+    rw (c3 .in-program .ensures, c3 .before .wider .ensures .0, c .before .before .wide .ensures .0)
+    (begun _ _ _ _ p s _ j (start c3 .pre .1) .start _ refl)
 
 mul-hops : tie.Need-mul-hops Inv-loop μ-loop
 mul-hops c = omega (arith, next (c .before .before .before) .1)
@@ -83,9 +85,9 @@ returns c = λ p s j. route-of _ _ _ _ _ _ _ _ _ _ (c .before .loop .inv p s j) 
 pub follow-spec : {M : Type 1} → statement M
 follow-spec =
     tie.close
-    (tie.spec Inv-loop μ-loop (λ c. omega (arith, few c)) few (λ c κs. search needs)
-    (λ c. omega (arith, begins (c .before) .inside)) (λ c. omega (arith, few (c .before))) (λ c. few (c .before))
-    (λ c. omega (arith, begins (c .before) .inside)) shared-slice-read-source (λ c κs. search needs) loop-holds
-    (λ c κs. search needs) (λ c. omega (arith, next (c .before) .0)) (λ c. omega (arith, next (c .before) .0))
-    (λ c. omega (arith, next (c .before .before) .0)) (λ c κs. search needs) mul-hops (λ c. next (c .before .before .before) .1)
-    add-count sub-left loop-less loop-again returns)
+    (tie.spec Inv-loop μ-loop (λ c. omega (arith, few c)) few (λ c κs. search needs) (λ c κs. search needs)
+    (λ c. omega (arith, begins c .inside, c .before .wider .ensures .0)) (λ c. few (c .before .before)) (λ c κs. search needs)
+    (λ c. omega (arith, begins (c .before) .inside, c .before .before .wider .ensures .0)) shared-slice-read-source
+    (λ c κs. search needs) loop-holds (λ c κs. search needs) (λ c. omega (arith, next (c .before) .0))
+    (λ c. omega (arith, next (c .before) .0)) (λ c. omega (arith, next (c .before .before) .0)) (λ c κs. search needs) mul-hops
+    (λ c. next (c .before .before .before) .1) add-count sub-left loop-less loop-again returns)

@@ -5,6 +5,7 @@ use mathlib.Core.List.{List, [], _∷_}
 use mathlib.Core.Path.{refl, sym, ap, subst, _∙_}
 use native.Mathlib.Omega.{arith}
 use lib.ListN.{length}
+use borrow.Author.Needs.{needs}
 use borrow.Author.Tests.{not-true, not-false}
 use Rattle.model.specs.Rules.Latency.{keeps, timely}
 use Rattle.model.specs.Rules.Outcome.{fault}
@@ -52,15 +53,16 @@ keeps-time-requires c κs =
 
 returns : tie.Need-returns Inv-loop μ-loop
 returns c =
-    let b = c .before .before in
+    let d = c .before in
+    let b = d .before .before in
     let l = b .before .before .loop in
     λ p s t.
     let k = t .joined .known in
     let lt : l .chain < length (p .chains) = omega (arith, b .if1 .taken, k .tables-are .counts .chains-are) in
-    let r = ap (λ n. Judged.Refused (fault 16 n)) (k .tables-are .starts (l .chain) lt) in
+    let r = ap (λ n. Judged.Refused (fault 16 n)) (c .wider .ensures .0 ∙ k .tables-are .starts (l .chain) lt) in
     check-refuses _ _ _ _ (l .chain) noChain lt (l .inv p s t) _
     (r ∙ lat-judged (fault 16 (chainAt p (l .chain) .place)) _ _
-    (sym (c .before .keeps-time .ensures p s t) ∙ not-true (c .before .keeps-time .result) (c .if2 .taken)))
+    (sym (d .before .keeps-time .ensures p s t) ∙ not-true (d .before .keeps-time .result) (d .if2 .taken)))
     (lat-at 16 (keeps p s _)) _ r
 
 loop-again : tie.Need-loop-again Inv-loop μ-loop
@@ -84,5 +86,5 @@ pub judge-chains-spec : {M : Type 1} → statement M
 judge-chains-spec =
     tie.close
     (tie.spec Inv-loop μ-loop loop-holds keeps-time-requires (λ c. omega (arith, few (c .before .before)))
-    (λ c. few (c .before .before)) returns (λ c. omega (arith, few (c .before .before)))
+    (λ c. few (c .before .before)) (λ c κs. search needs) returns (λ c. omega (arith, few (c .before .before)))
     (λ c. omega (arith, c .before .before .if1 .taken)) loop-again returns-2)

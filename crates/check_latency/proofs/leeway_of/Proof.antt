@@ -24,16 +24,18 @@ few c =
 
 returns : tie.Need-returns
 returns c =
-    let b = c .before .before .before .before .before in
-    λ p s t. absurd (missed _ (c .before .declaration-at .ensures ∙ chain-command _ _ _ _ _ p s _ t (b .pre .1))
-    (c .match .keys2))
+    let w = c .before .before in
+    let b = w .before .before .before .before in
+    λ p s t.
+    absurd (missed _ ((rw (w .wider .ensures .0) at (c .before .declaration-at .ensures)) ∙
+    chain-command _ _ _ _ _ p s _ t (b .pre .1)) (c .match .keys2))
 
 window-of-requires : tie.Need-window-of-requires
 window-of-requires c κs =
     let b = c .before .before .before in
     let i = b .before .before .follow in
     let b5 = b .before .before .before .before .before in
-    let a = b5 .before .before .before .before .before in
+    let a = b5 .before .before .before .before .before .before in
     let t = a .pre .0 .2 in
     let d = decided _ _ _ _ _ _ _ _ _ t (a .pre .1) (i .ensures _ _ (t .joined)) in
     (t .hyper, rw (b .timing-at .ensures) (d .positive))
@@ -42,9 +44,9 @@ first-run-requires : tie.Need-first-run-requires
 first-run-requires c κs =
     let c6 = c .before .before .before .before .before .before in
     let c11 = c6 .before .before .before .before .before in
-    let c14 = c11 .before .before .before in
+    let c15 = c11 .before .before .before .before in
     let i = c6 .follow in
-    let a = c14 in
+    let a = c15 in
     let t = a .pre .0 .2 in
     (decided _ _ _ _ _ _ _ _ _ t (a .pre .1) (i .ensures _ _ (t .joined)) .few, c .window-of .ensures .1)
 
@@ -54,7 +56,7 @@ least-bound-requires c κs =
     let b = c .before .before .before .before .before in
     let i = b .before .before .follow in
     let b5 = b .before .before .before .before .before in
-    let a = b5 .before .before .before .before .before in
+    let a = b5 .before .before .before .before .before .before in
     let t = a .pre .0 .2 in
     let d = decided _ _ _ _ _ _ _ _ _ t (a .pre .1) (i .ensures _ _ (t .joined)) in
     let w : g .result ≡ windowBy (a .args .h) (periodAt (now (a .args .periods)) (i .result .last)) =
@@ -72,15 +74,16 @@ returns-2 c =
     let b = e .before .before in
     let i = b .before .before .follow in
     let m = b .before .before .before in
-    let a = m .before .before .before .before .before .before .before in
+    let a = m .before .before .before .before .before .before .before .before in
     λ p s t.
     let r = i .ensures p s (t .joined) in
     let d = decided _ _ _ _ _ p s _ _ t (a .pre .1) r in
-    let found = m .before .before .before .declaration-at in
+    let found = m .before .before .before in
     let v = m .before .declaration .given in
     let same : _≡_ {A = Declaration} (Declaration.Latency (v .0 .0) (v .0 .1 .0))
     (Declaration.Latency (chainAt p (a .args .chain) .mode) (chainAt p (a .args .chain) .bound)) =
-    sym (v .1) ∙ found .ensures ∙ chain-command _ _ _ _ _ p s _ t (a .pre .1) in
+    sym (v .1) ∙ (rw (found .before .wider .ensures .0) at (found .declaration-at .ensures)) ∙
+    chain-command _ _ _ _ _ p s _ t (a .pre .1) in
     let mode : v .0 .0 ≡ chainAt p (a .args .chain) .mode = cc same in
     let bound : v .0 .1 .0 ≡ chainAt p (a .args .chain) .bound = cc same in
     let g = d1 .before .before .window-of in
@@ -91,8 +94,8 @@ returns-2 c =
     d1 .before .first-run .ensures .0 ∙ ap (i .result .count *_) w in
     record {
       links = (r .0, r .1, r .3 .ends);
-      bound-is = c .wider .ensures .0 ∙ bound;
-      small = c .wider .ensures .1;
+      bound-is = c .wider2 .ensures .0 ∙ bound;
+      small = c .wider2 .ensures .1;
       least-is = λ bound small.
           sym (d .same bound) ∙
           sym (λ j. timelyBy (mode j) bound (i .result .hops) (i .result .count) (rateIn (b .timing-at .ensures j))
@@ -103,6 +106,6 @@ returns-2 c =
 pub leeway-of-spec : {M : Type 1} → statement M
 leeway-of-spec =
     tie.close
-    (tie.spec (λ c. omega (arith, few c)) few (λ c κs. search needs) (λ c. search needs) returns (λ c κs. search needs)
+    (tie.spec (λ c. omega (arith, few c)) few (λ c κs. search needs) (λ c κs. search needs) (λ c. search needs) returns (λ c κs. search needs)
     (λ c. search needs) (λ c κs. search needs) (λ c. search needs) (λ c κs. search needs) window-of-requires first-run-requires
     least-bound-requires (λ c κs. search needs) returns-2)

@@ -30,12 +30,14 @@ Inv-loop text reads tables chain firsts at₀ left₀ at left =
 abbrev μ-loop : tie.MeasureT-loop
 μ-loop text reads tables chain firsts at₀ left₀ at left = left
 
+abbrev begun : tie.After-wide Inv-loop μ-loop → tie.Start Inv-loop μ-loop
+begun c = c .before .before .before .before .before .before .before .before
+
 -- the two links at hand lie within the text
 inside : (c : tie.In-loop Inv-loop μ-loop) →
-    let c4 = c .before .before .before .before in
-    c .before .loop .at + 4 ≤ length (now (c4 .before .before .before .before .args .text))
+    c .before .loop .at + 4 ≤ length (now (begun (c .before .before) .args .text))
 inside c =
-    let r = c .before .before .before .before .before .before .before .before .pre .0 in
+    let r = begun (c .before .before) .pre .0 in
     link-inside _ _ _ _ _ (c .before .loop .inv (r .0) (r .1) (r .2)) (c .loop-test .taken)
 
 few : (c : tie.After-lengths Inv-loop μ-loop) → c .before .before .before .before .before .args .chain < 16
@@ -46,24 +48,23 @@ few c =
 
 add-at : tie.Need-add-at Inv-loop μ-loop
 add-at c =
-    let s = c .before .before .before .before .before .before in
+    let s = c .before .before .before .before .before .before .before in
     let r = s .pre .0 in
-    omega (arith, chain-inside _ _ _ (s .pre .1) (r .0, r .1, r .2))
+    omega (arith, c .before .wider .ensures .0, chain-inside _ _ _ (s .pre .1) (r .0, r .1, r .2))
 
 loop-holds : tie.Need-loop-holds Inv-loop μ-loop
 loop-holds c =
-    let s = c .before .before .before .before .before .before in
-    λ p q t. rw (c .in-program .ensures) (chain-begins _ _ _ (s .pre .1) p q t)
+    λ p q t.
+    rw (c .before .in-program .ensures, c .before .before .wider .ensures .0, c .wide .ensures .0)
+    (chain-begins _ _ _ (begun c .pre .1) p q t)
 
 shared-slice-read-signal : tie.Need-shared-slice-read-signal Inv-loop μ-loop
 shared-slice-read-signal c = omega (arith, inside (c .before .before .before))
 
 one-read-requires : tie.Need-one-read-requires Inv-loop μ-loop
 one-read-requires c κs =
-    let c5 = c .before .before .before .before .before in
-    let c10 = c5 .before .before .before .before .before in
-    let c12 = c10 .before .before in
-    let s = c12 in
+    let c6 = c .before .before .before .before .before .before in
+    let s = begun c6 in
     (few-signals _ _ _ (s .pre .0 .1) (s .pre .0 .2), indexed _ _ _ (s .pre .0))
 
 returns : tie.Need-returns Inv-loop μ-loop
@@ -100,8 +101,8 @@ returns-2 c = λ p q t. sym (link-over _ _ _ _ _ (c .before .loop .inv p q t) (o
 pub is-linked-spec : {M : Type 1} → statement M
 is-linked-spec =
     tie.close
-    (tie.spec Inv-loop μ-loop (λ c. omega (arith, few c)) few (λ c κs. search needs) add-at (λ c. omega (arith, few (c .before)))
-    (λ c. few (c .before)) loop-holds (λ c κs. search needs) (λ c. omega (arith, inside (c .before)))
-    (λ c. omega (arith, inside (c .before))) (λ c. omega (arith, inside (c .before .before)))
-    (λ c. omega (arith, inside (c .before .before))) shared-slice-read-signal one-read-requires (λ c. search needs)
-    (λ c. search needs) returns sub-left loop-less loop-again returns-2)
+    (tie.spec Inv-loop μ-loop (λ c. omega (arith, few c)) few (λ c κs. search needs) (λ c κs. search needs) add-at
+    (λ c. few (c .before .before)) (λ c κs. search needs) loop-holds (λ c κs. search needs)
+    (λ c. omega (arith, inside (c .before))) (λ c. omega (arith, inside (c .before)))
+    (λ c. omega (arith, inside (c .before .before))) (λ c. omega (arith, inside (c .before .before))) shared-slice-read-signal
+    one-read-requires (λ c. search needs) (λ c. search needs) returns sub-left loop-less loop-again returns-2)

@@ -49,8 +49,11 @@ module _ (a : tie.Start Inv-loop μ-loop) where
 
 -- where a LINK stands
 module _ (c : tie.After-in-program2 Inv-loop μ-loop) where
+  abbrev counted : tie.After-wide Inv-loop μ-loop
+  counted = c .before .before .before
+
   abbrev start : tie.Start Inv-loop μ-loop
-  start = c .before .before .before .before .before .before .before
+  start = counted .before .before .before .before .before .before
 
   abbrev i : ℕ
   i = c .before .before .loop .i
@@ -62,27 +65,28 @@ module _ (c : tie.After-in-program2 Inv-loop μ-loop) where
   passed : c .in-program2 .result * i ≡ 2 * i
   passed = ap (λ (k : ℕ). k * i) (c .in-program2 .ensures)
 
-  stands : getD (t start .starts) (x start) 0 + c .before .before .before .in-program .result + c .in-program2 .result * i ≡ place
-  stands = omega (arith, passed, c .before .before .before .in-program .ensures)
+  stands :
+      counted .before .before .wider .result + counted .before .in-program .result + c .in-program2 .result * i ≡ place
+  stands = omega (arith, passed, counted .before .before .wider .ensures .0, counted .before .in-program .ensures)
+
+  within : i < getD (t start .lengths) (x start) 0
+  within = omega (arith, c .before .loop-test .taken, counted .wide .ensures .0)
 
   -- in the text
   ends : (place + 2 ≤ length (now (start .args .text))) × (length (now (start .args .text)) ≤ 18446744073709551615)
   ends = (
-    link-inside _ (t start) (read start) (read start .0) (read start .1) (x start) (start .pre .1) i
-        (c .before .loop-test .taken),
+    link-inside _ (t start) (read start) (read start .0) (read start .1) (x start) (start .pre .1) i within,
     omega (arith, start .good .0 .1),
   )
 
 add-first : tie.Need-add-first Inv-loop μ-loop
 add-first c =
-    let a = c .before .before .before .before in omega (arith, inside a, c .in-program .ensures, a .good .0 .1)
-
-mul-links : tie.Need-mul-links Inv-loop μ-loop
-mul-links c = omega (arith, below (c .before .before .before .before))
+    let a = c .before .before .before .before .before in
+    omega (arith, inside a, c .before .wider .ensures .0, c .in-program .ensures, a .good .0 .1)
 
 loop-holds : tie.Need-loop-holds Inv-loop μ-loop
 loop-holds c =
-    let a = c .before .before .before .before in (
+    let a = c .before .before .before .before .before .before in (
       omega arith,
       λ p e.
           let r = links-in-turn _ p e (x a) (omega (arith, a .pre .1, chains-are _ (t a) (read a) p e)) in
@@ -97,11 +101,11 @@ returns c =
     let j = c .before .before in
     let s = j .before .before .before .before in
     let a = start s in
-    let lt = s .before .loop-test .taken in
+    let lt = within s in
     λ p e.
     check-refuses _ _ _ _ (i s) noLink (link-seen _ (t a) (read a) p e (x a) (a .pre .1) (i s) lt)
     (s .before .before .loop .inv .1 p e)
-    _ (one-link _ (t a) (read a) p e (x a) (a .pre .1) (i s) lt _ _ _ (stands s) (j .before .before .wide .ensures .0)
+    _ (one-link _ (t a) (read a) p e (x a) (a .pre .1) (i s) lt _ _ _ (stands s) (j .before .before .wide2 .ensures .0)
     (j .judge-rate .ensures)) (link-at-place p) _ (c .enum-told2 .given .1)
 
 add-i : tie.Need-add-i Inv-loop μ-loop
@@ -115,28 +119,31 @@ loop-again c =
     let j = c .before .before in
     let s = j .before .before .before .before in
     let a = start s in
-    let lt = s .before .loop-test .taken in (
-      omega (arith, lt),
+    let lt = within s in (
+      omega (arith, s .before .loop-test .taken),
       λ p e.
           subst (Rest p (x a)) (omega arith)
           (check-passes _ _ _ _ (i s) noLink (link-seen _ (t a) (read a) p e (x a) (a .pre .1) (i s) lt)
           (s .before .before .loop .inv .1 p e) _ (one-link _ (t a) (read a) p e (x a) (a .pre .1) (i s) lt _ _ _ (stands s)
-          (j .before .before .wide .ensures .0) (j .judge-rate .ensures)) (c .enum-told .given .1)),
+          (j .before .before .wide2 .ensures .0) (j .judge-rate .ensures)) (c .enum-told .given .1)),
     )
 
 returns-2 : tie.Need-returns-2 Inv-loop μ-loop
 returns-2 c =
     let l = c .before .loop in
-    let a = c .before .before .before .before .before .before in
+    let n = c .before .before in
+    let a = n .before .before .before .before .before .before in
     λ p e.
-    check-ends _ _ _ _ (l .i) (omega (arith, length-is _ (t a) (read a) p e (x a) (a .pre .1), c .loop-test .left))
+    check-ends _ _ _ _ (l .i)
+    (omega (arith, length-is _ (t a) (read a) p e (x a) (a .pre .1), n .wide .ensures .0, c .loop-test .left))
     (l .inv .1 p e)
 
 pub judge-chain-spec : {M : Type 1} → statement M
 judge-chain-spec =
     tie.close
     (tie.spec Inv-loop μ-loop (λ c. omega (arith, below (c .before .before .before))) (λ c. below (c .before .before .before))
-    (λ c κs. search needs) add-first mul-links (λ c. below (c .before .before .before .before)) loop-holds (λ c κs. search needs)
-    (λ c. omega (arith, passed c, ends c)) (λ c. omega (arith, passed c, stands c, ends c))
-    (λ c. omega (arith, passed c, stands c, ends c)) shared-slice-read-wide (λ c κs. search needs) (λ c κs. search needs)
-    (λ c. search needs) (λ c. search needs) returns add-i loop-less loop-again returns-2)
+    (λ c κs. search needs) (λ c κs. search needs) add-first (λ c. below (c .before .before .before .before .before))
+    (λ c κs. search needs) loop-holds (λ c κs. search needs) (λ c. omega (arith, passed c, ends c))
+    (λ c. omega (arith, passed c, stands c, ends c)) (λ c. omega (arith, passed c, stands c, ends c)) shared-slice-read-wide
+    (λ c κs. search needs) (λ c κs. search needs) (λ c. search needs) (λ c. search needs) returns add-i loop-less loop-again
+    returns-2)

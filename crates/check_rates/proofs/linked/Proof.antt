@@ -66,14 +66,15 @@ is-linked-requires c κs =
 
 returns-2 : tie.Need-returns-2 Inv-loop μ-loop
 returns-2 c =
-    let b = c .before .before in
+    let d = c .before .before in
+    let b = d .before in
     let l = b .before .before .before .loop in
     λ p q t.
     let lt : l .chain < length (p .chains) = omega (arith, b .before .if2 .taken, t .counts .chains-are) in
-    let r = c .refuse .ensures ∙ ap (λ n. Judged.Refused (fault 10 n)) (t .starts (l .chain) lt) in
+    let r = c .refuse .ensures ∙ ap (λ n. Judged.Refused (fault 10 n)) (c .before .wider .ensures .0 ∙ t .starts (l .chain) lt) in
     check-refuses _ _ _ _ (l .chain) noChain lt (l .inv p q t) _
     (r ∙ lat-judged (fault 10 (chainAt p (l .chain) .place)) _ _
-    (sym (b .is-linked .ensures p q t) ∙ not-true (b .is-linked .result) (c .before .if3 .taken)))
+    (sym (b .is-linked .ensures p q t) ∙ not-true (b .is-linked .result) (d .if3 .taken)))
     (lat-at 10 (λ k. isLinked p (k .links))) _ r
 
 add-chain : tie.Need-add-chain Inv-loop μ-loop
@@ -102,4 +103,5 @@ pub linked-spec : {M : Type 1} → statement M
 linked-spec =
     tie.close
     (tie.spec Inv-loop μ-loop returns loop-holds is-linked-requires (λ c. omega (arith, few c)) few (λ c κs. search needs)
+    (λ c κs. search needs)
     returns-2 add-chain (λ c. omega (arith, c .before .before .if2 .taken)) loop-again returns-3)

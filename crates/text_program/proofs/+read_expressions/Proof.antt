@@ -18,10 +18,11 @@ use Rattle.model.specs.declared.Kind.{Kind}
 use Rattle.model.specs.declared.Operator.{Operator}
 use Rattle.model.specs.declared.Operator.the-variants as Operator
 use Rattle.model.specs.declared.Sampled.{Sampled}
-use Rattle.text_command.specs.Operator.{operandsOf}
-use Rattle.text_program.specs.Walks.{outlineOf, outlines, WalkRoom, Walks}
+use Rattle.text_command.specs.Operator.{operandsOf, lookupsOf}
+use Rattle.text_program.specs.Walks.{outlineOf, outlines, leafOf, WalkRoom, Walks}
 use Rattle.text_program.specs.declared.Walk.{Walk}
 use Rattle.text_program.specs.declared.Walked.{Walked}
+use Rattle.text_program.specs.declared.Walked.the-variants as Walked
 use Rattle.text_program.proofs.Operators.{parse-node, operator-inside, read-allowed}
 use Rattle.text_program.proofs.Outlines.{leaf-outline, operator-outline, walks-operated}
 use Rattle.text_program.proofs.Walks.{walks-none, walks-stop, walks-first, walks-deep, parsed-spans, ahead}
@@ -157,28 +158,46 @@ module _ (t : ℕ) (o : lts.After-operands-of (known t) (given t) own.Post Inv-l
       operator-inside (least t turn) (text t turn) at (sym (o .before .operator-from .ensures))
       (λ e. h (o .operands-of .ensures ∙ ap operandsOf (sym e)))
 
--- one expression is read, by either branch
+  -- One expression is read: a leaf, or an operator with its operands.
+  abbrev Reads : List ℕ → Walked → Type 0
+  Reads l′ r =
+      Walks (outlineOf (parseExpr (least t turn) (depth t turn) (text t turn) at)) (table t turn) (walk t turn .reads)
+      (walk t turn .code) (walk t turn .lookups) l′ r
+
+  leaf-read : {l′ : List ℕ} {r : Walked} → o .operands-of .result ≡ 0 →
+      Walks (leafOf (length (text t turn)) at operator) (table t turn) (walk t turn .reads) (walk t turn .code)
+      (walk t turn .lookups) l′ r →
+      Reads l′ r
+  leaf-read z w =
+      let e = ap outlineOf step ∙ leaf-outline sub (least t turn) (text t turn) at operator (sym (o .operands-of .ensures) ∙ z)
+      allowed in
+      rw e w
+
+  operator-read : {l′ : List ℕ} {r : Walked} → (o .operands-of .result ≡ 0 → ⊥) →
+      Walks (outlines sub (operandsOf operator) (at + 1)) (table t turn) (walk t turn .reads) (walk t turn .code + 1)
+      (walk t turn .lookups + lookupsOf operator) l′ r →
+      Reads l′ r
+  operator-read h w =
+      let e = ap outlineOf step ∙ operator-outline sub (least t turn) (text t turn) at operator
+      (λ z. h (o .operands-of .ensures ∙ z)) in
+      rw e (walks-operated _ _ w)
+
+-- where either branch has gone on
 abbrev Joined : ℕ → Type 0
 Joined t = lts.Joined2 (known t) (given t) own.Post Inv-loop μ-loop
 
-one : (t : ℕ) (j : Joined t) →
-    let b = turn t (j .before) in
-    Walks (outlineOf (parseExpr (least t b) (depth t b) (text t b) (walk t b .at))) (table t b) (walk t b .reads) (walk t b .code)
-    (walk t b .lookups) (j .if2 .reads) (j .if2 .step)
+one : (t : ℕ) (j : Joined t) → (r : Walked) × (r ≡ Walked.Next (j .if2 .walk)) × Reads t (j .before) (j .if2 .reads) r
 one t j =
     let o = j .before in
-    let b = turn t o in
     elim (j .if2 .came) [
-      | inl x ↦
-          let e = ap outlineOf (step t o) ∙ leaf-outline (sub t o) (least t b) (text t b) (at t o) (operator t o)
-          (sym (o .operands-of .ensures) ∙ x .0 .taken) (allowed t o) in
-          rw (x .5, x .6, e) (x .2 .ensures)
+      | inl x ↦ rw (x .8, x .9) (x .2 .result, x .6 .given .1, leaf-read t o (x .0 .taken) (x .2 .ensures))
       | inr y ↦
-          let e = ap outlineOf (step t o) ∙ operator-outline (sub t o) (least t b) (text t b) (at t o) (operator t o)
-          (λ z. y .0 .left (o .operands-of .ensures ∙ z)) in
-          rw (y .11, y .12, e)
-          (walks-operated _ _
-          (rw (o .operands-of .ensures, y .1 .ensures, y .3 .ensures, y .5 .ensures .0) at (y .8 .ensures)))
+          rw (y .14, y .15) (
+            y .8 .result,
+            y .12 .given .1,
+            operator-read t o (y .0 .left)
+                (rw (o .operands-of .ensures, y .1 .ensures, y .3 .ensures, y .5 .ensures .0) at (y .8 .ensures)),
+          )
     ]
 
 -- the table keeps its length
@@ -186,8 +205,8 @@ same : (t : ℕ) (j : Joined t) → length (j .if2 .reads) ≡ length (now (star
 same t j =
     let l = turn t (j .before) .before .loop in
     elim (j .if2 .came) [
-      | inl x ↦ rw (x .5) (x .3 .given ∙ l .inv .1)
-      | inr y ↦ rw (y .11) (y .9 .given ∙ l .inv .1)
+      | inl x ↦ rw (x .8) (x .3 .given ∙ l .inv .1)
+      | inr y ↦ rw (y .14) (y .9 .given ∙ l .inv .1)
     ]
 
 loop-holds : (t : ℕ) → lts.Need-loop-holds (known t) (given t) own.Post Inv-loop μ-loop
@@ -246,34 +265,56 @@ read-expressions-requires t c κs =
     )
 
 same-length-2 : (t : ℕ) → lts.Need-same-length-2 (known t) (given t) own.Post Inv-loop μ-loop
-same-length-2 t c = same t (c .before .before)
+same-length-2 t c =
+    let l = c .before .before .before .before in
+    c .before .before .before .reads .given ∙ turn t (l .before .before .before) .before .loop .inv .1
 
 returns-2 : (t : ℕ) → lts.Need-returns-2 (known t) (given t) own.Post Inv-loop μ-loop
 returns-2 t c =
-    let j = c .before .before in
-    answers t (turn t (j .before)) _ _ (walks-stop _ _ _ (one t j) (c .enum-told .given .1))
-
-sub-left : (t : ℕ) → lts.Need-sub-left (known t) (given t) own.Post Inv-loop μ-loop
-sub-left t c = omega (arith, turn t (c .before .before .before .before) .loop-test .taken)
-
-loop-less : (t : ℕ) → lts.Need-loop-less (known t) (given t) own.Post Inv-loop μ-loop
-loop-less t c = omega (arith, turn t (c .before .before .before .before) .loop-test .taken)
-
-loop-again : (t : ℕ) → lts.Need-loop-again (known t) (given t) own.Post Inv-loop μ-loop
-loop-again t c =
-    let j = c .before .before .before in
-    let b = turn t (j .before) in
-    let next = c .before .step .given .1 in (
-      ahead (least t b) (text t b) (depth t b) (room t b) (one t j) next .left,
-      same t j,
-      λ l′ r w. answers t b l′ r (walks-first _ _ _ (one t j) next w),
-    )
+    let l = c .before .before .before .before in
+    let o = l .before .before .before in
+    answers t (turn t o) _ _
+    (walks-stop _ _ _ (leaf-read t o (l .before .before .if2 .taken) (l .read-leaf .ensures)) (c .enum-told .given .1))
 
 same-length-3 : (t : ℕ) → lts.Need-same-length-3 (known t) (given t) own.Post Inv-loop μ-loop
-same-length-3 t c = c .before .loop .inv .1
+same-length-3 t c =
+    let l = c .before .before .before .before in
+    let o = l .before .before .before .before .before .before .before .before .before in
+    c .before .before .before .reads2 .given ∙ turn t o .before .loop .inv .1
 
 returns-3 : (t : ℕ) → lts.Need-returns-3 (known t) (given t) own.Post Inv-loop μ-loop
 returns-3 t c =
+    let l = c .before .before .before .before in
+    let looks = l .before .before .before in
+    let code = looks .before .before in
+    let wide = code .before .before in
+    let o = wide .before .before in
+    answers t (turn t o) _ _
+    (walks-stop _ _ _
+    (operator-read t o (wide .before .if2 .left)
+    (rw (o .operands-of .ensures, wide .in-expression .ensures, code .in-code .ensures, looks .lookups-of .ensures .0) at
+    (l .read-expressions .ensures))) (c .enum-told2 .given .1))
+
+sub-left : (t : ℕ) → lts.Need-sub-left (known t) (given t) own.Post Inv-loop μ-loop
+sub-left t j = omega (arith, turn t (j .before) .loop-test .taken)
+
+loop-less : (t : ℕ) → lts.Need-loop-less (known t) (given t) own.Post Inv-loop μ-loop
+loop-less t j = omega (arith, turn t (j .before) .loop-test .taken)
+
+loop-again : (t : ℕ) → lts.Need-loop-again (known t) (given t) own.Post Inv-loop μ-loop
+loop-again t j =
+    let b = turn t (j .before) in
+    let o = one t j in (
+      ahead (least t b) (text t b) (depth t b) (room t b) (o .2) (o .1) .left,
+      same t j,
+      λ l′ r w. answers t b l′ r (walks-first _ _ _ (o .2) (o .1) w),
+    )
+
+same-length-4 : (t : ℕ) → lts.Need-same-length-4 (known t) (given t) own.Post Inv-loop μ-loop
+same-length-4 t c = c .before .loop .inv .1
+
+returns-4 : (t : ℕ) → lts.Need-returns-4 (known t) (given t) own.Post Inv-loop μ-loop
+returns-4 t c =
     let l = c .before .loop in
     let z : l .left ≡ 0 = omega (arith, c .loop-test .left) in
     l .inv .2 _ _ (rw z (walks-none _ _ refl))
@@ -282,7 +323,7 @@ pub +read-expressions-spec : {M : Type 1} → statement M
 +read-expressions-spec =
     close μ (λ t. lts.spec (known t) (given t) own.Post Inv-loop μ-loop
     (loop-holds t) (λ c κs. search needs) (same-length t) (returns t) (λ c κs. search needs) (λ c κs. search needs)
-    (read-leaf-requires t) (λ c κs. search needs) (add-read-expressions t) (λ c κs. search needs) (add-read-expressions-2 t)
-    (λ c κs. search needs) (add-read-expressions-3 t) (sub-read-expressions t) (read-expressions-requires t) (λ c. search needs)
-    (λ c. search needs) (same-length-2 t) (returns-2 t)
-    (sub-left t) (loop-less t) (loop-again t) (same-length-3 t) (returns-3 t))
+    (read-leaf-requires t) (λ c. search needs) (λ c. search needs) (same-length-2 t) (returns-2 t) (λ c κs. search needs)
+    (add-read-expressions t) (λ c κs. search needs) (add-read-expressions-2 t) (λ c κs. search needs)
+    (add-read-expressions-3 t) (sub-read-expressions t) (read-expressions-requires t) (λ c. search needs) (λ c. search needs)
+    (same-length-3 t) (returns-3 t) (sub-left t) (loop-less t) (loop-again t) (same-length-4 t) (returns-4 t))

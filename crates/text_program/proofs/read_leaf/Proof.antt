@@ -38,19 +38,19 @@ no-leaf size at Operator.If h = refl
 
 -- A read ends in the text, and has an entry left in the table.
 read-fits : (s : tie.Start) (kind : Kind) (x : Sampled) → s .args .operator ≡ Operator.Read kind x →
-    (s .args .at + readWidth kind ≤ 8192) × (s .args .count < length (now (s .args .reads)))
+    (s .args .walk .at + readWidth kind ≤ 8192) × (s .args .walk .reads < length (now (s .args .reads)))
 read-fits s kind x e =
     let h = s .pre .read-inside kind x e in
     let room = s .pre .left in
     (omega (arith, h, room .short), omega (arith, h, read-width kind, room .table, room .few))
 
-add-moved-on : tie.Need-add-moved-on
-add-moved-on c =
+add-next : tie.Need-add-next
+add-next c =
     let s = c .before .before .before .before in
     omega (arith, s .pre .constant-inside _ (c .before .enum-told3 .given .1), s .pre .left .short, c .in-expression .ensures)
 
-add-moved-on-2 : tie.Need-add-moved-on-2
-add-moved-on-2 c =
+add-moved-on : tie.Need-add-moved-on
+add-moved-on c =
     let s = c .before .before .before .before .before in
     let e = c .before .before .enum-told3 .given .1 in
     omega (arith, s .pre .constant-inside _ e, s .pre .left .short, s .pre .left .small, c .in-code .ensures)
@@ -61,13 +61,13 @@ cast-reads c = omega (arith, read-fits (c .before .before .before .before) _ _ (
 slice-write-reads : tie.Need-slice-write-reads
 slice-write-reads c = read-fits (c .before .before .before .before) _ _ (c .before .operator .given .1) .1
 
-add-moved-on-3 : tie.Need-add-moved-on-3
-add-moved-on-3 c =
+add-next-2 : tie.Need-add-next-2
+add-next-2 c =
     let s = c .before .before .before .before .before in
     omega (arith, read-fits s _ _ (c .before .before .operator .given .1) .0, c .of-read .ensures)
 
-add-moved-on-5 : tie.Need-add-moved-on-5
-add-moved-on-5 c =
+add-moved-on-3 : tie.Need-add-moved-on-3
+add-moved-on-3 c =
     let s = c .before .before .before .before .before .before in
     let e = c .before .before .before .operator .given .1 in
     omega (arith, read-fits s _ _ e .0, s .pre .left .small, c .in-code2 .ensures)
@@ -84,7 +84,7 @@ returns-3 : tie.Need-returns-3
 unfolding leafOf
 returns-3 c =
     let x : Outline =
-    record { places = []; code = 5; lookups = 0; next = c .before .before .before .before .before .before .args .at + 5 } in
+    record { places = []; code = 5; lookups = 0; next = c .before .before .before .before .before .before .args .walk .at + 5 } in
     walks-over _ x (rw (c .before .before .before .enum-told3 .given .1) refl) (c .moved-on .ensures)
     (record {
       goes = omega (arith, c .before .before .in-expression .ensures);
@@ -97,7 +97,7 @@ returns-3 c =
 returns-4 : tie.Need-returns-4
 unfolding leafOf
 returns-4 c =
-    let at = c .before .before .before .before .before .before .before .args .at in
+    let at = c .before .before .before .before .before .before .before .args .walk .at in
     let told = c .before .before .before .before .operator .given in
     let x : Outline = record { places = at ∷ []; code = 2; lookups = 0; next = at + readWidth (told .0 .0) } in
     walks-over _ x (rw (told .1) refl) (c .moved-on2 .ensures)
@@ -116,7 +116,7 @@ pub read-leaf-spec : {M : Type 1} → statement M
 read-leaf-spec =
     tie.close
     (tie.spec (λ c. search needs) (λ c κs. search needs) (λ c. search needs) (λ c κs. search needs) (λ c. search needs)
-    (λ c κs. search needs) add-moved-on (λ c κs. search needs) add-moved-on-2 (λ c κs. search needs) (λ c. search needs)
-    cast-reads (λ c. search needs) slice-write-reads (λ c κs. search needs) add-moved-on-3 (λ c. search needs)
-    (λ c κs. search needs) add-moved-on-5 (λ c κs. search needs) (λ c κs. search needs) returns returns-2 returns-3
+    (λ c κs. search needs) add-next (λ c κs. search needs) add-moved-on (λ c κs. search needs) (λ c. search needs)
+    cast-reads (λ c. search needs) slice-write-reads (λ c κs. search needs) add-next-2 (λ c. search needs)
+    (λ c κs. search needs) add-moved-on-3 (λ c κs. search needs) (λ c κs. search needs) returns returns-2 returns-3
     (λ c. search needs) returns-4 returns-5)
