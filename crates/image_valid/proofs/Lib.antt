@@ -2,3 +2,4 @@
 pub mod All
 pub mod Parts
 pub mod Lent
+pub mod Walking

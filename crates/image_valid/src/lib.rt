@@ -7,6 +7,7 @@ ghost use lib.ListN.{length, take};
 ghost use Rattle.model.specs.Rules.Machine.{hyperOf, countOf, statedLength, listOffset, tableOffset, rowCount, codeOffset};
 ghost use Rattle.model.specs.Rules.Machine.{headOk, listsOk, tableOk, entriesOk, codesOk, wellFormed};
 ghost use Rattle.image_valid.specs.Lends.{Lends};
+ghost use Rattle.image_valid.specs.Walk.{endsCode, pastOwn, WithTables, CursorOk, Advances};
 ghost use Rattle.model.specs.Rules.Search.{allBelow};
 ghost use Rattle.model.specs.Rules.Word.{byteAt, twoAt};
 
@@ -140,30 +141,137 @@ fn entries_ok(image: &[u8], n: u8, h: usize, end: usize) -> bool
     greatest_byte(&image[start..end]) < n
 }
 
-// Every code starts where the one before ended, the last ending at L, and is well formed, in an image with rows or without.
+// Where a check of codes one after another stands: at a command of signal `own`, and the words on the stack there.
+struct Cursor {
+    at: usize,
+    height: usize,
+    own: u8,
+}
+
+// Whether the command is the STORE that ends its code, where the next one starts.
+fn is_end(image: &[u8], n: u8, cursor: Cursor) -> bool
+    requires { ⌜ (headOk (now image) ≡ true) × (n ≡ countOf (now image)) × (cursor .own < n) × (cursor .at + 1 < length (now image)) ⌝ }
+    ensures { λ r. ⌜ r ≡ endsCode (now (image .entry)) cursor ⌝ }
+{
+    let at = cursor.at;
+    let own = cursor.own;
+    if !image_valid_code::is_last(image[at], image[at + 1], own, cursor.height) {
+        return false;
+    }
+    at + 2 == code_offset(image, basics::wide(n), basics::wide(own) + 1)
+}
+
+// Past FETCH of the own signal or the code's end, which have no shape. Where it is neither, to the image's end, short of the next
+// code.
+fn past_own(image: &[u8], n: u8, cursor: Cursor) -> Cursor
+    requires { ⌜ (headOk (now image) ≡ true) × (n ≡ countOf (now image)) × (cursor .own < n) × (cursor .at + 1 < length (now image)) × (cursor .height ≤ 32) ⌝ }
+    ensures { λ r. ⌜ r ≡ pastOwn (now (image .entry)) cursor ⌝ }
+{
+    let at = cursor.at;
+    let height = cursor.height;
+    let own = cursor.own;
+    let next = at + 2;
+    if image_valid_code::is_fetch(image[at], image[at + 1], own, height) {
+        let more = height + 1;
+        return Cursor {
+            at: next,
+            height: more,
+            own,
+        };
+    }
+    if is_end(image, n, cursor) {
+        let other = own + 1;
+        return Cursor {
+            at: next,
+            height: 0,
+            own: other,
+        };
+    }
+    let end = image.len();
+    Cursor {
+        at: end,
+        height: 0,
+        own,
+    }
+}
+
+// One command further.
+fn advance(image: &[u8], n: u8, shapes: &[u8; 256], ceilings: &[u8; 256], cursor: Cursor) -> Cursor
+    requires { ⌜ WithTables (now image) n (now shapes) (now ceilings) × CursorOk (now image) cursor × (cursor .at + 1 < length (now image)) ⌝ }
+    ensures { λ r. ⌜ Advances (now (image .entry)) cursor r × (cursor .at < r .at) ⌝ }
+{
+    let at = cursor.at;
+    let height = image_valid_code::after(image, at, cursor.height, shapes, ceilings);
+    if 32 < height {
+        return past_own(image, n, cursor);
+    }
+    let next = at + image_valid_code::command_bytes(image[at]);
+    Cursor {
+        at: next,
+        height,
+        own: cursor.own,
+    }
+}
+
+// From a command up to an offset, or past it.
+fn advance_to(
+    image: &[u8],
+    n: u8,
+    shapes: &[u8; 256],
+    ceilings: &[u8; 256],
+    from: Cursor,
+    end: usize,
+) -> Cursor
+    requires { ⌜ WithTables (now image) n (now shapes) (now ceilings) × CursorOk (now image) from × (end < length (now image)) ⌝ }
+    ensures { λ r. ⌜ Advances (now (image .entry)) from r × (end ≤ r .at) ⌝ }
+{
+    let mut cursor = from;
+    while cursor.at < end {
+        cursor = advance(image, n, shapes, ceilings, cursor);
+    }
+    cursor
+}
+
+// Every code starts where the one before ended, the last ending at L, and is well formed, in an image with rows or without. Two
+// cursors go side by side, one from the first code and one from the middle one: where a command ends is known only when its byte is
+// read, and that takes as long as all the rest of a step.
 fn codes_ok(image: &[u8], n: u8, rows: bool) -> bool
     requires { ⌜ (headOk (now image) ≡ true) × (n ≡ countOf (now image)) × (rows ≡ ltb 0 (rowCount (now image))) ⌝ }
     ensures { λ r. ⌜ r ≡ codesOk (now (image .entry)) ⌝ }
 {
-    let table = image_valid_code::shapes(rows);
-    let count = basics::wide(n);
-    let mut from = code_offset(image, count, 0);
-    let mut x: u8 = 0;
-    while x < n {
-        let to = code_offset(image, count, basics::wide(x) + 1);
-        if to < from {
-            return false;
-        }
-        if image.len() < to {
-            return false;
-        }
-        if !image_valid_code::code_ok(&image[from..to], n, x, &table) {
-            return false;
-        }
-        from = to;
-        x = x + 1;
+    if n == 0 {
+        return true;
     }
-    true
+    let shapes = image_valid_code::shapes(rows);
+    let ceilings = image_valid_code::ceilings(n);
+    let count = basics::wide(n);
+    let half = n / 2;
+    let start = code_offset(image, count, 0);
+    let middle = code_offset(image, count, basics::wide(half));
+    let end = image.len() - 1;
+    if end <= middle {
+        return false;
+    }
+    let mut first = Cursor {
+        at: start,
+        height: 0,
+        own: 0,
+    };
+    let mut second = Cursor {
+        at: middle,
+        height: 0,
+        own: half,
+    };
+    while first.at < middle && second.at < end {
+        first = advance(image, n, &shapes, &ceilings, first);
+        second = advance(image, n, &shapes, &ceilings, second);
+    }
+    let first = advance_to(image, n, &shapes, &ceilings, first, middle);
+    let second = advance_to(image, n, &shapes, &ceilings, second, end);
+    if first.own < half {
+        return false;
+    }
+    second.own == n
 }
 
 // Whether the image is well formed.

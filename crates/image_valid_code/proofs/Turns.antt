@@ -2,7 +2,7 @@
 use mathlib.Core.Path.{_≡_, refl, sym, _∙_, subst}
 use mathlib.Core.Bool.{Bool, true, false, cond, _&&_}
 use mathlib.Core.List.{List}
-use Prim.Native.Nat.{ℕ, zero, suc, _+_, _-_, _*_, _≤_, _<_}
+use Prim.Native.Nat.{ℕ, zero, suc, _+_, _-_, _≤_, _<_}
 use native.Mathlib.Omega.{arith}
 use native.Mathlib.Numerals.{unary-clauses}
 use borrow.Author.Tests.{eqb-true, leb-true, leb-false, ltb-true, ltb-false, le-leb, lt-leb, lt-ltb, le-ltb}
@@ -13,7 +13,7 @@ use Rattle.model.specs.Rules.Word.{byteAt, wordAt}
 use Rattle.model.specs.declared.Code.{Code}
 use Rattle.model.specs.declared.Code.the-variants as Code
 use Rattle.model.proofs.Basics.Tests.{by}
-use Rattle.image_valid_code.specs.Shape.{shapeOf, commandBytes, afterOf, lastOf}
+use Rattle.image_valid_code.specs.Shape.{shapeOf, ceilingOf, commandBytes, heightAfter, fetchOf, lastOf}
 
 -- the command whose byte is b
 abbrev pub commandOf : ℕ → List ℕ → ℕ → Code
@@ -109,166 +109,156 @@ unfolding codeOkFrom codeAt commandOk
 past zero rows code at n own h p = refl
 past (suc left) rows code at n own h p = rw (le-ltb at (length code) p)
 
+-- one turn, where two bytes are left, the second x
 module _ (left : ℕ) (rows : Bool) (code : List ℕ) (at n own h : ℕ) (two : at + 1 < length code) (most : h ≤ 32) (some : 0 < n)
+    (small : byteAt code (at + 1) < 256)
   where
     abbrev pub x : ℕ
     x = byteAt code (at + 1)
 
-    -- a turn with a command of so many bytes, after which the stack holds r words, or 33
-    abbrev pub Turn : Bool → ℕ → ℕ → Type 0
-    Turn judged len r = judged ≡ cond (ltb 32 r) false (codeOkFrom left rows code n own (at + len) r)
+    abbrev pub after-of : ℕ → ℕ
+    after-of b = heightAfter (shapeOf rows b) (ceilingOf n b) x h
 
-    -- a command that pushes a word, allowed or not
-    leaf : (allowed : Bool) (len r : ℕ) → r ≡ cond allowed (h + 1) 33 →
-        Turn (allowed && ltb h 32 && codeOkFrom left rows code n own (at + len) (h + 1)) len r
-    leaf false len r e = rw e refl
-    leaf true len r e =
-        by (ltb h 32)
-        (λ t. rw (e, t, le-ltb 32 (h + 1) (omega (arith, ltb-true h 32 t))) refl)
-        (λ t. rw (e, t, lt-ltb 32 (h + 1) (omega (arith, ltb-false h 32 t))) refl)
-
-    -- an operator with k operands
-    operated : (k r m : ℕ) → m ≡ h + 1 - k → 1 ≤ k → r ≡ cond (ltb (h + 1) (k + 1)) 33 (h + 2 - (k + 1))
-        → Turn (leb k h && codeOkFrom left rows code n own (at + 1) m) 1 r
-    operated k r m o lo e =
-        by (leb k h)
-        (λ t. let l = leb-true k h t in
-        let q : r ≡ h + 1 - k = e ∙ rw (le-ltb (h + 1) (k + 1) (omega (arith, l))) (omega (arith, l)) in
-        rw (q, o, t, le-ltb 32 (h + 1 - k) (omega (arith, l))) refl)
-        (λ t. let l = leb-false k h t in
-        let q : r ≡ 33 = e ∙ rw (lt-ltb (h + 1) (k + 1) (omega (arith, l))) refl in
-        rw (q, t) refl)
-
-    after-of : ℕ → ℕ
-    after-of b = afterOf (shapeOf rows b) b x h n own
-
-    Goes : ℕ → Type 0
-    Goes b = (shapeOf rows b ≡ 0 → ⊥) → Turn (step (commandOf b code at) left rows code at n own h) (commandBytes b) (after-of b)
+    -- what the check says of the command with byte b, and of those after it: where its shape does not let it go on, it is FETCH
+    -- or STORE
+    abbrev pub Goes : ℕ → Type 0
+    Goes b = step (commandOf b code at) left rows code at n own h ≡
+        cond (leb (after-of b) 32) (codeOkFrom left rows code n own (at + commandBytes b) (after-of b))
+        (cond (fetchOf b x own h) (codeOkFrom left rows code n own (at + 2) (h + 1))
+        (lastOf b x own h && eqb (at + 2) (length code)))
 
     whole : leb (at + 2) (length code) ≡ true
     whole = le-leb (at + 2) (length code) (omega arith)
 
-    nothing : 0 * x < n
-    nothing = omega (arith, some)
+    byte-small : ltb 255 x ≡ false
+    byte-small = le-ltb 255 x (omega arith)
+
+    -- a command that pushes a word, allowed or not
+    pushed : (allowed : Bool) (len r : ℕ) → r ≡ cond (ltb 96 (h + 65)) 33 (cond allowed (h + 65 - 64) 33) →
+        (allowed && ltb h 32 && codeOkFrom left rows code n own (at + len) (h + 1)) ≡
+        cond (leb r 32) (codeOkFrom left rows code n own (at + len) r) false
+    pushed false len r e = by (ltb 96 (h + 65)) (λ t. rw (e, t) refl) (λ t. rw (e, t) refl)
+    pushed true len r e =
+        by (ltb h 32)
+        (λ t. let l = ltb-true h 32 t in
+        let q : r ≡ h + 1 = e ∙ rw (le-ltb 96 (h + 65) (omega (arith, l))) (omega arith) in
+        rw (q, t, le-leb (h + 1) 32 (omega (arith, l))) refl)
+        (λ t. let l = ltb-false h 32 t in
+        let q : r ≡ 33 = e ∙ rw (lt-ltb 96 (h + 65) (omega (arith, l))) refl in
+        rw (q, t) refl)
+
+    -- an operator with k operands
+    operated : (k shape r m : ℕ) → shape + k ≡ 65 → m ≡ h + 1 - k → 1 ≤ k →
+        r ≡ cond (leb (h + shape) 64) 33 (cond (ltb 96 (h + shape)) 33 (h + shape - 64))
+        → (leb k h && codeOkFrom left rows code n own (at + 1) m) ≡
+        cond (leb r 32) (codeOkFrom left rows code n own (at + 1) r) false
+    operated k shape r m s o lo e =
+        by (leb k h)
+        (λ t. let l = leb-true k h t in
+        let q : r ≡ m = e ∙
+        rw (lt-leb (h + shape) 64 (omega (arith, l, s)), le-ltb 96 (h + shape) (omega (arith, l, s, lo, most)))
+        (omega (arith, l, s, o)) in
+        rw (q, t, le-leb m 32 (omega (arith, l, o, lo, most))) refl)
+        (λ t. let l = leb-false k h t in
+        let q : r ≡ 33 = e ∙ rw (le-leb (h + shape) 64 (omega (arith, l, s))) refl in
+        rw (q, t) refl)
+
+    none-low : leb (h + 65) 64 ≡ false
+    none-low = lt-leb (h + 65) 64 (omega arith)
 
     push-goes : Goes 0x50
-    unfolding Goes after-of shapeOf commandBytes afterOf commandOk
-    push-goes _ =
+    unfolding shapeOf ceilingOf commandBytes heightAfter fetchOf lastOf commandOk
+    push-goes =
         by (leb (at + 5) (length code))
-        (λ e. rw e (leaf true 5 (after-of 0x50) (rw (le-ltb (h + 1) 1 (omega arith), lt-leb n (0 * x) nothing) (omega arith))))
+        (λ e. rw e (pushed true 5 (after-of 0x50) (rw (none-low, byte-small) refl)))
         (λ e. rw (e, past left rows code (at + 5) n own (after-of 0x50) (omega (arith, leb-false (at + 5) (length code) e)))
-        (by (ltb 32 (after-of 0x50)) (λ t. rw t refl) (λ t. rw t refl)))
+        (by (leb (after-of 0x50) 32) (λ t. rw t refl) (λ t. rw t refl)))
 
     load-goes : Goes 0x51
-    unfolding Goes after-of shapeOf commandBytes afterOf commandOk
-    load-goes _ =
+    unfolding shapeOf ceilingOf commandBytes heightAfter fetchOf lastOf commandOk
+    load-goes =
         rw whole
-        (leaf (ltb x n) 2 (after-of 0x51)
+        (pushed (ltb x n) 2 (after-of 0x51)
         (by (ltb x n)
-        (λ e. rw (e, le-ltb (h + 1) 1 (omega arith), lt-leb n (1 * x) (omega (arith, ltb-true x n e))) (omega arith))
-        (λ e. rw (e, le-ltb (h + 1) 1 (omega arith), le-leb n (1 * x) (omega (arith, ltb-false x n e))) refl)))
+        (λ e. rw (e, none-low, le-ltb (n - 1) x (omega (arith, some, ltb-true x n e))) refl)
+        (λ e. rw (e, none-low, lt-ltb (n - 1) x (omega (arith, some, ltb-false x n e))) refl)))
 
     fetch-goes : Goes 0x52
-    unfolding Goes after-of shapeOf commandBytes afterOf commandOk
-    fetch-goes _ =
-        rw whole
-        (leaf (eqb x own) 2 (after-of 0x52)
-        (by (eqb x own)
-        (λ e. rw (e, le-ltb (h + 1) 1 (omega arith), lt-leb n (0 * x) nothing) (omega arith))
-        (λ e. rw (e, le-ltb (h + 1) 1 (omega arith), lt-leb n (0 * x) nothing) refl)))
+    unfolding shapeOf ceilingOf commandBytes heightAfter fetchOf lastOf commandOk
+    fetch-goes = rw (whole, le-leb (h + 0) 64 (omega arith)) (by (eqb x own && ltb h 32) (λ e. rw e refl) (λ e. rw e refl))
+
+    store-goes : Goes 0x5F
+    unfolding shapeOf ceilingOf commandBytes heightAfter fetchOf lastOf commandOk
+    store-goes = rw (whole, le-leb (h + 0) 64 (omega arith)) refl
 
     op-30 : Goes 0x30
-    unfolding Goes after-of shapeOf commandBytes afterOf operatorCode commandOk
-    op-30 _ = operated 2 (after-of 0x30) (h - 1) (omega arith) (omega arith) (rw (lt-leb n (0 * x) nothing) refl)
+    unfolding shapeOf ceilingOf commandBytes heightAfter fetchOf lastOf operatorCode commandOk
+    op-30 = operated 2 63 (after-of 0x30) (h - 1) refl (omega arith) (omega arith) (rw byte-small refl)
 
     op-31 : Goes 0x31
-    unfolding Goes after-of shapeOf commandBytes afterOf operatorCode commandOk
-    op-31 _ = operated 2 (after-of 0x31) (h - 1) (omega arith) (omega arith) (rw (lt-leb n (0 * x) nothing) refl)
+    unfolding shapeOf ceilingOf commandBytes heightAfter fetchOf lastOf operatorCode commandOk
+    op-31 = operated 2 63 (after-of 0x31) (h - 1) refl (omega arith) (omega arith) (rw byte-small refl)
 
     op-32 : Goes 0x32
-    unfolding Goes after-of shapeOf commandBytes afterOf operatorCode commandOk
-    op-32 _ = operated 2 (after-of 0x32) (h - 1) (omega arith) (omega arith) (rw (lt-leb n (0 * x) nothing) refl)
+    unfolding shapeOf ceilingOf commandBytes heightAfter fetchOf lastOf operatorCode commandOk
+    op-32 = operated 2 63 (after-of 0x32) (h - 1) refl (omega arith) (omega arith) (rw byte-small refl)
 
     op-33 : Goes 0x33
-    unfolding Goes after-of shapeOf commandBytes afterOf operatorCode commandOk
-    op-33 _ = operated 2 (after-of 0x33) (h - 1) (omega arith) (omega arith) (rw (lt-leb n (0 * x) nothing) refl)
+    unfolding shapeOf ceilingOf commandBytes heightAfter fetchOf lastOf operatorCode commandOk
+    op-33 = operated 2 63 (after-of 0x33) (h - 1) refl (omega arith) (omega arith) (rw byte-small refl)
 
     op-34 : Goes 0x34
-    unfolding Goes after-of shapeOf commandBytes afterOf operatorCode commandOk
-    op-34 _ = operated 2 (after-of 0x34) (h - 1) (omega arith) (omega arith) (rw (lt-leb n (0 * x) nothing) refl)
+    unfolding shapeOf ceilingOf commandBytes heightAfter fetchOf lastOf operatorCode commandOk
+    op-34 = operated 2 63 (after-of 0x34) (h - 1) refl (omega arith) (omega arith) (rw byte-small refl)
 
     op-35 : Goes 0x35
-    unfolding Goes after-of shapeOf commandBytes afterOf operatorCode commandOk
-    op-35 _ = operated 2 (after-of 0x35) (h - 1) (omega arith) (omega arith) (rw (lt-leb n (0 * x) nothing) refl)
+    unfolding shapeOf ceilingOf commandBytes heightAfter fetchOf lastOf operatorCode commandOk
+    op-35 = operated 2 63 (after-of 0x35) (h - 1) refl (omega arith) (omega arith) (rw byte-small refl)
 
     op-36 : Goes 0x36
-    unfolding Goes after-of shapeOf commandBytes afterOf operatorCode commandOk
-    op-36 _ = operated 2 (after-of 0x36) (h - 1) (omega arith) (omega arith) (rw (lt-leb n (0 * x) nothing) refl)
+    unfolding shapeOf ceilingOf commandBytes heightAfter fetchOf lastOf operatorCode commandOk
+    op-36 = operated 2 63 (after-of 0x36) (h - 1) refl (omega arith) (omega arith) (rw byte-small refl)
 
     op-38 : Goes 0x38
-    unfolding Goes after-of shapeOf commandBytes afterOf operatorCode commandOk
-    op-38 _ = operated 1 (after-of 0x38) h (omega arith) (omega arith) (rw (lt-leb n (0 * x) nothing) refl)
+    unfolding shapeOf ceilingOf commandBytes heightAfter fetchOf lastOf operatorCode commandOk
+    op-38 = operated 1 64 (after-of 0x38) h refl (omega arith) (omega arith) (rw byte-small refl)
 
     op-3A : Goes 0x3A
-    unfolding Goes after-of shapeOf commandBytes afterOf operatorCode commandOk
-    op-3A _ = operated 3 (after-of 0x3A) (h - 2) (omega arith) (omega arith) (rw (lt-leb n (0 * x) nothing) refl)
+    unfolding shapeOf ceilingOf commandBytes heightAfter fetchOf lastOf operatorCode commandOk
+    op-3A = operated 3 62 (after-of 0x3A) (h - 2) refl (omega arith) (omega arith) (rw byte-small refl)
 
--- TABLE, where there are rows
+    -- no command
+    none-goes : (b : ℕ) → Other b → Goes b
+    unfolding heightAfter fetchOf lastOf commandOk
+    none-goes b o = rw (no-command code at o, no-shape rows o, le-leb (h + 0) 64 (omega arith), o .leaves .2, o .leaves .3) refl
+
+-- TABLE, which needs rows
 table-goes : (left : ℕ) (rows : Bool) (code : List ℕ) (at n own h : ℕ) (two : at + 1 < length code) (most : h ≤ 32)
-    (some : 0 < n) →
-    Goes left rows code at n own h two most some 0x3B
-unfolding Goes after-of shapeOf commandBytes afterOf operatorCode commandOk
-table-goes left true code at n own h two most some _ =
-    operated left true code at n own h two most some 1 (after-of left true code at n own h two most some 0x3B) h (omega arith)
-    (omega arith) (rw (lt-leb n (0 * byteAt code (at + 1)) (nothing left true code at n own h two most some)) refl)
-table-goes left false code at n own h two most some shaped = absurd (shaped refl)
+    (some : 0 < n) (small : byteAt code (at + 1) < 256) → Goes left rows code at n own h two most some small 0x3B
+unfolding shapeOf ceilingOf commandBytes heightAfter fetchOf lastOf operatorCode commandOk
+table-goes left true code at n own h two most some small =
+    operated left true code at n own h two most some small 1 64 (after-of left true code at n own h two most some small 0x3B) h
+    refl (omega arith) (omega arith) (rw (byte-small left true code at n own h two most some small) refl)
+table-goes left false code at n own h two most some small = rw (le-leb (h + 0) 64 (omega arith)) refl
 
 module _ (left : ℕ) (rows : Bool) (code : List ℕ) (at n own h : ℕ) (two : at + 1 < length code) (most : h ≤ 32) (some : 0 < n)
+    (small : byteAt code (at + 1) < 256)
   where
-    pub goes : (b : ℕ) → (shapeOf rows b ≡ 0 → ⊥) →
-        Turn left rows code at n own h two most some (step (commandOf b code at) left rows code at n own h) (commandBytes b)
-        (afterOf (shapeOf rows b) b (byteAt code (at + 1)) h n own)
-    unfolding Goes after-of shapeOf
+    pub goes : (b : ℕ) → Goes left rows code at n own h two most some small b
     goes b =
-        by-byte b (Goes left rows code at n own h two most some) (push-goes left rows code at n own h two most some)
-        (load-goes left rows code at n own h two most some) (fetch-goes left rows code at n own h two most some)
-        (λ shaped. absurd (shaped refl)) (
-          op-30 left rows code at n own h two most some,
-          op-31 left rows code at n own h two most some,
-          op-32 left rows code at n own h two most some,
-          op-33 left rows code at n own h two most some,
-          op-34 left rows code at n own h two most some,
-          op-35 left rows code at n own h two most some,
-          op-36 left rows code at n own h two most some,
+        by-byte b (Goes left rows code at n own h two most some small) (push-goes left rows code at n own h two most some small)
+        (load-goes left rows code at n own h two most some small) (fetch-goes left rows code at n own h two most some small)
+        (store-goes left rows code at n own h two most some small) (
+          op-30 left rows code at n own h two most some small,
+          op-31 left rows code at n own h two most some small,
+          op-32 left rows code at n own h two most some small,
+          op-33 left rows code at n own h two most some small,
+          op-34 left rows code at n own h two most some small,
+          op-35 left rows code at n own h two most some small,
+          op-36 left rows code at n own h two most some small,
         )
-        (op-38 left rows code at n own h two most some) (op-3A left rows code at n own h two most some)
-        (table-goes left rows code at n own h two most some)
-        (λ o no. absurd (no (no-shape rows o)))
-
-    -- the turn is the last one
-    Stops : ℕ → Type 0
-    Stops b = shapeOf rows b ≡ 0 → step (commandOf b code at) left rows code at n own h ≡
-        (lastOf b (byteAt code (at + 1)) own h && eqb (at + 2) (length code))
-
-    more : {m : ℕ} {X : Type 0} → suc m ≡ 0 → X
-    more e = let z : ⊥ = omega (arith, e) in absurd z
-
-    store-stops : Stops 0x5F
-    unfolding Stops lastOf commandOk
-    store-stops _ = rw (whole left rows code at n own h two most some)
-
-    table-stops : (r : Bool) → rows ≡ r → Stops 0x3B
-    unfolding Stops shapeOf lastOf operatorCode commandOk
-    table-stops true e z = more (rw e at z)
-    table-stops false e z = rw e
-
-    pub stops : (b : ℕ) → shapeOf rows b ≡ 0 →
-        step (commandOf b code at) left rows code at n own h ≡
-        (lastOf b (byteAt code (at + 1)) own h && eqb (at + 2) (length code))
-    unfolding Stops shapeOf lastOf commandOk
-    stops b =
-        by-byte b Stops more more more store-stops (more, more, more, more, more, more, more) more more
-        (table-stops rows refl) (λ o _. rw (no-command code at o, o .leaves .3))
+        (op-38 left rows code at n own h two most some small) (op-3A left rows code at n own h two most some small)
+        (table-goes left rows code at n own h two most some small) (none-goes left rows code at n own h two most some small b)
 
 -- the check of a code from `at` on, by the byte there
 pub turn : (left : ℕ) (rows : Bool) (code : List ℕ) (at n own h : ℕ) → at < length code → 0 < left
@@ -309,20 +299,6 @@ short (suc left) rows code at n own h p =
     (λ t. past (suc left) rows code at n own h (leb-true _ _ t))
     (λ t. turn (suc left) rows code at n own h (leb-false _ _ t) (omega arith) ∙
     fails (suc left - 1) rows code at n own h p (byteAt code at))
-
-Small : Bool → ℕ → Type 0
-Small rows b = shapeOf rows b ≤ 9
-
-table-small : (rows : Bool) → cond rows 2 0 ≤ 9
-table-small true = omega arith
-table-small false = omega arith
-
-pub shape-most : (rows : Bool) (b : ℕ) → shapeOf rows b ≤ 9
-unfolding Small shapeOf
-shape-most rows b =
-    by-byte b (Small rows) (omega arith) (omega arith) (omega arith) (omega arith)
-    (omega arith, omega arith, omega arith, omega arith, omega arith, omega arith, omega arith) (omega arith) (omega arith)
-    (table-small rows) (λ o. omega (arith, no-shape rows o))
 
 pub length-some : (b : ℕ) → (1 ≤ commandBytes b) × (commandBytes b ≤ 5)
 unfolding commandBytes

@@ -1,28 +1,30 @@
-// Whether the code of a signal is well formed: one turn for a command, by a table of what each byte commands.
+// What the check of an image's code knows of a command by its byte: two tables, filled once a call, and what they say of one command.
 ghost use mathlib.Core.Bool.{false};
 ghost use mathlib.Core.Path.{_≡_};
-ghost use Prim.Native.Nat.{_<_, _≤_};
-ghost use Rattle.image_valid_code.specs.Shape.{shapeOf, Shapes, isTabled, commandBytes, afterOf, lastOf};
-ghost use Rattle.model.specs.Rules.Machine.{codeOk};
+ghost use Prim.Native.Nat.{_+_, _<_, _≤_};
+ghost use lib.ListN.{length};
+ghost use Rattle.image_valid_code.specs.Shape.{Shapes, Ceilings, commandBytes, afterOf, fetchOf, lastOf};
+ghost use Rattle.model.specs.Rules.Word.{byteAt};
 
-// The shape of a command: 1 and the words that it takes off the stack, and 8 more for LOAD, whose signal is judged by its number.
-const PUSHES: u8 = 1;
+// The shape of a command: LEVEL and the words that the stack has more after it. Its sum with the words before tells by one range
+// whether there are enough of them and not too many after it.
+const LEVEL: usize = 64;
 
-const LOADS: u8 = 9;
+const PUSHES: u8 = 65;
 
-const ONE_OPERAND: u8 = 2;
+const ONE_OPERAND: u8 = 64;
 
-const TWO_OPERANDS: u8 = 3;
+const TWO_OPERANDS: u8 = 63;
 
-const THREE_OPERANDS: u8 = 4;
+const THREE_OPERANDS: u8 = 62;
 
-// No command, or STORE.
+// No command, or FETCH and STORE, which name their own signal.
 const NO_SHAPE: u8 = 0;
 
 // More words than the stack may hold: the command may not stand where it does.
 const TOO_HIGH: usize = 33;
 
-// What each byte commands, in an image without rows.
+// The shape of each byte, in an image without rows.
 fn plain_shapes() -> [u8; 256]
     ensures { λ r. ⌜ Shapes false r ⌝ }
 {
@@ -37,8 +39,7 @@ fn plain_shapes() -> [u8; 256]
     table[0x38] = ONE_OPERAND;
     table[0x3A] = THREE_OPERANDS;
     table[0x50] = PUSHES;
-    table[0x51] = LOADS;
-    table[0x52] = PUSHES;
+    table[0x51] = PUSHES;
     table
 }
 
@@ -54,16 +55,18 @@ pub fn shapes(rows: bool) -> [u8; 256]
     table
 }
 
-fn shape(table: &[u8; 256], byte: u8) -> usize
-    requires { ⌜ Shapes (isTabled (now table)) (now table) ⌝ }
-    ensures { λ r. ⌜ r ≡ shapeOf (isTabled (now (table .entry))) byte ⌝ }
+// The greatest byte that may follow each byte, in an image of n signals: LOAD names one of them.
+pub fn ceilings(n: u8) -> [u8; 256]
+    requires { ⌜ 0 < n ⌝ }
+    ensures { λ r. ⌜ Ceilings n r ⌝ }
 {
-    let i = basics::wide(byte);
-    basics::wide(table[i])
+    let mut table = [255; 256];
+    table[0x51] = n - 1;
+    table
 }
 
 // The bytes of a command that is not STORE. The operators are as wide as ADD.
-fn command_bytes(byte: u8) -> usize
+pub fn command_bytes(byte: u8) -> usize
     ensures { λ r. ⌜ r ≡ commandBytes byte ⌝ }
 {
     if byte == 0x50 {
@@ -75,29 +78,42 @@ fn command_bytes(byte: u8) -> usize
     width::in_code(0x51)
 }
 
-// The words on the stack after the command of a shape with `byte` and then x, where it held h; TOO_HIGH where it may not stand there.
-fn after(shape: usize, byte: u8, x: u8, h: usize, n: u8, own: u8) -> usize
-    requires { ⌜ (h ≤ 32) × (shape ≤ 9) ⌝ }
-    ensures { λ r. ⌜ r ≡ afterOf shape byte x h n own ⌝ }
+// The words on the stack after the command at `at`, where it held h; TOO_HIGH where it has no shape or may not stand there.
+pub fn after(code: &[u8], at: usize, h: usize, shapes: &[u8; 256], ceilings: &[u8; 256]) -> usize
+    requires { ⌜ (at + 1 < length (now code)) × (h ≤ 32) ⌝ }
+    ensures { λ r. ⌜ (r ≡ afterOf (now (shapes .entry)) (now (ceilings .entry)) (byteAt (now (code .entry)) at) (byteAt (now (code .entry)) (at + 1)) h)
+        × (byteAt (now (code .entry)) at < 256) × (byteAt (now (code .entry)) (at + 1) < 256) ⌝ }
 {
-    let takes = shape % 8;
-    if h + 1 < takes {
+    let byte = basics::wide(code[at]);
+    let x = basics::wide(code[at + 1]);
+    let next = h + basics::wide(shapes[byte]);
+    if next <= LEVEL {
         return TOO_HIGH;
     }
-    if basics::wide(n) <= shape / 8 * basics::wide(x) {
+    if LEVEL + 32 < next {
         return TOO_HIGH;
     }
+    if basics::wide(ceilings[byte]) < x {
+        return TOO_HIGH;
+    }
+    next - LEVEL
+}
+
+// FETCH of the own signal, where the stack has room for a word.
+pub fn is_fetch(byte: u8, x: u8, own: u8, h: usize) -> bool
+    ensures { λ r. ⌜ r ≡ fetchOf byte x own h ⌝ }
+{
     if byte == 0x52 {
         if x == own {
-            return h + 2 - takes;
+            return h < 32;
         }
-        return TOO_HIGH;
+        return false;
     }
-    h + 2 - takes
+    false
 }
 
 // STORE of the own signal, where the stack holds one word.
-fn is_last(byte: u8, x: u8, own: u8, h: usize) -> bool
+pub fn is_last(byte: u8, x: u8, own: u8, h: usize) -> bool
     ensures { λ r. ⌜ r ≡ lastOf byte x own h ⌝ }
 {
     if byte == 0x5F {
@@ -105,32 +121,6 @@ fn is_last(byte: u8, x: u8, own: u8, h: usize) -> bool
             return h == 1;
         }
         return false;
-    }
-    false
-}
-
-// Whether the code of signal `own` is well formed in an image of n signals, with rows or without as the table of shapes is.
-pub fn code_ok(code: &[u8], n: u8, own: u8, table: &[u8; 256]) -> bool
-    requires { ⌜ Shapes (isTabled (now table)) (now table) × (own < n) ⌝ }
-    ensures { λ r. ⌜ r ≡ codeOk (isTabled (now (table .entry))) (now (code .entry)) n own ⌝ }
-{
-    let mut at: usize = 0;
-    let mut h: usize = 0;
-    while at + 1 < code.len() {
-        let byte = code[at];
-        let x = code[at + 1];
-        let found = shape(table, byte);
-        if found == 0 {
-            if is_last(byte, x, own, h) {
-                return at + width::in_code(0x5F) == code.len();
-            }
-            return false;
-        }
-        h = after(found, byte, x, h, n, own);
-        if 32 < h {
-            return false;
-        }
-        at = at + command_bytes(byte);
     }
     false
 }

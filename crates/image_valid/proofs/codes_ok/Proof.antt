@@ -1,136 +1,192 @@
 -- `image_valid::codes_ok` meets its contract. Assumes nothing.
-use mathlib.Core.Path.{_≡_, sym, ap, _∙_}
-use mathlib.Core.Bool.{Bool, true, false, _&&_}
+use mathlib.Core.Path.{_≡_, refl, sym, ap, subst, _∙_}
+use mathlib.Core.Bool.{Bool, false}
 use mathlib.Core.List.{List}
-use Prim.Native.Nat.{ℕ, _+_, _-_, _≤_}
+use mathlib.Core.Logic.{inr}
+use Prim.Native.Nat.{ℕ, zero, suc, _+_, _-_, _/_, _≤_, _<_}
 use native.Mathlib.Omega.{arith}
 use borrow.Author.Needs.{needs}
-use borrow.Author.Tests.{le-leb, lt-leb, not-true, not-false}
-use lib.Dec.{leb, ltb}
+use borrow.Author.Tests.{eqb-true, eqb-false, ltb-true}
+use lib.Dec.{eqb}
 use lib.ListN.{length}
-use Rattle.model.specs.Rules.Machine.{countOf, rowCount, codeOffset, codeOf, codeOk, codesOk}
+use Rattle.model.specs.Rules.Machine.{countOf, codeOffset, codesOk}
 use Rattle.model.specs.Rules.Search.{allBelow}
-use Rattle.image_valid_code.specs.Shape.{shapeOf, Shapes, isTabled}
-use Rattle.model.proofs.Pairs.Decide.{all-none, all-more, all-fails}
+use Rattle.model.proofs.Basics.Tests.{by}
+use Rattle.model.proofs.Pairs.Decide.{all-none}
+use Rattle.image_valid_code.specs.Shape.{Shapes}
+use Rattle.image_valid.specs.Walk.{WithTables, CursorOk, good, PassedFrom}
+use Rattle.image_valid.specs.declared.Cursor.{Cursor}
+use Rattle.image_valid.proofs.Parts.{head}
+use Rattle.image_valid.proofs.Walking.{begun, stuck, all-good, offset-end}
 use Rattle.image_valid.proofs.codes_ok.Statement.{statement}
 use Rattle.image_valid.proofs.codes_ok.Tie as tie
 
--- the code of signal x is a stretch of the image, and well formed
-abbrev good : List ℕ → ℕ → Bool
-good image x =
-    leb (codeOffset image x) (codeOffset image (x + 1)) && leb (codeOffset image (x + 1)) (length image) && codeOk
-    (ltb 0 (rowCount image)) (codeOf image x) (countOf image) x
-
 abbrev Inv-loop : tie.InvT-loop
-Inv-loop image n rows table count from₀ x₀ from x = (allBelow x (good image) ≡ true) × (x ≤ n) × (from ≡ codeOffset image x)
+Inv-loop image n rows shapes ceilings count half start middle end first₀ second₀ first second =
+    PassedFrom image 0 first × PassedFrom image half second × CursorOk image first × CursorOk image second
 
 abbrev μ-loop : tie.MeasureT-loop
-μ-loop image n rows table count from₀ x₀ from x = n - x
+μ-loop image n rows shapes ceilings count half start middle end first₀ second₀ first second = middle - first .at
 
-abbrev start : tie.At-loop Inv-loop μ-loop → tie.Start Inv-loop μ-loop
-start l = l .before .before .before .before .before
+-- a check that starts with code x
+starts : (image : List ℕ) (x at : ℕ) → at ≡ codeOffset image x → PassedFrom image x (record { at = at; height = 0; own = x })
+starts image x at e = record { passed = λ y a b. absurd (omega arith); tells = inr (begun image x at e) }
 
-abbrev turn : tie.After-code-offset2 Inv-loop μ-loop → tie.At-loop Inv-loop μ-loop
-turn o = o .before .before .before
+starts-within : (image : List ℕ) (x at : ℕ) → x < countOf image → CursorOk image (record { at = at; height = 0; own = x })
+starts-within image x at l = record { most = omega arith; named = omega arith; inside = λ _. l }
 
--- where the code of the turn's signal ends
-ends : (o : tie.After-code-offset2 Inv-loop μ-loop) →
-    o .code-offset2 .result ≡ codeOffset (start (turn o) .args .image .now) (turn o .loop .x + 1)
-ends o = o .code-offset2 .ensures ∙
-    ap (λ (k : ℕ). codeOffset (start (turn o) .args .image .now) (k + 1)) (o .before .wide2 .ensures .0)
+some : (n : ℕ) → (n ≡ 0 → ⊥) → 0 < n
+some zero h = absurd (h refl)
+some (suc n) h = omega arith
 
--- a code that is not well formed
-fails : (o : tie.After-code-offset2 Inv-loop μ-loop) → good (start (turn o) .args .image .now) (turn o .loop .x) ≡ false →
-    false ≡ codesOk (start (turn o) .args .image .now)
-unfolding codesOk
-fails o e = sym (all-fails _ _ (turn o .loop .x) (omega (arith, o .before .before .loop-test .taken, start (turn o) .pre .1)) e)
+module _ (o : tie.After-code-offset2 Inv-loop μ-loop) where
+  abbrev start : tie.Start Inv-loop μ-loop
+  start = o .before .before .before .before .before .before .before .before
 
--- the table of shapes is one with rows if there are rows
-tabled-is : (rows : Bool) (table : List ℕ) → Shapes rows table → isTabled table ≡ rows
-unfolding shapeOf
-tabled-is true table h = ap (ltb 0) (h .entry 0x3B (omega arith))
-tabled-is false table h = ap (ltb 0) (h .entry 0x3B (omega arith))
+  abbrev image : List ℕ
+  image = start .args .image .now
 
-shaped : (l : tie.At-loop Inv-loop μ-loop) → isTabled (l .before .before .before .shapes .result) ≡ start l .args .rows
-shaped l = tabled-is _ _ (l .before .before .before .shapes .ensures)
+  abbrev n : ℕ
+  n = start .args .n
 
--- the code that was handed on
-code : (k : tie.After-code-ok Inv-loop μ-loop) {b : Bool} → k .code-ok .result ≡ b
-    → let o = k .before .before .before .before .before in let image = start (turn o) .args .image .now in
-    codeOk (ltb 0 (rowCount image)) (codeOf image (turn o .loop .x)) (countOf image) (turn o .loop .x) ≡ b
-unfolding codeOf
-code k e =
-    let o = k .before .before .before .before .before in
-    let image = start (turn o) .args .image .now in
-    ap (λ (t : Bool). codeOk t (codeOf image (turn o .loop .x)) (countOf image) (turn o .loop .x))
-    (sym (start (turn o) .pre .2) ∙ sym (shaped (turn o))) ∙
-    rw (← (turn o .loop .inv .2), ← (ends o), ← (start (turn o) .pre .1)) (sym (k .code-ok .ensures) ∙ e)
+  abbrev half : ℕ
+  half = n / 2
 
-code-offset-requires : tie.Need-code-offset-requires Inv-loop μ-loop
-code-offset-requires c κs = let s = c .before .before .before in (s .pre .0, c .wide .ensures .0 ∙ s .pre .1)
+  abbrev middle : ℕ
+  middle = o .code-offset2 .result
 
-loop-holds : tie.Need-loop-holds Inv-loop μ-loop
-loop-holds c = (all-none _, omega arith, c .code-offset .ensures)
+  signals : 0 < n
+  signals = some n (o .before .before .before .before .before .before .if1 .left)
 
-code-offset-requires-2 : tie.Need-code-offset-requires-2 Inv-loop μ-loop
-code-offset-requires-2 c κs = let l = c .before .before in
-    (start l .pre .0, l .before .before .wide .ensures .0 ∙ start l .pre .1)
+  halved : half < countOf image
+  halved = omega (arith, signals, start .pre .1)
+
+  four : 4 ≤ length image
+  four = head image (start .pre .0) .four
+
+  starts-at : o .before .before .code-offset .result ≡ codeOffset image 0
+  starts-at = o .before .before .code-offset .ensures
+
+  middle-at : middle ≡ codeOffset image half
+  middle-at = o .code-offset2 .ensures ∙ ap (codeOffset image) (o .before .wide2 .ensures .0)
+
+  checks : WithTables image n (o .before .before .before .before .before .shapes .result)
+      (o .before .before .before .before .ceilings .result)
+  checks = record {
+    head = start .pre .0;
+    count = start .pre .1;
+    shaped = subst (λ (b : Bool). Shapes b (o .before .before .before .before .before .shapes .result)) (start .pre .2)
+        (o .before .before .before .before .before .shapes .ensures);
+    topped = o .before .before .before .before .ceilings .ensures;
+  }
+
+  -- a check that has come to the image's end short of the last code
+  short-of : (s : ℕ) (c : Cursor) → PassedFrom image s c → c .own < countOf image → length image ≤ c .at + 1 →
+      codesOk image ≡ false
+  short-of s c st l e =
+      stuck image c st (countOf image) (omega arith) l
+      (omega (arith, e, offset-end image (countOf image) (omega arith)))
 
 returns : tie.Need-returns Inv-loop μ-loop
 unfolding codesOk
 returns c =
-    let o = c .before in
-    fails o (rw (← (turn o .loop .inv .2), ← (ends o), lt-leb _ _ (c .if1 .taken)))
+    let s = c .before .before in
+    let image = s .args .image .now in
+    sym (ap (λ (k : ℕ). allBelow k (good image)) (sym (s .pre .1) ∙ c .if1 .taken) ∙ all-none (good image))
 
 returns-2 : tie.Need-returns-2 Inv-loop μ-loop
-unfolding codesOk
 returns-2 c =
-    let o = c .before .before in
-    fails o (rw (← (turn o .loop .inv .2), ← (ends o), le-leb _ _ (c .before .if1 .left), lt-leb _ _ (c .if2 .taken)))
+    let o = c .before in
+    sym (short-of o (half o) _ (starts (image o) (half o) (middle o) (middle-at o)) (halved o)
+    (omega (arith, four o, c .if2 .taken)))
 
-code-ok-requires : tie.Need-code-ok-requires Inv-loop μ-loop
-code-ok-requires c κs =
-    let c6 = c .before .before .before .before .before .before in
-    let c10 = c6 .before .before .before .before in
-    (rw (shaped (c6 .before)) (c10 .shapes .ensures), c6 .loop-test .taken)
+loop-holds : tie.Need-loop-holds Inv-loop μ-loop
+loop-holds c =
+    let o = c .before in (
+      starts (image o) 0 _ (starts-at o),
+      starts (image o) (half o) _ (middle-at o),
+      starts-within (image o) 0 _ (omega (arith, halved o)),
+      starts-within (image o) (half o) _ (halved o),
+    )
 
-returns-3 : tie.Need-returns-3 Inv-loop μ-loop
-unfolding codesOk
-returns-3 c =
-    let k = c .before in
-    let e = k .before .before .before in
-    fails (e .before .before) (rw (
-      ← (turn (e .before .before) .loop .inv .2),
-      ← (ends (e .before .before)),
-      le-leb _ _ (e .before .if1 .left),
-      le-leb _ _ (e .if2 .left),
-    ) (code k (not-true _ (c .if3 .taken))))
+abbrev offsets : tie.At-loop Inv-loop μ-loop → tie.After-code-offset2 Inv-loop μ-loop
+offsets l = l .before .before
+
+advance-requires : tie.Need-advance-requires Inv-loop μ-loop
+advance-requires c κs =
+    let l = c .before .before .before .before .before .before in
+    let o = offsets l in
+    (checks o, l .loop .inv .2, omega (arith, four o, l .before .if2 .left, c .before .before .before .before .if3 .taken))
+
+advance-requires-2 : tie.Need-advance-requires-2 Inv-loop μ-loop
+advance-requires-2 c κs =
+    let t = c .before .before .before .before .before in
+    let l = t .before .before .before .before in
+    let o = offsets l in
+    (checks o, l .loop .inv .3, omega (arith, four o, ltb-true (l .loop .second .at) (length (image o) - 1) (t .if4 .taken)))
+
+loop-less : tie.Need-loop-less Inv-loop μ-loop
+loop-less c =
+    let s = c .before .before .before in
+    omega (arith, s .advance .ensures .1, s .before .before .before .before .before .if3 .taken)
 
 loop-again : tie.Need-loop-again Inv-loop μ-loop
 loop-again c =
-    let k = c .before in
-    let e = k .before .before .before in
-    let o = e .before .before in
-    let l = turn o in (
-      all-more (l .loop .x) (good (start l .args .image .now)) (l .loop .inv .0)
-          (rw (← (l .loop .inv .2), ← (ends o), le-leb _ _ (e .before .if1 .left), le-leb _ _ (e .if2 .left))
-          (code k (not-false _ (c .if3 .left)))),
-      omega arith,
-      ends o,
-    )
+    let s = c .before .before .before in
+    let l = s .before .before .before .before .before .before .before in
+    let first = s .advance .ensures .0 in
+    let second = c .advance2 .ensures .0 in
+    (first .stands 0 (l .loop .inv .0), second .stands _ (l .loop .inv .1), first .within, second .within)
+
+advance-to-requires : tie.Need-advance-to-requires Inv-loop μ-loop
+advance-to-requires c κs =
+    let l = c .before .before .before .before in
+    let o = offsets l in
+    (checks o, l .loop .inv .2, omega (arith, four o, l .before .if2 .left))
+
+advance-to-requires-2 : tie.Need-advance-to-requires-2 Inv-loop μ-loop
+advance-to-requires-2 c κs =
+    let l = c .before .before .before .before .before .before .before in
+    let o = offsets l in
+    (checks o, l .loop .inv .3, omega (arith, four o))
+
+-- the two checks at their ends
+module _ (k : tie.After-advance-to2 Inv-loop μ-loop) where
+  abbrev w : tie.After-advance-to Inv-loop μ-loop
+  w = k .before .before .before
+
+  abbrev l : tie.At-loop Inv-loop μ-loop
+  l = w .before .before .before .before .before
+
+  first-stands : PassedFrom (image (offsets l)) 0 (w .advance-to .result)
+  first-stands = w .advance-to .ensures .0 .stands 0 (l .loop .inv .0)
+
+  second-stands : PassedFrom (image (offsets l)) (half (offsets l)) (k .advance-to2 .result)
+  second-stands = k .advance-to2 .ensures .0 .stands _ (l .loop .inv .1)
+
+returns-3 : tie.Need-returns-3 Inv-loop μ-loop
+returns-3 c =
+    let k = c .before .before in
+    let o = offsets (l k) in
+    sym (stuck (image o) (w k .advance-to .result) (first-stands k) (half o) (omega (arith, halved o)) (c .if5 .taken)
+    (omega (arith, middle-at o, w k .advance-to .ensures .1)))
 
 returns-4 : tie.Need-returns-4 Inv-loop μ-loop
-unfolding codesOk
 returns-4 c =
-    let l = c .before in
-    let image = start l .args .image .now in
-    let e : l .loop .x ≡ countOf image = omega (arith, start l .pre .1) in
-    sym (l .loop .inv .0) ∙ ap (λ (k : ℕ). allBelow k (good image)) e
+    let k = c .before .before .before in
+    let o = offsets (l k) in
+    let own = k .advance-to2 .result .own in
+    by (eqb own (n o))
+    (λ t. rw t (sym (all-good (image o) (half o) (first-stands k) (second-stands k) (c .before .if5 .left)
+    (eqb-true own (n o) t ∙ start o .pre .1))))
+    (λ f. rw f (sym (short-of o (half o) (k .advance-to2 .result) (second-stands k)
+    (omega (arith, eqb-false own (n o) f, start o .pre .1, k .advance-to2 .ensures .0 .within .named))
+    (omega (arith, four o, k .advance-to2 .ensures .1)))))
 
 pub codes-ok-spec : {M : Type 1} → statement M
 codes-ok-spec =
     tie.close
-    (tie.spec Inv-loop μ-loop (λ c κs. search needs) (λ c κs. search needs) code-offset-requires loop-holds
-    (λ c κs. search needs) (λ c. omega (arith, c .wide2 .ensures .1)) code-offset-requires-2 returns returns-2
-    (λ c. c .before .if1 .left) (λ c. c .if2 .left) code-ok-requires returns-3 (λ c. omega arith) (λ c. omega arith) loop-again
-    returns-4)
+    (tie.spec Inv-loop μ-loop returns (λ c κs. search needs) (λ c κs. search needs) (λ c κs. search needs) (λ c κs. search needs)
+    (λ c κs. search needs) (λ c κs. search needs) (λ c. omega (arith, four c)) returns-2 loop-holds advance-requires
+    advance-requires-2 loop-less
+    loop-again advance-to-requires advance-to-requires-2 returns-3 returns-4)

@@ -1,64 +1,99 @@
 -- `image_valid_code::after` meets its contract. Assumes nothing.
-use Prim.Native.Nat.{_*_, _/_, _≤_, _<_}
-use native.Mathlib.Nat.{mul-le-mul-left, le-of-lt}
+use mathlib.Core.Path.{_≡_, ap, _∙_}
+use Prim.Native.Nat.{ℕ, _+_, _≤_, _<_}
 use native.Mathlib.Omega.{arith}
-use borrow.Author.Tests.{eq-eqb, ne-eqb, lt-ltb, le-ltb, le-leb, lt-leb}
-use Rattle.image_valid_code.specs.Shape.{afterOf}
 use borrow.Author.Needs.{needs}
+use borrow.Author.Tests.{le-leb, lt-leb, lt-ltb, le-ltb}
+use lib.ListN.{getD}
+use Rattle.image_valid_code.specs.Shape.{heightAfter}
+use Rattle.model.specs.Rules.Word.{byteAt}
 use Rattle.image_valid_code.proofs.after.Statement.{statement}
 use Rattle.image_valid_code.proofs.after.Tie as tie
 
+abbrev start : tie.After-wide3 → tie.Start
+start w = w .before .before .before .before .before .before .before
+
+abbrev byte : tie.After-wide3 → ℕ
+byte w = byteAt (start w .args .code .now) (start w .args .at)
+
+abbrev Small : tie.After-wide3 → Type 0
+Small w = (byte w < 256) × (byteAt (start w .args .code .now) (start w .args .at + 1) < 256)
+
+small : (w : tie.After-wide3) → Small w
+small w =
+    let b = w .before .before .before .before .wide .ensures in
+    let x = w .before .before .wide2 .ensures in
+    (rw (b .0) at (b .1), rw (x .0) at (x .1))
+
+-- the entry of a table for the byte
+shape : (w : tie.After-wide3) → w .wide3 .result ≡ byteAt (start w .args .shapes .now) (byte w)
+shape w = w .wide3 .ensures .0 ∙
+    ap (λ (i : ℕ). getD (start w .args .shapes .now) i 0) (w .before .before .before .before .wide .ensures .0)
+
+abbrev tables : tie.After-wide4 → tie.After-wide3
+tables l = l .before .before .before .before
+
+ceiling : (l : tie.After-wide4) → l .wide4 .result ≡ byteAt (start (tables l) .args .ceilings .now) (byte (tables l))
+ceiling l = l .wide4 .ensures .0 ∙
+    ap (λ (i : ℕ). getD (start (tables l) .args .ceilings .now) i 0) (tables l .before .before .before .before .wide .ensures .0)
+
+over : {a b m x : ℕ} → a ≡ m → b ≡ x → a < b → m < x
+over e f h = omega arith
+
+under : {a b m x : ℕ} → a ≡ m → b ≡ x → b ≤ a → x ≤ m
+under e f h = omega arith
+
 returns : tie.Need-returns
-unfolding afterOf
-returns c = simp (lt-ltb _ _ (c .if1 .taken))
-
-mul-if2 : tie.Need-mul-if2
-mul-if2 c = let a = c .before .before .before .args in
-    omega (arith, mul-le-mul-left (a .shape / 8) (le-of-lt (c .wide2 .ensures .1)), c .before .before .before .pre .1)
-
--- the test on a signal's number, of the bytes themselves
-over : (w : tie.After-wide2) →
-    let a = w .before .before .before .args in
-    w .before .wide .result ≤ a .shape / 8 * w .wide2 .result → a .n ≤ a .shape / 8 * a .x
-over w h = rw (w .before .wide .ensures .0, w .wide2 .ensures .0) at h
-
-under : (w : tie.After-wide2) →
-    let a = w .before .before .before .args in
-    a .shape / 8 * w .wide2 .result < w .before .wide .result → a .shape / 8 * a .x < a .n
-under w h = rw (w .before .wide .ensures .0, w .wide2 .ensures .0) at h
+unfolding heightAfter
+returns c = let w = c .before in (simp (le-leb _ _ (rw (shape w) at (c .if1 .taken))), small w .0, small w .1)
 
 returns-2 : tie.Need-returns-2
-unfolding afterOf
-returns-2 c = simp (le-ltb _ _ (c .before .before .before .if1 .left), le-leb _ _ (over (c .before) (c .if2 .taken)))
+unfolding heightAfter
+returns-2 c =
+    let w = c .before .before in
+    let few = lt-leb _ _ (rw (shape w) at (c .before .if1 .left)) in
+    (simp (few, lt-ltb _ _ (rw (shape w) at (c .if2 .taken))), small w .0, small w .1)
+
+-- the stack's words are in the range
+module _ (l : tie.After-wide4) where
+  abbrev w : tie.After-wide3
+  w = tables l
+
+  enough : 64 < start w .args .h + byteAt (start w .args .shapes .now) (byte w)
+  enough = rw (shape w) at (l .before .before .before .if1 .left)
+
+  most : start w .args .h + byteAt (start w .args .shapes .now) (byte w) ≤ 96
+  most = rw (shape w) at (l .before .before .if2 .left)
 
 returns-3 : tie.Need-returns-3
-unfolding afterOf
-returns-3 c = simp (
-  le-ltb _ _ (c .before .before .before .before .before .if1 .left),
-  lt-leb _ _ (under (c .before .before .before) (c .before .before .if2 .left)),
-  eq-eqb _ _ (c .before .if3 .taken),
-  eq-eqb _ _ (c .if4 .taken),
-)
+unfolding heightAfter
+returns-3 c =
+    let l = c .before in (
+      simp (
+        lt-leb _ _ (enough l),
+        le-ltb _ _ (most l),
+        lt-ltb _ _ (over (ceiling l) (tables l .before .before .wide2 .ensures .0) (c .if3 .taken)),
+      ),
+      small (tables l) .0,
+      small (tables l) .1,
+    )
 
 returns-4 : tie.Need-returns-4
-unfolding afterOf
-returns-4 c = simp (
-  le-ltb _ _ (c .before .before .before .before .before .if1 .left),
-  lt-leb _ _ (under (c .before .before .before) (c .before .before .if2 .left)),
-  eq-eqb _ _ (c .before .if3 .taken),
-  ne-eqb _ _ (c .if4 .left),
-)
-
-returns-5 : tie.Need-returns-5
-unfolding afterOf
-returns-5 c = simp (
-  le-ltb _ _ (c .before .before .before .before .if1 .left),
-  lt-leb _ _ (under (c .before .before) (c .before .if2 .left)),
-  ne-eqb _ _ (c .if3 .left),
-)
+unfolding heightAfter
+returns-4 c =
+    let l = c .before in (
+      rw (shape (tables l)) (simp (
+        lt-leb _ _ (enough l),
+        le-ltb _ _ (most l),
+        le-ltb _ _ (under (ceiling l) (tables l .before .before .wide2 .ensures .0) (c .if3 .left)),
+      )),
+      small (tables l) .0,
+      small (tables l) .1,
+    )
 
 pub after-spec : {M : Type 1} → statement M
 after-spec =
     tie.close
-    (tie.spec (λ c. search needs) returns (λ c κs. search needs) (λ c κs. search needs) mul-if2 returns-2 (λ c. search needs)
-    (λ c. search needs) returns-3 returns-4 (λ c. search needs) (λ c. search needs) returns-5)
+    (tie.spec (λ c. search needs) (λ c κs. search needs) (λ c. search needs) (λ c. search needs) (λ c κs. search needs)
+    (λ c. search needs) (λ c κs. search needs) (λ c. search needs) returns (λ c. search needs) returns-2 (λ c. search needs)
+    (λ c κs. search needs) returns-3 (λ c. search needs) returns-4)

@@ -19,18 +19,18 @@ other : (b : ℕ) → eqb b 0x3B ≡ false → shapeOf false b ≡ shapeOf true 
 unfolding shapeOf
 other b e = rw e
 
--- A table that has an entry for FETCH has one for TABLE.
+-- A table that has an entry for LOAD has one for TABLE.
 long : (table : List ℕ) → Shapes false table → 0x3B < length table
 unfolding shapeOf
-long table h = omega (arith, byte-inside table 0x52 (omega (arith, h .entry 0x52 (omega arith))))
+long table h = omega (arith, byte-inside table 0x51 (omega (arith, h .entry 0x51 (omega arith))))
 
-with-rows : (table : List ℕ) → Shapes false table → Shapes true (set table 0x3B 2)
+with-rows : (table : List ℕ) → Shapes false table → Shapes true (set table 0x3B 64)
 unfolding shapeOf
 with-rows table h = record { entry = λ b lt. go b lt (eqb b 0x3B) refl }
   where
-    go : (b : ℕ) → b < 256 → (t : Bool) → eqb b 0x3B ≡ t → getD (set table 0x3B 2) b 0 ≡ shapeOf true b
-    go b lt true e = rw (eqb-true b 0x3B e) (getD-set-same table 0x3B 2 0 (long table h))
-    go b lt false e = getD-set-other table 0x3B b 2 0 (eqb-false b 0x3B e) ∙ h .entry b lt ∙ other b e
+    go : (b : ℕ) → b < 256 → (t : Bool) → eqb b 0x3B ≡ t → getD (set table 0x3B 64) b 0 ≡ shapeOf true b
+    go b lt true e = rw (eqb-true b 0x3B e) (getD-set-same table 0x3B 64 0 (long table h))
+    go b lt false e = getD-set-other table 0x3B b 64 0 (eqb-false b 0x3B e) ∙ h .entry b lt ∙ other b e
 
 returns : tie.Need-returns
 returns c =
@@ -39,7 +39,7 @@ returns c =
 
 returns-2 : tie.Need-returns-2
 returns-2 c =
-    subst (λ (b : Bool). Shapes b (set (c .before .plain-shapes .result) 0x3B 2)) (sym (not-false _ (c .if1 .left)))
+    subst (λ (b : Bool). Shapes b (set (c .before .plain-shapes .result) 0x3B 64)) (sym (not-false _ (c .if1 .left)))
     (with-rows _ (c .before .plain-shapes .ensures))
 
 pub shapes-spec : {M : Type 1} → statement M
