@@ -3,3 +3,4 @@ pub mod All
 pub mod Parts
 pub mod Lent
 pub mod Walking
+pub mod LentTail

@@ -75,14 +75,14 @@ pub fn cycle(image: &[u8], state: &mut [i32], samples: &[i32]) -> Cycled
 pub fn tail_length(image: &[u8]) -> Yielded
     ensures { λ r. ⌜ yieldedOf r ≡ lengthOfTail (tailIn (now (image .entry))) ⌝ }
 {
-    image_tail::tail_length(image)
+    image_valid::tail_length(image)
 }
 
 // The tail of an image: a stretch of what is lent, empty for an image without one and where `tail_length` refuses.
 pub fn tail<'a>(image: &'a [u8]) -> &'a [u8]
     ensures { λ r. ⌜ now r ≡ stretchIn (tailIn (now (image .entry))) ⌝ }
 {
-    image_tail::tail(image)
+    image_valid::tail(image)
 }
 
 // Rewrites a program text of the earlier rule, with a sampling factor of 1, to the start of `result`, and yields its new length.

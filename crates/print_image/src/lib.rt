@@ -241,7 +241,7 @@ fn print_tail(image: &[u8], n: usize, end: usize) {
 
 // Prints an image from a file, or that it is none.
 pub fn print_image(image: &[u8]) {
-    let length = image_tail::tail_length(image);
+    let length = image_valid::tail_length(image);
     if let Yielded::Refused(fault) = length {
         explain::refuse(fault);
         console::say(b"\n");

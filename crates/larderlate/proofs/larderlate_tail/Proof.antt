@@ -2,7 +2,7 @@
 use mathlib.Core.Path.{sym, ap, _∙_}
 use Rattle.model.specs.Rules.Outcome.{yieldedOf}
 use Rattle.larderlate.specs.Code.{codeNumber}
-use Rattle.image_tail.proofs.Answers.{LastBytes, last-bytes, none-read}
+use Rattle.image_valid.proofs.LentTail.{LastBytes, last-bytes, none-read}
 use borrow.Author.Needs.{needs}
 use Rattle.larderlate.proofs.larderlate_tail.Statement.{statement}
 use Rattle.larderlate.proofs.larderlate_tail.Tie as tie

@@ -1,4 +1,4 @@
--- `image_tail::read_tail` meets its contract: a walk of its MIR, by hand. A `TailRead` is made of what two calls return. All
+-- `image_valid::read_tail` meets its contract: a walk of its MIR, by hand. A `TailRead` is made of what two calls return. All
 -- that is known of `tail` and `tail_length` is that each meets its contract. A `&[u8]` is Copy: a copy of what is lent goes to
 -- each call, and one is kept for the exit.
 -- Assumes nothing.
@@ -48,21 +48,21 @@ use Rattle.model.specs.Rules.Tail.{tailIn, lengthOfTail, stretchIn}
 use Rattle.model.specs.declared.Yielded.{Yielded}
 use Rattle.model.proofs.Yielded as S
 use Rattle.model.proofs.Yielded.Laws as S′
-use Rattle.image_tail.specs.declared.TailRead.{TailRead}
-use Rattle.image_tail.proofs.TailRead as T
-use Rattle.image_tail.proofs.TailRead.Laws as T′
-use Rattle.image_tail.proofs.tail as tail
-use Rattle.image_tail.proofs.tail.Symbol as tail-def
-use Rattle.image_tail.proofs.tail.Symbol.{name as #image-tail·tail}
-use Rattle.image_tail.proofs.tail.Met as tail-thm
-use Rattle.image_tail.proofs.tail_length as size
-use Rattle.image_tail.proofs.tail_length.Symbol as size-def
-use Rattle.image_tail.proofs.tail_length.Symbol.{name as #image-tail·tail-length}
-use Rattle.image_tail.proofs.tail_length.Met as size-thm
-use Rattle.image_tail.proofs.read_tail.Key.{name as #image-tail·read-tail}
-use Rattle.image_tail.proofs.read_tail as read
-use Rattle.image_tail.proofs.read_tail.Statement as stated
-use Rattle.image_tail.proofs.read_tail.Code as code
+use Rattle.image_valid.specs.declared.TailRead.{TailRead}
+use Rattle.image_valid.proofs.TailRead as T
+use Rattle.image_valid.proofs.TailRead.Laws as T′
+use Rattle.image_valid.proofs.tail as tail
+use Rattle.image_valid.proofs.tail.Symbol as tail-def
+use Rattle.image_valid.proofs.tail.Symbol.{name as #image-valid·tail}
+use Rattle.image_valid.proofs.tail.Met as tail-thm
+use Rattle.image_valid.proofs.tail_length as size
+use Rattle.image_valid.proofs.tail_length.Symbol as size-def
+use Rattle.image_valid.proofs.tail_length.Symbol.{name as #image-valid·tail-length}
+use Rattle.image_valid.proofs.tail_length.Met as size-thm
+use Rattle.image_valid.proofs.read_tail.Key.{name as #image-valid·read-tail}
+use Rattle.image_valid.proofs.read_tail as read
+use Rattle.image_valid.proofs.read_tail.Statement as stated
+use Rattle.image_valid.proofs.read_tail.Code as code
 
 abbrev stayed : Stays (read.ended .signature .params) (read.ended .kept)
 stayed = (stay-none-slice (0 ∷ []) tt (plain (λ _. u8)) yes, tt)
@@ -153,8 +153,8 @@ module _ {M : Type 1} (𝓤 : URA M) (H : Heap 𝓤) (A : Atoms 𝓤) (W : Given
           feqI ! (List Val) (mach ∷ []) (mach ∷ []) refl $ fjoin ! $
           fpack ! (Valss (rows (D .parts))) (within (shape D) (intos (D .parts) (r, (t, tt))) (mach ∷ [])) vss $ done !
 
-    module _ (𝓣 : Tables 𝓤 H) (known-tail : Triple 𝓤 (𝓣 .C #image-tail·tail) Tail)
-        (known-size : Triple 𝓤 (𝓣 .C #image-tail·tail-length) Size) where
+    module _ (𝓣 : Tables 𝓤 H) (known-tail : Triple 𝓤 (𝓣 .C #image-valid·tail) Tail)
+        (known-size : Triple 𝓤 (𝓣 .C #image-valid·tail-length) Size) where
       walk : Is R s (v ∷ []) →
           ent 𝓤 (⋆ 𝓤 H A (Token ∷ ‵ Owns ∷ [])) (WpFn 𝓤 H (𝓣 .C) (𝓣 .Λ) code.function (v ∷ []) Post)
       walk p =
@@ -187,8 +187,8 @@ module _ {M : Type 1} (𝓤 : URA M) (H : Heap 𝓤) (A : Atoms 𝓤) (W : Given
           move ! (10 ∷ 11 ∷ []) $ free1 ! $ move ! (8 ∷ 9 ∷ []) $ free1 ! $ move ! (6 ∷ 7 ∷ []) $ free1 ! $
           move ! (4 ∷ 5 ∷ []) $ free1 ! $ free0 ! $ by ! (exits r t u w e e′)))))))))))))
 
-  module _ (𝓣 : Tables 𝓤 H) (known-tail : Triple 𝓤 (𝓣 .C #image-tail·tail) Tail)
-      (known-size : Triple 𝓤 (𝓣 .C #image-tail·tail-length) Size) where
+  module _ (𝓣 : Tables 𝓤 H) (known-tail : Triple 𝓤 (𝓣 .C #image-valid·tail) Tail)
+      (known-size : Triple 𝓤 (𝓣 .C #image-valid·tail-length) Size) where
     meets : Meets 𝓤 H A read.signature (WpFn 𝓤 H (𝓣 .C) (𝓣 .Λ) code.function) (read.spec 𝓤 H A mem run)
     meets =
         let c = read.clauses 𝓤 H A mem run in
@@ -204,10 +204,10 @@ unfolding code.routine tablesOf
 read-tail-spec 𝓤 H 𝓜 𝓖 𝓡 =
     let W = givenOf 𝓤 H 𝓜 𝓖 in
     let 𝓣 = tables 𝓤 H 𝓜 𝓡 code.env in
-    let cite-tail = cited 𝓤 H (Tail 𝓤 H (𝓖 .A) W (𝓜 .mem) (𝓡 .run)) 𝓜 𝓡 code.env #image-tail·tail tail-def.routine in
-    let cite-size = cited 𝓤 H (Size 𝓤 H (𝓖 .A) W (𝓜 .mem) (𝓡 .run)) 𝓜 𝓡 code.env #image-tail·tail-length size-def.routine in
+    let cite-tail = cited 𝓤 H (Tail 𝓤 H (𝓖 .A) W (𝓜 .mem) (𝓡 .run)) 𝓜 𝓡 code.env #image-valid·tail tail-def.routine in
+    let cite-size = cited 𝓤 H (Size 𝓤 H (𝓖 .A) W (𝓜 .mem) (𝓡 .run)) 𝓜 𝓡 code.env #image-valid·tail-length size-def.routine in
     entered 𝓤 H (tripleOf 𝓤 H (𝓖 .A) read.signature (read.spec 𝓤 H (𝓖 .A) (𝓜 .mem) (𝓡 .run))) (𝓣 .C) (𝓣 .Λ)
-    #image-tail·read-tail code.function (code.unfolded 𝓤 H 𝓜 𝓡)
+    #image-valid·read-tail code.function (code.unfolded 𝓤 H 𝓜 𝓡)
     (meets 𝓤 H (𝓖 .A) W (𝓜 .mem) (𝓡 .run) (tablesOf 𝓤 H 𝓜 𝓣)
-    (cite-tail code.calls-image-tail·tail (tail-thm.met 𝓤 H 𝓜 𝓖 𝓡))
-    (cite-size code.calls-image-tail·tail-length (size-thm.met 𝓤 H 𝓜 𝓖 𝓡)))
+    (cite-tail code.calls-image-valid·tail (tail-thm.met 𝓤 H 𝓜 𝓖 𝓡))
+    (cite-size code.calls-image-valid·tail-length (size-thm.met 𝓤 H 𝓜 𝓖 𝓡)))

@@ -1,14 +1,14 @@
--- `image_tail::tail` meets its contract. Assumes nothing.
+-- `image_valid::tail` meets its contract. Assumes nothing.
 use Prim.Native.Nat.{ℕ, _-_}
 use mathlib.Core.Path.{_≡_, sym, ap, _∙_}
 use native.Mathlib.Omega.{arith}
 use lib.ListN.{length, take, drop, length-drop}
 use lib.Seq.{take-all}
 use Rattle.model.specs.Rules.Outcome.{yieldedOf}
-use Rattle.image_tail.proofs.Answers.{LastBytes, last-bytes, no-bytes}
+use Rattle.image_valid.proofs.LentTail.{LastBytes, last-bytes, no-bytes}
 use borrow.Author.Needs.{needs}
-use Rattle.image_tail.proofs.tail.Statement.{statement}
-use Rattle.image_tail.proofs.tail.Tie as tie
+use Rattle.image_valid.proofs.tail.Statement.{statement}
+use Rattle.image_valid.proofs.tail.Tie as tie
 
 -- what the length says
 told : (c : tie.After-known-told) → LastBytes (c .before .before .before .before .before .args .lent .now)

@@ -1,13 +1,13 @@
--- `image_tail::tail_length` meets its contract. Assumes nothing.
+-- `image_valid::tail_length` meets its contract. Assumes nothing.
 use mathlib.Core.Path.{_≡_, sym, ap, _∙_}
 use mathlib.Core.Bool.{true}
 use borrow.Author.Tests.{not-true, not-false}
 use Rattle.model.specs.Rules.Machine.{wellFormed}
 use Rattle.model.specs.Rules.Tail.{lengthOfTail}
-use Rattle.image_tail.proofs.Answers.{refused-is, inside, length-rest}
+use Rattle.image_valid.proofs.LentTail.{refused-is, inside, length-rest}
 use borrow.Author.Needs.{needs}
-use Rattle.image_tail.proofs.tail_length.Statement.{statement}
-use Rattle.image_tail.proofs.tail_length.Tie as tie
+use Rattle.image_valid.proofs.tail_length.Statement.{statement}
+use Rattle.image_valid.proofs.tail_length.Tie as tie
 
 well : (e : tie.Else1) → wellFormed (e .before .before .image-in .result .now) ≡ true
 well e = sym (e .before .well-formed .ensures) ∙ not-false _ (e .if1 .left)

@@ -1,2 +1,0 @@
--- Each function's proof stands in a folder of its name.
-pub mod Answers
