@@ -3,23 +3,12 @@ use Prim.Native.Nat.{ℕ, _*_, _≤_}
 use mathlib.Core.List.{List}
 use mathlib.Core.Path.{_≡_}
 use Rattle.model.specs.Rules.Compile.{Pair}
-use Rattle.model.specs.Rules.Outcome.{Outcome, accepted, refused}
+use Rattle.model.specs.Rules.Outcome.{Outcome}
 use Rattle.text_program.specs.Prepared.{Prepared}
-use Rattle.basics.specs.declared.Judged.{Judged}
-use Rattle.basics.specs.declared.Judged.the-variants as Judged
+use Rattle.basics.specs.Judgement.{Answers}
 use Rattle.text_schedule.specs.Arranged.{Arranged}
 use Rattle.text_schedule.specs.declared.PairTables.{PairTables}
 use Rattle.check_pair.specs.declared.Checked.{Checked}
-use Rattle.check_pair.specs.declared.Rated.{Rated}
-
--- The judgement is the definition's refusal, or it is fine and Q holds of the definition's value.
-unfoldable pub Answers : {A : Type 0} → (A → Type 0) → Outcome A → Judged → Type 0
-Answers Q (accepted a) j = (j ≡ Judged.Fine) × Q a
-Answers Q (refused f) j = j ≡ Judged.Refused f
-
--- The answer has the hypercycle.
-abbrev pub RatedAs : Outcome ℕ → Rated → Type 0
-RatedAs o r = Answers (λ h. r .hypercycle ≡ h) o (r .judged)
 
 -- The tables are those of the accepted pair q, as the emitter wants them; and the pair is one that has passed 2 to 13.
 pub record Checks (text : List ℕ) (t : PairTables) (q : Pair) : Type 0 where

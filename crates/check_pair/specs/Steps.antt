@@ -26,13 +26,6 @@ scheduleFor p schedule =
     parseSchedule schedule ▷ λ puts.
     placed p puts
 
--- The runs of the two together: 14 to 16.
-unfoldable pub runsOf : Program → Schedule → ℕ → Outcome (Unit {0})
-runsOf p s h =
-    met p s ▷ λ _.
-    loaded p s h ▷ λ _.
-    timely p s h
-
 -- All of them. `pair-steps` says that this is `pairOf`.
 unfoldable pub stepsOf : List ℕ → List ℕ → Outcome Pair
 stepsOf program schedule =
@@ -40,5 +33,7 @@ stepsOf program schedule =
     parseProgram program ▷ λ p.
     ratesOf p ▷ λ h.
     scheduleFor p schedule ▷ λ s.
-    runsOf p s h ▷ λ _.
+    met p s ▷ λ _.
+    loaded p s h ▷ λ _.
+    timely p s h ▷ λ _.
     accepted (record { program = p; schedule = s; hypercycle = h })

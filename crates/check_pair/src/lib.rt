@@ -1,9 +1,7 @@
 // The checks of a pair in the stated order.
 use basics::Judged;
 use check_rates::Cycles;
-use model::Fault;
 use text_program::Tables;
-use text_schedule::Ended;
 use text_schedule::PairTables;
 use text_schedule::Placing;
 use text_schedule::Slots;
@@ -13,14 +11,25 @@ ghost use lib.ListN.{length};
 ghost use Rattle.model.specs.Rules.Compile.{shortEnough, pairOf};
 ghost use Rattle.model.specs.Rules.Outcome.{accepted};
 ghost use Rattle.model.specs.Rules.Program.{Program, parseProgram, count};
-ghost use Rattle.model.specs.Rules.Schedule.{Schedule};
-ghost use Rattle.model.specs.declared.Fault.{Fault};
 ghost use Rattle.basics.specs.Judgement.{judgementOf};
+ghost use Rattle.check_rates.specs.Answers.{CyclesAs};
 ghost use Rattle.text_program.specs.Tables.{TablesOf, PeriodsOf, TabledAs};
-ghost use Rattle.text_schedule.specs.Arranged.{Arranged, Arrangement, pairTables};
+ghost use Rattle.text_schedule.specs.Arranged.{pairTables};
 ghost use Rattle.text_schedule.specs.Slots.{ScheduledAs};
-ghost use Rattle.check_pair.specs.Answers.{RatedAs, CheckedAs, Spacious};
-ghost use Rattle.check_pair.specs.Steps.{ratesOf, scheduleFor, runsOf};
+ghost use Rattle.check_pair.specs.Answers.{CheckedAs, Spacious};
+ghost use Rattle.check_pair.specs.Steps.{ratesOf, scheduleFor};
+
+// The least factor of a read, as the definition's `leastFactor`.
+const LEAST_FACTOR: u8 = 2;
+
+fn unrated(judged: Judged) -> Cycles
+    ensures { λ r. ⌜ r .judged ≡ judged ⌝ }
+{
+    Cycles {
+        judged: judged,
+        hypercycle: 0,
+    }
+}
 
 // 1 where either text is too long.
 pub fn check_lengths(program: &[u8], schedule: &[u8]) -> Judged
@@ -35,95 +44,42 @@ pub fn check_lengths(program: &[u8], schedule: &[u8]) -> Judged
     Judged::Fine
 }
 
-// What the checks of a program's rates find. The hypercycle is of use where it is fine.
-struct Rated {
-    judged: Judged,
-    hypercycle: usize,
-}
-
-fn unrated(judged: Judged) -> Rated
-    ensures { λ r. ⌜ r .judged ≡ judged ⌝ }
-{
-    Rated {
-        judged: judged,
-        hypercycle: 0,
-    }
-}
-
-fn judged_cycles(cycles: Cycles) -> Judged
-    ensures { λ r. ⌜ ((f : Fault) → cycles ≡ Cycles.Refused f → r ≡ Judged.Refused f) ⌝ }
-{
-    match cycles {
-        Cycles::Least(_) => Judged::Refused(Fault {
-            number: 9,
-            place: 0,
-        }),
-        Cycles::Refused(fault) => Judged::Refused(fault),
-    }
-}
-
-// A program that is read: 7 and 8, 9, 10, then 29 and 30.
-fn check_rates(text: &[u8], reads: &[u16], tables: Tables) -> Rated
+// A program that is read: 7 to 10, then 29 and 30. The hypercycle is of use where it is fine.
+fn check_program(text: &[u8], reads: &[u16], tables: Tables) -> Cycles
     requires { ⌜ TabledAs (now text) (now reads) tables ⌝ }
-    ensures { λ r. ⌜ ((p : Program) → parseProgram (now (text .entry)) ≡ accepted p → TablesOf p tables → RatedAs (ratesOf p) r) ⌝ }
+    ensures { λ r. ⌜ ((p : Program) → parseProgram (now (text .entry)) ≡ accepted p → TablesOf p tables → CyclesAs (ratesOf p) r) ⌝ }
 {
-    let judged = check_rates::declared_and_rated(text, reads, tables);
-    let Judged::Fine = judged else {
-        return unrated(judged);
+    let rates = check_rates::check_rates(text, reads, tables); // 7, 8
+    let Judged::Fine = rates else {
+        return unrated(rates);
     };
     let periods = tables.periods;
-    let cycles = check_rates::hypercycle(tables.signals, &periods);
-    let Cycles::Least(h) = cycles else {
-        return unrated(judged_cycles(cycles));
+    let cycles = check_rates::check_hypercycle(tables.signals, &periods); // 9
+    let common = cycles.judged;
+    let Judged::Fine = common else {
+        return unrated(common);
     };
-    let links = check_rates::linked(text, reads, tables);
+    let links = check_rates::check_links(text, reads, tables); // 10
     let Judged::Fine = links else {
         return unrated(links);
     };
-    Rated {
-        judged: check_table::check_table(text, tables),
-        hypercycle: h,
-    }
-}
-
-fn judged_end(ended: Ended) -> Judged
-    ensures { λ r. ⌜ ((f : Fault) → ended ≡ Ended.Refused f → r ≡ Judged.Refused f) ⌝ }
-{
-    match ended {
-        Ended::At(_) => Judged::Refused(Fault {
-            number: 11,
-            place: 0,
-        }),
-        Ended::Refused(fault) => Judged::Refused(fault),
+    Cycles {
+        judged: check_table::check_table(text, tables), // 29, 30
+        hypercycle: cycles.hypercycle,
     }
 }
 
 // The schedule of a program with these signals: 11, then 12 and 13.
-fn check_schedule(schedule: &[u8], signals: usize, periods: &[u8; 64]) -> Placing
+fn check_puts(schedule: &[u8], signals: usize, periods: &[u8; 64]) -> Placing
     requires { ⌜ (signals ≤ 64) × (length (now schedule) ≤ 193) ⌝ }
     ensures { λ r. ⌜ ((p : Program) → count p ≡ signals → PeriodsOf p (now (periods .entry)) → ScheduledAs p (scheduleFor p (now (schedule .entry))) r) ⌝ }
 {
-    let ended = text_schedule::read_schedule(schedule);
-    let Ended::At(end) = ended else {
-        return text_schedule::unplaced(judged_end(ended));
+    let ended = text_schedule::read_schedule(schedule); // 11
+    let read = ended.judged;
+    let Judged::Fine = read else {
+        return text_schedule::unplaced(read);
     };
-    text_schedule::place_signals(schedule, end, signals, periods)
-}
-
-// The runs of a pair by its tables: 14, 15, 16.
-fn check_runs(text: &[u8], reads: &[u16], tables: Tables, slots: Slots, hypercycle: usize) -> Judged
-    requires { ⌜ Arrangement (now text) (pairTables tables slots hypercycle) × TabledAs (now text) (now reads) tables ⌝ }
-    ensures { λ r. ⌜ ((p : Program) (s : Schedule) → Arranged (now (text .entry)) (pairTables tables slots hypercycle) p s → r ≡ judgementOf (runsOf p s hypercycle)) ⌝ }
-{
-    let of_reads = check_reads::check_reads(text, reads, tables, slots, hypercycle);
-    let Judged::Fine = of_reads else {
-        return of_reads;
-    };
-    let loads = check_load::check_load(tables, slots, hypercycle);
-    let Judged::Fine = loads else {
-        return loads;
-    };
-    check_latency::check_latency(text, reads, tables, slots, hypercycle)
+    text_schedule::check_schedule(schedule, ended.at, signals, periods) // 12, 13
 }
 
 // What the checks of a pair find. The tables are of use where it is fine.
@@ -132,17 +88,23 @@ pub struct Checked {
     pub pair: PairTables,
 }
 
-fn refused(judged: Judged) -> Checked
-    ensures { λ r. ⌜ r .judged ≡ judged ⌝ }
+fn answer(judged: Judged, tables: Tables, slots: Slots, hypercycle: usize) -> Checked
+    ensures { λ r. ⌜ (r .judged ≡ judged) × (r .pair ≡ pairTables tables slots hypercycle) ⌝ }
 {
     Checked {
         judged: judged,
         pair: PairTables {
-            tables: Tables::new(),
-            slots: Slots::new(),
-            hypercycle: 0,
+            tables: tables,
+            slots: slots,
+            hypercycle: hypercycle,
         },
     }
+}
+
+fn refused(judged: Judged) -> Checked
+    ensures { λ r. ⌜ r .judged ≡ judged ⌝ }
+{
+    answer(judged, Tables::new(), Slots::new(), 0)
 }
 
 // All checks of a program and a schedule, with a table for the offsets of the reads: an entry for each two bytes of a program that
@@ -152,38 +114,39 @@ pub fn check_with(program: &[u8], schedule: &[u8], reads: &mut [u16]) -> Checked
     ensures answer { λ r. ⌜ CheckedAs (now (program .entry)) (pairOf (now (program .entry)) (now (schedule .entry))) r ⌝ }
     ensures tabled { λ r. ⌜ (r .judged ≡ Judged.Fine → TabledAs (now (program .entry)) (now (reads .exit)) (r .pair .tables)) ⌝ }
 {
-    let lengths = check_lengths(program, schedule);
+    let lengths = check_lengths(program, schedule); // 1
     let Judged::Fine = lengths else {
         return refused(lengths);
     };
-    let read = text_program::read_program(2, program, reads);
+    let read = text_program::read_program(LEAST_FACTOR, program, reads); // 2 to 6
     let parsed = read.judged;
     let Judged::Fine = parsed else {
         return refused(parsed);
     };
     let tables = read.tables;
-    let rated = check_rates(program, reads, tables);
-    let rates = rated.judged;
-    let Judged::Fine = rates else {
-        return refused(rates);
+    let cycles = check_program(program, reads, tables); // 7 to 10, 29, 30
+    let rated = cycles.judged;
+    let Judged::Fine = rated else {
+        return refused(rated);
     };
     let periods = tables.periods;
-    let placing = check_schedule(schedule, tables.signals, &periods);
+    let placing = check_puts(schedule, tables.signals, &periods); // 11 to 13
     let placed = placing.judged;
     let Judged::Fine = placed else {
         return refused(placed);
     };
     let slots = placing.slots;
-    let h = rated.hypercycle;
-    let runs = check_runs(program, reads, tables, slots, h);
-    Checked {
-        judged: runs,
-        pair: PairTables {
-            tables: tables,
-            slots: slots,
-            hypercycle: h,
-        },
-    }
+    let h = cycles.hypercycle;
+    let met = check_reads::check_reads(program, reads, tables, slots, h); // 14
+    let Judged::Fine = met else {
+        return refused(met);
+    };
+    let loaded = check_load::check_load(tables, slots, h); // 15
+    let Judged::Fine = loaded else {
+        return refused(loaded);
+    };
+    let timely = check_latency::check_latency(program, reads, tables, slots, h); // 16
+    answer(timely, tables, slots, h)
 }
 
 // A program of at most 512 bytes: filling a table for the longest would take longer than the checks.

@@ -2,9 +2,10 @@
 use Prim.Native.Nat.{ℕ}
 use mathlib.Core.Bool.{Bool, true, false, cond}
 use mathlib.Core.List.{List}
+use mathlib.Core.Path.{_≡_}
 use lib.Dec.{ltb, eqb}
 use lib.ListN.{getD}
-use Rattle.model.specs.Rules.Outcome.{Outcome, accepted, refused, fault}
+use Rattle.model.specs.Rules.Outcome.{Outcome, fault}
 use Rattle.model.specs.Rules.Latency.{readAmong}
 use Rattle.model.specs.Rules.Program.{Program, Signal, Chain, Read, bodyReads}
 use Rattle.model.specs.Rules.Rates.{periodRule, readFaults, linkFaults, countReads}
@@ -16,14 +17,13 @@ use Rattle.model.specs.declared.Kind.{Kind}
 use Rattle.model.specs.declared.Kind.the-variants.{Now, Last, When, LastWhen, Current}
 use Rattle.model.specs.declared.Sampled.{Sampled}
 use Rattle.check_rates.specs.declared.Cycles.{Cycles}
-use Rattle.check_rates.specs.declared.Cycles.the-variants as Cycles
+use Rattle.basics.specs.Judgement.{Answers}
 use Rattle.basics.specs.declared.Judged.{Judged}
 use Rattle.basics.specs.declared.Judged.the-variants as Judged
 
--- The hypercycle, or its refusal.
-unfoldable pub cyclesAnswer : Outcome ℕ → Cycles
-cyclesAnswer (accepted h) = Cycles.Least h
-cyclesAnswer (refused f) = Cycles.Refused f
+-- The answer has the hypercycle, or is its refusal.
+abbrev pub CyclesAs : Outcome ℕ → Cycles → Type 0
+CyclesAs o r = Answers (λ h. r .hypercycle ≡ h) o (r .judged)
 
 -- 7 at a read or LINK of a signal that is not declared, then 8 at a read that breaks its period rule.
 unfoldable pub rateJudged : Bool → Bool → ℕ → Judged

@@ -1,6 +1,5 @@
 // The checks of rates and links: refusals 7 to 10.
 use basics::Judged;
-use model::Fault;
 use model::Found;
 use model::Kind;
 use model::Sampled;
@@ -13,7 +12,7 @@ ghost use Rattle.model.specs.Rules.Outcome.{accepted, lowest};
 ghost use Rattle.model.specs.Rules.Program.{Program, signalAt, parseProgram, bodyReads};
 ghost use Rattle.model.specs.Rules.Rates.{periodRule, declaredAndRated, isMultiple, hypercycle, isLinked, linked};
 ghost use Rattle.text_program.specs.Tables.{TablesOf, PeriodsOf, ReadAs, TabledAs, Indexed, chainAt};
-ghost use Rattle.check_rates.specs.Answers.{cyclesAnswer, periodAt, factorOf, rateJudged, readJudged, signalRates, readRates, chainRates, linkRates, lowerOf, oneRead};
+ghost use Rattle.check_rates.specs.Answers.{CyclesAs, periodAt, factorOf, rateJudged, readJudged, signalRates, readRates, chainRates, linkRates, lowerOf, oneRead};
 ghost use Rattle.basics.specs.Judgement.{judgementOf};
 
 // The period of a signal by the table; 0 past its end.
@@ -185,14 +184,8 @@ fn lower(a: Judged, b: Judged) -> Judged
     }
 }
 
-// The hypercycle, or its refusal.
-pub enum Cycles {
-    Least(usize),
-    Refused(Fault),
-}
-
 // 7 and 8 in order of offset.
-pub fn declared_and_rated(text: &[u8], reads: &[u16], tables: Tables) -> Judged
+pub fn check_rates(text: &[u8], reads: &[u16], tables: Tables) -> Judged
     requires { ⌜ TabledAs (now text) (now reads) tables ⌝ }
     ensures { λ r. ⌜ ((p : Program) → parseProgram (now (text .entry)) ≡ accepted p → r ≡ judgementOf (declaredAndRated p)) ⌝ }
 {
@@ -229,23 +222,32 @@ fn is_multiple(count: usize, periods: &[u8; 64], h: usize) -> bool
     true
 }
 
+// What the search for the hypercycle finds. The hypercycle is of use where it is fine.
+pub struct Cycles {
+    pub judged: Judged,
+    pub hypercycle: usize,
+}
+
 // The hypercycle: the least number from 1 to 240 that every period divides, else 9. (Signals × hypercycle.)
-pub fn hypercycle(count: usize, periods: &[u8; 64]) -> Cycles
+pub fn check_hypercycle(count: usize, periods: &[u8; 64]) -> Cycles
     requires { ⌜ count ≤ 64 ⌝ }
-    ensures { λ r. ⌜ ((p : Program) → length (p .signals) ≡ count → PeriodsOf p (now (periods .entry)) → r ≡ cyclesAnswer (hypercycle p)) ⌝ }
+    ensures { λ r. ⌜ ((p : Program) → length (p .signals) ≡ count → PeriodsOf p (now (periods .entry)) → CyclesAs (hypercycle p) r) ⌝ }
 {
     let mut h: usize = 0;
     while h < 240 {
         let next = h + 1;
         if is_multiple(count, periods, next) {
-            return Cycles::Least(next);
+            return Cycles {
+                judged: Judged::Fine,
+                hypercycle: next,
+            };
         }
         h = next;
     }
-    Cycles::Refused(Fault {
-        number: 9,
-        place: 0,
-    })
+    Cycles {
+        judged: basics::refuse(9, 0),
+        hypercycle: 0,
+    }
 }
 
 // The offset of the one read of `before` in the equation of `signal`, over its reads by their index in the table; nowhere if there is
@@ -309,7 +311,7 @@ fn is_linked(text: &[u8], reads: &[u16], tables: Tables, chain: usize) -> bool
 }
 
 // 10 at the lowest LAT whose links are not linked. (Links × the reads of their equations.)
-pub fn linked(text: &[u8], reads: &[u16], tables: Tables) -> Judged
+pub fn check_links(text: &[u8], reads: &[u16], tables: Tables) -> Judged
     requires { ⌜ TabledAs (now text) (now reads) tables ⌝ }
     ensures { λ r. ⌜ ((p : Program) → parseProgram (now (text .entry)) ≡ accepted p → TablesOf p tables → r ≡ judgementOf (linked p)) ⌝ }
 {

@@ -35,7 +35,7 @@ use Rattle.model.proofs.Basics.Outcomes.{then-accepted, accepted≢refused}
 use Rattle.model.proofs.Pairs.Decide.{is-first}
 use Rattle.basics.specs.declared.Judged.{Judged}
 use Rattle.basics.specs.declared.Judged.the-variants as Judged
-use Rattle.check_pair.specs.Answers.{Answers}
+use Rattle.basics.specs.Judgement.{Answers}
 use Rattle.join_links.specs.ByPart.{signalIn, inputIn, FreeInputs}
 use Rattle.model.proofs.Joining.Lent.{link-in}
 use Rattle.join_gather.specs.Gathering.{GatheredAs}

@@ -10,7 +10,7 @@ use Rattle.model.specs.Rules.Parts.{Part}
 use Rattle.model.specs.declared.Found.{Found}
 use Rattle.model.specs.declared.Found.the-variants.{At, Nowhere}
 use Rattle.basics.specs.declared.Judged.{Judged}
-use Rattle.check_pair.specs.Answers.{Answers}
+use Rattle.basics.specs.Judgement.{Answers}
 use Rattle.join_gather.specs.Rows.{TableOf}
 use Rattle.join_whole.specs.Whole.{Joining}
 use Rattle.join_verdict.specs.declared.Verdict.{Verdict}

@@ -1,5 +1,5 @@
 -- The tables of the joined parts are those of the joined pair: links change no rate and no weight. Assumes nothing.
-use Prim.Native.Nat.{ℕ, suc, _+_, _*_, _≤_, _<_}
+use Prim.Native.Nat.{ℕ, _+_, _*_, _≤_, _<_}
 use mathlib.Core.Bool.{true, _&&_, and-eq-true-iff}
 use mathlib.Core.List.{List, map}
 use mathlib.Core.Path.{_≡_, refl, sym, ap, subst, _∙_}
@@ -8,18 +8,12 @@ use borrow.Author.Tests.{ltb-true, leb-true}
 use lib.Dec.{leb, ltb}
 use lib.ListN.{length, getD}
 use Rattle.model.specs.Rules.Join.{isInput, linkAt, linksIn, linksOf, isNamed, isRight}
-use Rattle.model.specs.Rules.Outcome.{refused, fault}
 use Rattle.model.specs.Rules.Parts.{Part, joinedParts, base, partAt, PartLink, Wire, wireOf, wiredSignal, wiredWith, joinedPair}
-use Rattle.model.specs.Rules.Program.{Program, Signal, input, count, signalAt, weightOf}
-use Rattle.model.specs.Rules.Rates.{isMultiple, hypercycleOf, hypercycle}
+use Rattle.model.specs.Rules.Program.{Signal, input, count, signalAt, weightOf}
 use Rattle.model.specs.Rules.Schedule.{phaseOf}
-use Rattle.model.specs.Rules.Search.{firstBelow}
 use Rattle.model.specs.Says.Feasible.{All, Ordered}
-use Rattle.model.specs.declared.Fault.{Fault}
-use Rattle.model.specs.declared.Found.{Found}
-use Rattle.model.specs.declared.Found.the-variants.{At, Nowhere}
 use Rattle.model.proofs.Basics.All.{at-all, all-of-map}
-use Rattle.model.proofs.Basics.Outcomes.{table-length, table-at, accepted≢refused}
+use Rattle.model.proofs.Basics.Outcomes.{table-length, table-at}
 use Rattle.model.proofs.Joining.Lent.{link-back}
 use Rattle.model.proofs.Joining.Numbers.{number-signal, wired-count as wired-count-is, wired-signal, wired-weight}
 use Rattle.model.proofs.Joining.Renumbered.{input-kept}
@@ -30,15 +24,6 @@ use Rattle.join_links.proofs.Right.{pieces, right-is, right-at, linkFrom}
 use Rattle.join_gather.specs.declared.Joint.{Joint}
 use Rattle.join_check.specs.Met.{Linking}
 use Rattle.join_whole.specs.Whole.{Joining}
-
--- Only 9 at 0 is refused.
-pub cycles-fault : (p : Program) (f : Fault) → hypercycle p ≡ refused f → f ≡ fault 9 0
-unfolding hypercycle
-cycles-fault p f = go (firstBelow 240 (λ h. isMultiple (p .signals) (suc h)))
-  where
-    go : (g : Found) → hypercycleOf g ≡ refused f → f ≡ fault 9 0
-    go (At h) e = absurd (accepted≢refused _ _ f refl e)
-    go Nowhere e = let same : fault 9 0 ≡ f = cc in sym same
 
 number-input : (parts : List Part) (k x : ℕ) → k < length parts → x < count (partAt parts k .program) →
     isInput (signalAt (joinedParts parts .program) (base parts k + x) .body) ≡ isInput (signalIn parts k x .body)

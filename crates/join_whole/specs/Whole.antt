@@ -6,7 +6,7 @@ use lib.ListN.{length}
 use Rattle.model.specs.Rules.Compile.{Pair}
 use Rattle.model.specs.Rules.Outcome.{Outcome}
 use Rattle.model.specs.Rules.Parts.{Part}
-use Rattle.check_pair.specs.Answers.{Answers}
+use Rattle.basics.specs.Judgement.{Answers}
 use Rattle.join_gather.specs.Joint.{JointOf}
 use Rattle.join_links.specs.ByPart.{AllRight}
 use Rattle.join_gather.specs.declared.Joint.{Joint}

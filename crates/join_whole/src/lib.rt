@@ -1,6 +1,5 @@
 // The joined checks in order: 4 for signals and chains, 9, 14, 15.
 use basics::Judged;
-use check_rates::Cycles;
 use join_gather::Joint;
 use model::refusals;
 ghost use mathlib.Core.List.{List};
@@ -42,10 +41,12 @@ pub fn check_joint(links: &[u8], joint: Joint) -> Whole
     let phases = joint.phases;
     let ranks = joint.ranks;
     let weights = joint.weights;
-    let cycles = check_rates::hypercycle(joint.signals, &periods);
-    let Cycles::Least(h) = cycles else {
-        return refused(basics::refuse(refusals::HYPERCYCLE_TOO_LONG, 0));
+    let cycles = check_rates::check_hypercycle(joint.signals, &periods);
+    let common = cycles.judged;
+    let Judged::Fine = common else {
+        return refused(common);
     };
+    let h = cycles.hypercycle;
     let met = join_check::links_met(links, &bases, &periods, &phases, &ranks);
     let Judged::Fine = met else {
         return refused(met);

@@ -8,27 +8,32 @@ use lib.Dec.{leb}
 use lib.ListN.{length}
 use borrow.Author.Tests.{le-ltb}
 use denote.Enum.Declared.{tagOf, declared}
-use Rattle.model.specs.Rules.Outcome.{refuse, provided, _▷_, fault, parsed}
+use Rattle.model.specs.Rules.Outcome.{Outcome, refuse, provided, _▷_, fault, Parsed, parsed}
 use Rattle.model.specs.Rules.Schedule.{Put, scheduleCommandAt, scheduleCommand, parsePuts}
 use Rattle.model.specs.declared.ScheduleCommand.{ScheduleCommand}
 use Rattle.model.specs.declared.ScheduleCommand.the-variants as ScheduleCommand
 use Rattle.model.proofs.ScheduleCommand.{enum}
-use Rattle.text_schedule.specs.Slots.{endedOf, EndedAt}
-use Rattle.text_schedule.specs.declared.Ended.the-variants as Ended
+use Rattle.basics.specs.Judgement.{Answers}
+use Rattle.basics.specs.declared.Judged.{Judged}
+use Rattle.basics.specs.declared.Judged.the-variants as Judged
+use Rattle.text_schedule.specs.Slots.{endJudged}
 
 abbrev stops : List ℕ
 stops = 0 ∷ 1 ∷ 2 ∷ []
 
+abbrev EndsAt : Outcome (Parsed (List Put)) → ℕ → Judged → Type 0
+EndsAt o at j = Answers (λ x. x .next ≡ at) o j
+
 end-by : (text : List ℕ) (at : ℕ) (puts : List Put) (b : Bool) →
-    EndedAt (provided b 11 (at + 1) ▷ λ _. parsed puts at) (cond b (Ended.At at) (Ended.Refused (fault 11 (at + 1))))
-unfolding EndedAt provided _▷_
-end-by text at puts true = refl
+    EndsAt (provided b 11 (at + 1) ▷ λ _. parsed puts at) at (cond b Judged.Fine (Judged.Refused (fault 11 (at + 1))))
+unfolding Answers provided _▷_
+end-by text at puts true = (refl, refl)
 end-by text at puts false = refl
 
 -- A command that is no PUT is the answer.
 pub puts-stop : (text : List ℕ) (at left : ℕ) (puts : List Put) (c : ScheduleCommand) → OneOf stops (tagOf (declared enum) c) →
-    scheduleCommandAt text at ≡ c → EndedAt (parsePuts (suc left) text at puts) (endedOf text at c)
-unfolding parsePuts scheduleCommand endedOf EndedAt
+    scheduleCommandAt text at ≡ c → EndsAt (parsePuts (suc left) text at puts) at (endJudged text at c)
+unfolding parsePuts scheduleCommand endJudged Answers
 puts-stop text at left puts ScheduleCommand.EndsEarly k e = rw e refl
 puts-stop text at left puts ScheduleCommand.Unknown k e = rw e refl
 puts-stop text at left puts ScheduleCommand.End k e = rw e (end-by text at puts (leb (length text) (at + 1)))

@@ -14,24 +14,23 @@ use Rattle.model.specs.declared.Fault.{Fault}
 use Rattle.model.specs.declared.ScheduleCommand.{ScheduleCommand}
 use Rattle.model.specs.declared.ScheduleCommand.the-variants as ScheduleCommand
 use Rattle.text_program.specs.Tables.{PeriodsOf, SlotsOf}
+use Rattle.basics.specs.Judgement.{Answers}
 use Rattle.basics.specs.declared.Judged.{Judged}
 use Rattle.basics.specs.declared.Judged.the-variants as Judged
 use Rattle.text_schedule.specs.declared.Ended.{Ended}
-use Rattle.text_schedule.specs.declared.Ended.the-variants as Ended
 use Rattle.text_schedule.specs.declared.Placing.{Placing}
 use Rattle.text_schedule.specs.declared.Slots.{Slots}
 
--- The answer at a command that is no PUT.
-unfoldable pub endedOf : List ℕ → ℕ → ScheduleCommand → Ended
-endedOf text at ScheduleCommand.EndsEarly = Ended.Refused (fault 11 (length text))
-endedOf text at ScheduleCommand.Unknown = Ended.Refused (fault 11 at)
-endedOf text at ScheduleCommand.End = cond (leb (length text) (at + 1)) (Ended.At at) (Ended.Refused (fault 11 (at + 1)))
-endedOf text at (ScheduleCommand.Put signal phase) = Ended.At at
+-- The judgement at a command that is no PUT; at a PUT nobody asks.
+unfoldable pub endJudged : List ℕ → ℕ → ScheduleCommand → Judged
+endJudged text at ScheduleCommand.EndsEarly = Judged.Refused (fault 11 (length text))
+endJudged text at ScheduleCommand.Unknown = Judged.Refused (fault 11 at)
+endJudged text at ScheduleCommand.End = cond (leb (length text) (at + 1)) Judged.Fine (Judged.Refused (fault 11 (at + 1)))
+endJudged text at (ScheduleCommand.Put signal phase) = Judged.Refused (fault 11 at)
 
 -- The answer is the definition's: where END stands, or the refusal.
-unfoldable pub EndedAt : Outcome (Parsed (List Put)) → Ended → Type 0
-EndedAt (accepted o) r = r ≡ Ended.At (o .next)
-EndedAt (refused f) r = r ≡ Ended.Refused f
+abbrev pub EndedAt : Outcome (Parsed (List Put)) → Ended → Type 0
+EndedAt o r = Answers (λ puts. puts .next ≡ r .at) o (r .judged)
 
 -- Every signal has a rank.
 unfoldable pub allRanked : List ℕ → ℕ → Bool

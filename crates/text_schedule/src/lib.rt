@@ -1,6 +1,5 @@
 // Schedule texts to tables: the signals in PUT order, and by signal its phase and its rank in that order.
 use basics::Judged;
-use model::Fault;
 use model::ScheduleCommand;
 use text_program::Tables;
 ghost use mathlib.Core.Path.{_≡_};
@@ -11,40 +10,31 @@ ghost use Rattle.model.specs.Rules.Outcome.{Parsed, accepted};
 ghost use Rattle.model.specs.Rules.Program.{Program, count};
 ghost use Rattle.model.specs.Rules.Schedule.{Put, parseSchedule};
 ghost use Rattle.text_program.specs.Tables.{PeriodsOf};
-ghost use Rattle.text_schedule.specs.Slots.{endedOf, EndedAt, allRanked, SlotsAfter, PutJudged, Scheduled};
+ghost use Rattle.text_schedule.specs.Slots.{endJudged, EndedAt, allRanked, SlotsAfter, PutJudged, Scheduled};
 ghost use Rattle.text_schedule.specs.declared.Slots.{Slots};
 
-// Where a schedule text ends, or the refusal.
-pub enum Ended {
-    At(usize),
-    Refused(Fault),
+// What reading a schedule text finds: where it ends, which is of use where it is fine.
+pub struct Ended {
+    pub judged: Judged,
+    pub at: usize,
 }
 
-fn refuse_end(place: usize) -> Ended
-    ensures { λ r. ⌜ r ≡ Ended.Refused (record { number = 11; place = place }) ⌝ }
-{
-    Ended::Refused(Fault {
-        number: 11,
-        place: place,
-    })
-}
-
-// The answer at a command that is no PUT. END is the last byte.
-fn end_at(text: &[u8], at: usize, command: ScheduleCommand) -> Ended
+// The judgement at a command that is no PUT. END is the last byte.
+fn judge_end(text: &[u8], at: usize, command: ScheduleCommand) -> Judged
     requires { ⌜ at < length (now text) ⌝ }
-    ensures { λ r. ⌜ r ≡ endedOf (now (text .entry)) at command ⌝ }
+    ensures { λ r. ⌜ r ≡ endJudged (now (text .entry)) at command ⌝ }
 {
     match command {
-        ScheduleCommand::EndsEarly => refuse_end(text.len()),
-        ScheduleCommand::Unknown => refuse_end(at),
+        ScheduleCommand::EndsEarly => basics::refuse(11, text.len()),
+        ScheduleCommand::Unknown => basics::refuse(11, at),
         ScheduleCommand::End => {
             let next = at + width::in_schedule(0x00);
             if next < text.len() {
-                return refuse_end(next);
+                return basics::refuse(11, next);
             }
-            Ended::At(at)
+            Judged::Fine
         }
-        ScheduleCommand::Put(_, _) => Ended::At(at),
+        ScheduleCommand::Put(_, _) => basics::refuse(11, at),
     }
 }
 
@@ -56,11 +46,17 @@ pub fn read_schedule(text: &[u8]) -> Ended
     while at < text.len() {
         let command = text_command::schedule_command_at(text, at);
         let ScheduleCommand::Put(_, _) = command else {
-            return end_at(text, at, command);
+            return Ended {
+                judged: judge_end(text, at, command),
+                at: at,
+            };
         };
         at = at + width::in_schedule(0x40);
     }
-    refuse_end(text.len())
+    Ended {
+        judged: basics::refuse(11, text.len()),
+        at: at,
+    }
 }
 
 // The tables of a schedule. The rank of a signal is its place in PUT order, and 64 while it is not put.
@@ -148,7 +144,7 @@ pub fn unplaced(judged: Judged) -> Placing
 }
 
 // Goes through the PUTs of a schedule text that ends at `end`, for signals of these periods: 12 and 13, missing last.
-pub fn place_signals(text: &[u8], end: usize, signals: usize, periods: &[u8; 64]) -> Placing
+pub fn check_schedule(text: &[u8], end: usize, signals: usize, periods: &[u8; 64]) -> Placing
     requires { ⌜ (signals ≤ 64) × (end ≤ 192) ⌝ }
     ensures { λ r. ⌜ ((p : Program) (o : Parsed (List Put)) → count p ≡ signals → PeriodsOf p (now (periods .entry)) → parseSchedule (now (text .entry)) ≡ accepted o → o .next ≡ end → Scheduled p o r) ⌝ }
 {

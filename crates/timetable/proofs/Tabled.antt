@@ -8,7 +8,8 @@ use Rattle.model.specs.declared.Fault.{Fault}
 use Rattle.basics.specs.declared.Judged.{Judged}
 use Rattle.check_load.specs.Load.{loadIn, LoadsOf}
 use Rattle.check_load.proofs.Loads.{load-is}
-use Rattle.check_pair.specs.Answers.{Answers, Checks}
+use Rattle.basics.specs.Judgement.{Answers}
+use Rattle.check_pair.specs.Answers.{Checks}
 use Rattle.text_schedule.specs.declared.PairTables.{PairTables}
 use Rattle.timetable.specs.Timetable.{TimetableOf}
 use Rattle.timetable.specs.declared.Timetable.{Timetable}

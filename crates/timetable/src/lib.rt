@@ -1,7 +1,7 @@
 // What runs when: the signals of an accepted pair with period, phase and label, and the load of each cycle.
 use basics::Judged;
 ghost use Rattle.model.specs.Rules.Compile.{pairOf};
-ghost use Rattle.check_pair.specs.Answers.{Answers};
+ghost use Rattle.basics.specs.Judgement.{Answers};
 ghost use Rattle.timetable.specs.Timetable.{TimetableOf};
 ghost use mathlib.Core.Path.{_≡_};
 

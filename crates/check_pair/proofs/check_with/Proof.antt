@@ -4,29 +4,37 @@ use mathlib.Core.Path.{_≡_, refl, sym, ap, _∙_}
 use native.Mathlib.Omega.{arith}
 use denote.Ref.{now}
 use borrow.Author.Needs.{needs}
-use Rattle.model.specs.Rules.Compile.{shortEnough}
-use Rattle.model.specs.Rules.Outcome.{accepted}
+use Rattle.model.specs.Rules.Compile.{shortEnough, Pair, pairOf}
+use Rattle.model.specs.Rules.Latency.{timely}
+use Rattle.model.specs.Rules.Load.{loaded}
+use Rattle.model.specs.Rules.Outcome.{accepted, _▷_}
+use Rattle.model.specs.Rules.Program.{Program}
+use Rattle.model.specs.Rules.Reads.{met}
 use Rattle.model.specs.Rules.Schedule.{Schedule}
 use Rattle.model.specs.declared.Fault.{Fault}
+use Rattle.basics.specs.Judgement.{Answers}
 use Rattle.basics.specs.declared.Judged.{Judged}
 use Rattle.basics.specs.declared.Judged.the-variants as Judged
-use Rattle.text_program.specs.Tables.{ReadAs}
+use Rattle.text_program.specs.Tables.{ReadAs, TabledAs}
 use Rattle.text_program.specs.declared.Tables.{Tables}
 use Rattle.text_schedule.specs.Arranged.{Arranged}
 use Rattle.text_schedule.specs.Slots.{ScheduledAs}
 use Rattle.text_schedule.specs.declared.PairTables.{PairTables}
 use Rattle.text_schedule.proofs.Arranged.{short-hypercycle, ordered}
 use Rattle.text_program.proofs.ByIndex.{few-signals}
-use Rattle.check_pair.specs.Answers.{RatedAs}
+use Rattle.check_rates.specs.Answers.{CyclesAs}
 use Rattle.check_pair.specs.Steps.{ratesOf, scheduleFor, stepsOf}
-use Rattle.basics.proofs.Judgements.{judgement-fine, judgement-refused}
-use Rattle.check_pair.proofs.Verdicts.{
+use Rattle.basics.proofs.Judgements.{
+  judgement-fine,
+  judgement-refused,
   answers-fine,
   answers-refused,
   answers-then,
   answers-stop,
   answers-last,
   judgement-answers,
+}
+use Rattle.check_pair.proofs.Verdicts.{
   program-answers,
   program-read,
   schedule-answers,
@@ -57,34 +65,34 @@ read e =
     let g = program-read _ _ _ (e .before .before .before .before .read-program .ensures) (e .enum-told3 .given .1) in
     (g .0, g .1, g .2)
 
-abbrev looked : tie.After-check-rates → tie.After-enum-told3
+abbrev looked : tie.After-check-program → tie.After-enum-told3
 looked r = r .before .before .before
 
-rates : (r : tie.After-check-rates) → RatedAs (ratesOf (read (looked r) .0)) (r .check-rates .result)
-rates r = let g = read (looked r) in r .check-rates .ensures (g .0) (g .1) (g .2)
+rates : (r : tie.After-check-program) → CyclesAs (ratesOf (read (looked r) .0)) (r .check-program .result)
+rates r = let g = read (looked r) in r .check-program .ensures (g .0) (g .1) (g .2)
 
 rated : (e : tie.After-enum-told5) →
-    ratesOf (read (looked (e .before .before)) .0) ≡ accepted (e .before .before .check-rates .result .hypercycle)
+    ratesOf (read (looked (e .before .before)) .0) ≡ accepted (e .before .before .check-program .result .hypercycle)
 rated e = let a = answers-fine _ _ _ (rates (e .before .before)) (e .enum-told5 .given .1) in a .1 ∙ ap accepted (sym (a .2))
 
-abbrev found : tie.After-check-schedule → tie.After-enum-told5
+abbrev found : tie.After-check-puts → tie.After-enum-told5
 found d = d .before .before .before
 
-abbrev known : tie.After-check-schedule → tie.After-enum-told3
+abbrev known : tie.After-check-puts → tie.After-enum-told3
 known d = looked (found d .before .before)
 
-scheduled : (d : tie.After-check-schedule) → ScheduledAs (read (known d) .0)
-    (scheduleFor (read (known d) .0) (now (start (lengths (known d)) .args .schedule))) (d .check-schedule .result)
+scheduled : (d : tie.After-check-puts) → ScheduledAs (read (known d) .0)
+    (scheduleFor (read (known d) .0) (now (start (lengths (known d)) .args .schedule))) (d .check-puts .result)
 scheduled d =
     let g = read (known d) in
-    d .check-schedule .ensures (g .0) (g .2 .counts .signals-are) (g .2 .periods)
+    d .check-puts .ensures (g .0) (g .2 .counts .signals-are) (g .2 .periods)
 
-abbrev pair : tie.After-check-schedule → PairTables
+abbrev pair : tie.After-check-puts → PairTables
 pair d =
     record {
       tables = tables (known d);
-      slots = d .check-schedule .result .slots;
-      hypercycle = found d .before .before .check-rates .result .hypercycle;
+      slots = d .check-puts .result .slots;
+      hypercycle = found d .before .before .check-program .result .hypercycle;
     }
 
 arranged : (e : tie.After-enum-told7) →
@@ -114,6 +122,60 @@ arranged e =
         slots-are = a .2;
       },
     )
+
+-- where the schedule is placed
+module _ (e : tie.After-enum-told7) where
+  abbrev slots : tie.After-check-puts
+  slots = e .before .before
+
+  abbrev text : tie.After-enum-told3
+  text = known slots
+
+  abbrev program : Program
+  program = read text .0
+
+  abbrev schedule : Schedule
+  schedule = arranged e .0
+
+  abbrev h : ℕ
+  h = pair slots .hypercycle
+
+  table :
+      TabledAs (now (start (lengths text) .args .program)) (text .before .before .before .before .read-program .last .1 .1 .0)
+      (tables text)
+  table = program-read _ _ _ (text .before .before .before .before .read-program .ensures) (text .enum-told3 .given .1)
+
+  passed : (Q : Pair → Type 0) (j : Judged) →
+      Answers Q
+      (met program schedule ▷ λ _.
+      loaded program schedule h ▷ λ _.
+      timely program schedule h ▷ λ _.
+      accepted (record { program = program; schedule = schedule; hypercycle = h }))
+      j →
+      Answers Q (pairOf (now (start (lengths text) .args .program)) (now (start (lengths text) .args .schedule))) j
+  unfolding stepsOf
+  passed Q j w =
+      rw (pair-steps _ _)
+      (answers-then _ _ _ _ _ (short (lengths text))
+      (answers-then _ _ _ _ _ (read text .1)
+      (answers-then _ _ _ _ _ (rated (found slots))
+      (answers-then _ _ _ _ _ (arranged e .1) w))))
+
+-- where the reads are met, and where the load fits
+abbrev arrangement : tie.After-enum-told9 → tie.After-enum-told7
+arrangement f = f .before .before .before .before .before
+
+reads-met : (f : tie.After-enum-told9) → met (program (arrangement f)) (schedule (arrangement f)) ≡ accepted tt
+reads-met f = judgement-fine _ _ (f .before .before .check-reads .ensures _ _ (arranged (arrangement f) .2)) (f .enum-told9 .given .1)
+
+abbrev met-at : tie.After-enum-told11 → tie.After-enum-told9
+met-at f = f .before .before .before
+
+loads-fit : (f : tie.After-enum-told11) →
+    let e = arrangement (met-at f) in loaded (program e) (schedule e) (h e) ≡ accepted tt
+loads-fit f =
+    let e = arrangement (met-at f) in
+    judgement-fine _ _ (f .before .before .check-load .ensures _ _ _ (arranged e .2)) (f .enum-told11 .given .1)
 
 fine-refused : (j : Judged) (f : Fault) → j ≡ Judged.Fine → j ≡ Judged.Refused f → ⊥
 fine-refused j f p q = let z : _≡_ {A = ℕ} 0 1 = cc in omega arith
@@ -146,8 +208,8 @@ returns-2 c =
       λ e. absurd (fine-refused _ _ e (c .refused2 .ensures ∙ told)),
     )
 
-check-rates-requires : tie.Need-check-rates-requires
-check-rates-requires c κs =
+check-program-requires : tie.Need-check-program-requires
+check-program-requires c κs =
     let e = c .before .before in
     program-read _ _ _ (e .before .before .before .before .read-program .ensures) (e .enum-told3 .given .1)
 
@@ -164,18 +226,14 @@ returns-3 c =
       λ e. absurd (fine-refused _ _ e (c .refused3 .ensures ∙ told)),
     )
 
-check-schedule-requires : tie.Need-check-schedule-requires
-check-schedule-requires c κs =
+check-puts-requires : tie.Need-check-puts-requires
+check-puts-requires c κs =
     let x = looked (c .before .before .before .before) in
     let g = read x in
     (few-signals _ _ _ (g .1) (g .2), short-schedule _ _ (short (lengths x)))
 
 same-length-3 : tie.Need-same-length-3
-same-length-3 c =
-    let c5 = c .before .before .before .before .before in
-    let c10 = c5 .before .before .before .before .before in
-    let c14 = c10 .before .before .before .before in
-    search (needs, c14 .reads .given)
+same-length-3 c = let x = known (c .before .before .before) in search (needs, x .before .before .before .reads .given)
 
 returns-4 : tie.Need-returns-4
 unfolding stepsOf
@@ -192,46 +250,87 @@ returns-4 c =
       λ e. absurd (fine-refused _ _ e (c .refused4 .ensures ∙ told)),
     )
 
-check-runs-requires : tie.Need-check-runs-requires
-check-runs-requires c κs =
+check-reads-requires : tie.Need-check-reads-requires
+check-reads-requires c κs =
     let e = c .before .before in
-    let a = arranged e in
-    let x = known (e .before .before) in
-    let g = read x in
-    ((g .0, a .0, a .2), program-read _ _ _ (x .before .before .before .before .read-program .ensures) (x .enum-told3 .given .1))
+    ((program e, schedule e, arranged e .2), table e)
+
+same-length-4 : tie.Need-same-length-4
+same-length-4 c =
+    let c3 = c .before .before .before in
+    let x = text (c3 .before .before .before) in
+    search (needs, x .before .before .before .reads .given)
 
 returns-5 : tie.Need-returns-5
-unfolding stepsOf
 returns-5 c =
-    let e = c .before .before .before in
-    let d = e .before .before in
-    let x = known d in
-    let p = read x .0 in
-    let a = arranged e in
-    let g = a .2 in (
-      rw (pair-steps _ _)
-          (answers-then _ _ _ _ _ (short (lengths x))
-          (answers-then _ _ _ _ _ (g .parsed)
-          (answers-then _ _ _ _ _ (rated (found d))
-          (answers-then _ _ _ _ _ (a .1)
-          (answers-last _ _ _ _ (judgement-answers _ _ _ (c .check-runs .ensures p (a .0) g) (λ _.
+    let c3 = c .before .before .before in
+    let e = c3 .before .before .before in
+    let told = c .before .enum-told10 .given .1 in (
+      passed e _ _
+          (answers-stop _ _ _ _ _ (judgement-refused _ _ _ (c3 .check-reads .ensures _ _ (arranged e .2)) told)
+          (c .refused5 .ensures ∙ told)),
+      λ q. absurd (fine-refused _ _ q (c .refused5 .ensures ∙ told)),
+    )
+
+check-load-requires : tie.Need-check-load-requires
+check-load-requires c κs = let e = arrangement c in (_, (program e, schedule e, arranged e .2))
+
+same-length-5 : tie.Need-same-length-5
+same-length-5 c =
+    let x = text (arrangement (c .before .before .before .before)) in
+    search (needs, x .before .before .before .reads .given)
+
+returns-6 : tie.Need-returns-6
+returns-6 c =
+    let l = c .before .before .before in
+    let e = arrangement (l .before) in
+    let told = c .before .enum-told12 .given .1 in (
+      passed e _ _
+          (answers-then _ _ _ _ _ (reads-met (l .before))
+          (answers-stop _ _ _ _ _ (judgement-refused _ _ _ (l .check-load .ensures _ _ _ (arranged e .2)) told)
+          (c .refused6 .ensures ∙ told))),
+      λ q. absurd (fine-refused _ _ q (c .refused6 .ensures ∙ told)),
+    )
+
+check-latency-requires : tie.Need-check-latency-requires
+check-latency-requires c κs =
+    let f = met-at (c .before) in
+    let e = arrangement f in
+    ((program e, schedule e, arranged e .2, reads-met f), table e)
+
+same-length-6 : tie.Need-same-length-6
+same-length-6 c =
+    let x = text (arrangement (met-at (c .before .before .before))) in
+    search (needs, x .before .before .before .reads .given)
+
+returns-7 : tie.Need-returns-7
+returns-7 c =
+    let f = c .before .before .before in
+    let e = arrangement (met-at f) in
+    let g = arranged e .2 in
+    let m = reads-met (met-at f) in
+    rw (c .answer .ensures .0, c .answer .ensures .1) (
+      passed e _ _
+          (answers-then _ _ _ _ _ m
+          (answers-then _ _ _ _ _ (loads-fit f)
+          (answers-last _ _ _ _ (judgement-answers _ _ _ (c .before .check-latency .ensures _ _ g m) (λ _.
           record {
             prepared =
                 record {
                   parsed = g .parsed;
                   tables = g .tables-are;
                   periods-are = g .tables-are .periods;
-                  ranks = d .check-schedule .result .slots .ranks;
+                  ranks = slots e .check-puts .result .slots .ranks;
                   slots = g .slots-are;
                   ordered = ordered g;
-                  covered = rates-passed _ _ (rated (found d)) .3;
+                  covered = rates-passed _ _ (rated (found (slots e))) .3;
                 };
             ranks-are = refl;
             hyper = refl;
             bound = short-hypercycle g;
             arranged = g;
-          }))))))),
-      λ q. program-read _ _ _ (x .before .before .before .before .read-program .ensures) (x .enum-told3 .given .1),
+          }))))),
+      λ q. table e,
     )
 
 pub check-with-spec : {M : Type 1} → statement M
@@ -239,6 +338,8 @@ check-with-spec =
     tie.close
     (tie.spec (λ c κs. search needs) (λ c. search needs) (λ c. search needs) (λ c κs. search needs) returns
     read-program-requires (λ c. search needs) (λ c. search needs) (λ c κs. search needs) (λ c. search needs) returns-2
-    check-rates-requires (λ c. search needs) (λ c. search needs) (λ c κs. search needs) (λ c. search needs) returns-3
-    check-schedule-requires (λ c. search needs) (λ c. search needs) (λ c κs. search needs) same-length-3 returns-4
-    check-runs-requires (λ c. search needs) returns-5)
+    check-program-requires (λ c. search needs) (λ c. search needs) (λ c κs. search needs) (λ c. search needs) returns-3
+    check-puts-requires (λ c. search needs) (λ c. search needs) (λ c κs. search needs) same-length-3 returns-4
+    check-reads-requires (λ c. search needs) (λ c. search needs) (λ c κs. search needs) same-length-4 returns-5
+    check-load-requires (λ c. search needs) (λ c. search needs) (λ c κs. search needs) same-length-5 returns-6
+    check-latency-requires (λ c κs. search needs) same-length-6 returns-7)

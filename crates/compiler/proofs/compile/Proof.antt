@@ -13,7 +13,7 @@ use Rattle.image_write.specs.Prepared.{LaidOut, Ready}
 use Rattle.image_write.proofs.Imaged.{declared, tail-by}
 use Rattle.image_write.proofs.Written.{tail-room, all-written}
 use Rattle.check_pair.specs.Answers.{Checks}
-use Rattle.check_pair.proofs.Verdicts.{answers-fine, answers-refused}
+use Rattle.basics.proofs.Judgements.{answers-fine, answers-refused}
 use Rattle.compiler.proofs.Answers.{compile-refused, compile-short, compile-done}
 use Rattle.compiler.proofs.compile.Statement.{statement}
 use Rattle.compiler.proofs.compile.Tie as tie

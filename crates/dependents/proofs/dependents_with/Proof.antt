@@ -7,7 +7,7 @@ use Rattle.model.specs.Rules.Compile.{Pair, pairOf}
 use Rattle.model.specs.Rules.Machine.{ranOf}
 use Rattle.model.specs.Rules.Outcome.{accepted}
 use Rattle.text_schedule.specs.Arranged.{Arranged}
-use Rattle.check_pair.proofs.Verdicts.{answers-fine, answers-refused}
+use Rattle.basics.proofs.Judgements.{answers-fine, answers-refused}
 use Rattle.dependents.proofs.Inputs.{reads-declared, pair-refused, input-refused, marks-done}
 use Rattle.dependents.proofs.dependents_with.Statement.{statement}
 use Rattle.dependents.proofs.dependents_with.Tie as tie

@@ -1,7 +1,7 @@
 -- `join::join` meets its contract. Assumes nothing.
 use mathlib.Core.Path.{_≡_, sym, _∙_}
 use denote.Ref.{now}
-use Rattle.check_pair.proofs.Verdicts.{answers-fine, answers-refused}
+use Rattle.basics.proofs.Judgements.{answers-fine, answers-refused}
 use Rattle.join_verdict.proofs.Steps.{none-parts}
 use Rattle.join.specs.Ready.{JoinReady}
 use Rattle.join.proofs.Answers.{join-refused}

@@ -19,7 +19,7 @@ use Rattle.model.specs.Rules.Outcome.{accepted}
 use Rattle.model.specs.Rules.Parts.{Part}
 use Rattle.model.specs.declared.Found.the-variants.{Nowhere}
 use Rattle.basics.proofs.Judgements.{judgement-fine, judgement-refused}
-use Rattle.check_pair.proofs.Verdicts.{answers-then, answers-stop}
+use Rattle.basics.proofs.Judgements.{answers-then, answers-stop}
 use Rattle.join_gather.specs.Joint.{JointOf}
 use Rattle.join_gather.specs.Rates.{RatesBy}
 use Rattle.join_gather.specs.Rows.{TableOf}

@@ -1,25 +1,32 @@
 -- `join_whole::check_joint` meets its contract. Assumes nothing.
 use Prim.Native.Nat.{ℕ, _≤_, _<_}
 use mathlib.Core.Bool.{_&&_}
-use mathlib.Core.Path.{_≡_, refl, ap, _∙_}
+use mathlib.Core.Path.{_≡_, refl, sym, ap, _∙_}
 use mathlib.Core.List.{List}
 use borrow.Author.Needs.{needs}
 use borrow.Author.Tests.{le-leb, lt-leb}
 use lib.Dec.{leb}
 use lib.ListN.{length}
 use Rattle.model.specs.Rules.Join.{linksOf, linksMet, joinedVerdict}
-use Rattle.model.specs.Rules.Outcome.{Outcome, accepted, refused, fault, refuse, provided}
+use Rattle.model.specs.Rules.Outcome.{Outcome, accepted, refused, fault, provided}
 use Rattle.model.specs.Rules.Parts.{Part, joinedPair}
 use Rattle.model.specs.Rules.Program.{count}
 use Rattle.model.specs.Rules.Rates.{hypercycle}
 use Rattle.model.proofs.Basics.Outcomes.{true-provided, false-provided}
 use Rattle.model.proofs.Pairs.Hypercycle.{hypercycle-least}
-use Rattle.basics.proofs.Judgements.{judgement-fine, judgement-refused}
-use Rattle.check_pair.proofs.Verdicts.{answers-then, answers-stop, answers-last, judgement-answers, cycles-least, cycles-refused}
+use Rattle.basics.proofs.Judgements.{
+  judgement-fine,
+  judgement-refused,
+  answers-fine,
+  answers-refused,
+  answers-then,
+  answers-stop,
+  answers-last,
+  judgement-answers,
+}
 use Rattle.join_gather.specs.declared.Joint.{Joint}
 use Rattle.join_whole.specs.Whole.{Joining}
 use Rattle.join_whole.proofs.Wired.{
-  cycles-fault,
   wired-count,
   wired-chains,
   wired-cap,
@@ -88,49 +95,50 @@ module _ (e : tie.Else2) where
   passed parts size j = counted j ∙ few-both _ _ small (e .if2 .left)
 
 -- the hypercycle
-abbrev counts : tie.After-hypercycle → tie.Else2
+abbrev counts : tie.After-check-hypercycle → tie.Else2
 counts k = k .before .before .before .before .before .before .before
 
 returns-3 : tie.Need-returns-3
 unfolding joinedVerdict
 returns-3 c =
-    let k = c .before .before .before .before in
+    let k = c .before .before .before in
     let e = counts k in
+    let told = c .before .enum-told2 .given .1 in
     λ parts size j.
-    let p = pair e parts .program in
-    let f =
-    cycles-refused (hypercycle p) _ _ (k .hypercycle .ensures p (wired-count j) (wired-periods j (small e)))
-    (c .before .before .enum-told .given .1) in
     answers-then _ _ _ _ tt (passed e parts size j)
-    (answers-stop _ _ _ _ (fault 9 0) (f ∙ ap refused (cycles-fault p _ f))
-    (c .refused3 .ensures ∙ c .before .refuse3 .ensures))
+    (answers-stop _ _ _ _ _
+    (answers-refused _ _ _ _
+    (k .check-hypercycle .ensures (pair e parts .program) (wired-count j) (wired-periods j (small e))) told)
+    (c .refused3 .ensures ∙ told))
 
-abbrev few-at : tie.After-cycles → tie.Else2
+abbrev few-at : tie.After-enum-told → tie.Else2
 few-at d = counts (d .before .before)
 
-least : (d : tie.After-cycles) (parts : List Part) (size : ℕ) → Joins (few-at d) parts size →
-    hypercycle (pair (few-at d) parts .program) ≡ accepted (d .cycles .given .0 .0)
+least : (d : tie.After-enum-told) (parts : List Part) (size : ℕ) → Joins (few-at d) parts size →
+    hypercycle (pair (few-at d) parts .program) ≡ accepted (d .before .before .check-hypercycle .result .hypercycle)
 least d parts size j =
-    let p = pair (few-at d) parts .program in
-    cycles-least (hypercycle p) _ _
-    (d .before .before .hypercycle .ensures p (wired-count j) (wired-periods j (small (few-at d)))) (d .cycles .given .1)
+    let e = few-at d in
+    let a = answers-fine _ _ _
+    (d .before .before .check-hypercycle .ensures (pair e parts .program) (wired-count j) (wired-periods j (small e)))
+    (d .enum-told .given .1) in
+    a .1 ∙ ap accepted (sym (a .2))
 
 -- the links
 links-met-requires : tie.Need-links-met-requires
 links-met-requires c κs =
-    let e = few-at (c .before .before .before .before .before) in
+    let e = few-at (c .before .before .before .before) in
     let s = begun e in
     (s .pre .0, linking (s .pre .2) (small e))
 
-abbrev cycled : tie.After-links-met → tie.After-cycles
-cycled m = m .before .before .before .before .before .before
+abbrev cycled : tie.After-links-met → tie.After-enum-told
+cycled m = m .before .before .before .before .before
 
 returns-4 : tie.Need-returns-4
 unfolding joinedVerdict
 returns-4 c =
     let m = c .before .before .before in
     let e = few-at (cycled m) in
-    let told = c .before .enum-told3 .given .1 in
+    let told = c .before .enum-told4 .given .1 in
     λ parts size j.
     answers-then _ _ _ _ tt (passed e parts size j)
     (answers-then _ _ _ _ _ (least (cycled m) parts size j)
@@ -139,7 +147,7 @@ returns-4 c =
     (c .refused4 .ensures ∙ told)))
 
 -- the load
-abbrev met : tie.After-enum-told2 → tie.After-links-met
+abbrev met : tie.After-enum-told3 → tie.After-links-met
 met f = f .before .before
 
 judge-load-requires : tie.Need-judge-load-requires
@@ -162,7 +170,7 @@ returns-5 c =
     (answers-then _ _ _ _ _ (least (cycled m) parts size j)
     (answers-then _ _ _ _ tt
     (judgement-fine (linksMet parts (linksOf (links e))) _ (m .links-met .ensures parts (linking j (small e)))
-    (f .enum-told2 .given .1))
+    (f .enum-told3 .given .1))
     (answers-last _ _ _ _
     (judgement-answers _ _ _
     (c .judge-load .ensures (q .program) (q .schedule) (wired-count j) (wired-periods j (small e)) (wired-weights j (small e))
@@ -172,5 +180,5 @@ pub check-joint-spec : {M : Type 1} → statement M
 check-joint-spec =
     tie.close
     (tie.spec (λ c κs. search needs) (λ c κs. search needs) returns (λ c κs. search needs) (λ c κs. search needs) returns-2
-    (λ c κs. search needs) (λ c. search needs) (λ c. search needs) (λ c κs. search needs) (λ c κs. search needs) returns-3
+    (λ c κs. search needs) (λ c. search needs) (λ c. search needs) (λ c κs. search needs) returns-3
     links-met-requires (λ c. search needs) (λ c. search needs) (λ c κs. search needs) returns-4 judge-load-requires returns-5)

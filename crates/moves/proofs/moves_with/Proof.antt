@@ -4,7 +4,7 @@ use borrow.Author.Needs.{needs}
 use denote.Ref.{now}
 use Rattle.model.specs.Rules.Compile.{Pair, pairOf}
 use Rattle.model.specs.Rules.Outcome.{accepted, yieldedOf}
-use Rattle.check_pair.proofs.Verdicts.{answers-fine, answers-refused}
+use Rattle.basics.proofs.Judgements.{answers-fine, answers-refused}
 use Rattle.moves.specs.Listing.{AcceptedBy}
 use Rattle.moves.proofs.Tables.{moves-refused, moves-done}
 use Rattle.moves.proofs.moves_with.Statement.{statement}

@@ -1,7 +1,7 @@
 -- `text_schedule::read_schedule` meets its contract. Assumes nothing.
-use Rattle.text_schedule.specs.Slots.{endedOf, EndedAt}
+use Rattle.basics.specs.Judgement.{Answers}
 use Prim.Native.Nat.{ℕ, suc, _+_, _-_, _≤_, _<_}
-use mathlib.Core.Path.{_≡_, refl, sym, ap, subst, _∙_}
+use mathlib.Core.Path.{_≡_, refl, sym, ap, _∙_}
 use mathlib.Core.List.{List, []}
 use native.Mathlib.Omega.{arith}
 use denote.Ref.{now}
@@ -39,11 +39,9 @@ returns c =
     let l = c4 .loop in
     let i = l .inv in
     let text = now (c6 .args .text) in
-    subst (EndedAt _) (sym (c .end-at .ensures))
-    (subst (λ x. EndedAt x (endedOf text (l .at) (c .before .before .schedule-command-at .result)))
-    (sym (i .3 ∙ ap (λ m. parsePuts m text (l .at) (i .0)) (one-less (i .1) (omega arith))))
+    rw (c .judge-end .ensures, i .3 ∙ ap (λ m. parsePuts m text (l .at) (i .0)) (one-less (i .1) (omega arith)))
     (puts-stop text (l .at) (i .1 - 1) (i .0) _ (c .before .match .keys2)
-    (sym (c .before .before .schedule-command-at .ensures))))
+    (sym (c .before .before .schedule-command-at .ensures)))
 
 loop-again : tie.Need-loop-again Inv-loop μ-loop
 loop-again c =
@@ -63,11 +61,11 @@ loop-again c =
     )
 
 returns-2 : tie.Need-returns-2 Inv-loop μ-loop
-unfolding EndedAt
+unfolding Answers
 returns-2 c =
     let l = c .before .before .loop in
     let i = l .inv in
-    rw (i .3 ∙ puts-past (i .1) _ (l .at) (i .0) (c .before .loop-test .left)) (c .refuse-end .ensures)
+    rw (i .3 ∙ puts-past (i .1) _ (l .at) (i .0) (c .before .loop-test .left)) (c .refuse .ensures)
 
 pub read-schedule-spec : {M : Type 1} → statement M
 read-schedule-spec =

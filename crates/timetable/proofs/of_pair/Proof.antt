@@ -5,7 +5,7 @@ use denote.Ref.{now}
 use Rattle.model.specs.Rules.Compile.{Pair, pairOf}
 use Rattle.model.specs.Rules.Outcome.{accepted}
 use Rattle.check_pair.specs.Answers.{Checks}
-use Rattle.check_pair.proofs.Verdicts.{answers-fine, answers-refused}
+use Rattle.basics.proofs.Judgements.{answers-fine, answers-refused}
 use Rattle.text_program.proofs.ByIndex.{few-signals}
 use Rattle.text_schedule.proofs.Arranged.{short-hypercycle, phases-below}
 use Rattle.timetable.proofs.Tabled.{tabled, answers-made, answers-not}

@@ -1,4 +1,4 @@
--- `check_rates::linked` meets its contract. Assumes nothing.
+-- `check_rates::check_links` meets its contract. Assumes nothing.
 use Prim.Native.Nat.{ℕ, _-_, _<_}
 use mathlib.Core.Bool.{cond}
 use mathlib.Core.List.{List, [], _∷_}
@@ -19,8 +19,8 @@ use Rattle.text_program.proofs.InTurn.{Left, check-starts, check-passes, check-
 use Rattle.text_program.proofs.Rising.{chainPlaces, rising-program}
 use Rattle.basics.specs.declared.Judged.the-variants as Judged
 use Rattle.check_rates.proofs.Linking.{few-chains, lat-at, lat-judged}
-use Rattle.check_rates.proofs.linked.Statement.{statement}
-use Rattle.check_rates.proofs.linked.Tie as tie
+use Rattle.check_rates.proofs.check_links.Statement.{statement}
+use Rattle.check_rates.proofs.check_links.Tie as tie
 
 -- The fault of a chain, if it has one.
 abbrev unlinked : Program → ℕ → Chain → List Fault
@@ -99,8 +99,8 @@ returns-3 c =
     let l = c .before .before .loop in
     λ p q t. check-ends _ _ _ _ (l .chain) (omega (arith, c .if2 .left, t .counts .chains-are)) (l .inv p q t)
 
-pub linked-spec : {M : Type 1} → statement M
-linked-spec =
+pub check-links-spec : {M : Type 1} → statement M
+check-links-spec =
     tie.close
     (tie.spec Inv-loop μ-loop returns loop-holds is-linked-requires (λ c. omega (arith, few c)) few (λ c κs. search needs)
     (λ c κs. search needs)

@@ -1,16 +1,16 @@
--- `check_rates::hypercycle` meets its contract. Assumes nothing.
+-- `check_rates::check_hypercycle` meets its contract. Assumes nothing.
 use Prim.Native.Nat.{_-_, _≤_, _<_}
-use mathlib.Core.Path.{_≡_, sym, ap, _∙_}
+use mathlib.Core.Path.{_≡_, refl, sym, ap, _∙_}
 use native.Mathlib.Omega.{arith}
 use lib.ListN.{length}
 use borrow.Author.Needs.{needs}
 use Rattle.model.specs.Rules.Program.{Program}
 use Rattle.model.specs.Rules.Rates.{hypercycleOf, hypercycle}
 use Rattle.text_program.specs.Tables.{PeriodsOf}
-use Rattle.check_rates.specs.Answers.{cyclesAnswer}
+use Rattle.basics.specs.Judgement.{Answers}
 use Rattle.check_rates.proofs.Multiples.{leftFrom, cycle-start, cycle-here, cycle-later, cycle-over}
-use Rattle.check_rates.proofs.hypercycle.Statement.{statement}
-use Rattle.check_rates.proofs.hypercycle.Tie as tie
+use Rattle.check_rates.proofs.check_hypercycle.Statement.{statement}
+use Rattle.check_rates.proofs.check_hypercycle.Tie as tie
 
 abbrev Inv-loop : tie.InvT-loop
 Inv-loop count periods h₀ h =
@@ -21,12 +21,12 @@ abbrev μ-loop : tie.MeasureT-loop
 μ-loop count periods h₀ h = 240 - h
 
 returns : tie.Need-returns Inv-loop μ-loop
-unfolding cyclesAnswer
+unfolding Answers
 returns c =
     let l = c .before .before .before .loop in
     let lt : l .h < 240 = omega (arith, c .before .before .loop-test .taken) in
     λ p n t.
-    sym (ap cyclesAnswer (l .inv .1 p n t ∙ cycle-here p (l .h) lt (sym (c .before .is-multiple .ensures p n t) ∙ c .if1 .taken)))
+    rw (l .inv .1 p n t ∙ cycle-here p (l .h) lt (sym (c .before .is-multiple .ensures p n t) ∙ c .if1 .taken)) (refl, refl)
 
 loop-again : tie.Need-loop-again Inv-loop μ-loop
 loop-again c =
@@ -39,13 +39,14 @@ loop-again c =
     )
 
 returns-2 : tie.Need-returns-2 Inv-loop μ-loop
-unfolding cyclesAnswer
+unfolding Answers
 returns-2 c =
-    let l = c .before .loop in
-    λ p n t. sym (ap cyclesAnswer (l .inv .1 p n t ∙ cycle-over p (l .h) (omega (arith, c .loop-test .left, l .inv .0))))
+    let l = c .before .before .loop in
+    λ p n t.
+    rw (l .inv .1 p n t ∙ cycle-over p (l .h) (omega (arith, c .before .loop-test .left, l .inv .0))) (c .refuse .ensures)
 
-pub hypercycle-spec : {M : Type 1} → statement M
-hypercycle-spec =
+pub check-hypercycle-spec : {M : Type 1} → statement M
+check-hypercycle-spec =
     tie.close
     (tie.spec Inv-loop μ-loop (λ c. (omega arith, λ p n t. cycle-start p)) (λ c. omega arith) (λ c κs. search needs) returns
-    (λ c. omega arith) loop-again returns-2)
+    (λ c. omega arith) loop-again (λ c κs. search needs) returns-2)

@@ -1,4 +1,4 @@
--- `check_rates::declared_and_rated` meets its contract. Assumes nothing.
+-- `check_rates::check_rates` meets its contract. Assumes nothing.
 use mathlib.Core.Path.{ap, _∙_}
 use Rattle.model.specs.Rules.Outcome.{lowest}
 use Rattle.basics.specs.Judgement.{judgementOf}
@@ -6,8 +6,8 @@ use Rattle.check_rates.specs.Answers.{readRates, lowerOf}
 use Rattle.check_rates.proofs.Judging.{both-rates, periods-of}
 use Rattle.text_program.proofs.ByIndex.{few-signals, indexed}
 use borrow.Author.Needs.{needs}
-use Rattle.check_rates.proofs.declared_and_rated.Statement.{statement}
-use Rattle.check_rates.proofs.declared_and_rated.Tie as tie
+use Rattle.check_rates.proofs.check_rates.Statement.{statement}
+use Rattle.check_rates.proofs.check_rates.Tie as tie
 
 judge-reads-requires : tie.Need-judge-reads-requires
 judge-reads-requires c κs =
@@ -29,6 +29,6 @@ returns c =
     (c .before .before .judge-reads .ensures p e (periods-of _ _ _ (c9 .pre) p e)) ∙
     ap (λ x. lowerOf (judgementOf (lowest (readRates p))) x) (c .before .judge-links .ensures p e) ∙ both-rates p
 
-pub declared-and-rated-spec : {M : Type 1} → statement M
-declared-and-rated-spec =
+pub check-rates-spec : {M : Type 1} → statement M
+check-rates-spec =
     tie.close (tie.spec judge-reads-requires judge-links-requires (λ c κs. search needs) returns)

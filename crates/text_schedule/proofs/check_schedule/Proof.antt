@@ -1,4 +1,4 @@
--- `text_schedule::place_signals` meets its contract. Assumes nothing.
+-- `text_schedule::check_schedule` meets its contract. Assumes nothing.
 use Prim.Native.Nat.{ℕ, _+_, _*_, _-_, _≤_, _<_}
 use mathlib.Core.Bool.{false≢true}
 use mathlib.Core.List.{List}
@@ -30,8 +30,8 @@ use Rattle.text_schedule.proofs.Puts.{
   scheduled-refused,
   scheduled-fine,
 }
-use Rattle.text_schedule.proofs.place_signals.Statement.{statement}
-use Rattle.text_schedule.proofs.place_signals.Tie as tie
+use Rattle.text_schedule.proofs.check_schedule.Statement.{statement}
+use Rattle.text_schedule.proofs.check_schedule.Tie as tie
 
 abbrev slotsOf : List ℕ → List ℕ → List ℕ → ℕ → Slots
 slotsOf order phases ranks puts = record { puts = puts; order = order; phases = phases; ranks = ranks }
@@ -163,8 +163,8 @@ returns-4 c =
     scheduled-fine p _ _ _ (placed-all _ p o (l .at) t g past few fit all) refl
     (placed-slots _ p o (l .at) t g past few fit all)
 
-pub place-signals-spec : {M : Type 1} → statement M
-place-signals-spec =
+pub check-schedule-spec : {M : Type 1} → statement M
+check-schedule-spec =
     tie.close
     (tie.spec Inv-loop μ-loop loop-holds (λ c κs. search needs) (λ c. search needs) (λ c κs. search needs) returns
     (λ c κs. omega arith) (λ c. search needs) (λ c. search needs) (λ c κs. search needs) returns-2 (λ c κs. search needs)
