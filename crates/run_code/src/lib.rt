@@ -90,8 +90,10 @@ pub fn run_code(code: &[u8], table: &[u8], n: u8, own: u8, state: &[i32], sample
                     stack = stack.binary_with(operator(next), word);
                     at = at + operator_width;
                     count = count + 1;
-                } else {
+                } else if stack.height < run_stack::NEAR {
                     stack = stack.push(word);
+                } else {
+                    stack = stack.push_far(word);
                 }
             }
             0x5F => {

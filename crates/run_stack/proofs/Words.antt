@@ -1,11 +1,12 @@
 -- What a push, a pop and an operator do to the list of a stack's words. Assumes nothing.
-use mathlib.Core.Path.{_≡_, refl, ap, ap₂}
-use mathlib.Core.List.{List, _∷_}
+use mathlib.Core.Path.{_≡_, refl, sym, ap, ap₂, _∙_}
+use mathlib.Core.List.{List, [], _∷_, _++_}
 use Prim.Native.Nat.{ℕ, zero, suc, _+_, _-_, _≤_, _<_}
 use native.Mathlib.Numerals.{add-one, unary-clauses}
+use native.Mathlib.Nat.{zero-add, suc-add}
 use native.Mathlib.Omega.{arith}
-use lib.ListN.{length, getD, set}
-use lib.Seq.{getD-set-same, getD-set-other}
+use lib.ListN.{length, getD, set, List·getD-append, length-append}
+use lib.Seq.{getD-set-same, getD-set-other, getD-append-add, set-append-left}
 use lib.IntN.{ℤ, pos}
 use Rattle.run_stack.specs.View.{under, viewOf}
 use Rattle.model.specs.Rules.Machine.{onOne, onTwo, onThree}
@@ -58,3 +59,38 @@ view-three f t ws (suc (suc (suc n))) p = rw (two n, add-one (suc n)) refl
   where
     two : (n : ℕ) → suc (suc (suc n)) - 2 ≡ suc n
     two n = omega arith
+
+split : (i n m : ℕ) → m ≡ n → n ≤ i → i ≡ m + (i - n)
+split i n m e p = omega arith
+
+-- the words in two parts: a word and a store of the first part, and of the second
+pub near-word : (xs ys : List ℤ) (i : ℕ) → i < length xs → getD xs i (pos 0) ≡ getD (xs ++ ys) i (pos 0)
+near-word xs ys i p = sym (List·getD-append xs ys (pos 0) i p)
+
+pub far-word : (xs ys : List ℤ) (n i : ℕ) → length xs ≡ n → n ≤ i → getD ys (i - n) (pos 0) ≡ getD (xs ++ ys) i (pos 0)
+far-word xs ys n i e p =
+    sym (ap (λ (k : ℕ). getD (xs ++ ys) k (pos 0)) (split i n (length xs) e p) ∙ getD-append-add xs ys (i - n) (pos 0))
+
+pub near-store : (xs ys : List ℤ) (i : ℕ) (w : ℤ) → i < length xs → set xs i w ++ ys ≡ set (xs ++ ys) i w
+near-store xs ys i w p = sym (set-append-left xs ys i w p)
+
+far-add : (xs ys : List ℤ) (i : ℕ) (w : ℤ) → set (xs ++ ys) (length xs + i) w ≡ xs ++ set ys i w
+far-add [] ys i w = ap (λ (k : ℕ). set ys k w) (zero-add i)
+far-add (x ∷ xs) ys i w = rw (suc-add (length xs) i) (ap (_∷_ x) (far-add xs ys i w))
+
+pub far-store : (xs ys : List ℤ) (n i : ℕ) (w : ℤ) → length xs ≡ n → n ≤ i → xs ++ set ys (i - n) w ≡ set (xs ++ ys) i w
+far-store xs ys n i w e p = sym (ap (λ (k : ℕ). set (xs ++ ys) k w) (split i n (length xs) e p) ∙ far-add xs ys (i - n) w)
+
+pub view-near : (t : ℤ) (xs ys : List ℤ) (h : ℕ) (w : ℤ) → h < length xs
+    → viewOf w (set xs h t ++ ys) (h + 1) ≡ w ∷ viewOf t (xs ++ ys) h
+view-near t xs ys h w p = rw (near-store xs ys h t p) (view-push t (xs ++ ys) h w (within (length-append xs ys)))
+  where
+    within : {l : ℕ} → l ≡ length xs + length ys → h < l
+    within e = omega (arith, p)
+
+pub view-far : (t : ℤ) (xs ys : List ℤ) (n h : ℕ) (w : ℤ) → length xs ≡ n → n ≤ h → h < n + length ys
+    → viewOf w (xs ++ set ys (h - n) t) (h + 1) ≡ w ∷ viewOf t (xs ++ ys) h
+view-far t xs ys n h w e p q = rw (far-store xs ys n h t e p) (view-push t (xs ++ ys) h w (within (length-append xs ys)))
+  where
+    within : {l : ℕ} → l ≡ length xs + length ys → h < l
+    within g = omega (arith, e, p, q)

@@ -9,6 +9,8 @@ use borrow.Author.Needs.{needs}
 use lib.Dec.{ltb}
 use lib.IntN.{ℤ, pos}
 use lib.ListN.{length, getD}
+use mir.Syntax.{w32}
+use mir.Val.{toZ, ofZ}
 use Rattle.model.specs.Rules.Machine.{operatorCode, codeOk, runFrom, runCode, countCode, onTwo}
 use Rattle.model.specs.Rules.Table.{Row, areaRows}
 use Rattle.model.specs.Rules.Word.{byteAt, binaryWord}
@@ -251,8 +253,19 @@ add-at-3 c = omega (arith, inside (c .before .before .before .before .before))
 add-count-3 : tie.Need-add-count-3 Inv-loop μ-loop
 add-count-3 c = omega (arith, few (turn (leaf-of (c .before .before .before .before .before))))
 
-push-requires : tie.Need-push-requires Inv-loop μ-loop
-push-requires c κs = at-leaf (leaf-of (c .before .before .before)) .high
+push-far-requires : tie.Need-push-far-requires Inv-loop μ-loop
+push-far-requires c κs = (c .if5 .left, at-leaf (leaf-of (c .before .before .before .before .before)) .high)
+
+-- a leaf that is pushed
+pushed-less : (o : tie.After-leaf-length Inv-loop μ-loop) → let l = turn (leaf-of o) in
+    length (code l) - (l .loop .at + o .leaf-length .result) < length (code l) - l .loop .at
+pushed-less o =
+    let l = turn (leaf-of o) in
+    omega (arith, inside o, o .leaf-length .ensures, leaf-some (byteAt (code l) (l .loop .at)))
+
+pushed : (o : tie.After-leaf-length Inv-loop μ-loop) → let s = view (turn (leaf-of o) .loop .stack) in
+    toZ w32 (ofZ w32 (o .before .leaf-word .result)) ∷ s ≡ o .before .leaf-word .result ∷ s
+pushed o = ap (λ (z : ℤ). z ∷ view (turn (leaf-of o) .loop .stack)) (kept _ (o .before .leaf-word .ok))
 
 loop-less-4 : tie.Need-loop-less-4 Inv-loop μ-loop
 loop-less-4 c = omega (arith, inside (c .before .before .before .before .before))
@@ -269,23 +282,26 @@ loop-again-4 c =
     (omega (arith, c .binary-with .ensures .1)) (combined _ _ _ _ _ _ _ (then-operator p) .1))
 
 loop-less-5 : tie.Need-loop-less-5 Inv-loop μ-loop
-loop-less-5 c =
-    let o = c .before .before .before .before in
-    let l = turn (leaf-of o) in
-    omega (arith, inside o, o .leaf-length .ensures, leaf-some (byteAt (code l) (l .loop .at)))
+loop-less-5 c = pushed-less (c .before .before .before .before .before .before)
 
 loop-again-5 : tie.Need-loop-again-5 Inv-loop μ-loop
 loop-again-5 c =
-    let o = c .before .before .before .before in
-    moved _ _ _ _ _ _ _ (c .push .ensures .0 ∙
-    ap (λ (z : ℤ). z ∷ view (turn (leaf-of o) .loop .stack)) (kept _ (o .before .leaf-word .ok))) (c .push .ensures .1)
-    (follows o)
+    let o = c .before .before .before .before .before .before in
+    moved _ _ _ _ _ _ _ (c .push .ensures .0 ∙ pushed o) (c .push .ensures .1) (follows o)
+
+loop-less-6 : tie.Need-loop-less-6 Inv-loop μ-loop
+loop-less-6 c = pushed-less (c .before .before .before .before .before .before)
+
+loop-again-6 : tie.Need-loop-again-6 Inv-loop μ-loop
+loop-again-6 c =
+    let o = c .before .before .before .before .before .before in
+    moved _ _ _ _ _ _ _ (c .push-far .ensures .0 ∙ pushed o) (c .push-far .ensures .1) (follows o)
 
 binary-requires : tie.Need-binary-requires Inv-loop μ-loop
 binary-requires c κs = (combined _ _ _ _ _ _ _ (at-operator c) .0, c .before .before .before .before .before .loop .inv .most)
 
-loop-again-6 : tie.Need-loop-again-6 Inv-loop μ-loop
-loop-again-6 c =
+loop-again-7 : tie.Need-loop-again-7 Inv-loop μ-loop
+loop-again-7 c =
     rw (one (c .before .before .before .before .before .before))
     (moved _ _ _ _ _ _ _ (c .binary .ensures .0) (omega (arith, c .binary .ensures .1))
     (combined _ _ _ _ _ _ _ (at-operator (c .before)) .1))
@@ -301,5 +317,5 @@ run-code-spec =
     choose-requires (λ c. omega arith) loop-again-2 look-up-requires (λ c. omega arith) loop-again-3 leaf-word-requires
     (λ c κs. tt) (λ c. omega (arith, inside c))
     (λ c. inside (c .before)) add-count-2 returns-2 (λ c κs. (then-binary c .0, then-binary c .1)) binary-with-requires add-at-3
-    add-count-3 push-requires loop-less-4 loop-again-4 loop-less-5 loop-again-5 (λ c κs. (at-binary c .0, at-binary c .1))
-    binary-requires (λ c. omega arith) loop-again-6 returns-3)
+    add-count-3 (λ c κs. c .if5 .taken) push-far-requires loop-less-4 loop-again-4 loop-less-5 loop-again-5 loop-less-6
+    loop-again-6 (λ c κs. (at-binary c .0, at-binary c .1)) binary-requires (λ c. omega arith) loop-again-7 returns-3)

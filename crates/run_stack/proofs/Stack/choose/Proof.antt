@@ -1,5 +1,6 @@
 -- `run_stack::Stack::choose` meets its contract. Assumes nothing.
 use mathlib.Core.Path.{_≡_, _∙_}
+use mathlib.Core.List.{_++_}
 use Prim.Native.Nat.{_+_, _-_}
 use lib.IntN.{pos}
 use lib.ListN.{getD}
@@ -14,21 +15,22 @@ use Rattle.run_stack.proofs.Stack.choose.Tie as tie
 
 returns : tie.Need-returns
 returns c =
-    let c3 = c .before .before .before in
-    let c6 = c3 .before .before .before in
-    let a = c6 .args in
-    let condition = getD (a .self .below) (a .self .height - 2) (pos 0) in
-    let then = getD (a .self .below) (a .self .height - 2 + 1) (pos 0) in
+    let g = c .before .before .before .before in
+    let f = g .before in
+    let a = f .before .before .args in
+    let words = a .self .near ++ a .self .far in
+    let condition = getD words (a .self .height - 2) (pos 0) in
+    let then = getD words (a .self .height - 2 + 1) (pos 0) in
     let w : toZ w32 (ofZ w32 (c .choose .result)) ≡ ifWord condition then (a .self .top) =
     kept (c .choose .result) (c .choose .ok) ∙ c .choose .ensures ∙ rw (
-      kept condition (c3 .condition .given),
-      kept then (c .before .before .then .given),
+      kept (f .word-below .result) (f .word-below .ok) ∙ f .word-below .ensures,
+      kept (g .word-below2 .result) (g .word-below2 .ok) ∙ g .word-below2 .ensures,
       kept (a .self .top) (c .before .struct-told .given .0 .1),
     ) in
-    (rw w (view-three ifWord (a .self .top) (a .self .below) (a .self .height) (search needs)), search needs)
+    (rw w (view-three ifWord (a .self .top) words (a .self .height) (search needs)), search needs)
 
 pub choose-spec : {M : Type 1} → statement M
 choose-spec =
     tie.close
-    (tie.spec (λ c. search needs) (λ c. search needs) (λ c. search needs) (λ c. search needs) (λ c. search needs)
-    (λ c. search needs) (λ c κs. search needs) returns)
+    (tie.spec (λ c. search needs) (λ c κs. search needs) (λ c. search needs) (λ c κs. search needs) (λ c κs. search needs)
+    returns)
