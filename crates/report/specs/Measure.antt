@@ -6,8 +6,8 @@ use Rattle.model.specs.Says.Grammar.{depth, Spells}
 use Rattle.model.specs.Rules.Program.{leastFactor, Expr, Signal}
 use Rattle.model.specs.Rules.Report.{exprCommands, exprHeight, bodyCommands, bodyHeight}
 use Rattle.model.specs.Says.Stands.{SpellsSignal}
-use Rattle.image_measure.specs.declared.Measure.{Measure}
-use Rattle.image_measure.specs.declared.Work.{Work}
+use Rattle.report.specs.declared.Measure.{Measure}
+use Rattle.report.specs.declared.Work.{Work}
 
 -- An expression stands at `at` that nests at most d deep.
 pub record Nests (d : ℕ) (text : List ℕ) (at : ℕ) : Type 0 where

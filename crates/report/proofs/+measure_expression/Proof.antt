@@ -1,4 +1,4 @@
--- `image_measure::measure_expression` meets its contract: the measure of the recursion is the depth that is still allowed.
+-- `report::measure_expression` meets its contract: the measure of the recursion is the depth that is still allowed.
 -- Assumes
 -- nothing.
 use borrow.Author.Needs.{needs}
@@ -14,8 +14,8 @@ use Rattle.model.specs.Rules.Command.{operatorAt}
 use Rattle.model.specs.declared.Operator.{Operator}
 use Rattle.image_code.specs.Shape.{leadOf}
 use Rattle.image_code.proofs.Operands.{spells-stands, no-operator, spans}
-use Rattle.image_measure.specs.Measure.{Nests}
-use Rattle.image_measure.proofs.Operands.{
+use Rattle.report.specs.Measure.{Nests}
+use Rattle.report.proofs.Operands.{
   NestsAll,
   Small,
   positive,
@@ -29,17 +29,17 @@ use Rattle.image_measure.proofs.Operands.{
   measures-last,
   measures-leaf,
 }
-use Rattle.image_measure.proofs.measure_expression.Reads as own
-use Rattle.image_measure.proofs.measure_expression.Kinds as kinds
-use Rattle.image_measure.proofs.+measure_expression.Lts-measure_expression as lts
+use Rattle.report.proofs.measure_expression.Reads as own
+use Rattle.report.proofs.measure_expression.Kinds as kinds
+use Rattle.report.proofs.+measure_expression.Lts-measure_expression as lts
 use Rattle.text_command.proofs.operator_at.Reads as operator-at-reads
-use Rattle.image_measure.proofs.joined.Reads as joined-reads
-use Rattle.image_measure.proofs.leaf.Reads as leaf-reads
-use Rattle.image_measure.proofs.operated.Reads as operated-reads
+use Rattle.report.proofs.joined.Reads as joined-reads
+use Rattle.report.proofs.leaf.Reads as leaf-reads
+use Rattle.report.proofs.operated.Reads as operated-reads
 use Rattle.width.proofs.in_expression.Reads as in-expression-reads
 use Rattle.width.proofs.of_read.Reads as of-read-reads
-use Rattle.image_measure.proofs.+measure_expression.{statement}
-use Rattle.image_measure.proofs.+measure_expression.Tie.{close}
+use Rattle.report.proofs.+measure_expression.{statement}
+use Rattle.report.proofs.+measure_expression.Tie.{close}
 
 abbrev μ : Measures 2 kinds.ps ℕ
 μ κs a = a .1 .1 .0

@@ -1,4 +1,4 @@
--- `image_measure::measure_signal` meets its contract. Assumes nothing.
+-- `report::measure_signal` meets its contract. Assumes nothing.
 use Prim.Native.Nat.{ℕ, _+_, _≤_, _<_}
 use mathlib.Core.List.{List}
 use mathlib.Core.Path.{_≡_, sym, ap}
@@ -10,11 +10,11 @@ use Rattle.model.specs.Rules.Report.{bodyCommands, bodyHeight}
 use Rattle.model.specs.Rules.Word.{byteAt}
 use Rattle.model.specs.Says.Stands.{SpellsSignal}
 use Rattle.image_code.proofs.Signals.{Equated, equated, sampled, place-inside}
-use Rattle.image_measure.specs.Measure.{Nests, Measures}
-use Rattle.image_measure.proofs.Operands.{small}
+use Rattle.report.specs.Measure.{Nests, Measures}
+use Rattle.report.proofs.Operands.{small}
 use borrow.Author.Needs.{needs}
-use Rattle.image_measure.proofs.measure_signal.Statement.{statement}
-use Rattle.image_measure.proofs.measure_signal.Tie as tie
+use Rattle.report.proofs.measure_signal.Statement.{statement}
+use Rattle.report.proofs.measure_signal.Tie as tie
 
 -- where the signal's declaration stands
 inside : (s : tie.Start) → let a = s .args in

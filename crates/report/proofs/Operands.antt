@@ -18,8 +18,8 @@ use Rattle.image_code.specs.Code.{SpellsAll, NestsIn}
 use Rattle.image_code.proofs.Operands.{commandsOfAll, heightOfAll, opened}
 use Rattle.model.proofs.Texts.Legal.{expr-code}
 use Rattle.image_code.proofs.Spans.{inside}
-use Rattle.image_measure.specs.Measure.{Nests, MeasureIs, Measures, Joined, Operated}
-use Rattle.image_measure.specs.declared.Measure.{Measure}
+use Rattle.report.specs.Measure.{Nests, MeasureIs, Measures, Joined, Operated}
+use Rattle.report.specs.declared.Measure.{Measure}
 
 -- k expressions stand at `at`, each nests at most d deep.
 pub record NestsAll (d : ℕ) (text : List ℕ) (at k : ℕ) : Type 0 where
