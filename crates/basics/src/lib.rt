@@ -47,21 +47,21 @@ pub fn refused(judged: Judged) -> Yielded
 }
 
 // A byte as a number.
-pub fn wide(byte: u8) -> usize
+pub fn from_byte(byte: u8) -> usize
     ensures { λ r. ⌜ (r ≡ byte) × (r < 256) ⌝ }
 {
     byte as usize
 }
 
 // An entry of a table as a number.
-pub fn wider(entry: u16) -> usize
+pub fn from_entry(entry: u16) -> usize
     ensures { λ r. ⌜ (r ≡ entry) × (r < 65536) ⌝ }
 {
     entry as usize
 }
 
 // A number that fits a byte.
-pub fn narrow(x: usize) -> u8
+pub fn to_byte(x: usize) -> u8
     requires { ⌜ x < 256 ⌝ }
     ensures { λ r. ⌜ r ≡ x ⌝ }
 {

@@ -53,7 +53,7 @@ use Rattle.board.specs.Events.{
 }
 use Rattle.board.specs.Board.{Board}
 use Rattle.board.specs.Board.{Place}
-use Rattle.board.proofs.Answers.{boardDone}
+use Rattle.board.proofs.Called.{boardDone}
 use Rattle.board.proofs.Due.{next-below}
 use Rattle.board.proofs.Round.{set-other}
 use Rattle.board.proofs.Stretch.{never, reset-length, cycle-of-length, cycle-keeps, on-keeps, on-length, accepted-runs}

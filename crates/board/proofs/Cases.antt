@@ -29,7 +29,7 @@ use Rattle.board.specs.Board.{
   turnWith,
 }
 use Rattle.board.specs.Events.{Scene, loadBy, markBy, turnBy, turnIn}
-use Rattle.board.proofs.Answers.{
+use Rattle.board.proofs.Called.{
   boardRefusal,
   boardDone,
   load-place,

@@ -46,7 +46,7 @@ use Rattle.board.specs.Events.{
   turnBy,
 }
 use Rattle.board.specs.Board.{Place}
-use Rattle.board.proofs.Answers.{boardDone}
+use Rattle.board.proofs.Called.{boardDone}
 use Rattle.board.proofs.Due.{true≢false, NextAt, reached, none-due}
 use Rattle.board.proofs.Stretch.{never}
 use Rattle.board.proofs.Cases.{

@@ -34,8 +34,8 @@ use Rattle.model.proofs.Images.Tails.{lent-formed}
 use Rattle.image_valid.proofs.Parts.{head, formed}
 use Rattle.image_valid.specs.Lends.{Lends}
 use Rattle.machine.specs.Runnable.{Runnable}
-use Rattle.machine.proofs.Answers.{done}
-use Rattle.machine.proofs.Answers as Answers
+use Rattle.machine.proofs.Machine.{done}
+use Rattle.machine.proofs.Machine as Answers
 use Rattle.machine.proofs.Runnable.{stays-runnable, reset-runnable}
 use Rattle.board.specs.Board.{onStretch}
 use Rattle.board.specs.Events.{RunFault, bad-image, bad-position}

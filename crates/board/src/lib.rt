@@ -1,7 +1,7 @@
-// Four programs on one board. Each place has a stretch of the lent images, its own 65 of 260 lent words and 64 of 256 lent samples, in
-// place order. The record is an array of 17 numbers that the caller keeps: for each place its flags (1 loaded, 2 due), start, size and
-// count, in place order; then the place last taken. Any numbers are a record. A call that is not refused writes the numbers of its place,
-// and a turn the place last taken; a refused call changes nothing, the record included.
+// Four programs on one board. Each place has a stretch of the lent images, its own 65 of 260 lent words and 64 of 256 lent
+// samples, in place order. The record is an array of 17 numbers that the caller keeps: for each place its flags (1 loaded, 2
+// due), start, size and count, in place order; then the place last taken. Any numbers are a record. A call that is not refused
+// writes the numbers of its place, and a turn the place last taken; a refused call changes nothing, the record included.
 use model::Cycled;
 use model::Fault;
 use model::Found;
@@ -15,7 +15,17 @@ ghost use Rattle.model.specs.Rules.Machine.{Does, ranOf, cycledOf};
 ghost use Rattle.model.specs.Rules.Outcome.{refuse};
 ghost use Rattle.board.specs.Board.{countUp, placeWords, withWords, resetIn, cycleIn, runIn};
 ghost use Rattle.board.specs.Board.{nextDue, loadOf, markPlaceOf, turnOf, turnedOf};
-ghost use Rattle.board.specs.Record.{loadedIn, dueIn, boardOf, newWords, firstDue, countIn, loadRecord, markRecord, turnRecord};
+ghost use Rattle.board.specs.Record.{
+  loadedIn,
+  dueIn,
+  boardOf,
+  newWords,
+  firstDue,
+  countIn,
+  loadRecord,
+  markRecord,
+  turnRecord,
+};
 ghost use Rattle.board.specs.Record.{runOutcome, outcomeIn};
 
 const PLACES: usize = 4;
@@ -108,7 +118,9 @@ fn cycle_place(
 fn load_place(images: &[u8], start: usize, size: usize, state: &mut [i32], place: usize) -> Ran
     requires { ⌜ (place < 4) × (260 ≤ length (now state)) ⌝ }
     ensures answer { λ r. ⌜ ranOf r ≡ resetIn (now (images .entry)) start size (placeWords place (now (state .entry))) .answer ⌝ }
-    ensures left { λ _. ⌜ now (state .exit) ≡ withWords place (now (state .entry)) (resetIn (now (images .entry)) start size (placeWords place (now (state .entry))) .left) ⌝ }
+    ensures left { λ _. ⌜ now (state .exit) ≡
+        withWords place (now (state .entry))
+        (resetIn (now (images .entry)) start size (placeWords place (now (state .entry))) .left) ⌝ }
 {
     let from = PLACE_WORDS * place;
     let to = from + PLACE_WORDS;
@@ -125,8 +137,11 @@ fn run_place(
     place: usize,
 ) -> Cycled
     requires { ⌜ (place < 4) × (260 ≤ length (now state)) × (256 ≤ length (now samples)) ⌝ }
-    ensures answer { λ r. ⌜ cycledOf r ≡ runIn (now (images .entry)) start size (now (state .entry)) (now (samples .entry)) place .answer ⌝ }
-    ensures left { λ _. ⌜ now (state .exit) ≡ withWords place (now (state .entry)) (runIn (now (images .entry)) start size (now (state .entry)) (now (samples .entry)) place .left) ⌝ }
+    ensures answer { λ r. ⌜ cycledOf r ≡ runIn (now (images .entry)) start size (now (state .entry))
+        (now (samples .entry)) place .answer ⌝ }
+    ensures left { λ _. ⌜ now (state .exit) ≡
+        withWords place (now (state .entry))
+        (runIn (now (images .entry)) start size (now (state .entry)) (now (samples .entry)) place .left) ⌝ }
 {
     let from = PLACE_WORDS * place;
     let to = from + PLACE_WORDS;
@@ -207,9 +222,13 @@ pub fn load(
     start: usize,
     size: usize,
 ) -> Ran
-    ensures answer { λ r. ⌜ ranOf r ≡ loadOf (boardOf (now (words .entry))) (now (images .entry)) (now (state .entry)) place start size .answer ⌝ }
-    ensures kept { λ _. ⌜ now (words .exit) ≡ loadRecord (now (words .entry)) place start size (loadOf (boardOf (now (words .entry))) (now (images .entry)) (now (state .entry)) place start size .answer) ⌝ }
-    ensures left { λ _. ⌜ now (state .exit) ≡ loadOf (boardOf (now (words .entry))) (now (images .entry)) (now (state .entry)) place start size .left ⌝ }
+    ensures answer { λ r. ⌜ ranOf r ≡ loadOf (boardOf (now (words .entry))) (now (images .entry)) (now (state .entry))
+        place start size .answer ⌝ }
+    ensures kept { λ _. ⌜ now (words .exit) ≡
+        loadRecord (now (words .entry)) place start size
+        (loadOf (boardOf (now (words .entry))) (now (images .entry)) (now (state .entry)) place start size .answer) ⌝ }
+    ensures left { λ _. ⌜ now (state .exit) ≡ loadOf (boardOf (now (words .entry))) (now (images .entry)) (now (state .entry))
+        place start size .left ⌝ }
 {
     if PLACES <= place {
         return refused(refusals::NO_SUCH_PLACE);
@@ -232,7 +251,8 @@ pub fn load(
 // Marks a loaded place due.
 pub fn mark(words: &mut [usize; 17], place: usize) -> Ran
     ensures answer { λ r. ⌜ ranOf r ≡ markPlaceOf (boardOf (now (words .entry))) place .answer ⌝ }
-    ensures kept { λ _. ⌜ now (words .exit) ≡ markRecord (now (words .entry)) place (markPlaceOf (boardOf (now (words .entry))) place .answer) ⌝ }
+    ensures kept { λ _. ⌜ now (words .exit) ≡
+        markRecord (now (words .entry)) place (markPlaceOf (boardOf (now (words .entry))) place .answer) ⌝ }
 {
     if PLACES <= place {
         return refused(refusals::NO_SUCH_PLACE);
@@ -247,9 +267,13 @@ pub fn mark(words: &mut [usize; 17], place: usize) -> Ran
 
 // Runs the next due place, if there is one, and clears its mark.
 pub fn turn(words: &mut [usize; 17], images: &[u8], state: &mut [i32], samples: &[i32]) -> Turned
-    ensures answer { λ r. ⌜ turnedOf r ≡ turnOf (boardOf (now (words .entry))) (now (images .entry)) (now (state .entry)) (now (samples .entry)) .answer ⌝ }
-    ensures kept { λ _. ⌜ now (words .exit) ≡ turnRecord (now (words .entry)) (turnOf (boardOf (now (words .entry))) (now (images .entry)) (now (state .entry)) (now (samples .entry)) .answer) ⌝ }
-    ensures left { λ _. ⌜ now (state .exit) ≡ turnOf (boardOf (now (words .entry))) (now (images .entry)) (now (state .entry)) (now (samples .entry)) .left ⌝ }
+    ensures answer { λ r. ⌜ turnedOf r ≡ turnOf (boardOf (now (words .entry))) (now (images .entry)) (now (state .entry))
+        (now (samples .entry)) .answer ⌝ }
+    ensures kept { λ _. ⌜ now (words .exit) ≡
+        turnRecord (now (words .entry)) (turnOf (boardOf (now (words .entry))) (now (images .entry)) (now (state .entry))
+        (now (samples .entry)) .answer) ⌝ }
+    ensures left { λ _. ⌜ now (state .exit) ≡ turnOf (boardOf (now (words .entry))) (now (images .entry)) (now (state .entry))
+        (now (samples .entry)) .left ⌝ }
 {
     if state.len() < WORDS {
         return denied(refusals::STATE_SHORT);

@@ -32,7 +32,7 @@ use Rattle.model.specs.Says.Stands.{SpellsChain}
 use Rattle.model.proofs.Pairs.Links.{LinkedBack, linked-backwards, declared-backwards, chain-met}
 use Rattle.model.proofs.Pairs.Verdict.{links-declared, chains-linked}
 use Rattle.model.proofs.Pairs.Links.{ChainMet, source-count}
-use Rattle.check_rates.specs.Answers.{periodAt}
+use Rattle.check_rates.specs.Rates.{periodAt}
 use Rattle.text_program.specs.Tables.{noChain, chainAt}
 use Rattle.text_program.specs.declared.Tables.{Tables}
 use Rattle.check_latency.specs.Timely.{Timed, RouteOf, windowBy, withBound}

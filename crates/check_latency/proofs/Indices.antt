@@ -17,7 +17,7 @@ use Rattle.model.specs.declared.Found.the-variants.{At, Nowhere}
 use Rattle.model.specs.declared.Kind.{Kind}
 use Rattle.model.proofs.Pairs.Decide.{is-first}
 use Rattle.model.proofs.Texts.Legal.{legal}
-use Rattle.check_rates.specs.Answers.{periodAt}
+use Rattle.check_rates.specs.Rates.{periodAt}
 use Rattle.text_program.specs.declared.Tables.{Tables}
 use Rattle.check_latency.specs.Timely.{ByteFound, Known}
 

@@ -7,6 +7,7 @@ use model::Found;
 use model::Index;
 use model::Kind;
 use model::Sampled;
+use model::refusals;
 use read_rule::Timing;
 use text_program::Tables;
 use text_schedule::Slots;
@@ -21,12 +22,23 @@ ghost use Rattle.model.specs.Rules.Schedule.{Schedule};
 ghost use Rattle.model.specs.Rules.Search.{foundOr};
 ghost use Rattle.latency_rule.specs.Back.{noHop};
 ghost use Rattle.latency_rule.specs.Hops.{hopOf};
-ghost use Rattle.check_rates.specs.Answers.{periodAt};
+ghost use Rattle.check_rates.specs.Rates.{periodAt};
 ghost use Rattle.basics.specs.Judgement.{judgementOf};
 ghost use Rattle.text_program.specs.Tables.{chainAt, TabledAs};
 ghost use Rattle.text_schedule.specs.Arranged.{Arranged, pairTables};
 ghost use Rattle.read_rule.specs.Reads.{rateIn};
-ghost use Rattle.check_latency.specs.Timely.{ByteFound, MetPair, Known, ChainsLinked, Joinable, Timed, Judgeable, RouteOf, windowBy, LeewayOf};
+ghost use Rattle.check_latency.specs.Timely.{
+  ByteFound,
+  MetPair,
+  Known,
+  ChainsLinked,
+  Joinable,
+  Timed,
+  Judgeable,
+  RouteOf,
+  windowBy,
+  LeewayOf,
+};
 
 // The index found, or 0.
 fn index_found(found: Found) -> u8
@@ -93,7 +105,9 @@ pub fn hop_at(
     r: u8,
 ) -> Hop
     requires { ⌜ TabledAs (now text) (now reads) tables ⌝ }
-    ensures { λ h. ⌜ ((p : Program) (s : Schedule) → Known (now (text .entry)) tables (now (periods .entry)) (now (phases .entry)) p s → w < count p → r < count p → countReads w (bodyReads (signalAt p r .body)) ≡ 1 → h ≡ hopOf p s r (readAmong w (bodyReads (signalAt p r .body)))) ⌝ }
+    ensures { λ h. ⌜ ((p : Program) (s : Schedule) →
+        Known (now (text .entry)) tables (now (periods .entry)) (now (phases .entry)) p s → w < count p → r < count p →
+        countReads w (bodyReads (signalAt p r .body)) ≡ 1 → h ≡ hopOf p s r (readAmong w (bodyReads (signalAt p r .body)))) ⌝ }
 {
     let firsts = tables.firsts;
     let found = check_rates::one_read(text, reads, &firsts, tables.signals, w, r);
@@ -122,13 +136,16 @@ fn follow(
     phases: &[u8; 64],
     chain: usize,
 ) -> Route
-    requires { ⌜ Joinable (now text) tables (now periods) (now phases) × (chain < tables .chains) × TabledAs (now text) (now reads) tables ⌝ }
-    ensures { λ r. ⌜ ((p : Program) (s : Schedule) → ChainsLinked (now (text .entry)) tables (now (periods .entry)) (now (phases .entry)) p s → RouteOf p s r (backwards (chainAt p chain))) ⌝ }
+    requires { ⌜ Joinable (now text) tables (now periods) (now phases) × (chain < tables .chains) ×
+        TabledAs (now text) (now reads) tables ⌝ }
+    ensures { λ r. ⌜ ((p : Program) (s : Schedule) →
+        ChainsLinked (now (text .entry)) tables (now (periods .entry)) (now (phases .entry)) p s →
+        RouteOf p s r (backwards (chainAt p chain))) ⌝ }
 {
     let starts = tables.starts;
     let lengths = tables.lengths;
-    let mut at = basics::wider(starts[chain]) + width::in_program(0x12);
-    let mut left = basics::wide(lengths[chain]);
+    let mut at = basics::from_entry(starts[chain]) + width::in_program(0x12);
+    let mut left = basics::from_byte(lengths[chain]);
     let source = text[at + 1];
     let mut last = source;
     let mut count: usize = 0;
@@ -177,11 +194,14 @@ fn keeps_time(
     h: usize,
     chain: usize,
 ) -> bool
-    requires { ⌜ Judgeable (now text) tables (now periods) (now phases) h × (chain < tables .chains) × TabledAs (now text) (now reads) tables ⌝ }
-    ensures { λ r. ⌜ ((p : Program) (s : Schedule) → Timed (now (text .entry)) tables (now (periods .entry)) (now (phases .entry)) h p s → r ≡ keeps p s h (chainAt p chain)) ⌝ }
+    requires { ⌜ Judgeable (now text) tables (now periods) (now phases) h × (chain < tables .chains) ×
+        TabledAs (now text) (now reads) tables ⌝ }
+    ensures { λ r. ⌜ ((p : Program) (s : Schedule) →
+        Timed (now (text .entry)) tables (now (periods .entry)) (now (phases .entry)) h p s →
+        r ≡ keeps p s h (chainAt p chain)) ⌝ }
 {
     let starts = tables.starts;
-    let declaration = text_command::declaration_at(text, basics::wider(starts[chain]));
+    let declaration = text_command::declaration_at(text, basics::from_entry(starts[chain]));
     let Declaration::Latency(mode, bound) = declaration else {
         return false;
     };
@@ -214,15 +234,16 @@ fn judge_chains(
     h: usize,
 ) -> Judged
     requires { ⌜ Judgeable (now text) tables (now periods) (now phases) h × TabledAs (now text) (now reads) tables ⌝ }
-    ensures { λ r. ⌜ ((p : Program) (s : Schedule) → Timed (now (text .entry)) tables (now (periods .entry)) (now (phases .entry)) h p s → r ≡ judgementOf (timely p s h)) ⌝ }
+    ensures { λ r. ⌜ ((p : Program) (s : Schedule) →
+        Timed (now (text .entry)) tables (now (periods .entry)) (now (phases .entry)) h p s → r ≡ judgementOf (timely p s h)) ⌝ }
 {
     let starts = tables.starts;
     let mut chain: usize = 0;
     while chain < tables.chains {
         if !keeps_time(text, reads, tables, periods, phases, h, chain) {
             return Judged::Refused(Fault {
-                number: 16,
-                place: basics::wider(starts[chain]),
+                number: refusals::LATENCY,
+                place: basics::from_entry(starts[chain]),
             });
         }
         chain = chain + 1;
@@ -239,7 +260,8 @@ pub fn check_latency(
     hypercycle: usize,
 ) -> Judged
     requires { ⌜ MetPair (now text) (pairTables tables slots hypercycle) × TabledAs (now text) (now reads) tables ⌝ }
-    ensures { λ r. ⌜ ((p : Program) (s : Schedule) → Arranged (now (text .entry)) (pairTables tables slots hypercycle) p s → met p s ≡ accepted tt →
+    ensures { λ r. ⌜ ((p : Program) (s : Schedule) →
+        Arranged (now (text .entry)) (pairTables tables slots hypercycle) p s → met p s ≡ accepted tt →
         r ≡ judgementOf (timely p s hypercycle)) ⌝ }
 {
     if tables.chains == 0 {
@@ -268,11 +290,14 @@ pub fn leeway_of(
     h: usize,
     chain: usize,
 ) -> Leeway
-    requires { ⌜ Judgeable (now text) tables (now periods) (now phases) h × (chain < tables .chains) × TabledAs (now text) (now reads) tables ⌝ }
-    ensures { λ r. ⌜ ((p : Program) (s : Schedule) → Timed (now (text .entry)) tables (now (periods .entry)) (now (phases .entry)) h p s → LeewayOf p s h (chainAt p chain) r) ⌝ }
+    requires { ⌜ Judgeable (now text) tables (now periods) (now phases) h × (chain < tables .chains) ×
+        TabledAs (now text) (now reads) tables ⌝ }
+    ensures { λ r. ⌜ ((p : Program) (s : Schedule) →
+        Timed (now (text .entry)) tables (now (periods .entry)) (now (phases .entry)) h p s →
+        LeewayOf p s h (chainAt p chain) r) ⌝ }
 {
     let starts = tables.starts;
-    let declaration = text_command::declaration_at(text, basics::wider(starts[chain]));
+    let declaration = text_command::declaration_at(text, basics::from_entry(starts[chain]));
     let Declaration::Latency(mode, bound) = declaration else {
         return Leeway {
             source: 0,
@@ -292,7 +317,7 @@ pub fn leeway_of(
     Leeway {
         source: route.source,
         last: route.last,
-        bound: basics::wider(bound),
+        bound: basics::from_entry(bound),
         least: least,
     }
 }

@@ -1,6 +1,7 @@
 // Load: in no cycle of the hypercycle does the summed weight of the signals run exceed CAP (15).
 use basics::Judged;
 use model::Found;
+use model::refusals;
 use text_program::Tables;
 use text_schedule::Slots;
 ghost use mathlib.Core.List.{List};
@@ -25,7 +26,8 @@ pub fn loads_of(
     weights: &[u16; 64],
     hypercycle: usize,
 ) -> [u32; 240]
-    requires { ⌜ (signals ≤ 64) × (hypercycle ≤ 240) × ((x : ℕ) → x < signals → getD (now phases) x 0 < getD (now periods) x 0) ⌝ }
+    requires { ⌜ (signals ≤ 64) × (hypercycle ≤ 240) ×
+        ((x : ℕ) → x < signals → getD (now phases) x 0 < getD (now periods) x 0) ⌝ }
     ensures { λ r. ⌜ LoadsOf (now (periods .entry)) (now (phases .entry)) (now (weights .entry)) signals hypercycle r ⌝ }
 {
     let mut loads: [u32; 240] = [0; 240];
@@ -63,8 +65,11 @@ pub fn judge_load(
     limit: u32,
     hypercycle: usize,
 ) -> Judged
-    requires { ⌜ (signals ≤ 64) × (hypercycle ≤ 240) × ((x : ℕ) → x < signals → getD (now phases) x 0 < getD (now periods) x 0) ⌝ }
-    ensures { λ r. ⌜ ((p : Program) (s : Schedule) → count p ≡ signals → PeriodsOf p (now (periods .entry)) → WeightsOf p (now (weights .entry)) → PhasesOf p s (now (phases .entry)) → p .cap ≡ capOf capped limit → r ≡ judgementOf (loaded p s hypercycle)) ⌝ }
+    requires { ⌜ (signals ≤ 64) × (hypercycle ≤ 240) ×
+        ((x : ℕ) → x < signals → getD (now phases) x 0 < getD (now periods) x 0) ⌝ }
+    ensures { λ r. ⌜ ((p : Program) (s : Schedule) → count p ≡ signals → PeriodsOf p (now (periods .entry)) →
+        WeightsOf p (now (weights .entry)) → PhasesOf p s (now (phases .entry)) → p .cap ≡ capOf capped limit →
+        r ≡ judgementOf (loaded p s hypercycle)) ⌝ }
 {
     if !capped {
         return Judged::Fine;
@@ -72,7 +77,7 @@ pub fn judge_load(
     let loads = loads_of(signals, periods, phases, weights, hypercycle);
     let over = first_over(&loads, limit, hypercycle);
     match over {
-        Found::At(cycle) => basics::refuse(15, cycle),
+        Found::At(cycle) => basics::refuse(refusals::OVER_CAP, cycle),
         Found::Nowhere => Judged::Fine,
     }
 }
@@ -80,7 +85,8 @@ pub fn judge_load(
 // 15 of a pair by its tables.
 pub fn check_load(tables: Tables, slots: Slots, hypercycle: usize) -> Judged
     requires { ⌜ ((text : List ℕ) × Arrangement text (pairTables tables slots hypercycle)) ⌝ }
-    ensures { λ r. ⌜ ((text : List ℕ) (p : Program) (s : Schedule) → Arranged text (pairTables tables slots hypercycle) p s → r ≡ judgementOf (loaded p s hypercycle)) ⌝ }
+    ensures { λ r. ⌜ ((text : List ℕ) (p : Program) (s : Schedule) → Arranged text (pairTables tables slots hypercycle) p s →
+        r ≡ judgementOf (loaded p s hypercycle)) ⌝ }
 {
     if !tables.capped {
         return Judged::Fine;

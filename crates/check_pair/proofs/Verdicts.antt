@@ -21,7 +21,7 @@ use Rattle.basics.specs.declared.Judged.the-variants as Judged
 use Rattle.text_program.specs.declared.ProgramRead.{ProgramRead}
 use Rattle.text_schedule.specs.Slots.{ScheduledAs}
 use Rattle.text_schedule.specs.declared.Placing.{Placing}
-use Rattle.check_pair.specs.Steps.{ratesOf, scheduleFor, stepsOf}
+use Rattle.check_pair.specs.Groups.{ratesOf, scheduleFor, stepsOf}
 
 -- The other forms in which the checks below answer.
 pub program-answers : (o : Outcome Program) (reads : List ℕ) (r : ProgramRead) → ProgramReads o reads r →

@@ -1,3 +1,3 @@
 -- The checks of a pair in steps, and what the answers say of them.
-pub mod Answers
-pub mod Steps
+pub mod Checked
+pub mod Groups

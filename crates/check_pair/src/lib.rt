@@ -1,6 +1,7 @@
 // The checks of a pair in the stated order.
 use basics::Judged;
 use check_rates::Cycles;
+use model::refusals;
 use text_program::Tables;
 use text_schedule::PairTables;
 use text_schedule::Placing;
@@ -12,12 +13,12 @@ ghost use Rattle.model.specs.Rules.Compile.{shortEnough, pairOf};
 ghost use Rattle.model.specs.Rules.Outcome.{accepted};
 ghost use Rattle.model.specs.Rules.Program.{Program, parseProgram, count};
 ghost use Rattle.basics.specs.Judgement.{judgementOf};
-ghost use Rattle.check_rates.specs.Answers.{CyclesAs};
+ghost use Rattle.check_rates.specs.Rates.{CyclesAs};
 ghost use Rattle.text_program.specs.Tables.{TablesOf, PeriodsOf, TabledAs};
 ghost use Rattle.text_schedule.specs.Arranged.{pairTables};
 ghost use Rattle.text_schedule.specs.Slots.{ScheduledAs};
-ghost use Rattle.check_pair.specs.Answers.{CheckedAs, Spacious};
-ghost use Rattle.check_pair.specs.Steps.{ratesOf, scheduleFor};
+ghost use Rattle.check_pair.specs.Checked.{CheckedAs, Spacious};
+ghost use Rattle.check_pair.specs.Groups.{ratesOf, scheduleFor};
 
 // The least factor of a read, as the definition's `leastFactor`.
 const LEAST_FACTOR: u8 = 2;
@@ -36,10 +37,10 @@ pub fn check_lengths(program: &[u8], schedule: &[u8]) -> Judged
     ensures { λ r. ⌜ r ≡ judgementOf (shortEnough (now (program .entry)) (now (schedule .entry))) ⌝ }
 {
     if 8192 < program.len() {
-        return basics::refuse(1, 0);
+        return basics::refuse(refusals::TEXT_TOO_LONG, 0);
     }
     if 193 < schedule.len() {
-        return basics::refuse(1, 0);
+        return basics::refuse(refusals::TEXT_TOO_LONG, 0);
     }
     Judged::Fine
 }
@@ -47,7 +48,8 @@ pub fn check_lengths(program: &[u8], schedule: &[u8]) -> Judged
 // A program that is read: 7 to 10, then 29 and 30. The hypercycle is of use where it is fine.
 fn check_program(text: &[u8], reads: &[u16], tables: Tables) -> Cycles
     requires { ⌜ TabledAs (now text) (now reads) tables ⌝ }
-    ensures { λ r. ⌜ ((p : Program) → parseProgram (now (text .entry)) ≡ accepted p → TablesOf p tables → CyclesAs (ratesOf p) r) ⌝ }
+    ensures { λ r. ⌜ ((p : Program) → parseProgram (now (text .entry)) ≡ accepted p → TablesOf p tables →
+        CyclesAs (ratesOf p) r) ⌝ }
 {
     let rates = check_rates::check_rates(text, reads, tables); // 7, 8
     let Judged::Fine = rates else {
@@ -72,7 +74,8 @@ fn check_program(text: &[u8], reads: &[u16], tables: Tables) -> Cycles
 // The schedule of a program with these signals: 11, then 12 and 13.
 fn check_puts(schedule: &[u8], signals: usize, periods: &[u8; 64]) -> Placing
     requires { ⌜ (signals ≤ 64) × (length (now schedule) ≤ 193) ⌝ }
-    ensures { λ r. ⌜ ((p : Program) → count p ≡ signals → PeriodsOf p (now (periods .entry)) → ScheduledAs p (scheduleFor p (now (schedule .entry))) r) ⌝ }
+    ensures { λ r. ⌜ ((p : Program) → count p ≡ signals → PeriodsOf p (now (periods .entry)) →
+        ScheduledAs p (scheduleFor p (now (schedule .entry))) r) ⌝ }
 {
     let ended = text_schedule::read_schedule(schedule); // 11
     let read = ended.judged;
@@ -107,8 +110,8 @@ fn refused(judged: Judged) -> Checked
     answer(judged, Tables::new(), Slots::new(), 0)
 }
 
-// All checks of a program and a schedule, with a table for the offsets of the reads: an entry for each two bytes of a program that
-// passes 1. The table is of use where all is fine.
+// All checks of a program and a schedule, with a table for the offsets of the reads: an entry for each two bytes of a program
+// that passes 1. The table is of use where all is fine.
 pub fn check_with(program: &[u8], schedule: &[u8], reads: &mut [u16]) -> Checked
     requires { ⌜ Spacious (length (now program)) (length (now reads)) ⌝ }
     ensures answer { λ r. ⌜ CheckedAs (now (program .entry)) (pairOf (now (program .entry)) (now (schedule .entry))) r ⌝ }

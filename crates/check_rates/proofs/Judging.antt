@@ -27,7 +27,7 @@ use Rattle.basics.specs.declared.Judged.{Judged}
 use Rattle.text_program.proofs.ByIndex.{noLink, readAt, counted, place-is, taken-is}
 use Rattle.text_program.proofs.InTurn.{AtPlaces, within-more, single-at, singles-within, orLower, lowest-append}
 use Rattle.text_program.proofs.Rising.{signalPlaces, chainPlaces}
-use Rattle.check_rates.specs.Answers.{
+use Rattle.check_rates.specs.Rates.{
   rateJudged,
   periodAt,
   readJudged,

@@ -3,6 +3,7 @@ use basics::Judged;
 use model::Found;
 use model::Kind;
 use model::Sampled;
+use model::refusals;
 use text_program::Tables;
 ghost use mathlib.Core.Path.{_≡_};
 ghost use Prim.Native.Nat.{_%_, _≤_, _<_};
@@ -12,7 +13,19 @@ ghost use Rattle.model.specs.Rules.Outcome.{accepted, lowest};
 ghost use Rattle.model.specs.Rules.Program.{Program, signalAt, parseProgram, bodyReads};
 ghost use Rattle.model.specs.Rules.Rates.{periodRule, declaredAndRated, isMultiple, hypercycle, isLinked, linked};
 ghost use Rattle.text_program.specs.Tables.{TablesOf, PeriodsOf, ReadAs, TabledAs, Indexed, chainAt};
-ghost use Rattle.check_rates.specs.Answers.{CyclesAs, periodAt, factorOf, rateJudged, readJudged, signalRates, readRates, chainRates, linkRates, lowerOf, oneRead};
+ghost use Rattle.check_rates.specs.Rates.{
+  CyclesAs,
+  periodAt,
+  factorOf,
+  rateJudged,
+  readJudged,
+  signalRates,
+  readRates,
+  chainRates,
+  linkRates,
+  lowerOf,
+  oneRead,
+};
 ghost use Rattle.basics.specs.Judgement.{judgementOf};
 
 // The period of a signal by the table; 0 past its end.
@@ -40,10 +53,10 @@ fn factor_of(kind: Kind, n: u8) -> u8
 fn period_rule(kind: Kind, w: u8, r: u8, n: u8) -> bool
     ensures { λ x. ⌜ x ≡ periodRule kind w r n ⌝ }
 {
-    let factor = basics::wide(factor_of(kind, n));
+    let factor = basics::from_byte(factor_of(kind, n));
     let current = read_rule::is_current(kind);
-    let longer = basics::wide(basics::select(current, w, r));
-    let shorter = basics::wide(basics::select(current, r, w));
+    let longer = basics::from_byte(basics::select(current, w, r));
+    let shorter = basics::from_byte(basics::select(current, r, w));
     longer == factor * shorter
 }
 
@@ -52,10 +65,10 @@ fn judge_rate(declared: bool, kept: bool, place: usize) -> Judged
     ensures { λ r. ⌜ r ≡ rateJudged declared kept place ⌝ }
 {
     if !declared {
-        return basics::refuse(7, place);
+        return basics::refuse(refusals::UNDECLARED_SIGNAL, place);
     }
     if !kept {
-        return basics::refuse(8, place);
+        return basics::refuse(refusals::PERIOD_RULE_BROKEN, place);
     }
     Judged::Fine
 }
@@ -70,15 +83,15 @@ fn judge_read(
 ) -> Judged
     ensures { λ r. ⌜ r ≡ readJudged count (now (periods .entry)) at reader kind operands ⌝ }
 {
-    let signal = basics::wide(operands.signal);
+    let signal = basics::from_byte(operands.signal);
     let w = period_at(periods, signal);
     let r = period_at(periods, reader);
     let kept = period_rule(kind, w, r, operands.factor);
     judge_rate(signal < count, kept, at)
 }
 
-// The first read of a signal's equation that is of an undeclared signal (7) or breaks its period rule (8). Reads go by their index in
-// the table.
+// The first read of a signal's equation that is of an undeclared signal (7) or breaks its period rule (8). Reads go by their
+// index in the table.
 fn judge_signal(
     text: &[u8],
     reads: &[u16],
@@ -88,12 +101,13 @@ fn judge_signal(
     reader: usize,
 ) -> Judged
     requires { ⌜ (reader < count) × (count ≤ 64) × Indexed (now text) (now reads) (now firsts) count ⌝ }
-    ensures { λ r. ⌜ ((p : Program) → parseProgram (now (text .entry)) ≡ accepted p → PeriodsOf p (now (periods .entry)) → r ≡ judgementOf (lowest (signalRates p (signalAt p reader)))) ⌝ }
+    ensures { λ r. ⌜ ((p : Program) → parseProgram (now (text .entry)) ≡ accepted p → PeriodsOf p (now (periods .entry)) →
+        r ≡ judgementOf (lowest (signalRates p (signalAt p reader)))) ⌝ }
 {
-    let mut i = basics::wider(firsts[reader]);
-    let end = basics::wider(firsts[reader + 1]);
+    let mut i = basics::from_entry(firsts[reader]);
+    let end = basics::from_entry(firsts[reader + 1]);
     while i < end {
-        let at = basics::wider(reads[i]);
+        let at = basics::from_entry(reads[i]);
         let taken = text_command::taken_at(text, at);
         let kind = taken.kind;
         let operands = taken.operands;
@@ -115,7 +129,8 @@ fn judge_reads(
     periods: &[u8; 64],
 ) -> Judged
     requires { ⌜ (count ≤ 64) × Indexed (now text) (now reads) (now firsts) count ⌝ }
-    ensures { λ r. ⌜ ((p : Program) → parseProgram (now (text .entry)) ≡ accepted p → PeriodsOf p (now (periods .entry)) → r ≡ judgementOf (lowest (readRates p))) ⌝ }
+    ensures { λ r. ⌜ ((p : Program) → parseProgram (now (text .entry)) ≡ accepted p → PeriodsOf p (now (periods .entry)) →
+        r ≡ judgementOf (lowest (readRates p))) ⌝ }
 {
     let mut reader: usize = 0;
     while reader < count {
@@ -131,16 +146,17 @@ fn judge_reads(
 // The first LINK of a chain that is of an undeclared signal (7).
 fn judge_chain(text: &[u8], tables: Tables, chain: usize) -> Judged
     requires { ⌜ ReadAs (now text) tables × (chain < tables .chains) ⌝ }
-    ensures { λ r. ⌜ ((p : Program) → parseProgram (now (text .entry)) ≡ accepted p → r ≡ judgementOf (lowest (chainRates p (chainAt p chain)))) ⌝ }
+    ensures { λ r. ⌜ ((p : Program) → parseProgram (now (text .entry)) ≡ accepted p →
+        r ≡ judgementOf (lowest (chainRates p (chainAt p chain)))) ⌝ }
 {
     let starts = tables.starts;
     let lengths = tables.lengths;
-    let first = basics::wider(starts[chain]) + width::in_program(0x12);
-    let links = basics::wide(lengths[chain]);
+    let first = basics::from_entry(starts[chain]) + width::in_program(0x12);
+    let links = basics::from_byte(lengths[chain]);
     let mut i: usize = 0;
     while i < links {
         let at = first + width::in_program(0x13) * i;
-        let signal = basics::wide(text[at + 1]);
+        let signal = basics::from_byte(text[at + 1]);
         let judged = judge_rate(signal < tables.signals, true, at);
         let Judged::Fine = judged else {
             return judged;
@@ -200,7 +216,7 @@ pub fn check_rates(text: &[u8], reads: &[u16], tables: Tables) -> Judged
 fn divides(period: u8, h: usize) -> bool
     ensures { λ r. ⌜ r ≡ eqb (h % period) 0 ⌝ }
 {
-    let d = basics::wide(period);
+    let d = basics::from_byte(period);
     if d == 0 {
         return h == 0;
     }
@@ -210,7 +226,8 @@ fn divides(period: u8, h: usize) -> bool
 // Whether every period divides h.
 fn is_multiple(count: usize, periods: &[u8; 64], h: usize) -> bool
     requires { ⌜ count ≤ 64 ⌝ }
-    ensures { λ r. ⌜ ((p : Program) → length (p .signals) ≡ count → PeriodsOf p (now (periods .entry)) → r ≡ isMultiple (p .signals) h) ⌝ }
+    ensures { λ r. ⌜ ((p : Program) → length (p .signals) ≡ count → PeriodsOf p (now (periods .entry)) →
+        r ≡ isMultiple (p .signals) h) ⌝ }
 {
     let mut s: usize = 0;
     while s < count {
@@ -231,7 +248,8 @@ pub struct Cycles {
 // The hypercycle: the least number from 1 to 240 that every period divides, else 9. (Signals × hypercycle.)
 pub fn check_hypercycle(count: usize, periods: &[u8; 64]) -> Cycles
     requires { ⌜ count ≤ 64 ⌝ }
-    ensures { λ r. ⌜ ((p : Program) → length (p .signals) ≡ count → PeriodsOf p (now (periods .entry)) → CyclesAs (hypercycle p) r) ⌝ }
+    ensures { λ r. ⌜ ((p : Program) → length (p .signals) ≡ count → PeriodsOf p (now (periods .entry)) →
+        CyclesAs (hypercycle p) r) ⌝ }
 {
     let mut h: usize = 0;
     while h < 240 {
@@ -245,13 +263,13 @@ pub fn check_hypercycle(count: usize, periods: &[u8; 64]) -> Cycles
         h = next;
     }
     Cycles {
-        judged: basics::refuse(9, 0),
+        judged: basics::refuse(refusals::HYPERCYCLE_TOO_LONG, 0),
         hypercycle: 0,
     }
 }
 
-// The offset of the one read of `before` in the equation of `signal`, over its reads by their index in the table; nowhere if there is
-// none, or more than one. 10 and 16 ask it.
+// The offset of the one read of `before` in the equation of `signal`, over its reads by their index in the table; nowhere if
+// there is none, or more than one. 10 and 16 ask it.
 pub fn one_read(
     text: &[u8],
     reads: &[u16],
@@ -261,19 +279,20 @@ pub fn one_read(
     signal: u8,
 ) -> Found
     requires { ⌜ (count ≤ 64) × Indexed (now text) (now reads) (now firsts) count ⌝ }
-    ensures { λ r. ⌜ ((p : Program) → parseProgram (now (text .entry)) ≡ accepted p → r ≡ oneRead before (bodyReads (signalAt p signal .body))) ⌝ }
+    ensures { λ r. ⌜ ((p : Program) → parseProgram (now (text .entry)) ≡ accepted p →
+        r ≡ oneRead before (bodyReads (signalAt p signal .body))) ⌝ }
 {
-    let index = basics::wide(signal);
+    let index = basics::from_byte(signal);
     if count <= index {
         return Found::Nowhere;
     }
-    let first = basics::wider(firsts[index]);
-    let end = basics::wider(firsts[index + 1]);
+    let first = basics::from_entry(firsts[index]);
+    let end = basics::from_entry(firsts[index + 1]);
     let mut i = first;
     let mut many: usize = 0;
     let mut found: usize = 0;
     while i < end {
-        let at = basics::wider(reads[i]);
+        let at = basics::from_entry(reads[i]);
         if text[at + 1] == before {
             many = many + 1;
             found = at;
@@ -289,13 +308,14 @@ pub fn one_read(
 // Whether the equation of each link of a chain after the first has exactly one read of the link before.
 fn is_linked(text: &[u8], reads: &[u16], tables: Tables, chain: usize) -> bool
     requires { ⌜ TabledAs (now text) (now reads) tables × (chain < tables .chains) ⌝ }
-    ensures { λ r. ⌜ ((p : Program) → parseProgram (now (text .entry)) ≡ accepted p → TablesOf p tables → r ≡ isLinked p (chainAt p chain .links)) ⌝ }
+    ensures { λ r. ⌜ ((p : Program) → parseProgram (now (text .entry)) ≡ accepted p → TablesOf p tables →
+        r ≡ isLinked p (chainAt p chain .links)) ⌝ }
 {
     let firsts = tables.firsts;
     let starts = tables.starts;
     let lengths = tables.lengths;
-    let mut at = basics::wider(starts[chain]) + width::in_program(0x12);
-    let mut left = basics::wide(lengths[chain]);
+    let mut at = basics::from_entry(starts[chain]) + width::in_program(0x12);
+    let mut left = basics::from_byte(lengths[chain]);
     while 1 < left {
         let second = at + width::in_program(0x13);
         let before = text[at + 1];
@@ -313,7 +333,8 @@ fn is_linked(text: &[u8], reads: &[u16], tables: Tables, chain: usize) -> bool
 // 10 at the lowest LAT whose links are not linked. (Links × the reads of their equations.)
 pub fn check_links(text: &[u8], reads: &[u16], tables: Tables) -> Judged
     requires { ⌜ TabledAs (now text) (now reads) tables ⌝ }
-    ensures { λ r. ⌜ ((p : Program) → parseProgram (now (text .entry)) ≡ accepted p → TablesOf p tables → r ≡ judgementOf (linked p)) ⌝ }
+    ensures { λ r. ⌜ ((p : Program) → parseProgram (now (text .entry)) ≡ accepted p → TablesOf p tables →
+        r ≡ judgementOf (linked p)) ⌝ }
 {
     if tables.chains == 0 {
         return Judged::Fine;
@@ -322,7 +343,10 @@ pub fn check_links(text: &[u8], reads: &[u16], tables: Tables) -> Judged
     let mut chain: usize = 0;
     while chain < tables.chains {
         if !is_linked(text, reads, tables, chain) {
-            return basics::refuse(10, basics::wider(starts[chain]));
+            return basics::refuse(
+                refusals::LINK_NOT_READ_ONCE,
+                basics::from_entry(starts[chain]),
+            );
         }
         chain = chain + 1;
     }

@@ -2,6 +2,7 @@
 use basics::Judged;
 use model::Kind;
 use model::Sampled;
+use model::refusals;
 use read_rule::Timing;
 use text_program::Tables;
 use text_schedule::Slots;
@@ -28,7 +29,8 @@ fn read_met(
     operands: Sampled,
 ) -> Judged
     requires { ⌜ signals ≤ 64 ⌝ }
-    ensures { λ r. ⌜ (PacedAt (now (periods .entry)) (now (phases .entry)) reader kind operands → r ≡ readMet (now (periods .entry)) (now (phases .entry)) (now (ranks .entry)) signals at reader kind operands) ⌝ }
+    ensures { λ r. ⌜ (PacedAt (now (periods .entry)) (now (phases .entry)) reader kind operands →
+        r ≡ readMet (now (periods .entry)) (now (phases .entry)) (now (ranks .entry)) signals at reader kind operands) ⌝ }
 {
     let read = operands.signal as usize;
     if signals <= read {
@@ -49,7 +51,7 @@ fn read_met(
     if read_rule::is_met(kind, operands, w, r, before) {
         return Judged::Fine;
     }
-    basics::refuse(14, at)
+    basics::refuse(refusals::READ_UNMET, at)
 }
 
 // 14 at the lowest offset of a signal's reads, which go by their index in the table.
@@ -63,13 +65,15 @@ fn signal_met(
     ranks: &[u8; 64],
     reader: usize,
 ) -> Judged
-    requires { ⌜ (reader < signals) × (signals ≤ 64) × Below (now periods) (now phases) signals × Indexed (now text) (now reads) (now firsts) signals ⌝ }
-    ensures { λ r. ⌜ ((p : Program) → parseProgram (now (text .entry)) ≡ accepted p → MetAs p (now (periods .entry)) (now (phases .entry)) (now (ranks .entry)) (λ s. lowest (unmet p s reader)) r) ⌝ }
+    requires { ⌜ (reader < signals) × (signals ≤ 64) × Below (now periods) (now phases) signals ×
+        Indexed (now text) (now reads) (now firsts) signals ⌝ }
+    ensures { λ r. ⌜ ((p : Program) → parseProgram (now (text .entry)) ≡ accepted p →
+        MetAs p (now (periods .entry)) (now (phases .entry)) (now (ranks .entry)) (λ s. lowest (unmet p s reader)) r) ⌝ }
 {
-    let mut i = basics::wider(firsts[reader]);
-    let end = basics::wider(firsts[reader + 1]);
+    let mut i = basics::from_entry(firsts[reader]);
+    let end = basics::from_entry(firsts[reader + 1]);
     while i < end {
-        let at = basics::wider(reads[i]);
+        let at = basics::from_entry(reads[i]);
         let taken = text_command::taken_at(text, at);
         let kind = taken.kind;
         let operands = taken.operands;
@@ -92,8 +96,10 @@ fn reads_met(
     phases: &[u8; 64],
     ranks: &[u8; 64],
 ) -> Judged
-    requires { ⌜ (signals ≤ 64) × Below (now periods) (now phases) signals × Indexed (now text) (now reads) (now firsts) signals ⌝ }
-    ensures { λ r. ⌜ ((p : Program) → parseProgram (now (text .entry)) ≡ accepted p → MetAs p (now (periods .entry)) (now (phases .entry)) (now (ranks .entry)) (λ s. met p s) r) ⌝ }
+    requires { ⌜ (signals ≤ 64) × Below (now periods) (now phases) signals ×
+        Indexed (now text) (now reads) (now firsts) signals ⌝ }
+    ensures { λ r. ⌜ ((p : Program) → parseProgram (now (text .entry)) ≡ accepted p →
+        MetAs p (now (periods .entry)) (now (phases .entry)) (now (ranks .entry)) (λ s. met p s) r) ⌝ }
 {
     let mut reader: usize = 0;
     while reader < signals {
@@ -115,7 +121,8 @@ pub fn check_reads(
     hypercycle: usize,
 ) -> Judged
     requires { ⌜ Arrangement (now text) (pairTables tables slots hypercycle) × TabledAs (now text) (now reads) tables ⌝ }
-    ensures { λ r. ⌜ ((p : Program) (s : Schedule) → Arranged (now (text .entry)) (pairTables tables slots hypercycle) p s → r ≡ judgementOf (met p s)) ⌝ }
+    ensures { λ r. ⌜ ((p : Program) (s : Schedule) → Arranged (now (text .entry)) (pairTables tables slots hypercycle) p s →
+        r ≡ judgementOf (met p s)) ⌝ }
 {
     let firsts = tables.firsts;
     let periods = tables.periods;

@@ -2,20 +2,20 @@
 use basics::Judged;
 use model::Fault;
 use model::Yielded;
+use model::refusals;
 use text_program::Tables;
 use text_schedule::Slots;
 ghost use mathlib.Core.Path.{_≡_};
+ghost use Rattle.model.specs.Rules.Machine.{Does};
 ghost use Rattle.model.specs.Rules.Compile.{compileOf};
 ghost use Rattle.model.specs.Rules.Outcome.{yieldedOf};
 ghost use Rattle.model.specs.declared.Fault.{Fault};
 
-// The number of the refusal of a buffer.
-const SHORT_BUFFER: u8 = 17;
-
 // Writes the image of an accepted pair and its tail, and yields how many bytes these are. A refused call changes nothing.
 pub fn compile(program: &[u8], schedule: &[u8], image: &mut [u8]) -> Yielded
-    ensures answer { λ r. ⌜ yieldedOf r ≡ compileOf (now (program .entry)) (now (schedule .entry)) (now (image .entry)) .answer ⌝ }
-    ensures left { λ _. ⌜ now (image .exit) ≡ compileOf (now (program .entry)) (now (schedule .entry)) (now (image .entry)) .left ⌝ }
+    ensures { λ r. ⌜ Does
+        (compileOf (now (program .entry)) (now (schedule .entry)) (now (image .entry)))
+        (yieldedOf r) (now (image .exit)) ⌝ }
 {
     let checked = check_pair::check_pair(program, schedule);
     let judged = checked.judged;
@@ -33,7 +33,7 @@ pub fn compile(program: &[u8], schedule: &[u8], image: &mut [u8]) -> Yielded
     let written = layout.written;
     if image.len() < written {
         return Yielded::Refused(Fault {
-            number: SHORT_BUFFER,
+            number: refusals::IMAGE_BUFFER_SHORT,
             place: written,
         });
     }

@@ -16,7 +16,7 @@ ghost use Rattle.model.specs.Rules.Program.{Program, signalAt, bodyReads, parse
 ghost use Rattle.model.specs.Rules.Script.{isInputOf};
 ghost use Rattle.model.specs.declared.Fault.{Fault};
 ghost use Rattle.text_program.specs.Tables.{ReadAs};
-ghost use Rattle.check_pair.specs.Answers.{Spacious};
+ghost use Rattle.check_pair.specs.Checked.{Spacious};
 ghost use Rattle.dependents.specs.Marks.{isMarked, MarksBy, ReadsDeclared};
 
 fn refused(judged: Judged) -> Ran
@@ -40,7 +40,7 @@ fn is_input(text: &[u8], tables: Tables, x: usize) -> bool
         return false;
     }
     let places = tables.places;
-    let place = basics::wider(places[x]);
+    let place = basics::from_entry(places[x]);
     text[place] == 0x10
 }
 
@@ -69,13 +69,13 @@ fn mark_of(
     ensures { λ r. ⌜ ((p : Program) → parseProgram (now (text .entry)) ≡ accepted p →
         r ≡ markByte (anyRead (isMarked (now (marks .entry)) input) (bodyReads (signalAt p reader .body)))) ⌝ }
 {
-    let mut i = basics::wider(firsts[reader]);
-    let end = basics::wider(firsts[reader + 1]);
+    let mut i = basics::from_entry(firsts[reader]);
+    let end = basics::from_entry(firsts[reader + 1]);
     while i < end {
-        let at = basics::wider(reads[i]);
+        let at = basics::from_entry(reads[i]);
         let taken = text_command::taken_at(text, at);
         let operands = taken.operands;
-        let signal = basics::wide(operands.signal);
+        let signal = basics::from_byte(operands.signal);
         if is_marked(marks, input, signal) {
             return 1;
         }

@@ -145,7 +145,7 @@ fn reader_at(starts: &[u16; 64], signals: usize, place: usize) -> usize {
     let mut x: usize = 0;
     while x < 64 {
         if x < signals {
-            if basics::wider(starts[x]) <= place {
+            if basics::from_entry(starts[x]) <= place {
                 reader = x;
             }
         }
@@ -160,9 +160,9 @@ fn say_signal(x: usize, periods: &[u8; 64], phases: &[u8; 64]) {
     console::say_number(x);
     if x < 64 {
         console::say(b" (period ");
-        console::say_number(basics::wide(periods[x]));
+        console::say_number(basics::from_byte(periods[x]));
         console::say(b", phase ");
-        console::say_number(basics::wide(phases[x]));
+        console::say_number(basics::from_byte(phases[x]));
         console::say(b")");
     }
 }
@@ -184,7 +184,7 @@ fn say_read(program: &[u8], schedule: &[u8], place: usize) {
     if program.len() - place < 2 {
         return;
     }
-    say_signal(basics::wide(program[place + 1]), &periods, &phases);
+    say_signal(basics::from_byte(program[place + 1]), &periods, &phases);
     console::say(b"\n");
 }
 

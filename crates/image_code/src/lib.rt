@@ -87,7 +87,8 @@ fn put_operator(out: &mut [u8], operands: Emitted, code: u8) -> Emitted
 // Writes the code of an operator that has no operands.
 fn put_leaf(out: &mut [u8], operator: Operator, at: usize, to: usize) -> Emitted
     requires { ⌜ LeafSpace operator at (length (now out)) to ⌝ }
-    ensures { λ r. ⌜ Puts (now (out .entry)) to (leadOf operator .last) (at + leadOf operator .width) (now (out .exit)) (r .next) (r .end) ⌝ }
+    ensures { λ r. ⌜ Puts (now (out .entry)) to (leadOf operator .last) (at + leadOf operator .width)
+        (now (out .exit)) (r .next) (r .end) ⌝ }
 {
     match operator {
         Operator::Constant(w) => put_push(out, to, w, at + width::in_expression(0x20)),
@@ -113,9 +114,10 @@ fn operator_byte(operator: Operator) -> u8
     }
 }
 
-// Writes the code of so many expressions from `at` on, one after another, each of which nests at most `depth` deep, from `to` on: an
-// operator comes after its operands. The slices go by references to them, which no level of the recursion has to copy. `counted` is
-// what the type of a slice says and that of a reference to one does not; `same`: the slice is not exchanged for another.
+// Writes the code of so many expressions from `at` on, one after another, each of which nests at most `depth` deep, from `to`
+// on: an operator comes after its operands. The slices go by references to them, which no level of the recursion has to copy.
+// `counted` is what the type of a slice says and that of a reference to one does not; `same`: the slice is not exchanged for
+// another.
 pub fn emit_expressions(
     text: &&[u8],
     number: usize,
@@ -127,7 +129,8 @@ pub fn emit_expressions(
     requires { ⌜ Rooms depth (now (now text)) at (length (now (now out))) to number 0 ⌝ }
     requires counted { ⌜ length (now (now text)) < 2 ^ 64 ⌝ }
     ensures same { λ _. ⌜ now (out .exit) .name ≡ now (out .entry) .name ⌝ }
-    ensures { λ r. ⌜ EmitsAll (now (now (text .entry))) at number (now (now (out .entry))) to (now (now (out .exit))) (r .next) (r .end) ⌝ }
+    ensures { λ r. ⌜ EmitsAll (now (now (text .entry))) at number (now (now (out .entry))) to
+        (now (now (out .exit))) (r .next) (r .end) ⌝ }
 {
     let mut done = Emitted { next: at, end: to };
     let mut left = number;
@@ -148,8 +151,8 @@ pub fn emit_expressions(
     done
 }
 
-// Writes the code of the signal x, an equation declared at `place`, from `to` on. Says in `end` where it ends. It takes the slice and
-// gives it back, so that it can lend a reference to it.
+// Writes the code of the signal x, an equation declared at `place`, from `to` on. Says in `end` where it ends. It takes the
+// slice and gives it back, so that it can lend a reference to it.
 fn emit_equation<'a>(
     text: &[u8],
     place: usize,

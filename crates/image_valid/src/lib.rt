@@ -69,8 +69,8 @@ fn head_ok(image: &[u8]) -> bool
     if stated_length(image) != image.len() {
         return false;
     }
-    let h = basics::wide(image[0]);
-    let n = basics::wide(image[1]);
+    let h = basics::from_byte(image[0]);
+    let n = basics::from_byte(image[1]);
     if h < 1 {
         return false;
     }
@@ -112,14 +112,15 @@ fn table_ok(image: &[u8], n: usize, at: usize) -> bool
     if !rows::area_ok(image, at) {
         return false;
     }
-    let count = basics::wide(image[at]);
+    let count = basics::from_byte(image[at]);
     let end = at + 1 + 12 * count;
     code_offset(image, n, 0) == end
 }
 
 // The greatest byte, 0 where there is none.
 fn greatest_byte(list: &[u8]) -> u8
-    ensures { λ r. ⌜ ((n : ℕ) → 0 < n → allBelow (length (now (list .entry))) (λ i. ltb (byteAt (now (list .entry)) i) n) ≡ ltb r n) ⌝ }
+    ensures { λ r. ⌜ ((n : ℕ) → 0 < n →
+        allBelow (length (now (list .entry))) (λ i. ltb (byteAt (now (list .entry)) i) n) ≡ ltb r n) ⌝ }
 {
     let mut most: u8 = 0;
     let mut i: usize = 0;
@@ -135,10 +136,11 @@ fn greatest_byte(list: &[u8]) -> u8
 
 // List entries, up to the table at `end`, are below n.
 fn entries_ok(image: &[u8], n: u8, h: usize, end: usize) -> bool
-    requires { ⌜ (headOk (now image) ≡ true) × (listsOk (now image) ≡ true) × (n ≡ countOf (now image)) × (h ≡ hyperOf (now image)) × (end ≡ tableOffset (now image)) ⌝ }
+    requires { ⌜ (headOk (now image) ≡ true) × (listsOk (now image) ≡ true) × (n ≡ countOf (now image)) ×
+        (h ≡ hyperOf (now image)) × (end ≡ tableOffset (now image)) ⌝ }
     ensures { λ r. ⌜ r ≡ entriesOk (now (image .entry)) ⌝ }
 {
-    let count = basics::wide(n);
+    let count = basics::from_byte(n);
     let start = image_layout::lists_at(count, h);
     if n == 0 {
         return start == end;
@@ -155,7 +157,8 @@ struct Cursor {
 
 // Whether the command is the STORE that ends its code, where the next one starts.
 fn is_end(image: &[u8], n: u8, cursor: Cursor) -> bool
-    requires { ⌜ (headOk (now image) ≡ true) × (n ≡ countOf (now image)) × (cursor .own < n) × (cursor .at + 1 < length (now image)) ⌝ }
+    requires { ⌜ (headOk (now image) ≡ true) × (n ≡ countOf (now image)) × (cursor .own < n) ×
+        (cursor .at + 1 < length (now image)) ⌝ }
     ensures { λ r. ⌜ r ≡ endsCode (now (image .entry)) cursor ⌝ }
 {
     let at = cursor.at;
@@ -163,13 +166,14 @@ fn is_end(image: &[u8], n: u8, cursor: Cursor) -> bool
     if !image_valid_code::is_last(image[at], image[at + 1], own, cursor.height) {
         return false;
     }
-    at + 2 == code_offset(image, basics::wide(n), basics::wide(own) + 1)
+    at + 2 == code_offset(image, basics::from_byte(n), basics::from_byte(own) + 1)
 }
 
 // Past FETCH of the own signal or the code's end, which have no shape. Where it is neither, to the image's end, short of the next
 // code.
 fn past_own(image: &[u8], n: u8, cursor: Cursor) -> Cursor
-    requires { ⌜ (headOk (now image) ≡ true) × (n ≡ countOf (now image)) × (cursor .own < n) × (cursor .at + 1 < length (now image)) × (cursor .height ≤ 32) ⌝ }
+    requires { ⌜ (headOk (now image) ≡ true) × (n ≡ countOf (now image)) × (cursor .own < n) ×
+        (cursor .at + 1 < length (now image)) × (cursor .height ≤ 32) ⌝ }
     ensures { λ r. ⌜ r ≡ pastOwn (now (image .entry)) cursor ⌝ }
 {
     let at = cursor.at;
@@ -202,7 +206,8 @@ fn past_own(image: &[u8], n: u8, cursor: Cursor) -> Cursor
 
 // One command further.
 fn advance(image: &[u8], n: u8, shapes: &[u8; 256], ceilings: &[u8; 256], cursor: Cursor) -> Cursor
-    requires { ⌜ WithTables (now image) n (now shapes) (now ceilings) × CursorOk (now image) cursor × (cursor .at + 1 < length (now image)) ⌝ }
+    requires { ⌜ WithTables (now image) n (now shapes) (now ceilings) × CursorOk (now image) cursor ×
+        (cursor .at + 1 < length (now image)) ⌝ }
     ensures { λ r. ⌜ Advances (now (image .entry)) cursor r × (cursor .at < r .at) ⌝ }
 {
     let at = cursor.at;
@@ -238,8 +243,8 @@ fn advance_to(
 }
 
 // Every code starts where the one before ended, the last ending at L, and is well formed, in an image with rows or without. Two
-// cursors go side by side, one from the first code and one from the middle one: where a command ends is known only when its byte is
-// read, and that takes as long as all the rest of a step.
+// cursors go side by side, one from the first code and one from the middle one: where a command ends is known only when its
+// byte is read, and that takes as long as all the rest of a step.
 fn codes_ok(image: &[u8], n: u8, rows: bool) -> bool
     requires { ⌜ (headOk (now image) ≡ true) × (n ≡ countOf (now image)) × (rows ≡ ltb 0 (rowCount (now image))) ⌝ }
     ensures { λ r. ⌜ r ≡ codesOk (now (image .entry)) ⌝ }
@@ -249,10 +254,10 @@ fn codes_ok(image: &[u8], n: u8, rows: bool) -> bool
     }
     let shapes = image_valid_code::shapes(rows);
     let ceilings = image_valid_code::ceilings(n);
-    let count = basics::wide(n);
+    let count = basics::from_byte(n);
     let half = n / 2;
     let start = code_offset(image, count, 0);
-    let middle = code_offset(image, count, basics::wide(half));
+    let middle = code_offset(image, count, basics::from_byte(half));
     let end = image.len() - 1;
     if end <= middle {
         return false;
@@ -286,9 +291,9 @@ pub fn well_formed(image: &[u8]) -> bool
     if !head_ok(image) {
         return false;
     }
-    let h = basics::wide(image[0]);
+    let h = basics::from_byte(image[0]);
     let n = image[1];
-    let count = basics::wide(n);
+    let count = basics::from_byte(n);
     if !lists_ok(image, count, h) {
         return false;
     }
@@ -311,7 +316,7 @@ fn image_length(lent: &[u8]) -> usize
         return 0;
     }
     let length = stated_length(lent);
-    let n = basics::wide(lent[1]);
+    let n = basics::from_byte(lent[1]);
     if lent.len() == length {
         return length;
     }
@@ -321,8 +326,8 @@ fn image_length(lent: &[u8]) -> usize
     0
 }
 
-// The image in what is lent, with its tail or without: its first L bytes. An empty one, which is not well formed, where the length
-// is neither.
+// The image in what is lent, with its tail or without: its first L bytes. An empty one, which is not well formed, where the
+// length is neither.
 pub fn image_in(lent: &[u8]) -> &[u8]
     ensures { λ r. ⌜ Lends (now (lent .entry)) (now r) ⌝ }
 {

@@ -1,4 +1,5 @@
-// What the check of an image's code knows of a command by its byte: two tables, filled once a call, and what they say of one command.
+// What the check of an image's code knows of a command by its byte: two tables, filled once a call, and what they say of one
+// command.
 ghost use mathlib.Core.Bool.{false};
 ghost use mathlib.Core.Path.{_≡_};
 ghost use Prim.Native.Nat.{_+_, _<_, _≤_};
@@ -81,19 +82,20 @@ pub fn command_bytes(byte: u8) -> usize
 // The words on the stack after the command at `at`, where it held h; TOO_HIGH where it has no shape or may not stand there.
 pub fn after(code: &[u8], at: usize, h: usize, shapes: &[u8; 256], ceilings: &[u8; 256]) -> usize
     requires { ⌜ (at + 1 < length (now code)) × (h ≤ 32) ⌝ }
-    ensures { λ r. ⌜ (r ≡ afterOf (now (shapes .entry)) (now (ceilings .entry)) (byteAt (now (code .entry)) at) (byteAt (now (code .entry)) (at + 1)) h)
+    ensures { λ r. ⌜ (r ≡ afterOf (now (shapes .entry)) (now (ceilings .entry)) (byteAt (now (code .entry)) at)
+        (byteAt (now (code .entry)) (at + 1)) h)
         × (byteAt (now (code .entry)) at < 256) × (byteAt (now (code .entry)) (at + 1) < 256) ⌝ }
 {
-    let byte = basics::wide(code[at]);
-    let x = basics::wide(code[at + 1]);
-    let next = h + basics::wide(shapes[byte]);
+    let byte = basics::from_byte(code[at]);
+    let x = basics::from_byte(code[at + 1]);
+    let next = h + basics::from_byte(shapes[byte]);
     if next <= LEVEL {
         return TOO_HIGH;
     }
     if LEVEL + 32 < next {
         return TOO_HIGH;
     }
-    if basics::wide(ceilings[byte]) < x {
+    if basics::from_byte(ceilings[byte]) < x {
         return TOO_HIGH;
     }
     next - LEVEL

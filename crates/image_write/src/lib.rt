@@ -21,7 +21,7 @@ ghost use Rattle.image_write.specs.Rows.{tableBy, TableStands};
 ghost use Rattle.image_write.specs.Tail.{tailBy};
 ghost use Rattle.model.specs.Rules.Writing.{Wrote};
 
-fn widest(x: u32) -> usize
+fn from_count(x: u32) -> usize
     ensures { λ r. ⌜ r ≡ x ⌝ }
 {
     x as usize
@@ -41,7 +41,7 @@ fn count_runs(
     let mut counts: [u32; 240] = [0; 240];
     let mut i: usize = 0;
     while i < n {
-        let x = basics::wide(order[i]);
+        let x = basics::from_byte(order[i]);
         runs::add_runs(&mut counts, periods[x], phases[x], 1, h);
         i = i + 1;
     }
@@ -53,9 +53,9 @@ fn run_count(periods: &[u8; 64], phases: &[u8; 64], x: u8, h: usize) -> usize
     requires { ⌜ (x < 64) × (getD (now phases) x 0 < getD (now periods) x 0) × (h ≤ 240) ⌝ }
     ensures { λ r. ⌜ r ≡ stored (rateAt (now (periods .entry)) (now (phases .entry)) x) h ⌝ }
 {
-    let signal = basics::wide(x);
-    let period = basics::wide(periods[signal]);
-    let phase = basics::wide(phases[signal]);
+    let signal = basics::from_byte(x);
+    let period = basics::from_byte(periods[signal]);
+    let phase = basics::from_byte(phases[signal]);
     (h + period - (phase + 1)) / period
 }
 
@@ -90,13 +90,16 @@ fn emit_runs(
     out: &mut [u8],
     to: usize,
 )
-    requires { ⌜ (phase < period) × (h ≤ 240) × (length (now nexts) ≡ 241) × Open (record { period = period; phase = phase }) x h to (now out) (now nexts) ⌝ }
-    ensures { λ _. ⌜ (length (now (nexts .exit)) ≡ 241) × WritesRuns (record { period = period; phase = phase }) x h to (now (out .entry)) (now (nexts .entry)) (now (out .exit)) (now (nexts .exit)) ⌝ }
+    requires { ⌜ (phase < period) × (h ≤ 240) × (length (now nexts) ≡ 241) ×
+        Open (record { period = period; phase = phase }) x h to (now out) (now nexts) ⌝ }
+    ensures { λ _. ⌜ (length (now (nexts .exit)) ≡ 241) ×
+        WritesRuns (record { period = period; phase = phase }) x h to (now (out .entry)) (now (nexts .entry))
+        (now (out .exit)) (now (nexts .exit)) ⌝ }
 {
-    let step = basics::wide(period);
-    let mut c = basics::wide(phase);
+    let step = basics::from_byte(period);
+    let mut c = basics::from_byte(phase);
     while c < h {
-        let at = basics::wider(nexts[c]);
+        let at = basics::from_entry(nexts[c]);
         out[to + at] = x;
         nexts[c] = (at + 1) as u16;
         c = c + step;
@@ -114,17 +117,20 @@ pub fn emit_lists(
     out: &mut [u8],
     to: usize,
 ) -> usize
-    requires { ⌜ (HasPeriods (now periods) (now order) n × Phased (now periods) (now order) (now phases) n × (h ≤ 240)) × StartsOf (listBy (now periods) (now order) (now phases) n) h (now nexts) × (to + length (joined (listsBy (now periods) (now order) (now phases) n h)) ≤ length (now out)) ⌝ }
-    ensures { λ r. ⌜ Wrote (now (out .entry)) to (joined (listsBy (now (periods .entry)) (now (order .entry)) (now (phases .entry)) n h)) (now (out .exit)) r ⌝ }
+    requires { ⌜ (HasPeriods (now periods) (now order) n × Phased (now periods) (now order) (now phases) n × (h ≤ 240)) ×
+        StartsOf (listBy (now periods) (now order) (now phases) n) h (now nexts) ×
+        (to + length (joined (listsBy (now periods) (now order) (now phases) n h)) ≤ length (now out)) ⌝ }
+    ensures { λ r. ⌜ Wrote (now (out .entry)) to
+        (joined (listsBy (now (periods .entry)) (now (order .entry)) (now (phases .entry)) n h)) (now (out .exit)) r ⌝ }
 {
     let mut i: usize = 0;
     while i < n {
         let x = order[i];
-        let signal = basics::wide(x);
+        let signal = basics::from_byte(x);
         emit_runs(nexts, x, periods[signal], phases[signal], h, out, to);
         i = i + 1;
     }
-    let size = basics::wider(nexts[h]);
+    let size = basics::from_entry(nexts[h]);
     to + size
 }
 
@@ -150,8 +156,15 @@ pub fn emit_offsets(
     out: &mut [u8],
     to: usize,
 ) -> usize
-    requires { ⌜ (length (now starts) ≡ 241) × (HasPeriods (now periods) (now order) n × Phased (now periods) (now order) (now phases) n × (h ≤ 240)) × (start + length (joined (listsBy (now periods) (now order) (now phases) n h)) ≤ length (now out)) × (to + length (pairs (offsets start (listsBy (now periods) (now order) (now phases) n h))) ≤ length (now out)) ⌝ }
-    ensures { λ r. ⌜ StartsOf (listBy (now (periods .entry)) (now (order .entry)) (now (phases .entry)) n) h (now (starts .exit)) × Wrote (now (out .entry)) to (pairs (offsets start (listsBy (now (periods .entry)) (now (order .entry)) (now (phases .entry)) n h))) (now (out .exit)) r ⌝ }
+    requires { ⌜ (length (now starts) ≡ 241) ×
+        (HasPeriods (now periods) (now order) n × Phased (now periods) (now order) (now phases) n × (h ≤ 240)) ×
+        (start + length (joined (listsBy (now periods) (now order) (now phases) n h)) ≤ length (now out)) ×
+        (to + length (pairs (offsets start (listsBy (now periods) (now order) (now phases) n h))) ≤ length (now out)) ⌝ }
+    ensures { λ r. ⌜ StartsOf (listBy (now (periods .entry)) (now (order .entry)) (now (phases .entry)) n) h
+        (now (starts .exit)) ×
+        Wrote (now (out .entry)) to
+        (pairs (offsets start (listsBy (now (periods .entry)) (now (order .entry)) (now (phases .entry)) n h))) (now (out .exit))
+        r ⌝ }
 {
     let counts = count_runs(periods, order, phases, n, h);
     let mut before: usize = 0;
@@ -160,7 +173,7 @@ pub fn emit_offsets(
     while c < h {
         starts[c] = before as u16;
         end = put_offset(out, end, start + before);
-        let runs = widest(counts[c]);
+        let runs = from_count(counts[c]);
         before = before + runs;
         c = c + 1;
     }
@@ -170,8 +183,10 @@ pub fn emit_offsets(
 
 // Writes the table of so many rows, whose commands stand at the offsets.
 fn emit_table(text: &[u8], offsets: &[u16; 32], count: usize, out: &mut [u8], to: usize) -> usize
-    requires { ⌜ TableStands (now text) (now offsets) count × (to + length (tableBy (now text) (now offsets) count) ≤ length (now out)) ⌝ }
-    ensures { λ r. ⌜ Wrote (now (out .entry)) to (tableBy (now (text .entry)) (now (offsets .entry)) count) (now (out .exit)) r ⌝ }
+    requires { ⌜ TableStands (now text) (now offsets) count ×
+        (to + length (tableBy (now text) (now offsets) count) ≤ length (now out)) ⌝ }
+    ensures { λ r. ⌜ Wrote (now (out .entry)) to
+        (tableBy (now (text .entry)) (now (offsets .entry)) count) (now (out .exit)) r ⌝ }
 {
     rows::emit_rows(text, offsets, count, out, to);
     to + 1 + 12 * count
@@ -179,14 +194,15 @@ fn emit_table(text: &[u8], offsets: &[u16; 32], count: usize, out: &mut [u8], to
 
 // Writes the code of n signals.
 fn emit_codes(text: &[u8], places: &[u16; 64], n: usize, out: &mut [u8], to: usize) -> usize
-    requires { ⌜ Declared (now text) (now places) n × (to + length (joined (codesFrom 0 (declaredBy (now text)))) ≤ length (now out)) ⌝ }
+    requires { ⌜ Declared (now text) (now places) n ×
+        (to + length (joined (codesFrom 0 (declaredBy (now text)))) ≤ length (now out)) ⌝ }
     ensures { λ r. ⌜ Wrote (now (out .entry)) to (joined (codesFrom 0 (declaredBy (now (text .entry))))) (now (out .exit)) r ⌝ }
 {
     let mut end = to;
     let mut x: usize = 0;
     while x < n {
-        let signal = basics::narrow(x);
-        let place = basics::wider(places[x]);
+        let signal = basics::to_byte(x);
+        let place = basics::from_entry(places[x]);
         end = image_code::emit_signal(text, place, signal, out, end);
         x = x + 1;
     }
@@ -196,7 +212,8 @@ fn emit_codes(text: &[u8], places: &[u16; 64], n: usize, out: &mut [u8], to: usi
 // Writes the record of the signal declared at `place`, whose code starts at `offset`.
 pub fn put_record(text: &[u8], place: usize, offset: usize, out: &mut [u8], to: usize) -> usize
     requires { ⌜ (place + inProgram 0x10 ≤ length (now text)) × (to + 6 ≤ length (now out)) ⌝ }
-    ensures { λ r. ⌜ Wrote (now (out .entry)) to (wordBytes (wordAt (now (text .entry)) (place + 2)) ++ twoBytes offset) (now (out .exit)) r ⌝ }
+    ensures { λ r. ⌜ Wrote (now (out .entry)) to (wordBytes (wordAt (now (text .entry)) (place + 2)) ++
+        twoBytes offset) (now (out .exit)) r ⌝ }
 {
     let initial = word::word_at(text, place + 2);
     word::put_word(out, to, initial);
@@ -214,14 +231,19 @@ fn emit_records(
     out: &mut [u8],
     to: usize,
 ) -> usize
-    requires { ⌜ Declared (now text) (now places) n × CodesAt start (declaredBy (now text)) (now codes) × (start + length (joined (codesFrom 0 (declaredBy (now text)))) ≤ length (now out)) × (to + length (records (declaredBy (now text)) (offsets start (codesFrom 0 (declaredBy (now text))))) ≤ length (now out)) ⌝ }
-    ensures { λ r. ⌜ Wrote (now (out .entry)) to (records (declaredBy (now (text .entry))) (offsets start (codesFrom 0 (declaredBy (now (text .entry)))))) (now (out .exit)) r ⌝ }
+    requires { ⌜ Declared (now text) (now places) n × CodesAt start (declaredBy (now text)) (now codes) ×
+        (start + length (joined (codesFrom 0 (declaredBy (now text)))) ≤ length (now out)) ×
+        (to + length (records (declaredBy (now text)) (offsets start (codesFrom 0 (declaredBy (now text))))) ≤ length
+        (now out)) ⌝ }
+    ensures { λ r. ⌜ Wrote (now (out .entry)) to
+        (records (declaredBy (now (text .entry))) (offsets start (codesFrom 0 (declaredBy (now (text .entry))))))
+        (now (out .exit)) r ⌝ }
 {
     let mut end = to;
     let mut x: usize = 0;
     while x < n {
-        let code = basics::wider(codes[x]);
-        let place = basics::wider(places[x]);
+        let code = basics::from_entry(codes[x]);
+        let place = basics::from_entry(places[x]);
         end = put_record(text, place, start + code, out, end);
         x = x + 1;
     }
@@ -233,8 +255,8 @@ pub fn put_head(h: usize, n: usize, size: usize, out: &mut [u8]) -> usize
     requires { ⌜ (h < 256) × (n < 256) × (4 ≤ length (now out)) ⌝ }
     ensures { λ r. ⌜ Wrote (now (out .entry)) 0 (h ∷ n ∷ twoBytes size) (now (out .exit)) r ⌝ }
 {
-    out[0] = basics::narrow(h);
-    out[1] = basics::narrow(n);
+    out[0] = basics::to_byte(h);
+    out[1] = basics::to_byte(n);
     put_offset(out, 2, size)
 }
 
@@ -256,7 +278,8 @@ pub fn lay_out_code(
     n: usize,
     h: usize,
 ) -> Layout
-    requires { ⌜ HasPeriods (now periods) (now order) n × Phased (now periods) (now order) (now phases) n × (h ≤ 240) × (size < 65536) × (rows ≤ 32) ⌝ }
+    requires { ⌜ HasPeriods (now periods) (now order) n × Phased (now periods) (now order) (now phases) n × (h ≤ 240) ×
+        (size < 65536) × (rows ≤ 32) ⌝ }
     ensures { λ r. ⌜ LaidOutBy (now (periods .entry)) (now (order .entry)) (now (phases .entry)) n h size rows r ⌝ }
 {
     let lists = image_layout::lists_at(n, h);
@@ -282,11 +305,12 @@ pub fn lay_out(
     h: usize,
 ) -> Layout
     requires { ⌜ Tabled tables (now periods) (now order) (now phases) h ⌝ }
-    ensures { λ r. ⌜ ((text : List ℕ) (p : Program) (s : Schedule) → Prepared text tables (now (periods .entry)) (now (order .entry)) (now (phases .entry)) p s → LaidOut p s h r) ⌝ }
+    ensures { λ r. ⌜ ((text : List ℕ) (p : Program) (s : Schedule) →
+        Prepared text tables (now (periods .entry)) (now (order .entry)) (now (phases .entry)) p s → LaidOut p s h r) ⌝ }
 {
     let n = tables.signals;
     let codes = tables.codes;
-    let size = basics::wider(codes[n]);
+    let size = basics::from_entry(codes[n]);
     lay_out_code(size, tables.rows, periods, order, phases, n, h)
 }
 
@@ -302,7 +326,9 @@ pub fn emit(
     out: &mut [u8],
 )
     requires { ⌜ Fits (now text) tables (now periods) (now order) (now phases) h layout (length (now out)) ⌝ }
-    ensures { λ _. ⌜ ((p : Program) (s : Schedule) → Prepared (now (text .entry)) tables (now (periods .entry)) (now (order .entry)) (now (phases .entry)) p s → now (out .exit) ≡ imageOf p s h ++ drop (lengthOf p s h) (now (out .entry))) ⌝ }
+    ensures { λ _. ⌜ ((p : Program) (s : Schedule) →
+        Prepared (now (text .entry)) tables (now (periods .entry)) (now (order .entry)) (now (phases .entry)) p s →
+        now (out .exit) ≡ imageOf p s h ++ drop (lengthOf p s h) (now (out .entry))) ⌝ }
 {
     let n = tables.signals;
     let places = tables.places;
@@ -332,7 +358,7 @@ fn put_entry(label: u16, period: u8, phase: u8, out: &mut [u8], to: usize) -> us
     requires { ⌜ to + 4 ≤ length (now out) ⌝ }
     ensures { λ r. ⌜ Wrote (now (out .entry)) to (tailEntry label period phase) (now (out .exit)) r ⌝ }
 {
-    let number = basics::wider(label);
+    let number = basics::from_entry(label);
     let at = put_offset(out, to, number);
     out[at] = period;
     out[at + 1] = phase;
@@ -349,7 +375,8 @@ pub fn emit_tail(
     to: usize,
 )
     requires { ⌜ (n ≤ 64) × (to + length (tailBy (now labels) (now periods) (now phases) n) ≤ length (now out)) ⌝ }
-    ensures { λ _. ⌜ now (out .exit) ≡ sets (now (out .entry)) to (tailBy (now (labels .entry)) (now (periods .entry)) (now (phases .entry)) n) ⌝ }
+    ensures { λ _. ⌜ now (out .exit) ≡
+        sets (now (out .entry)) to (tailBy (now (labels .entry)) (now (periods .entry)) (now (phases .entry)) n) ⌝ }
 {
     let mut end = to;
     let mut x: usize = 0;

@@ -46,7 +46,7 @@ fn lay_out(joint: Joint, rows: usize, h: usize) -> Layout
     let order = joint.order;
     let phases = joint.phases;
     let codes = joint.codes;
-    let size = basics::wider(codes[n]);
+    let size = basics::from_entry(codes[n]);
     image_write::lay_out_code(size, rows, &periods, &order, &phases, n, h)
 }
 

@@ -20,8 +20,8 @@ pub fn number_of(links: &[u8], at: usize, bases: &[usize; 9]) -> usize
     requires { ⌜ (at + 1 < length (now links)) × (byteAt (now links) at < 9) × (numberAt (now links) at (now bases) < 64) ⌝ }
     ensures { λ r. ⌜ r ≡ numberAt (now (links .entry)) at (now (bases .entry)) ⌝ }
 {
-    let part = basics::wide(links[at]);
-    let signal = basics::wide(links[at + 1]);
+    let part = basics::from_byte(links[at]);
+    let signal = basics::from_byte(links[at + 1]);
     bases[part] + signal
 }
 

@@ -11,7 +11,7 @@ fn shift_load(out: &mut [u8], at: usize, base: usize)
 {
     if out[at] == 0x51 {
         let next = at + 1;
-        let signal = basics::wide(out[next]) + base;
+        let signal = basics::from_byte(out[next]) + base;
         out[next] = (signal % 256) as u8;
     }
 }

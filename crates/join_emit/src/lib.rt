@@ -29,7 +29,7 @@ fn emit_joined(
     requires { ⌜ JoinedHere (now text) place base x source (length (now out)) to ⌝ }
     ensures { λ r. ⌜ EmitsJoined (now (text .entry)) place base x source (now (out .entry)) to (now (out .exit)) r ⌝ }
 {
-    let signal = basics::narrow(x);
+    let signal = basics::to_byte(x);
     if source == 255 {
         let end = image_code::emit_signal(text, place, signal, out, to);
         join_code::shift_loads(out, to, end, base);
@@ -58,7 +58,7 @@ fn emit_part_codes(
     let mut end = to;
     let mut x = base;
     while x < last {
-        let place = basics::wider(places[x]);
+        let place = basics::from_entry(places[x]);
         end = emit_joined(text, place, base, x, sources[x], out, end);
         x = x + 1;
     }
@@ -84,8 +84,8 @@ fn emit_part_records(
     let mut end = to;
     let mut x = base;
     while x < last {
-        let code = basics::wider(codes[x]);
-        let place = basics::wider(places[x]);
+        let code = basics::from_entry(codes[x]);
+        let place = basics::from_entry(places[x]);
         end = image_write::put_record(text, place, start + code, out, end);
         x = x + 1;
     }
@@ -241,7 +241,7 @@ pub fn sources_of(links: &[u8], bases: &[usize; 9]) -> [u8; 64]
         let at = 4 * i;
         let r = join_check::number_of(links, at, bases);
         let w = join_check::number_of(links, at + 2, bases);
-        sources[r] = basics::narrow(w);
+        sources[r] = basics::to_byte(w);
     }
     sources
 }

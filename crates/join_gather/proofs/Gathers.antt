@@ -46,7 +46,7 @@ use Rattle.model.proofs.Images.Stretches.{joined-cons}
 use Rattle.model.proofs.Pairs.Verdict.{pair-passed}
 use Rattle.model.proofs.Texts.Legal.{legal}
 use Rattle.read_rule.proofs.Searches.{search-here, search-from}
-use Rattle.check_pair.specs.Answers.{Checks}
+use Rattle.check_pair.specs.Checked.{Checks}
 use Rattle.text_program.specs.Tables.{codeIn, SlotsOf}
 use Rattle.text_program.specs.declared.Tables.{Tables}
 use Rattle.text_schedule.specs.declared.PairTables.{PairTables}

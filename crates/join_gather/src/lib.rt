@@ -11,7 +11,7 @@ ghost use mathlib.Core.Path.{_≡_};
 ghost use Prim.Native.Nat.{ℕ, _+_, _*_, _≤_, _<_};
 ghost use lib.ListN.{length, getD};
 ghost use Rattle.model.specs.Rules.Join.{partsIn, textsAt, lent, programText, partPair, partsFrom};
-ghost use Rattle.check_pair.specs.Answers.{CheckedAs};
+ghost use Rattle.check_pair.specs.Checked.{CheckedAs};
 ghost use Rattle.model.specs.Rules.Outcome.{accepted};
 ghost use Rattle.model.specs.Rules.Parts.{Part, smaller};
 ghost use Rattle.text_program.specs.Tables.{capOf, TablesOf};
@@ -95,15 +95,15 @@ fn add_signals(joint: Joint, tables: Tables, slots: Slots) -> Joint
     let ranks = slots.ranks;
     let base = joint.signals;
     let before = joint.codes;
-    let code = basics::wider(before[base]);
+    let code = basics::from_entry(before[base]);
     let n = tables.signals;
     let mut x: usize = 0;
     while x < n {
         let at = base + x;
         let end = x + 1;
-        let upto = code + basics::wider(codes[end]);
-        let put = base + basics::wide(order[x]);
-        let rank = base + basics::wide(ranks[x]);
+        let upto = code + basics::from_entry(codes[end]);
+        let put = base + basics::from_byte(order[x]);
+        let rank = base + basics::from_byte(ranks[x]);
         next.places[at] = places[x];
         next.periods[at] = periods[x];
         next.weights[at] = weights[x];
@@ -220,7 +220,7 @@ fn add_rates(
     let n = tables.signals;
     let mut x: usize = 0;
     while x < n {
-        let place = basics::wider(places[x]);
+        let place = basics::from_entry(places[x]);
         let at = 64 * part + x;
         periods[at] = own[x];
         inputs[at] = program[place] == 0x10;

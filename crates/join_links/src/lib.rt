@@ -22,7 +22,7 @@ fn period_of(periods: &[u8; 512], part: u8, signal: u8) -> u8
     if 64 <= signal {
         return 0;
     }
-    let at = 64 * basics::wide(part) + basics::wide(signal);
+    let at = 64 * basics::from_byte(part) + basics::from_byte(signal);
     periods[at]
 }
 
@@ -50,7 +50,7 @@ fn is_right(links: &[u8], at: usize, periods: &[u8; 512], inputs: &[bool; 512]) 
     if period != source {
         return false;
     }
-    let entry = 64 * basics::wide(part) + basics::wide(input);
+    let entry = 64 * basics::from_byte(part) + basics::from_byte(input);
     inputs[entry]
 }
 
@@ -69,7 +69,7 @@ pub fn judge_links(links: &[u8], periods: &[u8; 512], inputs: &mut [bool; 512]) 
             return basics::refuse(refusals::WRONG_LINK, at / 4);
         }
         let second = at + 1;
-        let entry = 64 * basics::wide(links[at]) + basics::wide(links[second]);
+        let entry = 64 * basics::from_byte(links[at]) + basics::from_byte(links[second]);
         inputs[entry] = false;
         at = at + 4;
     }

@@ -1,11 +1,12 @@
-// The shop's tool: one command a call, on files. All that is decided is decided by the calls of larderlate; here files are read and
-// written, and answers are put in words. `larder run FILE` takes the commands from a file, a line each.
+// The shop's tool: one command a call, on files. All that is decided is decided by the calls of larderlate; here files are read
+// and written, and answers are put in words. `larder run FILE` takes the commands from a file, a line each.
 use libc::STDOUT_FILENO;
 use model::Fault;
 use model::Found;
 use model::Joined;
 use model::Ran;
 use model::Yielded;
+use model::refusals;
 
 fn say_use() {
     console::print(b"failed\n");
@@ -46,10 +47,13 @@ fn print_image(image: &[u8], n: usize) {
     if image.len() < 4 {
         return;
     }
-    print_field(b"L ", basics::wide(image[2]) + 256 * basics::wide(image[3]));
+    print_field(
+        b"L ",
+        basics::from_byte(image[2]) + 256 * basics::from_byte(image[3]),
+    );
     print_field(b" length ", n);
-    print_field(b" H ", basics::wide(image[0]));
-    print_field(b" N ", basics::wide(image[1]));
+    print_field(b" H ", basics::from_byte(image[0]));
+    print_field(b" N ", basics::from_byte(image[1]));
     console::print(b"\n");
 }
 
@@ -79,7 +83,7 @@ fn print_mark(marks: &[u8; 64], labels: &[u16; 64], x: usize) {
     }
     if marks[x] == 1 {
         print_field(b"signal ", x);
-        print_field(b" label ", basics::wider(labels[x]));
+        print_field(b" label ", basics::from_entry(labels[x]));
         console::print(b"\n");
     }
 }
@@ -149,7 +153,7 @@ fn with_pair(task: Task, line: &[u8]) {
 // A file that is longer than its bound.
 fn refuse_long() {
     explain::refuse_call(Fault {
-        number: 1,
+        number: refusals::TEXT_TOO_LONG,
         place: 0,
     });
 }
@@ -243,10 +247,10 @@ fn print_label(tail: &[u8], x: usize) {
     console::print_number(x);
     print_field(
         b" ",
-        basics::wide(tail[at]) + 256 * basics::wide(tail[at + 1]),
+        basics::from_byte(tail[at]) + 256 * basics::from_byte(tail[at + 1]),
     );
-    print_field(b" ", basics::wide(tail[at + 2]));
-    print_field(b" ", basics::wide(tail[at + 3]));
+    print_field(b" ", basics::from_byte(tail[at + 2]));
+    print_field(b" ", basics::from_byte(tail[at + 3]));
     console::print(b"\n");
 }
 
@@ -538,8 +542,8 @@ fn ended(byte: u8) -> u8 {
     if byte == 32 { 0 } else { byte }
 }
 
-// Takes the next byte of a file of commands, and shows it: a blank ends a word, the end of the line ends the command, which is then
-// carried out.
+// Takes the next byte of a file of commands, and shows it: a blank ends a word, the end of the line ends the command, which is
+// then carried out.
 fn take_byte(line: &mut [u8], n: usize, byte: u8) -> usize {
     let shown = [byte];
     io::write_all(STDOUT_FILENO, &shown);

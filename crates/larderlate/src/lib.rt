@@ -1,6 +1,6 @@
-// Larderlate: compile, join, report, reset, cycle, tail, convert, moves, dependents, assemble and list; for C the calls of a board
-// too. Each call takes any bytes and words, and its answer and what it leaves are the definition's. What they promise together is in
-// crate `promises`.
+// Larderlate: compile, join, report, reset, cycle, tail, convert, moves, dependents, assemble and list; for C the calls of a
+// board too. Each call takes any bytes and words, and its answer and what it leaves are the definition's. What they promise
+// together is in crate `promises`.
 use board::Turned;
 use model::Cycled;
 use model::Fault;
@@ -32,9 +32,9 @@ pub fn compile(program: &[u8], schedule: &[u8], image: &mut [u8]) -> Yielded
     compiler::compile(program, schedule, &mut image[..])
 }
 
-// Joins parts, whose texts lie in one lent buffer, and links between them: writes their image and its tail to the start of `image`,
-// and yields how many bytes these are. A part is four numbers: start and length of its program and of its schedule; one to three
-// numbers after the last whole part are not looked at. A link is four bytes: part, IN, part, signal.
+// Joins parts, whose texts lie in one lent buffer, and links between them: writes their image and its tail to the start of
+// `image`, and yields how many bytes these are. A part is four numbers: start and length of its program and of its schedule;
+// one to three numbers after the last whole part are not looked at. A link is four bytes: part, IN, part, signal.
 pub fn join(texts: &[u8], numbers: &[usize], links: &[u8], image: &mut [u8]) -> Joined
     ensures answer { λ r. ⌜ joinedOf r ≡
         joinOf (now (texts .entry)) (now (numbers .entry)) (now (links .entry)) (now (image .entry)) .answer ⌝ }
@@ -261,10 +261,15 @@ pub extern "C" fn larderlate_report(
     written: &mut usize,
     stack: &mut usize,
 ) -> u64
-    ensures answer { λ r. ⌜ r ≡ codeNumber (lengthIn (reportOf (now (program .entry)) (now (schedule .entry)) (now (counts .entry)) .answer)) ⌝ }
-    ensures left { λ _. ⌜ now (counts .exit) ≡ reportOf (now (program .entry)) (now (schedule .entry)) (now (counts .entry)) .left ⌝ }
-    ensures whole { λ _. ⌜ now (written .exit) ≡ writtenIn (now (written .entry)) (reportOf (now (program .entry)) (now (schedule .entry)) (now (counts .entry)) .answer) ⌝ }
-    ensures height { λ _. ⌜ now (stack .exit) ≡ stackIn (now (stack .entry)) (reportOf (now (program .entry)) (now (schedule .entry)) (now (counts .entry)) .answer) ⌝ }
+    ensures answer { λ r.
+        ⌜ r ≡ codeNumber (lengthIn (reportOf (now (program .entry)) (now (schedule .entry)) (now (counts .entry)) .answer)) ⌝ }
+    ensures left { λ _. ⌜ now (counts .exit) ≡
+        reportOf (now (program .entry)) (now (schedule .entry)) (now (counts .entry)) .left ⌝ }
+    ensures whole { λ _. ⌜ now (written .exit) ≡
+        writtenIn (now (written .entry))
+        (reportOf (now (program .entry)) (now (schedule .entry)) (now (counts .entry)) .answer) ⌝ }
+    ensures height { λ _. ⌜ now (stack .exit) ≡
+        stackIn (now (stack .entry)) (reportOf (now (program .entry)) (now (schedule .entry)) (now (counts .entry)) .answer) ⌝ }
 {
     let reported = report(program, schedule, counts);
     *written = written_of_reported(reported, *written);
@@ -367,9 +372,14 @@ pub extern "C" fn larderlate_board_load(
     start: usize,
     size: usize,
 ) -> u64
-    ensures answer { λ r. ⌜ r ≡ codeNumber (loadOf (boardOf (now (words .entry))) (now (images .entry)) (now (state .entry)) place start size .answer) ⌝ }
-    ensures kept { λ _. ⌜ now (words .exit) ≡ loadRecord (now (words .entry)) place start size (loadOf (boardOf (now (words .entry))) (now (images .entry)) (now (state .entry)) place start size .answer) ⌝ }
-    ensures left { λ _. ⌜ now (state .exit) ≡ loadOf (boardOf (now (words .entry))) (now (images .entry)) (now (state .entry)) place start size .left ⌝ }
+    ensures answer { λ r.
+        ⌜ r ≡ codeNumber (loadOf (boardOf (now (words .entry))) (now (images .entry)) (now (state .entry))
+        place start size .answer) ⌝ }
+    ensures kept { λ _. ⌜ now (words .exit) ≡
+        loadRecord (now (words .entry)) place start size
+        (loadOf (boardOf (now (words .entry))) (now (images .entry)) (now (state .entry)) place start size .answer) ⌝ }
+    ensures left { λ _. ⌜ now (state .exit) ≡ loadOf (boardOf (now (words .entry))) (now (images .entry)) (now (state .entry))
+        place start size .left ⌝ }
 {
     let ran = board::load(words, images, &mut state[..], place, start, size);
     code_of_ran(ran)
@@ -378,7 +388,8 @@ pub extern "C" fn larderlate_board_load(
 #[no_mangle]
 pub extern "C" fn larderlate_board_mark(words: &mut [usize; 17], place: usize) -> u64
     ensures answer { λ r. ⌜ r ≡ codeNumber (markPlaceOf (boardOf (now (words .entry))) place .answer) ⌝ }
-    ensures kept { λ _. ⌜ now (words .exit) ≡ markRecord (now (words .entry)) place (markPlaceOf (boardOf (now (words .entry))) place .answer) ⌝ }
+    ensures kept { λ _. ⌜ now (words .exit) ≡
+        markRecord (now (words .entry)) place (markPlaceOf (boardOf (now (words .entry))) place .answer) ⌝ }
 {
     let ran = board::mark(words, place);
     code_of_ran(ran)
@@ -392,10 +403,17 @@ pub extern "C" fn larderlate_board_turn(
     samples: &[i32],
     outcome: &mut [u32; 3],
 ) -> u64
-    ensures answer { λ r. ⌜ r ≡ codeNumber (turnDone (turnOf (boardOf (now (words .entry))) (now (images .entry)) (now (state .entry)) (now (samples .entry)) .answer)) ⌝ }
-    ensures kept { λ _. ⌜ now (words .exit) ≡ turnRecord (now (words .entry)) (turnOf (boardOf (now (words .entry))) (now (images .entry)) (now (state .entry)) (now (samples .entry)) .answer) ⌝ }
-    ensures left { λ _. ⌜ now (state .exit) ≡ turnOf (boardOf (now (words .entry))) (now (images .entry)) (now (state .entry)) (now (samples .entry)) .left ⌝ }
-    ensures told { λ _. ⌜ now (outcome .exit) ≡ outcomeIn (now (outcome .entry)) (turnOf (boardOf (now (words .entry))) (now (images .entry)) (now (state .entry)) (now (samples .entry)) .answer) ⌝ }
+    ensures answer { λ r.
+        ⌜ r ≡ codeNumber (turnDone (turnOf (boardOf (now (words .entry))) (now (images .entry)) (now (state .entry))
+        (now (samples .entry)) .answer)) ⌝ }
+    ensures kept { λ _. ⌜ now (words .exit) ≡
+        turnRecord (now (words .entry)) (turnOf (boardOf (now (words .entry))) (now (images .entry)) (now (state .entry))
+        (now (samples .entry)) .answer) ⌝ }
+    ensures left { λ _. ⌜ now (state .exit) ≡ turnOf (boardOf (now (words .entry))) (now (images .entry)) (now (state .entry))
+        (now (samples .entry)) .left ⌝ }
+    ensures told { λ _. ⌜ now (outcome .exit) ≡
+        outcomeIn (now (outcome .entry)) (turnOf (boardOf (now (words .entry))) (now (images .entry)) (now (state .entry))
+        (now (samples .entry)) .answer) ⌝ }
 {
     let turned = board::turn(words, images, &mut state[..], samples);
     board::tell_turn(turned, outcome);

@@ -10,7 +10,22 @@ ghost use lib.ListN.{getD};
 ghost use Rattle.model.specs.Rules.Search.{firstBelow, isFound, allBelow};
 ghost use Rattle.model.specs.Rules.Reads.{runCycle};
 ghost use Rattle.read_rule.specs.Reads.{rateIn};
-ghost use Rattle.latency_rule.specs.Back.{usedBy, backBy, Sound, Small, SmallFound, runLatencyBy, lateBy, inTimeBy, timelyBy, allPlain, Decide, enoughForNone, enoughFor, LeastBound};
+ghost use Rattle.latency_rule.specs.Back.{
+  usedBy,
+  backBy,
+  Sound,
+  Small,
+  SmallFound,
+  runLatencyBy,
+  lateBy,
+  inTimeBy,
+  timelyBy,
+  allPlain,
+  Decide,
+  enoughForNone,
+  enoughFor,
+  LeastBound,
+};
 
 // One read on the way back: its kind, its factor and its settled index.
 pub struct Hop {
@@ -114,8 +129,10 @@ fn all_in_time(
     from: usize,
     window: usize,
 ) -> bool
-    requires { ⌜ (count ≤ 15) × Sound hops count × ((i : ℕ) → i < window → Small hops count (from + i)) × (from + window ≤ 1000000) ⌝ }
-    ensures { λ r. ⌜ r ≡ allBelow window (λ i. not (lateBy bound (runLatencyBy hops count (rateIn last) (rateIn source) (from + i)))) ⌝ }
+    requires { ⌜ (count ≤ 15) × Sound hops count × ((i : ℕ) → i < window → Small hops count (from + i)) ×
+        (from + window ≤ 1000000) ⌝ }
+    ensures { λ r. ⌜ r ≡ allBelow window
+        (λ i. not (lateBy bound (runLatencyBy hops count (rateIn last) (rateIn source) (from + i)))) ⌝ }
 {
     let mut i: usize = 0;
     while i < window {
@@ -138,8 +155,10 @@ fn one_in_time(
     from: usize,
     window: usize,
 ) -> bool
-    requires { ⌜ (count ≤ 15) × Sound hops count × ((i : ℕ) → i < window → Small hops count (from + i)) × (from + window ≤ 1000000) ⌝ }
-    ensures { λ r. ⌜ r ≡ isFound (firstBelow window (λ i. inTimeBy bound (runLatencyBy hops count (rateIn last) (rateIn source) (from + i)))) ⌝ }
+    requires { ⌜ (count ≤ 15) × Sound hops count × ((i : ℕ) → i < window → Small hops count (from + i)) ×
+        (from + window ≤ 1000000) ⌝ }
+    ensures { λ r. ⌜ r ≡ isFound
+        (firstBelow window (λ i. inTimeBy bound (runLatencyBy hops count (rateIn last) (rateIn source) (from + i)))) ⌝ }
 {
     let mut i: usize = 0;
     while i < window {
@@ -207,7 +226,8 @@ pub fn is_timely(
     from: usize,
     window: usize,
 ) -> bool
-    requires { ⌜ (count ≤ 15) × Sound hops count × ((i : ℕ) → i < window → Small hops count (from + i)) × (from + window ≤ 1000000) ⌝ }
+    requires { ⌜ (count ≤ 15) × Sound hops count × ((i : ℕ) → i < window → Small hops count (from + i)) ×
+        (from + window ≤ 1000000) ⌝ }
     ensures { λ r. ⌜ r ≡ timelyBy mode bound hops count (rateIn last) (rateIn source) from window ⌝ }
 {
     let runs = deciding_runs(hops, count, last, source, from, window);
@@ -250,7 +270,8 @@ pub fn least_bound(
     from: usize,
     window: usize,
 ) -> usize
-    requires { ⌜ (count ≤ 15) × Sound hops count × ((i : ℕ) → i < window → Small hops count (from + i)) × (from + window ≤ 1000000) ⌝ }
+    requires { ⌜ (count ≤ 15) × Sound hops count × ((i : ℕ) → i < window → Small hops count (from + i)) ×
+        (from + window ≤ 1000000) ⌝ }
     ensures { λ r. ⌜ LeastBound mode hops count (rateIn last) (rateIn source) from window r ⌝ }
 {
     let runs = deciding_runs(hops, count, last, source, from, window);

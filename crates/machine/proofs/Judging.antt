@@ -10,7 +10,7 @@ use lib.ListN.{length}
 use Rattle.model.specs.Rules.Machine.{countOf, wellFormed, cycleWords, cycleCount, cycleOf}
 use Rattle.image_valid.specs.Lends.{Lends}
 use Rattle.machine.specs.Runnable.{Runnable, JudgesCycle}
-use Rattle.machine.proofs.Answers.{refusal, done, cycle-done}
+use Rattle.machine.proofs.Machine.{refusal, done, cycle-done}
 
 pub judged-refused : {lent : List ℕ} {state samples : List ℤ} {n : ℕ} → JudgesCycle lent state samples n → 0 < n →
     cycleOf lent state samples ≡ refusal n state

@@ -25,7 +25,7 @@ use Rattle.model.proofs.Images.Cycles.{position-is, next-inside, run-length, cy
 use Rattle.model.proofs.Basics.Outcomes.{table-length}
 use Rattle.image_valid.proofs.Parts.{head, formed}
 use Rattle.machine.specs.Runnable.{Runnable}
-use Rattle.machine.proofs.Answers.{cycle-done, lends-itself}
+use Rattle.machine.proofs.Machine.{cycle-done, lends-itself}
 
 cycle-first : (image : List ℕ) (state samples : List ℤ) → 0 < length state →
     getD (cycleWords image state samples) 0 (pos 0) ≡ pos (nextPosition (hyperOf image) (positionOf (getD state 0 (pos 0))))

@@ -8,7 +8,18 @@ ghost use mathlib.Core.Bool.{true};
 ghost use Prim.Native.Nat.{ℕ, _<_, _≤_};
 ghost use lib.IntN.{pos};
 ghost use lib.ListN.{length, getD};
-ghost use Rattle.model.specs.Rules.Machine.{Does, hyperOf, countOf, wellFormed, isPosition, listOf, runSignals, countSignals, nextPosition, resetWords};
+ghost use Rattle.model.specs.Rules.Machine.{
+  Does,
+  hyperOf,
+  countOf,
+  wellFormed,
+  isPosition,
+  listOf,
+  runSignals,
+  countSignals,
+  nextPosition,
+  resetWords,
+};
 ghost use Rattle.model.specs.Rules.Machine.{cycleWords, cycleCount, ranOf, cycledOf, resetOf, cycleOf};
 ghost use Rattle.machine.specs.Runnable.{tableIn, Runnable, JudgesCycle};
 ghost use Rattle.model.specs.Rules.Outcome.{refuse};
@@ -31,7 +42,7 @@ pub fn run_list(image: &[u8], c: usize) -> &[u8]
     requires { ⌜ (wellFormed (now image) ≡ true) × (c < hyperOf (now image)) ⌝ }
     ensures { λ r. ⌜ now r ≡ listOf (now (image .entry)) c ⌝ }
 {
-    let n = basics::wide(image[1]);
+    let n = basics::from_byte(image[1]);
     let from = image_valid::list_offset(image, n, c);
     let to = image_valid::list_offset(image, n, c + 1);
     &image[from..to]
@@ -42,14 +53,15 @@ fn table_of(image: &[u8]) -> &[u8]
     requires { ⌜ wellFormed (now image) ≡ true ⌝ }
     ensures { λ r. ⌜ now r ≡ tableIn (now (image .entry)) ⌝ }
 {
-    let h = basics::wide(image[0]);
-    let n = basics::wide(image[1]);
+    let h = basics::from_byte(image[0]);
+    let n = basics::from_byte(image[1]);
     let from = image_valid::table_offset(image, n, h);
     let to = image_valid::code_offset(image, n, 0);
     &image[from..to]
 }
 
-// Runs the signals of a list in order, with the table of the image: the word of each is stored. Yields how many commands have run.
+// Runs the signals of a list in order, with the table of the image: the word of each is stored. Yields how many commands have
+// run.
 fn run_signals(
     list: &[u8],
     image: &[u8],
@@ -60,16 +72,18 @@ fn run_signals(
 ) -> u32
     requires { ⌜ (wellFormed (now image) ≡ true) × (n ≡ countOf (now image)) × (now table ≡ tableIn (now image)) ⌝ }
     requires { ⌜ ((k : ℕ) → k < length (now list) → byteAt (now list) k < n) ⌝ }
-    requires { ⌜ (n < length (now state)) × (n ≤ length (now samples)) × (length (now image) ≤ 65535) × (length (now list) ≤ length (now image)) ⌝ }
+    requires { ⌜ (n < length (now state)) × (n ≤ length (now samples)) × (length (now image) ≤ 65535) ×
+        (length (now list) ≤ length (now image)) ⌝ }
     ensures count { λ r. ⌜ r ≡ countSignals (now (image .entry)) (now (list .entry)) ⌝ }
-    ensures left { λ _. ⌜ now (state .exit) ≡ runSignals (now (image .entry)) (now (list .entry)) (now (samples .entry)) (now (state .entry)) ⌝ }
+    ensures left { λ _. ⌜ now (state .exit) ≡ runSignals (now (image .entry)) (now (list .entry)) (now (samples .entry))
+        (now (state .entry)) ⌝ }
 {
-    let count = basics::wide(n);
+    let count = basics::from_byte(n);
     let mut total: u32 = 0;
     let mut i: usize = 0;
     while i < list.len() {
         let x = list[i];
-        let own = basics::wide(x);
+        let own = basics::from_byte(x);
         let from = image_valid::code_offset(image, count, own);
         let to = image_valid::code_offset(image, count, own + 1);
         let run = run_code::run_code(&image[from..to], table, n, x, &state[..], samples);
@@ -111,7 +125,7 @@ pub fn reset(lent: &[u8], state: &mut [i32]) -> Ran
     if !image_valid::well_formed(image) {
         return refused(refusals::IMAGE_NOT_WELL_FORMED);
     }
-    let n = basics::wide(image[1]);
+    let n = basics::from_byte(image[1]);
     if state.len() <= n {
         return refused(refusals::STATE_SHORT);
     }
@@ -126,7 +140,7 @@ pub fn run_cycle(image: &[u8], state: &mut [i32], samples: &[i32]) -> u32
     ensures count { λ r. ⌜ r ≡ cycleCount (now (image .entry)) (now (state .entry)) ⌝ }
     ensures left { λ _. ⌜ now (state .exit) ≡ cycleWords (now (image .entry)) (now (state .entry)) (now (samples .entry)) ⌝ }
 {
-    let h = basics::wide(image[0]);
+    let h = basics::from_byte(image[0]);
     let n = image[1];
     let position = state[0];
     let c = position as usize;
@@ -142,7 +156,7 @@ pub fn is_positioned(image: &[u8], state: &[i32]) -> bool
     requires { ⌜ (wellFormed (now image) ≡ true) × (0 < length (now state)) ⌝ }
     ensures { λ r. ⌜ r ≡ isPosition (hyperOf (now (image .entry))) (getD (now (state .entry)) 0 (pos 0)) ⌝ }
 {
-    let h = basics::wide(image[0]);
+    let h = basics::from_byte(image[0]);
     let position = state[0];
     if position < 0 {
         return false;
@@ -159,7 +173,7 @@ pub fn judge_cycle(lent: &[u8], state: &[i32], samples: &[i32]) -> u8
     if !image_valid::well_formed(image) {
         return refusals::IMAGE_NOT_WELL_FORMED;
     }
-    let count = basics::wide(image[1]);
+    let count = basics::from_byte(image[1]);
     if state.len() <= count {
         return refusals::STATE_SHORT;
     }
@@ -172,8 +186,8 @@ pub fn judge_cycle(lent: &[u8], state: &[i32], samples: &[i32]) -> u8
     0
 }
 
-// Runs one cycle, which is a judgement and a run: the list of the state's position, and then the position moves on. Yields how many
-// commands it ran.
+// Runs one cycle, which is a judgement and a run: the list of the state's position, and then the position moves on. Yields how
+// many commands it ran.
 pub fn cycle(lent: &[u8], state: &mut [i32], samples: &[i32]) -> Cycled
     ensures { λ r. ⌜ Does
         (cycleOf (now (lent .entry)) (now (state .entry)) (now (samples .entry)))

@@ -47,8 +47,8 @@ pub enum Mode {
     Backward,
 }
 
-// A command of the program text that is none of an expression, with its operands; the expression of an EQ and the LINKs of a LAT are
-// commands of their own.
+// A command of the program text that is none of an expression, with its operands; the expression of an EQ and the LINKs of a
+// LAT are commands of their own.
 pub enum Declaration {
     // no byte is left, or an operand is cut off by the end of the text
     EndsEarly,

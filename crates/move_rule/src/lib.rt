@@ -59,7 +59,7 @@ fn narrow_by_read(
         Narrowed p (λ x f. ReadStays p s x f reader ρ)
         (now (lows .entry)) (now (highs .entry)) (now (lows .exit)) (now (highs .exit))) ⌝ }
 {
-    let read = basics::wide(operands.signal);
+    let read = basics::from_byte(operands.signal);
     if read == reader {
         return;
     }
@@ -72,7 +72,7 @@ fn narrow_by_read(
         phase: phases[reader],
     };
     let before = ranks[read] < ranks[reader];
-    let index = basics::wide(check_latency::settled_index(kind, operands, w, r));
+    let index = basics::from_byte(check_latency::settled_index(kind, operands, w, r));
     let of_read = read_rule::phases_met(kind, index, w, r, before, false);
     narrow(lows, highs, read, of_read);
     let of_reader = read_rule::phases_met(kind, index, w, r, before, true);
@@ -99,10 +99,10 @@ fn narrow_by_signal(
         (λ p s. Narrowed p (λ x f. All (ReadStays p s x f reader) (bodyReads (signalAt p reader .body)))
         (now (lows .entry)) (now (highs .entry)) (now (lows .exit)) (now (highs .exit))) ⌝ }
 {
-    let mut i = basics::wider(firsts[reader]);
-    let end = basics::wider(firsts[reader + 1]);
+    let mut i = basics::from_entry(firsts[reader]);
+    let end = basics::from_entry(firsts[reader + 1]);
     while i < end {
-        let at = basics::wider(reads[i]);
+        let at = basics::from_entry(reads[i]);
         let taken = text_command::taken_at(text, at);
         let kind = taken.kind;
         let operands = taken.operands;
@@ -162,19 +162,19 @@ fn narrow_by_chain(
         Narrowed p (λ x f. ChainStays p s h x f c)
         (now (lows .entry)) (now (highs .entry)) (now (lows .exit)) (now (highs .exit))) ⌝ }
 {
-    let last = basics::wide(leeway.last);
-    let first = basics::wide(leeway.source);
+    let last = basics::from_byte(leeway.last);
+    let first = basics::from_byte(leeway.source);
     if last == first {
         return;
     }
     let spare = leeway.bound - leeway.least;
-    let latest = basics::wide(phases[last]) + spare;
+    let latest = basics::from_byte(phases[last]) + spare;
     let later = Phases {
         low: 0,
         high: latest + 1,
     };
     narrow(lows, highs, last, later);
-    let reach = greater(basics::wide(phases[first]), spare);
+    let reach = greater(basics::from_byte(phases[first]), spare);
     let earlier = Phases {
         low: reach - spare,
         high: 256,

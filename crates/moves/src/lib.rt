@@ -13,7 +13,7 @@ ghost use Rattle.model.specs.Rules.Compile.{Pair};
 ghost use Rattle.model.specs.Rules.Moves.{allEntries, movesOf};
 ghost use Rattle.model.specs.Rules.Outcome.{yieldedOf};
 ghost use Rattle.model.specs.Says.Feasible.{Between};
-ghost use Rattle.check_pair.specs.Answers.{Spacious};
+ghost use Rattle.check_pair.specs.Checked.{Spacious};
 ghost use Rattle.move_rule.specs.Narrowing.{Long};
 ghost use Rattle.moves.specs.Listing.{Spare, FitsAt, putEntry, ListsOne, Lists, LeftBelow, ListsAll, Written};
 ghost use Rattle.moves.specs.Listing.{AcceptedBy, Accepted, NarrowedBy};
@@ -30,7 +30,7 @@ fn has_room(loads: &[u32; 240], limit: u32, period: u8, weight: u16, phase: usiz
     requires { ⌜ (phase < period) × (h ≤ 240) ⌝ }
     ensures { λ r. ⌜ (r ≡ true) ↔ Spare (now (loads .entry)) true limit (record { period = period; phase = phase }) weight h ⌝ }
 {
-    let step = basics::wide(period);
+    let step = basics::from_byte(period);
     let most = limit as u64;
     let mut next = phase;
     while next < h {
@@ -60,7 +60,7 @@ fn fits(
     if !capped {
         return true;
     }
-    if phase == basics::wide(present) {
+    if phase == basics::from_byte(present) {
         return true;
     }
     has_room(loads, limit, period, weight, phase, h)
@@ -193,7 +193,7 @@ fn all_phases(periods: &[u8; 64]) -> [usize; 64]
     let mut highs: [usize; 64] = [0; 64];
     let mut x: usize = 0;
     while x < 64 {
-        highs[x] = basics::wide(periods[x]);
+        highs[x] = basics::from_byte(periods[x]);
         x = x + 1;
     }
     highs

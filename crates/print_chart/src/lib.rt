@@ -134,7 +134,7 @@ fn draw_ticks(h: usize, every: usize, wide: usize, bottom: usize) {
 
 // The box of a run, where the signal of this row runs in cycle c.
 fn draw_run(period: u8, phase: u8, c: usize, wide: usize, y: usize) {
-    let p = basics::wide(period);
+    let p = basics::from_byte(period);
     if p == 0 {
         return;
     }
@@ -147,7 +147,7 @@ fn draw_run(period: u8, phase: u8, c: usize, wide: usize, y: usize) {
     if wide < 2 {
         return;
     }
-    if c % p != basics::wide(phase) {
+    if c % p != basics::from_byte(phase) {
         return;
     }
     number(b"M", x_of(c, wide));
@@ -176,9 +176,9 @@ fn draw_row(table: Timetable, x: usize, wide: usize) {
     let y = y_of(x);
     text_at(4, y + 10);
     number(b"", x);
-    number(b" label ", basics::wider(labels[x]));
-    number(b" period ", basics::wide(periods[x]));
-    number(b" phase ", basics::wide(phases[x]));
+    number(b" label ", basics::from_entry(labels[x]));
+    number(b" period ", basics::from_byte(periods[x]));
+    number(b" phase ", basics::from_byte(phases[x]));
     console::print(b"</text>\n<path fill=\"#36c\" d=\"");
     draw_runs(periods[x], phases[x], table.hypercycle, wide, y);
     console::print(b"\"/>\n");

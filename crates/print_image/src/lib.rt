@@ -1,5 +1,5 @@
-// An image in words: head, records, run lists, rows, code and tail, each with its offset. It is well formed; what is read past its
-// end would be 0.
+// An image in words: head, records, run lists, rows, code and tail, each with its offset. It is well formed; what is read past
+// its end would be 0.
 use model::Yielded;
 ghost use Prim.Native.Nat.{_≤_, _<_};
 
@@ -7,7 +7,7 @@ fn byte(image: &[u8], at: usize) -> usize
     ensures { λ r. ⌜ r < 256 ⌝ }
 {
     if at < image.len() {
-        return basics::wide(image[at]);
+        return basics::from_byte(image[at]);
     }
     0
 }

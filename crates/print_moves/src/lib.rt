@@ -14,8 +14,8 @@ fn may_have(phases: &[bool; 240], f: usize) -> bool {
 fn take_entry(list: &[u8], i: usize, x: usize, phases: &mut [bool; 240]) {
     let at = 2 * (i % 32768);
     if at + 1 < list.len() {
-        if basics::wide(list[at]) == x {
-            let f = basics::wide(list[at + 1]);
+        if basics::from_byte(list[at]) == x {
+            let f = basics::from_byte(list[at + 1]);
             if f < 240 {
                 phases[f] = true;
             }
@@ -75,9 +75,9 @@ fn print_signal(list: &[u8], count: usize, table: Timetable, x: usize) {
     console::print(b"signal ");
     console::print_number(x);
     console::print(b" label ");
-    console::print_number(basics::wider(labels[x]));
+    console::print_number(basics::from_entry(labels[x]));
     console::print(b" phase ");
-    console::print_number(basics::wide(present[x]));
+    console::print_number(basics::from_byte(present[x]));
     console::print(b" may have");
     let mut phases: [bool; 240] = [false; 240];
     take_entries(list, count, x, &mut phases);

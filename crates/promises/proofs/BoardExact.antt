@@ -52,7 +52,7 @@ use Rattle.promises.specs.BoardExact.{
   Turns,
   TurnRefusedAt,
 }
-use Rattle.board.proofs.Answers.{
+use Rattle.board.proofs.Called.{
   boardDone,
   load-place,
   load-state,

@@ -28,7 +28,7 @@ use Rattle.model.specs.declared.Sizes.{Sizes}
 use Rattle.promises.specs.Codable.{Codable}
 use Rattle.promises.specs.Codes.{Codes}
 use Rattle.promises.specs.Dependents.{DependentsRefusedAt}
-use Rattle.board.proofs.Answers.{
+use Rattle.board.proofs.Called.{
   load-place,
   load-state,
   load-refused,

@@ -56,7 +56,7 @@ use Rattle.board.specs.Board.{
 use Rattle.board.specs.Board.{Board}
 use Rattle.board.specs.Events.{Event, load, mark, turn, change, Scene, loadBy, turnBy, afterEvent, afterEvents}
 use Rattle.board.proofs.Alone.{run-length, reset-in-length}
-use Rattle.board.proofs.Answers.{
+use Rattle.board.proofs.Called.{
   boardRefusal,
   load-place,
   load-state,

@@ -16,7 +16,7 @@ use Rattle.model.specs.declared.Fault.{Fault}
 use Rattle.theorems_streams.specs.Dependence.{LentExcept}
 use Rattle.board.specs.Board.{placeSamples, BoardEffect, Yield, idle, took}
 use Rattle.board.specs.Events.{Event, load, mark, turn, change, Scene, turnIn, afterEvent, ownCycle, ownCycles}
-use Rattle.board.proofs.Answers.{turn-state, turn-samples}
+use Rattle.board.proofs.Called.{turn-state, turn-samples}
 use Rattle.board.proofs.Words.{samples-length}
 use Rattle.promises.specs.Scenes.{SceneBut, OtherSamples, SamplesExcept, EventsBut}
 use Rattle.promises.proofs.Confined.{few-same, turn-same, after-load, after-mark, after-turn, after-change}

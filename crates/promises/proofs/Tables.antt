@@ -12,7 +12,7 @@ use Rattle.model.specs.Rules.Tail.{tailIn, Bears}
 use Rattle.model.specs.Says.Calls.{Call, callOf}
 use Rattle.promises.specs.Tables.{RequestJ}
 use Rattle.theorems_images.specs.Tables.{WithoutTable}
-use Rattle.board.proofs.Answers.{load-refused}
+use Rattle.board.proofs.Called.{load-refused}
 use Rattle.model.proofs.Pairs.Verdict.{pair-multiple, pair-accepted, pair-bounded}
 use Rattle.model.proofs.Rows.Rule as Rule
 use Rattle.theorems_images.proofs.FormedExactly as FormedExactly

@@ -8,7 +8,17 @@ ghost use mathlib.Core.Path.{_≡_};
 ghost use Prim.Native.Nat.{ℕ, _-_, _≤_, _<_};
 ghost use Rattle.model.specs.Rules.Reads.{writerFirst};
 ghost use Rattle.model.specs.Rules.Search.{firstFrom};
-ghost use Rattle.read_rule.specs.Lines.{isPlain, isCurrent, isBefore, SmallLine, LineFor, numberAt, meetsAt, CandidatesOf, Paced};
+ghost use Rattle.read_rule.specs.Lines.{
+  isPlain,
+  isCurrent,
+  isBefore,
+  SmallLine,
+  LineFor,
+  numberAt,
+  meetsAt,
+  CandidatesOf,
+  Paced,
+};
 ghost use Rattle.read_rule.specs.Reads.{rateIn, indexFound, metBy, MetIn};
 
 // A signal's period and phase.
@@ -75,9 +85,9 @@ fn wants_first(kind: Kind) -> bool
     }
 }
 
-// One form for the lines of the five reads, so that no branch is taken by the kind: index i meets it where the number
-// origin + i * stride is one of the `step` from `cycle` on. For LAST, LASTWHEN and CURRENT these numbers are cycles of runs, for NOW
-// and WHEN the cycles just before the next run, `ahead` after the run. Every index of NOW and LAST has the same number, and a step
+// One form for the lines of the five reads, so that no branch is taken by the kind: index i meets it where the number origin +
+// i * stride is one of the `step` from `cycle` on. For LAST, LASTWHEN and CURRENT these numbers are cycles of runs, for NOW and
+// WHEN the cycles just before the next run, `ahead` after the run. Every index of NOW and LAST has the same number, and a step
 // that is over any phase.
 struct Line {
     origin: usize,
@@ -99,9 +109,21 @@ fn line_of(kind: Kind, w: Timing, r: Timing) -> Line
 {
     let plain = is_plain(kind);
     let current = is_current(kind);
-    let period = either(current, basics::wide(r.period), basics::wide(w.period));
-    let start = either(current, basics::wide(r.phase), basics::wide(w.phase));
-    let cycle = either(current, basics::wide(w.phase), basics::wide(r.phase));
+    let period = either(
+        current,
+        basics::from_byte(r.period),
+        basics::from_byte(w.period),
+    );
+    let start = either(
+        current,
+        basics::from_byte(r.phase),
+        basics::from_byte(w.phase),
+    );
+    let cycle = either(
+        current,
+        basics::from_byte(w.phase),
+        basics::from_byte(r.phase),
+    );
     let step = either(plain, 256, period);
     let stride = either(plain, 0, period);
     let ahead = either(is_before(kind), minus(step, 1), 0);
@@ -160,12 +182,12 @@ fn candidates_of(line: Line, sampled: Sampled) -> Candidates
     let index = sampled.index;
     match index {
         Index::Fixed(i) => Candidates {
-            from: basics::wide(i),
-            to: basics::wide(i) + 1,
+            from: basics::from_byte(i),
+            to: basics::from_byte(i) + 1,
         },
         Index::Open => Candidates {
             from: lowest,
-            to: basics::wide(sampled.factor),
+            to: basics::from_byte(sampled.factor),
         },
     }
 }

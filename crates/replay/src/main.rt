@@ -8,7 +8,7 @@ ghost use mathlib.Core.Path.{_≡_};
 ghost use Prim.Native.Nat.{_≤_};
 ghost use lib.ListN.{length};
 ghost use Rattle.io.specs.Counts.{Counts};
-ghost use Rattle.trial_step.specs.Steps.{atStart, Underway};
+ghost use Rattle.trial_step.specs.Underway.{atStart, Underway};
 
 // How many bytes of the image and words of the state are lent, and whether the stream goes on.
 struct Lent {

@@ -34,7 +34,7 @@ pub fn look_up(area: &[u8], w: i32) -> i32
     requires { ⌜ areaOk (now area) 0 ≡ true ⌝ }
     ensures { λ r. ⌜ r ≡ tableWord (areaRows (now (area .entry)) 0) w ⌝ }
 {
-    let count = basics::wide(area[0]);
+    let count = basics::from_byte(area[0]);
     let mut i: usize = 0;
     while i < count {
         let at = 1 + 12 * i;
@@ -77,7 +77,7 @@ pub fn area_ok(image: &[u8], at: usize) -> bool
     if image.len() <= at {
         return false;
     }
-    let count = basics::wide(image[at]);
+    let count = basics::from_byte(image[at]);
     if 32 < count {
         return false;
     }
@@ -96,7 +96,7 @@ fn offset_of(offsets: &[u16; 32], n: usize) -> usize
     requires { ⌜ n < 32 ⌝ }
     ensures { λ r. ⌜ r ≡ getD (now (offsets .entry)) n 0 ⌝ }
 {
-    basics::wider(offsets[n])
+    basics::from_entry(offsets[n])
 }
 
 fn low_of(text: &[u8], offsets: &[u16; 32], n: usize) -> i32

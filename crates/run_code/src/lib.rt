@@ -31,14 +31,15 @@ fn operator(byte: u8) -> Binary
 
 // The word that the leaf at `at` pushes: its operand, a signal's word or a sample.
 fn leaf_word(code: &[u8], at: usize, state: &[i32], samples: &[i32]) -> i32
-    requires { ⌜ (0x50 ≤ byteAt (now code) at) × (byteAt (now code) at ≤ 0x52) × (leafOk (now state) (now samples) (codeAt (now code) at) ≡ true) ⌝ }
+    requires { ⌜ (0x50 ≤ byteAt (now code) at) × (byteAt (now code) at ≤ 0x52) ×
+        (leafOk (now state) (now samples) (codeAt (now code) at) ≡ true) ⌝ }
     ensures { λ r. ⌜ r ≡ leafWord (now (state .entry)) (now (samples .entry)) (codeAt (now (code .entry)) at) ⌝ }
 {
     let byte = code[at];
     if byte == 0x50 {
         return word::word_at(code, at + 1);
     }
-    let x = basics::wide(code[at + 1]);
+    let x = basics::from_byte(code[at + 1]);
     if byte == 0x51 {
         return state[x + 1];
     }
@@ -65,8 +66,10 @@ pub struct Run {
 // Runs the code of signal `own`, in an image of n signals with this table. A leaf and the operator or STORE that follows it are
 // run in one turn, which counts 2: its word is not pushed. All operators are as wide as ADD.
 pub fn run_code(code: &[u8], table: &[u8], n: u8, own: u8, state: &[i32], samples: &[i32]) -> Run
-    requires { ⌜ (codeOk (ltb 0 (byteAt (now table) 0)) (now code) n own ≡ true) × (n < length (now state)) × (n ≤ length (now samples)) × (own < n) × (length (now code) ≤ 65535) × (areaOk (now table) 0 ≡ true) ⌝ }
-    ensures { λ r. ⌜ (r .word ≡ runCode (areaRows (now (table .entry)) 0) (now (code .entry)) (now (state .entry)) (now (samples .entry))) × (r .count ≡ countCode (now (code .entry))) ⌝ }
+    requires { ⌜ (codeOk (ltb 0 (byteAt (now table) 0)) (now code) n own ≡ true) × (n < length (now state)) ×
+        (n ≤ length (now samples)) × (own < n) × (length (now code) ≤ 65535) × (areaOk (now table) 0 ≡ true) ⌝ }
+    ensures { λ r. ⌜ (r .word ≡ runCode (areaRows (now (table .entry)) 0) (now (code .entry)) (now (state .entry))
+        (now (samples .entry))) × (r .count ≡ countCode (now (code .entry))) ⌝ }
 {
     let operator_width = width::in_code(0x30);
     let mut at: usize = 0;

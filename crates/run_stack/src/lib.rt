@@ -129,7 +129,8 @@ impl Stack {
     // What a table gives for the top word.
     pub fn look_up(self, table: &[u8]) -> Self
         requires { ⌜ (1 ≤ self .height) × (self .height ≤ 32) × (areaOk (now table) 0 ≡ true) ⌝ }
-        ensures { λ r. ⌜ (view r ≡ onOne (tableWord (areaRows (now (table .entry)) 0)) (view self)) × (r .height ≡ self .height) ⌝ }
+        ensures { λ r. ⌜ (view r ≡ onOne (tableWord (areaRows (now (table .entry)) 0)) (view self)) ×
+            (r .height ≡ self .height) ⌝ }
     {
         let near = self.near;
         let far = self.far;

@@ -28,7 +28,7 @@ use Rattle.model.specs.declared.Found.the-variants.{At, Nowhere}
 use Rattle.model.specs.declared.Operand.{Operand}
 use Rattle.model.specs.declared.Operand.the-variants.{One, Two, Four, Signed, Index, Mode}
 use Rattle.text_token.specs.Scanning.{heldNumber}
-use Rattle.text_assemble.specs.Answers.{numberValue}
+use Rattle.text_assemble.specs.Assembled.{numberValue}
 
 -- A range by its tests.
 module _ (place low limit n : ℕ) where

@@ -50,7 +50,7 @@ use Rattle.text_keyword.specs.Cells.{pendingAt}
 use Rattle.text_keyword.proofs.Rows.{pending-starts}
 use Rattle.text_token.specs.Scanning.{tokensAt, StartsAt, EndsAt}
 use Rattle.text_assemble.specs.declared.TokenRead.{TokenRead}
-use Rattle.text_assemble.specs.Answers.{judgedRead, readOf, ReadsAs}
+use Rattle.text_assemble.specs.Assembled.{judgedRead, readOf, ReadsAs}
 use Rattle.text_keyword.specs.Written.{lengthAnswer, endedAnswer, bytesWritten, FitsIn}
 
 -- What a keyword and an operand are read as.

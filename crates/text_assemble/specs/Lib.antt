@@ -1,2 +1,2 @@
 -- The definitions that the contracts of `text_assemble` cite.
-pub mod Answers
+pub mod Assembled

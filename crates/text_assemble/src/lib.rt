@@ -16,7 +16,7 @@ ghost use Rattle.model.specs.Rules.TextForm.{operandOf, assembledOf, assembly, 
 ghost use Rattle.model.specs.Rules.Writing.{Wrote};
 ghost use Rattle.text_keyword.specs.Cells.{cells, pendingAt};
 ghost use Rattle.text_keyword.specs.Written.{lengthAnswer, FitsIn, bytesWritten};
-ghost use Rattle.text_assemble.specs.Answers.{numberValue, ReadsAs};
+ghost use Rattle.text_assemble.specs.Assembled.{numberValue, ReadsAs};
 
 // What a token stands for: so many bytes with this value, low byte first; and where in the table the operands to follow stand.
 struct TokenRead {
@@ -207,7 +207,7 @@ fn assembled_length(table: &[u8], text: &[u8]) -> Yielded
         pending = read.next;
         start = text_token::token_start(text, end);
     }
-    text_keyword::ended_length(table, pending, 41, text.len(), total)
+    text_keyword::ended_length(table, pending, refusals::OPERAND_MISSING, text.len(), total)
 }
 
 // Writes the low bytes of a value.

@@ -17,7 +17,19 @@ ghost use Rattle.model.specs.Rules.Command.{isPeriod, isIndex, indexOf, modeOf,
 ghost use Rattle.model.specs.Rules.Command.{plainRead, sampledRead, operatorOf, operatorAt};
 ghost use Rattle.model.specs.Rules.Program.{unaryLookups};
 ghost use Rattle.model.specs.Rules.Schedule.{scheduleCommandAt};
-ghost use Rattle.text_command.specs.Operator.{kindOf, binaryOf, ifOrTable, HasFactor, restricted, operatorFrom, OperatorStands, ReadStands, ReadTaken, operandsOf, lookupsOf};
+ghost use Rattle.text_command.specs.Operator.{
+  kindOf,
+  binaryOf,
+  ifOrTable,
+  HasFactor,
+  restricted,
+  operatorFrom,
+  OperatorStands,
+  ReadStands,
+  ReadTaken,
+  operandsOf,
+  lookupsOf,
+};
 
 fn is_period(n: u8) -> bool
     ensures { λ r. ⌜ r ≡ isPeriod n ⌝ }
@@ -51,8 +63,8 @@ fn mode_of(byte: u8) -> Mode
     }
 }
 
-// IN: period, initial word; EQ: a weight after them. The period is judged before the rest is looked for, so its 2 is no width; likewise
-// the mode of a LAT.
+// IN: period, initial word; EQ: a weight after them. The period is judged before the rest is looked for, so its 2 is no width;
+// likewise the mode of a LAT.
 fn signal_at(text: &[u8], at: usize, byte: u8) -> Declaration
     requires { ⌜ (at < length (now text)) × ((byte ≡ 0x10) ⊎ (byte ≡ 0x11)) ⌝ }
     ensures { λ r. ⌜ r ≡ declarationOf byte (now (text .entry)) at ⌝ }
@@ -280,8 +292,8 @@ fn if_or_table(byte: u8) -> Operator
     }
 }
 
-// The operator at an offset of an expression whose factors go from `least` on, with its operands. What acts alike is one arm, and its
-// callers take it in.
+// The operator at an offset of an expression whose factors go from `least` on, with its operands. What acts alike is one arm,
+// and its callers take it in.
 pub fn operator_from(least: u8, text: &[u8], at: usize) -> Operator
     ensures { λ r. ⌜ r ≡ operatorFrom least (now (text .entry)) at ⌝ }
 {

@@ -124,7 +124,7 @@ pub fn byte_of(table: &[u8], row: usize) -> usize
 {
     let at = 15 * row + 10;
     let byte = cell(table, at);
-    basics::wide(byte)
+    basics::from_byte(byte)
 }
 
 // An operand by its number in the table.

@@ -111,7 +111,7 @@ fn value_at(n: usize, bytes: &[u8], at: usize) -> usize
     let mut i = n;
     while 0 < i {
         i = i - 1;
-        let byte = basics::wide(bytes[at + i]);
+        let byte = basics::from_byte(bytes[at + i]);
         value = 256 * value + byte;
     }
     value
@@ -222,7 +222,7 @@ fn listed_length(table: &[u8], bytes: &[u8]) -> Yielded
         pending = put.next;
         at = at + put.width;
     }
-    text_keyword::ended_length(table, pending, 46, at, total)
+    text_keyword::ended_length(table, pending, refusals::OPERAND_CUT, at, total)
 }
 
 // Writes the listing of bytes, with a newline at its end.

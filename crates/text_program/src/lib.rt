@@ -4,6 +4,7 @@ use model::Declaration;
 use model::Fault;
 use model::Operator;
 use model::Width;
+use model::refusals;
 ghost use mathlib.Core.Path.{_≡_};
 ghost use mathlib.Core.List.{[]};
 ghost use Prim.Native.Nat.{ℕ, _+_, _*_, _≤_, _<_};
@@ -39,12 +40,12 @@ fn operator_here(text: &[u8], at: usize) -> Reached
     ensures { λ r. ⌜ r ≡ hereOf at (operatorHere (now (text .entry)) at) ⌝ }
 {
     if text.len() <= at {
-        return refuse(2, text.len());
+        return refuse(refusals::PROGRAM_ENDS_EARLY, text.len());
     }
     let width = width::expression(text[at]);
     match width {
         Width::Bytes(_) => Reached::Next(at),
-        Width::Unlisted => refuse(3, at),
+        Width::Unlisted => refuse(refusals::NO_SUCH_COMMAND, at),
     }
 }
 
@@ -89,7 +90,7 @@ fn too_deep(text: &[u8], at: usize) -> Walked
 {
     let here = operator_here(text, at);
     match here {
-        Reached::Next(_) => refuse_walk(4, at),
+        Reached::Next(_) => refuse_walk(refusals::OVER_A_BOUND, at),
         Reached::Refused(fault) => Walked::Refused(fault),
     }
 }
@@ -97,15 +98,16 @@ fn too_deep(text: &[u8], at: usize) -> Walked
 // Reads an operator that has no operands: a leaf, or what is refused. Keeps the offset of a read in the table.
 fn read_leaf(operator: Operator, size: usize, walk: Walk, reads: &mut [u16]) -> Walked
     requires { ⌜ LeafRoom operator size (walk .at) (walk .reads) (walk .code) (walk .lookups) (length (now reads)) ⌝ }
-    ensures { λ r. ⌜ Walks (leafOf size (walk .at) operator) (now (reads .entry)) (walk .reads) (walk .code) (walk .lookups) (now (reads .exit)) r ⌝ }
+    ensures { λ r. ⌜ Walks (leafOf size (walk .at) operator) (now (reads .entry)) (walk .reads) (walk .code) (walk .lookups)
+        (now (reads .exit)) r ⌝ }
 {
     let at = walk.at;
     let count = walk.reads;
     let to = walk.code;
     let looks = walk.lookups;
     match operator {
-        Operator::EndsEarly => refuse_walk(2, size),
-        Operator::OutOfRange => refuse_walk(5, at),
+        Operator::EndsEarly => refuse_walk(refusals::PROGRAM_ENDS_EARLY, size),
+        Operator::OutOfRange => refuse_walk(refusals::OPERAND_OUT_OF_RANGE, at),
         Operator::Constant(_) => {
             let next = at + width::in_expression(0x20);
             moved_on(next, count, to + width::in_code(0x50), looks)
@@ -115,13 +117,14 @@ fn read_leaf(operator: Operator, size: usize, walk: Walk, reads: &mut [u16]) -> 
             let next = at + width::of_read(kind);
             moved_on(next, count + 1, to + width::in_code(0x51), looks)
         }
-        _ => refuse_walk(3, at),
+        _ => refuse_walk(refusals::NO_SUCH_COMMAND, at),
     }
 }
 
-// Reads so many expressions from `at` on, one after another, each of which may nest `depth` deep: an operator is followed by its
-// operands. Keeps the offset of each of their reads in `reads`, from `count` on, and counts the bytes of their code, from `to` on,
-// and their TABLEs, from `looks` on. The text goes by a reference to its slice, which no level of the recursion has to copy.
+// Reads so many expressions from `at` on, one after another, each of which may nest `depth` deep: an operator is followed by
+// its operands. Keeps the offset of each of their reads in `reads`, from `count` on, and counts the bytes of their code, from
+// `to` on, and their TABLEs, from `looks` on. The text goes by a reference to its slice, which no level of the recursion has to
+// copy.
 pub fn read_expressions(
     least: u8,
     text: &&[u8],
@@ -134,7 +137,8 @@ pub fn read_expressions(
     reads: &mut [u16],
 ) -> Walked
     requires { ⌜ WalkRoom (length (now (now text))) at count to looks (length (now reads)) ⌝ }
-    ensures { λ r. ⌜ Walks (outlines (parseExpr least depth (now (now (text .entry)))) number at) (now (reads .entry)) count to looks (now (reads .exit)) r ⌝ }
+    ensures { λ r. ⌜ Walks (outlines (parseExpr least depth (now (now (text .entry)))) number at) (now (reads .entry)) count to
+        looks (now (reads .exit)) r ⌝ }
 {
     let mut walk = Walk {
         at: at,
@@ -203,11 +207,11 @@ pub fn read_links(text: &[u8], at: usize) -> LinksRead
             return LinksRead::Links(count, next);
         }
         if 16 <= count {
-            return refuse_links(4, next);
+            return refuse_links(refusals::OVER_A_BOUND, next);
         }
         let link = text_command::link_at(text, next);
         let Declaration::Link(_) = link else {
-            return refuse_links(2, text.len());
+            return refuse_links(refusals::PROGRAM_ENDS_EARLY, text.len());
         };
         next = next + width::in_program(0x13);
         count = count + 1;
@@ -261,21 +265,22 @@ fn declaration_here(
     rows: usize,
     capped: bool,
 ) -> Reached
-    ensures { λ r. ⌜ ((p : Program) → Counts p signals chains rows capped → r ≡ hereOf at (declarationHere (now (text .entry)) at p)) ⌝ }
+    ensures { λ r. ⌜ ((p : Program) → Counts p signals chains rows capped →
+        r ≡ hereOf at (declarationHere (now (text .entry)) at p)) ⌝ }
 {
     if text.len() <= at {
-        return refuse(2, text.len());
+        return refuse(refusals::PROGRAM_ENDS_EARLY, text.len());
     }
     let byte = text[at];
     match byte {
         0x00 => Reached::Next(at),
-        0x10 => judge(signals < 64, 4, at),
-        0x11 => judge(signals < 64, 4, at),
-        0x12 => judge(chains < 16, 4, at),
-        0x14 => judge(!capped, 5, at),
+        0x10 => judge(signals < 64, refusals::OVER_A_BOUND, at),
+        0x11 => judge(signals < 64, refusals::OVER_A_BOUND, at),
+        0x12 => judge(chains < 16, refusals::OVER_A_BOUND, at),
+        0x14 => judge(!capped, refusals::OPERAND_OUT_OF_RANGE, at),
         0x15 => Reached::Next(at),
-        0x16 => judge(rows < 32, 4, at),
-        _ => refuse(3, at),
+        0x16 => judge(rows < 32, refusals::OVER_A_BOUND, at),
+        _ => refuse(refusals::NO_SUCH_COMMAND, at),
     }
 }
 
@@ -284,7 +289,7 @@ fn step_of_reached(reached: Reached) -> Step
     ensures { λ r. ⌜ ((f : Fault) → reached ≡ Reached.Refused f → r ≡ Step.Refused f) ⌝ }
 {
     match reached {
-        Reached::Next(at) => refuse_step(3, at),
+        Reached::Next(at) => refuse_step(refusals::NO_SUCH_COMMAND, at),
         Reached::Refused(fault) => Step::Refused(fault),
     }
 }
@@ -293,7 +298,7 @@ fn step_of_walked(walked: Walked) -> Step
     ensures { λ r. ⌜ ((f : Fault) → walked ≡ Walked.Refused f → r ≡ Step.Refused f) ⌝ }
 {
     match walked {
-        Walked::Next(walk) => refuse_step(3, walk.at),
+        Walked::Next(walk) => refuse_step(refusals::NO_SUCH_COMMAND, walk.at),
         Walked::Refused(fault) => Step::Refused(fault),
     }
 }
@@ -302,7 +307,7 @@ fn step_of_links(read: LinksRead) -> Step
     ensures { λ r. ⌜ ((f : Fault) → read ≡ LinksRead.Refused f → r ≡ Step.Refused f) ⌝ }
 {
     match read {
-        LinksRead::Links(_, next) => refuse_step(3, next),
+        LinksRead::Links(_, next) => refuse_step(refusals::NO_SUCH_COMMAND, next),
         LinksRead::Refused(fault) => Step::Refused(fault),
     }
 }
@@ -334,7 +339,8 @@ fn equation_step(
     reads: &mut [u16],
 ) -> Step
     requires { ⌜ (at < length (now text)) × WalkRoom (length (now text)) at count to looks (length (now reads)) ⌝ }
-    ensures { λ r. ⌜ WalksEquation (parseExpr least 16 (now (text .entry)) (at + inProgram 0x11)) entry (now (reads .entry)) count to looks (now (reads .exit)) r ⌝ }
+    ensures { λ r. ⌜ WalksEquation (parseExpr least 16 (now (text .entry)) (at + inProgram 0x11)) entry (now (reads .entry)) count
+        to looks (now (reads .exit)) r ⌝ }
 {
     let start = at + width::in_program(0x11);
     let walked = read_expressions(least, &text, 1, start, count, to, looks, 16, reads);
@@ -360,7 +366,7 @@ fn chain_step(text: &[u8], at: usize, count: usize, to: usize, looks: usize) -> 
         return step_of_links(read);
     };
     if links < 2 {
-        return refuse_step(5, at);
+        return refuse_step(refusals::OPERAND_OUT_OF_RANGE, at);
     }
     adds(Entry::Chain(links), next, count, to, looks)
 }
@@ -378,11 +384,11 @@ fn tag_step(text: &[u8], at: usize, label: u16, count: usize, to: usize, looks: 
 {
     let next = at + width::in_program(0x15);
     if text.len() <= next {
-        return refuse_step(2, text.len());
+        return refuse_step(refusals::PROGRAM_ENDS_EARLY, text.len());
     }
     let byte = text[next];
     if !is_signal(byte) {
-        return refuse_step(3, at);
+        return refuse_step(refusals::NO_SUCH_COMMAND, at);
     }
     adds(Entry::Label(label), next, count, to, looks)
 }
@@ -394,13 +400,13 @@ fn end_step(text: &[u8], at: usize) -> Step
 {
     let next = at + width::in_program(0x00);
     if next < text.len() {
-        return refuse_step(6, next);
+        return refuse_step(refusals::BYTES_AFTER_END, next);
     }
     Step::End
 }
 
-// One declaration of the program text, after so many signals, chains and rows. Its reads are kept from `count` on; the code before it
-// takes `to` bytes and has `looks` TABLEs.
+// One declaration of the program text, after so many signals, chains and rows. Its reads are kept from `count` on; the code
+// before it takes `to` bytes and has `looks` TABLEs.
 fn read_command(
     least: u8,
     text: &[u8],
@@ -415,7 +421,8 @@ fn read_command(
     reads: &mut [u16],
 ) -> Step
     requires { ⌜ WalkRoom (length (now text)) at count to looks (length (now reads)) ⌝ }
-    ensures { λ r. ⌜ ((p : Program) (label : ℕ) → Counts p signals chains rows capped → Stepped least (now (text .entry)) at label p (now (reads .entry)) count to looks (now (reads .exit)) r) ⌝ }
+    ensures { λ r. ⌜ ((p : Program) (label : ℕ) → Counts p signals chains rows capped →
+        Stepped least (now (text .entry)) at label p (now (reads .entry)) count to looks (now (reads .exit)) r) ⌝ }
 {
     let here = declaration_here(text, at, signals, chains, rows, capped);
     let Reached::Next(_) = here else {
@@ -423,9 +430,9 @@ fn read_command(
     };
     let declaration = text_command::declaration_at(text, at);
     match declaration {
-        Declaration::EndsEarly => refuse_step(2, text.len()),
-        Declaration::Unknown => refuse_step(3, at),
-        Declaration::OutOfRange => refuse_step(5, at),
+        Declaration::EndsEarly => refuse_step(refusals::PROGRAM_ENDS_EARLY, text.len()),
+        Declaration::Unknown => refuse_step(refusals::NO_SUCH_COMMAND, at),
+        Declaration::OutOfRange => refuse_step(refusals::OPERAND_OUT_OF_RANGE, at),
         Declaration::End => end_step(text, at),
         Declaration::Input(period, _) => {
             let next = at + width::in_program(0x10);
@@ -437,7 +444,7 @@ fn read_command(
             equation_step(least, text, at, entry, count, to, looks, reads)
         }
         Declaration::Latency(_, _) => chain_step(text, at, count, to, looks),
-        Declaration::Link(_) => refuse_step(3, at),
+        Declaration::Link(_) => refuse_step(refusals::NO_SUCH_COMMAND, at),
         Declaration::Cap(limit) => {
             let next = at + width::in_program(0x14);
             adds(Entry::Cap(limit), next, count, to, looks)
@@ -450,8 +457,9 @@ fn read_command(
     }
 }
 
-// What stands where in a program text, by signal, by chain and by row; row n stands at `offsets[n]`. The reads of signal x are those
-// from `firsts[x]` to `firsts[x + 1]` of the table of reads, its code the bytes from `codes[x]` to `codes[x + 1]` of the whole code.
+// What stands where in a program text, by signal, by chain and by row; row n stands at `offsets[n]`. The reads of signal x are
+// those from `firsts[x]` to `firsts[x + 1]` of the table of reads, its code the bytes from `codes[x]` to `codes[x + 1]` of the
+// whole code.
 pub struct Tables {
     pub signals: usize,
     pub places: [u16; 64],
@@ -505,14 +513,14 @@ fn judged_at(step: Step) -> Judged
     ensures { λ r. ⌜ r ≡ judgedOf step ⌝ }
 {
     match step {
-        Step::Adds(_, walk) => basics::refuse(3, walk.at),
+        Step::Adds(_, walk) => basics::refuse(refusals::NO_SUCH_COMMAND, walk.at),
         Step::End => Judged::Fine,
         Step::Refused(fault) => Judged::Refused(fault),
     }
 }
 
-// Reads a program text whose factors go from `least` on to its END: 2 to 6, or the tables of the program that it is. Keeps the offset
-// of each read in `reads`, which has an entry for each two bytes of the text.
+// Reads a program text whose factors go from `least` on to its END: 2 to 6, or the tables of the program that it is. Keeps the
+// offset of each read in `reads`, which has an entry for each two bytes of the text.
 pub fn read_program(least: u8, text: &[u8], reads: &mut [u16]) -> ProgramRead
     requires { ⌜ (length (now text) ≤ 8192) × (length (now text) ≤ 2 * length (now reads)) ⌝ }
     ensures { λ r. ⌜ ProgramReads (parseWith least (now (text .entry))) (now (reads .exit)) r ⌝ }
@@ -583,7 +591,7 @@ pub fn read_program(least: u8, text: &[u8], reads: &mut [u16]) -> ProgramRead
         }
     }
     ProgramRead {
-        judged: judged_at(refuse_step(2, text.len())),
+        judged: judged_at(refuse_step(refusals::PROGRAM_ENDS_EARLY, text.len())),
         tables: Tables::new(),
     }
 }

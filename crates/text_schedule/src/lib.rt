@@ -1,6 +1,7 @@
 // Schedule texts to tables: the signals in PUT order, and by signal its phase and its rank in that order.
 use basics::Judged;
 use model::ScheduleCommand;
+use model::refusals;
 use text_program::Tables;
 ghost use mathlib.Core.Path.{_≡_};
 ghost use mathlib.Core.List.{List, []};
@@ -25,16 +26,16 @@ fn judge_end(text: &[u8], at: usize, command: ScheduleCommand) -> Judged
     ensures { λ r. ⌜ r ≡ endJudged (now (text .entry)) at command ⌝ }
 {
     match command {
-        ScheduleCommand::EndsEarly => basics::refuse(11, text.len()),
-        ScheduleCommand::Unknown => basics::refuse(11, at),
+        ScheduleCommand::EndsEarly => basics::refuse(refusals::SCHEDULE_TEXT, text.len()),
+        ScheduleCommand::Unknown => basics::refuse(refusals::SCHEDULE_TEXT, at),
         ScheduleCommand::End => {
             let next = at + width::in_schedule(0x00);
             if next < text.len() {
-                return basics::refuse(11, next);
+                return basics::refuse(refusals::SCHEDULE_TEXT, next);
             }
             Judged::Fine
         }
-        ScheduleCommand::Put(_, _) => basics::refuse(11, at),
+        ScheduleCommand::Put(_, _) => basics::refuse(refusals::SCHEDULE_TEXT, at),
     }
 }
 
@@ -54,7 +55,7 @@ pub fn read_schedule(text: &[u8]) -> Ended
         at = at + width::in_schedule(0x40);
     }
     Ended {
-        judged: basics::refuse(11, text.len()),
+        judged: basics::refuse(refusals::SCHEDULE_TEXT, text.len()),
         at: at,
     }
 }
@@ -97,17 +98,18 @@ fn judge_put(
     at: usize,
 ) -> Judged
     requires { ⌜ signals ≤ 64 ⌝ }
-    ensures { λ r. ⌜ ((t : Slots) → t .ranks ≡ now (ranks .entry) → PutJudged t (now (periods .entry)) signals (record { place = at; signal = signal; phase = phase }) r) ⌝ }
+    ensures { λ r. ⌜ ((t : Slots) → t .ranks ≡ now (ranks .entry) →
+        PutJudged t (now (periods .entry)) signals (record { place = at; signal = signal; phase = phase }) r) ⌝ }
 {
     let x = signal as usize;
     if signals <= x {
-        return basics::refuse(12, at);
+        return basics::refuse(refusals::SIGNAL_NOT_ONCE, at);
     }
     if ranks[x] != 64 {
-        return basics::refuse(12, at);
+        return basics::refuse(refusals::SIGNAL_NOT_ONCE, at);
     }
     if periods[x] <= phase {
-        return basics::refuse(13, at);
+        return basics::refuse(refusals::PHASE, at);
     }
     Judged::Fine
 }
@@ -146,7 +148,8 @@ pub fn unplaced(judged: Judged) -> Placing
 // Goes through the PUTs of a schedule text that ends at `end`, for signals of these periods: 12 and 13, missing last.
 pub fn check_schedule(text: &[u8], end: usize, signals: usize, periods: &[u8; 64]) -> Placing
     requires { ⌜ (signals ≤ 64) × (end ≤ 192) ⌝ }
-    ensures { λ r. ⌜ ((p : Program) (o : Parsed (List Put)) → count p ≡ signals → PeriodsOf p (now (periods .entry)) → parseSchedule (now (text .entry)) ≡ accepted o → o .next ≡ end → Scheduled p o r) ⌝ }
+    ensures { λ r. ⌜ ((p : Program) (o : Parsed (List Put)) → count p ≡ signals → PeriodsOf p (now (periods .entry)) →
+        parseSchedule (now (text .entry)) ≡ accepted o → o .next ≡ end → Scheduled p o r) ⌝ }
 {
     let mut order: [u8; 64] = [0; 64];
     let mut phases: [u8; 64] = [0; 64];
@@ -162,7 +165,7 @@ pub fn check_schedule(text: &[u8], end: usize, signals: usize, periods: &[u8; 64
         let Judged::Fine = judged else {
             return unplaced(judged);
         };
-        let x = basics::wide(signal);
+        let x = basics::from_byte(signal);
         order[puts] = signal;
         phases[x] = phase;
         ranks[x] = puts as u8;
@@ -170,7 +173,7 @@ pub fn check_schedule(text: &[u8], end: usize, signals: usize, periods: &[u8; 64
         at = at + width::in_schedule(0x40);
     }
     if !all_put(&ranks, signals) {
-        return unplaced(basics::refuse(12, end));
+        return unplaced(basics::refuse(refusals::SIGNAL_NOT_ONCE, end));
     }
     Placing {
         judged: Judged::Fine,

@@ -89,7 +89,7 @@ fn digits_value(token: &[u8]) -> Found
     let mut v: usize = 0;
     let mut i: usize = 0;
     while i < token.len() {
-        let d = basics::wide(token[i]);
+        let d = basics::from_byte(token[i]);
         if d < 48 {
             return Found::Nowhere;
         }

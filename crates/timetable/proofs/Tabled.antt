@@ -9,7 +9,7 @@ use Rattle.basics.specs.declared.Judged.{Judged}
 use Rattle.check_load.specs.Load.{loadIn, LoadsOf}
 use Rattle.check_load.proofs.Loads.{load-is}
 use Rattle.basics.specs.Judgement.{Answers}
-use Rattle.check_pair.specs.Answers.{Checks}
+use Rattle.check_pair.specs.Checked.{Checks}
 use Rattle.text_schedule.specs.declared.PairTables.{PairTables}
 use Rattle.timetable.specs.Timetable.{TimetableOf}
 use Rattle.timetable.specs.declared.Timetable.{Timetable}

@@ -1,13 +1,13 @@
 // A bench trial: reads a program, a schedule and a script from the three files that the arguments name, and prints a line for
-// each cycle of the script, or the number of the refusal; on standard error it says in words what is wrong. All that is printed is
-// made by `trial_prepare` and `trial_step`; here it is read and written.
+// each cycle of the script, or the number of the refusal; on standard error it says in words what is wrong. All that is printed
+// is made by `trial_prepare` and `trial_step`; here it is read and written.
 use basics::Judged;
 use libc::STDERR_FILENO;
 use libc::STDOUT_FILENO;
 use model::Fault;
 use trial_step::Progress;
 ghost use Rattle.io.specs.Counts.{Counts};
-ghost use Rattle.trial_step.specs.Steps.{atStart, Underway};
+ghost use Rattle.trial_step.specs.Underway.{atStart, Underway};
 
 // Reads the file that argument i names to the start of the space; one that is missing or can't be opened counts as empty.
 fn read_file(i: usize, space: &mut [u8]) -> usize

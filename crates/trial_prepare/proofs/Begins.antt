@@ -36,11 +36,11 @@ use Rattle.model.proofs.Pairs.Verdict.{pair-accepted, pair-multiple, pair-bound
 use Rattle.basics.specs.declared.Judged.{Judged}
 use Rattle.basics.specs.declared.Judged.the-variants as Judged
 use Rattle.machine.specs.Runnable.{Runnable}
-use Rattle.machine.proofs.Answers.{reset-done, lends-itself}
+use Rattle.machine.proofs.Machine.{reset-done, lends-itself}
 use Rattle.machine.proofs.Runnable.{reset-runnable}
 use Rattle.trial_script.specs.Inputs.{fetches}
 use Rattle.trial_script.proofs.Marks.{fetches-are}
-use Rattle.trial_step.specs.Steps.{linesLeft, atStart, Underway}
+use Rattle.trial_step.specs.Underway.{linesLeft, atStart, Underway}
 use Rattle.trial_step.proofs.Left.{left-all, left-count}
 use Rattle.trial_prepare.specs.Prepares.{notReady, Started, Prepares, Begun, PreparesOn}
 use Rattle.trial_prepare.specs.declared.Prepared.{Prepared}

@@ -8,7 +8,7 @@ use Rattle.model.specs.Rules.Image.{joined}
 use Rattle.model.specs.Rules.Outcome.{accepted}
 use Rattle.model.specs.Rules.Trial.{trialOf}
 use Rattle.model.proofs.Basics.Outcomes.{accepted-same}
-use Rattle.trial_step.specs.Steps.{atStart}
+use Rattle.trial_step.specs.Underway.{atStart}
 use Rattle.trial_step.proofs.Filling.{Blocks, blocks-hold}
 use Rattle.trial_prepare.specs.Prepares.{Started}
 use Rattle.trial_prepare.specs.declared.Start.{Start}

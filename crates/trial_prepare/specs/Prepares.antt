@@ -13,7 +13,7 @@ use Rattle.model.specs.declared.Fault.{Fault}
 use Rattle.basics.specs.declared.Judged.{Judged}
 use Rattle.basics.specs.declared.Judged.the-variants as Judged
 use Rattle.trial_script.specs.Inputs.{fetches}
-use Rattle.trial_step.specs.Steps.{linesLeft, atStart, Underway}
+use Rattle.trial_step.specs.Underway.{linesLeft, atStart, Underway}
 use Rattle.trial_prepare.specs.declared.Prepared.{Prepared}
 use Rattle.trial_prepare.specs.declared.Start.{Start}
 

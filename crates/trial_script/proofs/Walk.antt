@@ -29,7 +29,7 @@ use Rattle.model.specs.declared.ScriptCommand.{ScriptCommand}
 use Rattle.model.specs.declared.ScriptCommand.the-variants as ScriptCommand
 use Rattle.model.proofs.Bench.Scripts.{past, step}
 use Rattle.image_valid.proofs.Parts.{formed, codes, stretch-length}
-use Rattle.trial_script.specs.Steps.{actionWidth, cyclesMade, altered, mayStand, endingAt}
+use Rattle.trial_script.specs.Script.{actionWidth, cyclesMade, altered, mayStand, endingAt}
 
 -- A SET or RUN is whole.
 pub inside : (text : List ℕ) (at w : ℕ) → w ≡ actionWidth (scriptCommandAt text at) → at < length text → at + w ≤ length text

@@ -1,3 +1,3 @@
 -- The commands of a script as the code goes over them.
 pub mod Inputs
-pub mod Steps
+pub mod Script

@@ -9,7 +9,7 @@ ghost use lib.ListN.{length};
 ghost use Rattle.model.specs.Rules.Machine.{wellFormed};
 ghost use Rattle.model.specs.Rules.Script.{scriptCommandAt, scriptOf, inputsOnly, checkOf, cyclesOf};
 ghost use Rattle.trial_script.specs.Inputs.{fetches, markOf, marked};
-ghost use Rattle.trial_script.specs.Steps.{ruledOf, actionWidth, cyclesMade, endingAt, mayStand};
+ghost use Rattle.trial_script.specs.Script.{ruledOf, actionWidth, cyclesMade, endingAt, mayStand};
 
 // The command at an offset.
 pub fn script_command_at(text: &[u8], at: usize) -> ScriptCommand
@@ -105,8 +105,8 @@ pub fn is_input(image: &[u8], x: u8) -> bool
     requires { ⌜ wellFormed (now image) ≡ true ⌝ }
     ensures { λ r. ⌜ r ≡ fetches (now (image .entry)) x ⌝ }
 {
-    let n = basics::wide(image[1]);
-    let own = basics::wide(x);
+    let n = basics::from_byte(image[1]);
+    let own = basics::from_byte(x);
     if n <= own {
         return false;
     }
@@ -131,7 +131,7 @@ pub fn mark_inputs(image: &[u8]) -> [u8; 256]
     let n = image[1];
     while x < n {
         let mark = mark_of(image, x);
-        inputs[basics::wide(x)] = mark;
+        inputs[basics::from_byte(x)] = mark;
         x = x + 1;
     }
     inputs
@@ -140,7 +140,7 @@ pub fn mark_inputs(image: &[u8]) -> [u8; 256]
 fn is_marked(inputs: &[u8; 256], x: u8) -> bool
     ensures { λ r. ⌜ r ≡ marked (now (inputs .entry)) x ⌝ }
 {
-    inputs[basics::wide(x)] == 1
+    inputs[basics::from_byte(x)] == 1
 }
 
 // Whether a command may stand: a SET only of an input.
@@ -202,7 +202,7 @@ pub fn count_cycles(text: &[u8]) -> usize
         if width == 0 {
             return total;
         }
-        total = total + basics::wide(cycles_made(command));
+        total = total + basics::from_byte(cycles_made(command));
         at = at + width;
     }
     total

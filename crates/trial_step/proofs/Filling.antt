@@ -10,7 +10,7 @@ use lib.Seq.{take-append-le, take-append-add}
 use Rattle.model.specs.Rules.Image.{joined}
 use Rattle.model.specs.Rules.Search.{joinFrom}
 use Rattle.model.proofs.Images.Stretches.{joined-cons}
-use Rattle.trial_step.specs.Steps.{linesLeft, Underway, Lined, Filled}
+use Rattle.trial_step.specs.Underway.{linesLeft, Underway, Lined, Filled}
 use Rattle.trial_step.specs.declared.Block.{Block}
 use Rattle.trial_step.specs.declared.Progress.{Progress}
 

@@ -10,7 +10,7 @@ use lib.ListN.{length, take, drop, length-append}
 use Rattle.model.specs.Rules.Decimal.{lineOf}
 use Rattle.model.specs.Rules.Machine.{cycleWords}
 use Rattle.model.specs.Rules.Trial.{signalsOf}
-use Rattle.trial_step.specs.Steps.{nextCycle, stepTo, Step, stepOf, Stepped, Fill, fillTo, fillNext, fillFrom}
+use Rattle.trial_step.specs.Underway.{nextCycle, stepTo, Step, stepOf, Stepped, Fill, fillTo, fillNext, fillFrom}
 use Rattle.trial_step.specs.declared.Next.{Next}
 use Rattle.trial_step.specs.declared.Next.the-variants as Next
 use Rattle.trial_step.specs.declared.Progress.{Progress}

@@ -16,9 +16,9 @@ use Rattle.decimal.specs.PutBytes.{PutBytes}
 use Rattle.decimal.proofs.Puts.{put-length}
 use Rattle.machine.specs.Runnable.{Runnable}
 use Rattle.machine.proofs.Runnable.{cycle-leaves}
-use Rattle.trial_script.specs.Steps.{actionWidth, cyclesMade, altered}
+use Rattle.trial_script.specs.Script.{actionWidth, cyclesMade, altered}
 use Rattle.trial_script.proofs.Walk.{calls-more}
-use Rattle.trial_step.specs.Steps.{callsLeft, linesLeft, atStart, Underway, Printed, Lined, StepsOn}
+use Rattle.trial_step.specs.Underway.{callsLeft, linesLeft, atStart, Underway, Printed, Lined, StepsOn}
 use Rattle.trial_step.specs.declared.Next.{Next}
 use Rattle.trial_step.specs.declared.Next.the-variants as Next
 use Rattle.trial_step.specs.declared.Progress.{Progress}

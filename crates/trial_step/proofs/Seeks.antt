@@ -14,8 +14,8 @@ use Rattle.model.specs.Rules.Trial.{signalsOf}
 use Rattle.model.specs.Rules.Width.{inScript}
 use Rattle.model.specs.declared.ScriptCommand.{ScriptCommand}
 use Rattle.model.specs.declared.ScriptCommand.the-variants as ScriptCommand
-use Rattle.trial_script.specs.Steps.{actionWidth, cyclesMade, altered}
-use Rattle.trial_step.specs.Steps.{
+use Rattle.trial_script.specs.Script.{actionWidth, cyclesMade, altered}
+use Rattle.trial_step.specs.Underway.{
   Seeking,
   nothingSought,
   cycleSought,

@@ -1,2 +1,2 @@
 -- A trial under way.
-pub mod Steps
+pub mod Underway

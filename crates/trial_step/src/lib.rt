@@ -5,8 +5,8 @@ ghost use Prim.Native.Nat.{_≤_, _<_};
 ghost use lib.ListN.{length, set};
 ghost use Rattle.machine.specs.Runnable.{Runnable};
 ghost use Rattle.model.specs.Rules.Script.{scriptAt, callsFrom};
-ghost use Rattle.trial_script.specs.Steps.{altered};
-ghost use Rattle.trial_step.specs.Steps.{
+ghost use Rattle.trial_script.specs.Script.{altered};
+ghost use Rattle.trial_step.specs.Underway.{
   atStart,
   soughtCalls,
   seekOf,
@@ -64,7 +64,7 @@ pub fn at_start() -> Progress
 fn store(samples: &mut [i32], signal: u8, word: i32)
     ensures { λ _. ⌜ now (samples .exit) ≡ set (now (samples .entry)) signal word ⌝ }
 {
-    let x = basics::wide(signal);
+    let x = basics::from_byte(signal);
     if x < samples.len() {
         samples[x] = word;
     }
@@ -116,10 +116,11 @@ fn print_cycle(
     line: &mut [u8],
 ) -> usize
     requires { ⌜ Runnable (now image) (now state) (now samples) × (1024 ≤ length (now line)) ⌝ }
-    ensures { λ r. ⌜ Printed (now (image .entry)) number (now (samples .entry)) (now (state .entry)) (now (line .entry)) (now (state .exit)) (now (line .exit)) r ⌝ }
+    ensures { λ r. ⌜ Printed (now (image .entry)) number (now (samples .entry)) (now (state .entry)) (now (line .entry))
+        (now (state .exit)) (now (line .exit)) r ⌝ }
 {
     machine::run_cycle(image, &mut state[..], samples);
-    let n = basics::wide(image[1]);
+    let n = basics::from_byte(image[1]);
     let end = n + 1;
     decimal::put_line(&mut line[..], number, &state[1..end])
 }
@@ -136,7 +137,8 @@ pub fn next_line(
     requires { ⌜ Underway (now image) (now text) progress (now samples) (now state) × (1024 ≤ length (now line)) ⌝ }
     ensures steps { λ r. ⌜ StepsOn (now (image .entry)) (now (text .entry)) progress (now (samples .entry)) (now (state .entry))
         (now (samples .exit)) (now (state .exit)) (now (line .exit)) r ⌝ }
-    ensures is { λ r. ⌜ Stepped (stepOf (now (image .entry)) (now (text .entry)) progress (now (samples .entry)) (now (state .entry))
+    ensures is { λ r. ⌜ Stepped
+        (stepOf (now (image .entry)) (now (text .entry)) progress (now (samples .entry)) (now (state .entry))
         (now (line .entry))) (now (samples .exit)) (now (state .exit)) (now (line .exit)) r ⌝ }
 {
     let at = progress.at;
@@ -176,7 +178,8 @@ pub fn next_block(
     requires { ⌜ Underway (now image) (now text) progress (now samples) (now state) × (1024 ≤ length (now block)) ⌝ }
     ensures fills { λ r. ⌜ Filled (now (image .entry)) (now (text .entry)) progress (now (samples .entry)) (now (state .entry))
         (now (samples .exit)) (now (state .exit)) (now (block .exit)) r ⌝ }
-    ensures is { λ r. ⌜ FilledTo (blockOf (now (image .entry)) (now (text .entry)) progress (now (samples .entry)) (now (state .entry))
+    ensures is { λ r. ⌜ FilledTo
+        (blockOf (now (image .entry)) (now (text .entry)) progress (now (samples .entry)) (now (state .entry))
         (now (block .entry))) (now (samples .exit)) (now (state .exit)) (now (block .exit)) r ⌝ }
 {
     let mut reached = progress;

@@ -3,7 +3,20 @@
 use model::Kind;
 use model::Width;
 ghost use mathlib.Core.Path.{_≡_};
-ghost use Rattle.model.specs.Rules.Width.{programWidth, expressionWidth, scheduleWidth, codeWidth, scriptWidth, reach, inProgram, inExpression, inSchedule, inCode, inScript, readWidth};
+ghost use Rattle.model.specs.Rules.Width.{
+  programWidth,
+  expressionWidth,
+  scheduleWidth,
+  codeWidth,
+  scriptWidth,
+  reach,
+  inProgram,
+  inExpression,
+  inSchedule,
+  inCode,
+  inScript,
+  readWidth,
+};
 
 // A program text.
 pub fn program(byte: u8) -> Width

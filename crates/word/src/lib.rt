@@ -5,7 +5,18 @@ ghost use Prim.Native.Nat.{_+_, _%_, _^_, _<_, _≤_};
 ghost use lib.ListN.{length};
 ghost use lib.Seq.{sets};
 ghost use Rattle.model.specs.Rules.Word.{bitsOf, wordOf, nearest};
-ghost use Rattle.model.specs.Rules.Word.{addWord, subWord, mulWord, negWord, lessWord, sameWord, minWord, maxWord, ifWord, binaryWord};
+ghost use Rattle.model.specs.Rules.Word.{
+  addWord,
+  subWord,
+  mulWord,
+  negWord,
+  lessWord,
+  sameWord,
+  minWord,
+  maxWord,
+  ifWord,
+  binaryWord,
+};
 ghost use Rattle.model.specs.Rules.Word.{twoAt, fourAt, wordAt, twoBytes, wordBytes};
 
 // The bits of a word, as a number.
@@ -116,7 +127,7 @@ pub fn binary(operator: Binary, a: i32, b: i32) -> i32
 }
 
 // A byte as a number that sums of bytes fit in.
-fn wide(byte: u8) -> u32
+fn bits_of_byte(byte: u8) -> u32
     ensures { λ r. ⌜ (r ≡ byte) × (r < 256) ⌝ }
 {
     byte as u32
@@ -127,8 +138,8 @@ pub fn two_at(text: &[u8], at: usize) -> u16
     requires { ⌜ at + 2 ≤ length (now text) ⌝ }
     ensures { λ r. ⌜ r ≡ twoAt (now (text .entry)) at ⌝ }
 {
-    let a = wide(text[at]);
-    let b = wide(text[at + 1]);
+    let a = bits_of_byte(text[at]);
+    let b = bits_of_byte(text[at + 1]);
     (a + 256 * b) as u16
 }
 
@@ -137,10 +148,10 @@ pub fn four_at(text: &[u8], at: usize) -> u32
     requires { ⌜ at + 4 ≤ length (now text) ⌝ }
     ensures { λ r. ⌜ r ≡ fourAt (now (text .entry)) at ⌝ }
 {
-    let a = wide(text[at]);
-    let b = wide(text[at + 1]);
-    let c = wide(text[at + 2]);
-    let d = wide(text[at + 3]);
+    let a = bits_of_byte(text[at]);
+    let b = bits_of_byte(text[at + 1]);
+    let c = bits_of_byte(text[at + 2]);
+    let d = bits_of_byte(text[at + 3]);
     a + 256 * b + 65536 * c + 16777216 * d
 }
 

@@ -10,7 +10,7 @@ use lib.Dec.{leb}
 use lib.ListN.{length}
 use Rattle.model.specs.Rules.Machine.{countOf, wellFormed}
 use Rattle.machine.specs.Runnable.{Runnable}
-use Rattle.machine.proofs.Answers.{gives-refusal, gives-done, cycle-image, cycle-position}
+use Rattle.machine.proofs.Machine.{gives-refusal, gives-done, cycle-image, cycle-position}
 use Rattle.machine.proofs.Judging.{runs-done}
 use Rattle.board.proofs.Stretch.{gives-effect, few-signals, outside-27, inside-runs}
 use borrow.Author.Needs.{needs}

@@ -12,7 +12,7 @@ use lib.ListN.{length}
 use Rattle.model.specs.Rules.Machine.{ranOf, resetOf}
 use Rattle.model.specs.Rules.Outcome.{Outcome, refused}
 use Rattle.board.specs.Board.{placeWords, withWords, resetIn, BoardEffect}
-use Rattle.board.proofs.Answers.{load-place, load-state, load-refused, load-done}
+use Rattle.board.proofs.Called.{load-place, load-state, load-refused, load-done}
 use Rattle.board.proofs.Cases.{callAnswer}
 use Rattle.board.proofs.Stretch.{reset-keeps, on-keeps}
 use Rattle.board.proofs.Words.{words-same}

@@ -4,7 +4,7 @@ use borrow.Author.Needs.{needs}
 use borrow.Author.Tests.{lt-ltb, le-ltb, not-true, not-false}
 use denote.Ref.{now}
 use Rattle.board.specs.Board.{placeAt}
-use Rattle.board.proofs.Answers.{mark-place, mark-loaded, mark-done}
+use Rattle.board.proofs.Called.{mark-place, mark-loaded, mark-done}
 use Rattle.board.proofs.Cases.{callAnswer}
 use Rattle.board.specs.Record.{boardOf, markRecord}
 use Rattle.board.proofs.Places.{loaded-held}

@@ -12,7 +12,7 @@ use Rattle.model.specs.Rules.Machine.{Effect}
 use Rattle.model.specs.Rules.Outcome.{Outcome, accepted}
 use Rattle.model.specs.declared.Found.the-variants.{At, Nowhere}
 use Rattle.board.specs.Board.{withWords, nextDue, BoardEffect, Yield, took, turnWith}
-use Rattle.board.proofs.Answers.{turn-state, turn-samples, turn-done}
+use Rattle.board.proofs.Called.{turn-state, turn-samples, turn-done}
 use Rattle.board.proofs.Due.{next-below}
 use Rattle.board.specs.Record.{boardOf, takenWords, turnRecord}
 use Rattle.board.proofs.Places.{run-held}

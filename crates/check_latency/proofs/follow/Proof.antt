@@ -50,13 +50,13 @@ next c =
 shared-slice-read-source : tie.Need-shared-slice-read-source Inv-loop μ-loop
 shared-slice-read-source c =
     let c2 = c .before .before in
-    omega (arith, begins c2 .inside, c2 .before .wider .ensures .0)
+    omega (arith, begins c2 .inside, c2 .before .from-entry .ensures .0)
 
 loop-holds : tie.Need-loop-holds Inv-loop μ-loop
 loop-holds c =
     let c3 = c .before .before .before in
     λ p s j.
-    rw (c3 .in-program .ensures, c3 .before .wider .ensures .0, c .before .before .wide .ensures .0)
+    rw (c3 .in-program .ensures, c3 .before .from-entry .ensures .0, c .before .before .from-byte .ensures .0)
     (begun _ _ _ _ p s _ j (start c3 .pre .1) .start _ refl)
 
 mul-hops : tie.Need-mul-hops Inv-loop μ-loop
@@ -86,8 +86,8 @@ pub follow-spec : {M : Type 1} → statement M
 follow-spec =
     tie.close
     (tie.spec Inv-loop μ-loop (λ c. omega (arith, few c)) few (λ c κs. search needs) (λ c κs. search needs)
-    (λ c. omega (arith, begins c .inside, c .before .wider .ensures .0)) (λ c. few (c .before .before)) (λ c κs. search needs)
-    (λ c. omega (arith, begins (c .before) .inside, c .before .before .wider .ensures .0)) shared-slice-read-source
+    (λ c. omega (arith, begins c .inside, c .before .from-entry .ensures .0)) (λ c. few (c .before .before)) (λ c κs. search needs)
+    (λ c. omega (arith, begins (c .before) .inside, c .before .before .from-entry .ensures .0)) shared-slice-read-source
     (λ c κs. search needs) loop-holds (λ c κs. search needs) (λ c. omega (arith, next (c .before) .0))
     (λ c. omega (arith, next (c .before) .0)) (λ c. omega (arith, next (c .before .before) .0)) (λ c κs. search needs) mul-hops
     (λ c. next (c .before .before .before) .1) add-count sub-left loop-less loop-again returns)

@@ -59,7 +59,7 @@ returns c =
     λ p s t.
     let k = t .joined .known in
     let lt : l .chain < length (p .chains) = omega (arith, b .if1 .taken, k .tables-are .counts .chains-are) in
-    let r = ap (λ n. Judged.Refused (fault 16 n)) (c .wider .ensures .0 ∙ k .tables-are .starts (l .chain) lt) in
+    let r = ap (λ n. Judged.Refused (fault 16 n)) (c .from-entry .ensures .0 ∙ k .tables-are .starts (l .chain) lt) in
     check-refuses _ _ _ _ (l .chain) noChain lt (l .inv p s t) _
     (r ∙ lat-judged (fault 16 (chainAt p (l .chain) .place)) _ _
     (sym (d .before .keeps-time .ensures p s t) ∙ not-true (d .before .keeps-time .result) (d .if2 .taken)))

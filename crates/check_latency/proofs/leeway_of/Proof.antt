@@ -9,7 +9,7 @@ use Rattle.model.specs.declared.Declaration.the-variants as Declaration
 use Rattle.text_program.specs.Tables.{chainAt}
 use Rattle.read_rule.specs.Reads.{rateIn}
 use Rattle.check_rates.proofs.Linking.{few-chains}
-use Rattle.check_rates.specs.Answers.{periodAt}
+use Rattle.check_rates.specs.Rates.{periodAt}
 use Rattle.check_latency.specs.Timely.{windowBy}
 use Rattle.check_latency.proofs.Decided.{missed, chain-command, decided}
 use borrow.Author.Needs.{needs}
@@ -27,7 +27,7 @@ returns c =
     let w = c .before .before in
     let b = w .before .before .before .before in
     λ p s t.
-    absurd (missed _ ((rw (w .wider .ensures .0) at (c .before .declaration-at .ensures)) ∙
+    absurd (missed _ ((rw (w .from-entry .ensures .0) at (c .before .declaration-at .ensures)) ∙
     chain-command _ _ _ _ _ p s _ t (b .pre .1)) (c .match .keys2))
 
 window-of-requires : tie.Need-window-of-requires
@@ -82,7 +82,7 @@ returns-2 c =
     let v = m .before .declaration .given in
     let same : _≡_ {A = Declaration} (Declaration.Latency (v .0 .0) (v .0 .1 .0))
     (Declaration.Latency (chainAt p (a .args .chain) .mode) (chainAt p (a .args .chain) .bound)) =
-    sym (v .1) ∙ (rw (found .before .wider .ensures .0) at (found .declaration-at .ensures)) ∙
+    sym (v .1) ∙ (rw (found .before .from-entry .ensures .0) at (found .declaration-at .ensures)) ∙
     chain-command _ _ _ _ _ p s _ t (a .pre .1) in
     let mode : v .0 .0 ≡ chainAt p (a .args .chain) .mode = cc same in
     let bound : v .0 .1 .0 ≡ chainAt p (a .args .chain) .bound = cc same in
@@ -94,8 +94,8 @@ returns-2 c =
     d1 .before .first-run .ensures .0 ∙ ap (i .result .count *_) w in
     record {
       links = (r .0, r .1, r .3 .ends);
-      bound-is = c .wider2 .ensures .0 ∙ bound;
-      small = c .wider2 .ensures .1;
+      bound-is = c .from-entry2 .ensures .0 ∙ bound;
+      small = c .from-entry2 .ensures .1;
       least-is = λ bound small.
           sym (d .same bound) ∙
           sym (λ j. timelyBy (mode j) bound (i .result .hops) (i .result .count) (rateIn (b .timing-at .ensures j))

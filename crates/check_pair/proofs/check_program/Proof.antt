@@ -7,7 +7,7 @@ use Rattle.model.specs.Rules.Program.{Program, parseProgram}
 use Rattle.model.specs.Rules.Rates.{declaredAndRated, hypercycle}
 use Rattle.text_program.specs.Tables.{TablesOf}
 use Rattle.text_program.proofs.ByIndex.{few-signals}
-use Rattle.check_pair.specs.Steps.{ratesOf}
+use Rattle.check_pair.specs.Groups.{ratesOf}
 use Rattle.basics.proofs.Judgements.{
   judgement-fine,
   judgement-refused,

@@ -9,7 +9,7 @@ use Rattle.model.specs.Rules.Schedule.{Put, parseSchedule}
 use Rattle.model.proofs.Basics.Outcomes.{accepted-then, refused-then}
 use Rattle.model.proofs.Texts.Puts.{puts-spelled, puts-end}
 use Rattle.basics.proofs.Judgements.{answers-fine, answers-refused}
-use Rattle.check_pair.specs.Steps.{scheduleFor}
+use Rattle.check_pair.specs.Groups.{scheduleFor}
 use Rattle.text_schedule.proofs.Puts.{scheduled-refused}
 use Rattle.check_pair.proofs.check_puts.Statement.{statement}
 use Rattle.check_pair.proofs.check_puts.Tie as tie

@@ -22,8 +22,8 @@ use Rattle.text_schedule.specs.Slots.{ScheduledAs}
 use Rattle.text_schedule.specs.declared.PairTables.{PairTables}
 use Rattle.text_schedule.proofs.Arranged.{short-hypercycle, ordered}
 use Rattle.text_program.proofs.ByIndex.{few-signals}
-use Rattle.check_rates.specs.Answers.{CyclesAs}
-use Rattle.check_pair.specs.Steps.{ratesOf, scheduleFor, stepsOf}
+use Rattle.check_rates.specs.Rates.{CyclesAs}
+use Rattle.check_pair.specs.Groups.{ratesOf, scheduleFor, stepsOf}
 use Rattle.basics.proofs.Judgements.{
   judgement-fine,
   judgement-refused,

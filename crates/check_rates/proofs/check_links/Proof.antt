@@ -71,7 +71,7 @@ returns-2 c =
     let l = b .before .before .before .loop in
     λ p q t.
     let lt : l .chain < length (p .chains) = omega (arith, b .before .if2 .taken, t .counts .chains-are) in
-    let r = c .refuse .ensures ∙ ap (λ n. Judged.Refused (fault 10 n)) (c .before .wider .ensures .0 ∙ t .starts (l .chain) lt) in
+    let r = c .refuse .ensures ∙ ap (λ n. Judged.Refused (fault 10 n)) (c .before .from-entry .ensures .0 ∙ t .starts (l .chain) lt) in
     check-refuses _ _ _ _ (l .chain) noChain lt (l .inv p q t) _
     (r ∙ lat-judged (fault 10 (chainAt p (l .chain) .place)) _ _
     (sym (b .is-linked .ensures p q t) ∙ not-true (b .is-linked .result) (d .if3 .taken)))

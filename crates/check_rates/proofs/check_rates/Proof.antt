@@ -2,7 +2,7 @@
 use mathlib.Core.Path.{ap, _∙_}
 use Rattle.model.specs.Rules.Outcome.{lowest}
 use Rattle.basics.specs.Judgement.{judgementOf}
-use Rattle.check_rates.specs.Answers.{readRates, lowerOf}
+use Rattle.check_rates.specs.Rates.{readRates, lowerOf}
 use Rattle.check_rates.proofs.Judging.{both-rates, periods-of}
 use Rattle.text_program.proofs.ByIndex.{few-signals, indexed}
 use borrow.Author.Needs.{needs}

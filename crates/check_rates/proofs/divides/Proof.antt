@@ -9,11 +9,11 @@ use Rattle.check_rates.proofs.divides.Tie as tie
 
 returns : tie.Need-returns
 returns c =
-    let z : c .before .before .args .period ≡ 0 = sym (c .before .wide .ensures .0) ∙ c .if1 .taken in
+    let z : c .before .before .args .period ≡ 0 = sym (c .before .from-byte .ensures .0) ∙ c .if1 .taken in
     sym (ap (λ d. eqb (c .before .before .args .h % d) 0) z ∙ ap (λ m. eqb m 0) (mod-zero (c .before .before .args .h)))
 
 returns-2 : tie.Need-returns-2
-returns-2 c = ap (λ d. eqb (c .before .before .args .h % d) 0) (c .before .wide .ensures .0)
+returns-2 c = ap (λ d. eqb (c .before .before .args .h % d) 0) (c .before .from-byte .ensures .0)
 
 pub divides-spec : {M : Type 1} → statement M
 divides-spec = tie.close (tie.spec (λ c κs. search needs) returns (λ c. search needs) returns-2)

@@ -30,7 +30,7 @@ Inv-loop text reads tables chain firsts at₀ left₀ at left =
 abbrev μ-loop : tie.MeasureT-loop
 μ-loop text reads tables chain firsts at₀ left₀ at left = left
 
-abbrev begun : tie.After-wide Inv-loop μ-loop → tie.Start Inv-loop μ-loop
+abbrev begun : tie.After-from-byte Inv-loop μ-loop → tie.Start Inv-loop μ-loop
 begun c = c .before .before .before .before .before .before .before .before
 
 -- the two links at hand lie within the text
@@ -50,12 +50,12 @@ add-at : tie.Need-add-at Inv-loop μ-loop
 add-at c =
     let s = c .before .before .before .before .before .before .before in
     let r = s .pre .0 in
-    omega (arith, c .before .wider .ensures .0, chain-inside _ _ _ (s .pre .1) (r .0, r .1, r .2))
+    omega (arith, c .before .from-entry .ensures .0, chain-inside _ _ _ (s .pre .1) (r .0, r .1, r .2))
 
 loop-holds : tie.Need-loop-holds Inv-loop μ-loop
 loop-holds c =
     λ p q t.
-    rw (c .before .in-program .ensures, c .before .before .wider .ensures .0, c .wide .ensures .0)
+    rw (c .before .in-program .ensures, c .before .before .from-entry .ensures .0, c .from-byte .ensures .0)
     (chain-begins _ _ _ (begun c .pre .1) p q t)
 
 shared-slice-read-signal : tie.Need-shared-slice-read-signal Inv-loop μ-loop

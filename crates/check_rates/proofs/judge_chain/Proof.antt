@@ -13,7 +13,7 @@ use Rattle.text_program.specs.Tables.{chainAt, ReadAs}
 use Rattle.text_program.specs.declared.Tables.{Tables}
 use Rattle.text_program.proofs.ByIndex.{noLink}
 use Rattle.text_program.proofs.InTurn.{Left, check-starts, check-passes, check-refuses, check-ends, links-in-turn}
-use Rattle.check_rates.specs.Answers.{chainRates}
+use Rattle.check_rates.specs.Rates.{chainRates}
 use Rattle.check_rates.proofs.Judging.{link-at-place, chains-are, length-is, link-seen, link-inside, one-link}
 use Rattle.check_rates.proofs.Linking.{few-chains, chain-inside}
 use Rattle.check_rates.proofs.judge_chain.Statement.{statement}
@@ -49,7 +49,7 @@ module _ (a : tie.Start Inv-loop μ-loop) where
 
 -- where a LINK stands
 module _ (c : tie.After-in-program2 Inv-loop μ-loop) where
-  abbrev counted : tie.After-wide Inv-loop μ-loop
+  abbrev counted : tie.After-from-byte Inv-loop μ-loop
   counted = c .before .before .before
 
   abbrev start : tie.Start Inv-loop μ-loop
@@ -66,11 +66,11 @@ module _ (c : tie.After-in-program2 Inv-loop μ-loop) where
   passed = ap (λ (k : ℕ). k * i) (c .in-program2 .ensures)
 
   stands :
-      counted .before .before .wider .result + counted .before .in-program .result + c .in-program2 .result * i ≡ place
-  stands = omega (arith, passed, counted .before .before .wider .ensures .0, counted .before .in-program .ensures)
+      counted .before .before .from-entry .result + counted .before .in-program .result + c .in-program2 .result * i ≡ place
+  stands = omega (arith, passed, counted .before .before .from-entry .ensures .0, counted .before .in-program .ensures)
 
   within : i < getD (t start .lengths) (x start) 0
-  within = omega (arith, c .before .loop-test .taken, counted .wide .ensures .0)
+  within = omega (arith, c .before .loop-test .taken, counted .from-byte .ensures .0)
 
   -- in the text
   ends : (place + 2 ≤ length (now (start .args .text))) × (length (now (start .args .text)) ≤ 18446744073709551615)
@@ -82,7 +82,7 @@ module _ (c : tie.After-in-program2 Inv-loop μ-loop) where
 add-first : tie.Need-add-first Inv-loop μ-loop
 add-first c =
     let a = c .before .before .before .before .before in
-    omega (arith, inside a, c .before .wider .ensures .0, c .in-program .ensures, a .good .0 .1)
+    omega (arith, inside a, c .before .from-entry .ensures .0, c .in-program .ensures, a .good .0 .1)
 
 loop-holds : tie.Need-loop-holds Inv-loop μ-loop
 loop-holds c =
@@ -93,8 +93,8 @@ loop-holds c =
           check-starts _ _ _ _ (r .0) (r .1) (r .2) refl,
     )
 
-shared-slice-read-wide : tie.Need-shared-slice-read-wide Inv-loop μ-loop
-shared-slice-read-wide c = omega (arith, stands (c .before), ends (c .before))
+shared-slice-read-from-byte : tie.Need-shared-slice-read-from-byte Inv-loop μ-loop
+shared-slice-read-from-byte c = omega (arith, stands (c .before), ends (c .before))
 
 returns : tie.Need-returns Inv-loop μ-loop
 returns c =
@@ -105,7 +105,7 @@ returns c =
     λ p e.
     check-refuses _ _ _ _ (i s) noLink (link-seen _ (t a) (read a) p e (x a) (a .pre .1) (i s) lt)
     (s .before .before .loop .inv .1 p e)
-    _ (one-link _ (t a) (read a) p e (x a) (a .pre .1) (i s) lt _ _ _ (stands s) (j .before .before .wide2 .ensures .0)
+    _ (one-link _ (t a) (read a) p e (x a) (a .pre .1) (i s) lt _ _ _ (stands s) (j .before .before .from-byte2 .ensures .0)
     (j .judge-rate .ensures)) (link-at-place p) _ (c .enum-told2 .given .1)
 
 add-i : tie.Need-add-i Inv-loop μ-loop
@@ -125,7 +125,7 @@ loop-again c =
           subst (Rest p (x a)) (omega arith)
           (check-passes _ _ _ _ (i s) noLink (link-seen _ (t a) (read a) p e (x a) (a .pre .1) (i s) lt)
           (s .before .before .loop .inv .1 p e) _ (one-link _ (t a) (read a) p e (x a) (a .pre .1) (i s) lt _ _ _ (stands s)
-          (j .before .before .wide2 .ensures .0) (j .judge-rate .ensures)) (c .enum-told .given .1)),
+          (j .before .before .from-byte2 .ensures .0) (j .judge-rate .ensures)) (c .enum-told .given .1)),
     )
 
 returns-2 : tie.Need-returns-2 Inv-loop μ-loop
@@ -135,7 +135,7 @@ returns-2 c =
     let a = n .before .before .before .before .before .before in
     λ p e.
     check-ends _ _ _ _ (l .i)
-    (omega (arith, length-is _ (t a) (read a) p e (x a) (a .pre .1), n .wide .ensures .0, c .loop-test .left))
+    (omega (arith, length-is _ (t a) (read a) p e (x a) (a .pre .1), n .from-byte .ensures .0, c .loop-test .left))
     (l .inv .1 p e)
 
 pub judge-chain-spec : {M : Type 1} → statement M
@@ -144,6 +144,6 @@ judge-chain-spec =
     (tie.spec Inv-loop μ-loop (λ c. omega (arith, below (c .before .before .before))) (λ c. below (c .before .before .before))
     (λ c κs. search needs) (λ c κs. search needs) add-first (λ c. below (c .before .before .before .before .before))
     (λ c κs. search needs) loop-holds (λ c κs. search needs) (λ c. omega (arith, passed c, ends c))
-    (λ c. omega (arith, passed c, stands c, ends c)) (λ c. omega (arith, passed c, stands c, ends c)) shared-slice-read-wide
+    (λ c. omega (arith, passed c, stands c, ends c)) (λ c. omega (arith, passed c, stands c, ends c)) shared-slice-read-from-byte
     (λ c κs. search needs) (λ c κs. search needs) (λ c. search needs) (λ c. search needs) returns add-i loop-less loop-again
     returns-2)

@@ -8,7 +8,7 @@ use Rattle.model.specs.Rules.Program.{Program, parseProgram}
 use Rattle.text_program.specs.Tables.{noChain}
 use Rattle.text_program.proofs.InTurn.{Left, check-starts, check-passes, check-refuses, check-ends}
 use Rattle.text_program.proofs.Rising.{chainPlaces, rising-program}
-use Rattle.check_rates.specs.Answers.{chainRates, linkRates}
+use Rattle.check_rates.specs.Rates.{chainRates, linkRates}
 use Rattle.check_rates.proofs.Judging.{chain-at, chains-are}
 use Rattle.check_rates.proofs.Linking.{few-chains}
 use Rattle.check_rates.proofs.judge_links.Statement.{statement}

@@ -1,6 +1,6 @@
 -- `check_rates::judge_rate` meets its contract. Assumes nothing.
 use borrow.Author.Tests.{not-true, not-false}
-use Rattle.check_rates.specs.Answers.{rateJudged}
+use Rattle.check_rates.specs.Rates.{rateJudged}
 use borrow.Author.Needs.{needs}
 use Rattle.check_rates.proofs.judge_rate.Statement.{statement}
 use Rattle.check_rates.proofs.judge_rate.Tie as tie

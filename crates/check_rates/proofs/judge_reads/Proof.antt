@@ -9,7 +9,7 @@ use Rattle.text_program.specs.Tables.{PeriodsOf}
 use Rattle.text_program.proofs.ByIndex.{counted}
 use Rattle.text_program.proofs.InTurn.{Left, check-starts, check-passes, check-refuses, check-ends}
 use Rattle.text_program.proofs.Rising.{signalPlaces, rising-program}
-use Rattle.check_rates.specs.Answers.{signalRates, readRates}
+use Rattle.check_rates.specs.Rates.{signalRates, readRates}
 use Rattle.check_rates.proofs.Judging.{signal-at}
 use Rattle.check_rates.proofs.judge_reads.Statement.{statement}
 use Rattle.check_rates.proofs.judge_reads.Tie as tie

@@ -1,6 +1,6 @@
 -- `check_rates::lower` meets its contract. Assumes nothing.
 use borrow.Author.Tests.{lt-ltb, le-ltb}
-use Rattle.check_rates.specs.Answers.{lowerOf}
+use Rattle.check_rates.specs.Rates.{lowerOf}
 use borrow.Author.Needs.{needs}
 use Rattle.check_rates.proofs.lower.Statement.{statement}
 use Rattle.check_rates.proofs.lower.Tie as tie

@@ -13,7 +13,7 @@ use Rattle.model.specs.declared.Found.the-variants.{At, Nowhere}
 use Rattle.text_command.specs.Operator.{ReadStands}
 use Rattle.text_program.specs.Tables.{Indexed}
 use Rattle.text_program.proofs.ByIndex.{counted, in-table, read-stands, rises-at}
-use Rattle.check_rates.specs.Answers.{oneRead}
+use Rattle.check_rates.specs.Rates.{oneRead}
 use Rattle.check_rates.proofs.Counting.{
   Searched,
   same-search,
@@ -55,7 +55,7 @@ module _ (a : tie.Else1 Inv-loop μ-loop) where
   w = a .before .before .before .before .args .before
 
   abbrev x : ℕ
-  x = a .before .wide .result
+  x = a .before .from-byte .result
 
   ix : Indexed text reads firsts n
   ix = a .before .before .before .before .pre .1
@@ -75,10 +75,10 @@ module _ (b : tie.In-loop Inv-loop μ-loop) where
   i = b .before .loop .i
 
   low : getD (firsts a) (x a) 0 ≤ i
-  low = omega (arith, b .before .loop .inv .0, b .before .before .before .before .wider .ensures .0)
+  low = omega (arith, b .before .loop .inv .0, b .before .before .before .before .from-entry .ensures .0)
 
   high : i < getD (firsts a) (x a + 1) 0
-  high = omega (arith, b .loop-test .taken, b .before .before .wider2 .ensures .0)
+  high = omega (arith, b .loop-test .taken, b .before .before .from-entry2 .ensures .0)
 
   here : i < length (reads a)
   here = in-table (ix a) (ix a .program) (ix a .parsed) (x a) i (lt a) low high
@@ -92,12 +92,12 @@ module _ (c : tie.Joined2 Inv-loop μ-loop) where
   b = c .before .before .before .before
 
   go-on : (p : Program) → parseProgram (text (a b)) ≡ accepted p →
-      Searched (w (a b)) (bodyReads (signalAt p (x (a b)) .body)) (i b + 1 - b .before .before .before .before .wider .result)
+      Searched (w (a b)) (bodyReads (signalAt p (x (a b)) .body)) (i b + 1 - b .before .before .before .before .from-entry .result)
       (c .if2 .many) (c .if2 .found)
   go-on p e =
-      let f = b .before .before .before .before .wider .ensures .0 in
+      let f = b .before .before .before .before .from-entry .ensures .0 in
       let l = b .before .loop .inv .0 in
-      let z = c .before .before .wider3 .ensures .0 in
+      let z = c .before .before .from-entry3 .ensures .0 in
       let v = b .before .loop .inv .3 p e in
       ⊎-elim
       (λ h. same-search _ _ (h .1) (h .2)
@@ -112,45 +112,45 @@ module _ (d : tie.After-loop Inv-loop μ-loop) where
   o = d .before .before .before .before .before .before
 
   all-seen : (p : Program) → parseProgram (text o) ≡ accepted p →
-      d .before .loop .i - d .before .before .before .before .wider .result ≡ length (bodyReads (signalAt p (x o) .body))
+      d .before .loop .i - d .before .before .before .before .from-entry .result ≡ length (bodyReads (signalAt p (x o) .body))
   all-seen p e =
       let v = d .before .loop .inv in
       let h : getD (firsts o) (x o + 1) 0 ≡ d .before .loop .i =
-      omega (arith, v .1, d .loop-test .left, d .before .before .wider2 .ensures .0) in
-      over (ix o) p e (w o) (x o) (d .before .loop .i) (lt o) _ (d .before .before .before .before .wider .ensures .0) (v .0) h
+      omega (arith, v .1, d .loop-test .left, d .before .before .from-entry2 .ensures .0) in
+      over (ix o) p e (w o) (x o) (d .before .loop .i) (lt o) _ (d .before .before .before .before .from-entry .ensures .0) (v .0) h
 
 returns : tie.Need-returns Inv-loop μ-loop
 returns c =
     let s = c .before .before .before .before in
-    let v = c .before .wide .ensures .0 in
+    let v = c .before .from-byte .ensures .0 in
     λ p e. none-far p _ _ (omega (arith, counted (s .pre .1) p e, v, c .if1 .taken))
 
 loop-holds : tie.Need-loop-holds Inv-loop μ-loop
 loop-holds c =
     let a = c .before .before .before .before in
-    let f = c .before .before .wider in (
+    let f = c .before .before .from-entry in (
       omega arith,
-      omega (arith, f .ensures .0, c .wider2 .ensures .0, rises-at (ix a) (x a) (lt a)),
+      omega (arith, f .ensures .0, c .from-entry2 .ensures .0, rises-at (ix a) (x a) (lt a)),
       omega arith,
       λ p e. search-starts _ _ _ (omega arith),
     )
 
-mul-wider-3 : tie.Need-mul-wider-3 Inv-loop μ-loop
-mul-wider-3 c = omega (arith, c .loop-test .taken, c .before .before .wider2 .ensures .1)
+mul-from-entry-3 : tie.Need-mul-from-entry-3 Inv-loop μ-loop
+mul-from-entry-3 c = omega (arith, c .loop-test .taken, c .before .before .from-entry2 .ensures .1)
 
 add-if2 : tie.Need-add-if2 Inv-loop μ-loop
-add-if2 c = omega (arith, stands-inside (stands (c .before .before)), c .wider3 .ensures)
+add-if2 c = omega (arith, stands-inside (stands (c .before .before)), c .from-entry3 .ensures)
 
 shared-slice-read-if2 : tie.Need-shared-slice-read-if2 Inv-loop μ-loop
-shared-slice-read-if2 c = omega (arith, stands-inside (stands (c .before .before .before)), c .before .wider3 .ensures)
+shared-slice-read-if2 c = omega (arith, stands-inside (stands (c .before .before .before)), c .before .from-entry3 .ensures)
 
 add-many : tie.Need-add-many Inv-loop μ-loop
 add-many c =
     let b = c .before .before .before .before in
-    omega (arith, b .before .loop .inv .2, b .loop-test .taken, b .before .before .wider2 .ensures .1)
+    omega (arith, b .before .loop .inv .2, b .loop-test .taken, b .before .before .from-entry2 .ensures .1)
 
 add-i : tie.Need-add-i Inv-loop μ-loop
-add-i c = omega (arith, b c .loop-test .taken, b c .before .before .wider2 .ensures .1)
+add-i c = omega (arith, b c .loop-test .taken, b c .before .before .from-entry2 .ensures .1)
 
 loop-again : tie.Need-loop-again Inv-loop μ-loop
 loop-again c =
@@ -165,7 +165,7 @@ returns-2 : tie.Need-returns-2 Inv-loop μ-loop
 returns-2 c =
     let d = c .before in
     λ p e.
-    subst (λ (m : ℕ). Nowhere ≡ oneRead (w (o d)) (bodyReads (signalAt p m .body))) (o d .before .wide .ensures .0)
+    subst (λ (m : ℕ). Nowhere ≡ oneRead (w (o d)) (bodyReads (signalAt p m .body))) (o d .before .from-byte .ensures .0)
     (none-found _ _ _ (all-seen d p e) (d .before .loop .inv .3 p e) (λ z. c .if3 .taken z))
 
 returns-3 : tie.Need-returns-3 Inv-loop μ-loop
@@ -173,7 +173,7 @@ returns-3 c =
     let d = c .before in
     λ p e.
     subst (λ (m : ℕ). At (d .before .loop .found) ≡ oneRead (w (o d)) (bodyReads (signalAt p m .body)))
-    (o d .before .wide .ensures .0)
+    (o d .before .from-byte .ensures .0)
     (one-found _ _ _ (all-seen d p e) (d .before .loop .inv .3 p e) (omega (arith, c .if3 .left)))
 
 pub one-read-spec : {M : Type 1} → statement M
@@ -181,6 +181,6 @@ one-read-spec =
     tie.close
     (tie.spec Inv-loop μ-loop (λ c κs. search needs) returns (λ c. omega (arith, below c)) (λ c. omega (arith, below c))
     (λ c κs. search needs) (λ c. omega (arith, below (c .before .before))) (λ c. omega (arith, below (c .before .before)))
-    (λ c. omega (arith, below (c .before .before))) (λ c κs. search needs) loop-holds mul-wider-3 (λ c. here (c .before))
+    (λ c. omega (arith, below (c .before .before))) (λ c κs. search needs) loop-holds mul-from-entry-3 (λ c. here (c .before))
     (λ c κs. search needs) add-if2 shared-slice-read-if2 add-many add-i (λ c. omega (arith, b c .loop-test .taken)) loop-again
     returns-2 returns-3)

@@ -1,6 +1,6 @@
 -- `check_rates::period_at` meets its contract. Assumes nothing.
 use borrow.Author.Tests.{lt-ltb, le-ltb}
-use Rattle.check_rates.specs.Answers.{periodAt}
+use Rattle.check_rates.specs.Rates.{periodAt}
 use borrow.Author.Needs.{needs}
 use Rattle.check_rates.proofs.period_at.Statement.{statement}
 use Rattle.check_rates.proofs.period_at.Tie as tie

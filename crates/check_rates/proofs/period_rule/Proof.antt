@@ -9,7 +9,7 @@ use lib.Dec.{eqb}
 use Rattle.model.specs.Rules.Rates.{periodRule}
 use Rattle.model.specs.declared.Kind.{Kind}
 use Rattle.model.specs.declared.Kind.the-variants.{Now, Last, When, LastWhen, Current}
-use Rattle.check_rates.specs.Answers.{factorOf}
+use Rattle.check_rates.specs.Rates.{factorOf}
 use Rattle.read_rule.specs.Lines.{isCurrent}
 use Rattle.check_rates.proofs.period_rule.Statement.{statement}
 use Rattle.check_rates.proofs.period_rule.Tie as tie
@@ -29,8 +29,8 @@ one-product Current w r n = refl
 
 mul-result : tie.Need-mul-result
 mul-result c =
-    let shorter = c .wide3 in
-    let factor = c .before .before .before .before .before .wide in
+    let shorter = c .from-byte3 in
+    let factor = c .before .before .before .before .before .from-byte in
     omega (arith, small-product (factor .result) (shorter .result) (factor .ensures .1) (shorter .ensures .1))
 
 returns : tie.Need-returns
@@ -39,9 +39,9 @@ returns c =
     let f = l .before .before .before in
     let a = f .before .before .args in
     rw (
-      l .wide2 .ensures .0,
-      f .wide .ensures .0,
-      c .wide3 .ensures .0,
+      l .from-byte2 .ensures .0,
+      f .from-byte .ensures .0,
+      c .from-byte3 .ensures .0,
       l .before .select .ensures,
       c .before .select2 .ensures,
       f .before .factor-of .ensures,

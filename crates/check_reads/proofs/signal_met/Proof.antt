@@ -59,45 +59,45 @@ module _ (b : tie.In-loop Inv-loop μ-loop) where
   low = b .before .loop .inv .0
 
   high : i < getD firsts (x + 1) 0
-  high = omega (arith, b .loop-test .taken, b .before .before .wider2 .ensures .0)
+  high = omega (arith, b .loop-test .taken, b .before .before .from-entry2 .ensures .0)
 
-mul-wider : tie.Need-mul-wider Inv-loop μ-loop
-mul-wider c = let a = c .before .before in omega (arith, a .pre .0, a .pre .1)
+mul-from-entry : tie.Need-mul-from-entry Inv-loop μ-loop
+mul-from-entry c = let a = c .before .before in omega (arith, a .pre .0, a .pre .1)
 
-element-copy-out-wider : tie.Need-element-copy-out-wider Inv-loop μ-loop
-element-copy-out-wider c = let a = c .before .before in omega (arith, a .pre .0, a .pre .1)
+element-copy-out-from-entry : tie.Need-element-copy-out-from-entry Inv-loop μ-loop
+element-copy-out-from-entry c = let a = c .before .before in omega (arith, a .pre .0, a .pre .1)
 
-add-wider : tie.Need-add-wider Inv-loop μ-loop
-add-wider c = let a = c .before .before .before .before in omega (arith, a .pre .0, a .pre .1)
+add-from-entry : tie.Need-add-from-entry Inv-loop μ-loop
+add-from-entry c = let a = c .before .before .before .before in omega (arith, a .pre .0, a .pre .1)
 
-mul-wider-2 : tie.Need-mul-wider-2 Inv-loop μ-loop
-mul-wider-2 c = let a = c .before .before .before .before in omega (arith, a .pre .0, a .pre .1)
+mul-from-entry-2 : tie.Need-mul-from-entry-2 Inv-loop μ-loop
+mul-from-entry-2 c = let a = c .before .before .before .before in omega (arith, a .pre .0, a .pre .1)
 
-element-copy-out-wider-2 : tie.Need-element-copy-out-wider-2 Inv-loop μ-loop
-element-copy-out-wider-2 c = let a = c .before .before .before .before in omega (arith, a .pre .0, a .pre .1)
+element-copy-out-from-entry-2 : tie.Need-element-copy-out-from-entry-2 Inv-loop μ-loop
+element-copy-out-from-entry-2 c = let a = c .before .before .before .before in omega (arith, a .pre .0, a .pre .1)
 
 loop-holds : tie.Need-loop-holds Inv-loop μ-loop
 loop-holds c =
     let a = c .before .before .before .before .before .before in
-    let f = c .before .before .wider .ensures .0 in (
+    let f = c .before .before .from-entry .ensures .0 in (
       omega (arith, f),
-      omega (arith, f, c .wider2 .ensures .0, rises-at (a .pre .3) (a .args .reader) (a .pre .0)),
+      omega (arith, f, c .from-entry2 .ensures .0, rises-at (a .pre .3) (a .args .reader) (a .pre .0)),
       λ p e s order q t o.
           let r = reads-in-turn _ p e (a .args .reader) (omega (arith, a .pre .0, counted (a .pre .3) p e)) in
           subst (Rest p s (a .args .reader)) (omega (arith, f)) (check-starts _ _ _ _ (r .0) (r .1) (r .2) refl),
     )
 
-mul-wider-3 : tie.Need-mul-wider-3 Inv-loop μ-loop
-mul-wider-3 c = omega (arith, c .loop-test .taken, c .before .before .wider2 .ensures .1)
+mul-from-entry-3 : tie.Need-mul-from-entry-3 Inv-loop μ-loop
+mul-from-entry-3 c = omega (arith, c .loop-test .taken, c .before .before .from-entry2 .ensures .1)
 
-shared-slice-read-wider : tie.Need-shared-slice-read-wider Inv-loop μ-loop
-shared-slice-read-wider c =
+shared-slice-read-from-entry : tie.Need-shared-slice-read-from-entry Inv-loop μ-loop
+shared-slice-read-from-entry c =
     let b = c .before in in-table (ix b) (ix b .program) (ix b .parsed) (x b) (i b) (start b .pre .0) (low b) (high b)
 
 taken-at-requires : tie.Need-taken-at-requires Inv-loop μ-loop
 taken-at-requires c κs =
     let b = c .before .before in
-    subst (ReadStands _) (sym (c .wider3 .ensures .0))
+    subst (ReadStands _) (sym (c .from-entry3 .ensures .0))
     (read-stands (ix b) (ix b .program) (ix b .parsed) (x b) (i b) (start b .pre .0) (low b) (high b))
 
 -- The read is judged as the definition does.
@@ -114,7 +114,7 @@ module _ (j : tie.After-read-met Inv-loop μ-loop) (p : Program) where
         j .read-met .result ≡ judgementOf (lowest (readFault p s (x b) (readAt p (x b) (i b - getD (firsts b) (x b) 0))))
     judged s order q t o =
         one-read (ix b) p e s order _ _ _ q t o (start b .pre .2) (x b) (i b) (start b .pre .0) (low b) (high b) _ _ _
-        (j .before .before .before .wider3 .ensures .0) (j .before .before .taken-at .ensures) (j .read-met .ensures)
+        (j .before .before .before .from-entry3 .ensures .0) (j .before .before .taken-at .ensures) (j .read-met .ensures)
 
 returns : tie.Need-returns Inv-loop μ-loop
 returns c =
@@ -126,7 +126,7 @@ returns c =
 add-i : tie.Need-add-i Inv-loop μ-loop
 add-i c =
     let b = c .before .before .before .before .before .before .before in
-    omega (arith, b .loop-test .taken, b .before .before .wider2 .ensures .1)
+    omega (arith, b .loop-test .taken, b .before .before .from-entry2 .ensures .1)
 
 loop-less : tie.Need-loop-less Inv-loop μ-loop
 loop-less c = omega (arith, c .before .before .before .before .before .before .before .loop-test .taken)
@@ -148,7 +148,7 @@ returns-2 c =
     let l = c .before .loop in
     let a = c .before .before .before .before .before .before .before .before in
     let f : getD (now (a .args .firsts)) (a .args .reader + 1) 0 ≡ l .i =
-    omega (arith, l .inv .1, c .loop-test .left, c .before .before .wider2 .ensures .0) in
+    omega (arith, l .inv .1, c .loop-test .left, c .before .before .from-entry2 .ensures .0) in
     λ p e s order q t o.
     check-ends _ _ _ _ _
     (omega (arith, all-seen (a .pre .3) p e (a .args .reader) (l .i) (a .pre .0) (l .inv .0) f)) (l .inv .2 p e s order q t o)
@@ -156,6 +156,6 @@ returns-2 c =
 pub signal-met-spec : {M : Type 1} → statement M
 signal-met-spec =
     tie.close
-    (tie.spec Inv-loop μ-loop mul-wider element-copy-out-wider (λ c κs. search needs) add-wider mul-wider-2
-    element-copy-out-wider-2 (λ c κs. search needs) loop-holds mul-wider-3 shared-slice-read-wider (λ c κs. search needs)
+    (tie.spec Inv-loop μ-loop mul-from-entry element-copy-out-from-entry (λ c κs. search needs) add-from-entry mul-from-entry-2
+    element-copy-out-from-entry-2 (λ c κs. search needs) loop-holds mul-from-entry-3 shared-slice-read-from-entry (λ c κs. search needs)
     taken-at-requires (λ c κs. search needs) (λ c. search needs) (λ c. search needs) returns add-i loop-less loop-again returns-2)

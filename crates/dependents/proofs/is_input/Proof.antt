@@ -38,7 +38,7 @@ inside c =
     let h = s .pre in
     omega (
       arith,
-      c .before .wider .ensures .0,
+      c .before .from-entry .ensures .0,
       stands _ (s .args .tables) (h .0) (h .1) (h .2) (s .args .x) (omega (arith, c .before .before .before .if1 .left)),
     )
 
@@ -46,7 +46,7 @@ returns-2 : tie.Need-returns-2
 returns-2 c =
     let s = c .before .before .before .before .before .before in
     λ p e.
-    ap (λ (n : ℕ). eqb (byteAt (now (s .args .text)) n) 0x10) (c .before .wider .ensures .0) ∙
+    ap (λ (n : ℕ). eqb (byteAt (now (s .args .text)) n) 0x10) (c .before .from-entry .ensures .0) ∙
     by-byte _ (s .args .tables) p e (tables-of s p e) (s .args .x) (omega (arith, c .before .before .before .if1 .left))
 
 pub is-input-spec : {M : Type 1} → statement M

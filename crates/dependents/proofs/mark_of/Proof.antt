@@ -73,7 +73,7 @@ module _ (b : tie.In-loop Inv-loop μ-loop) where
   low = b .before .loop .inv .0
 
   high : i < getD firsts (x + 1) 0
-  high = omega (arith, b .loop-test .taken, b .before .before .wider2 .ensures .0)
+  high = omega (arith, b .loop-test .taken, b .before .before .from-entry2 .ensures .0)
 
   abbrev passed : ℕ
   passed = i - getD firsts x 0
@@ -81,33 +81,33 @@ module _ (b : tie.In-loop Inv-loop μ-loop) where
 loop-holds : tie.Need-loop-holds Inv-loop μ-loop
 loop-holds c =
     let a = c .before .before .before .before .before .before in
-    let f = c .before .before .wider .ensures .0 in (
+    let f = c .before .before .from-entry .ensures .0 in (
       omega (arith, f),
-      omega (arith, f, c .wider2 .ensures .0, rises-at (a .pre .2 .indexed) (a .args .reader) (a .pre .1)),
+      omega (arith, f, c .from-entry2 .ensures .0, rises-at (a .pre .2 .indexed) (a .args .reader) (a .pre .1)),
       λ p e j l. absurd (omega (arith, f)),
     )
 
 taken-at-requires : tie.Need-taken-at-requires Inv-loop μ-loop
 taken-at-requires c κs =
     let b = c .before .before in
-    subst (ReadStands _) (sym (c .wider3 .ensures .0))
+    subst (ReadStands _) (sym (c .from-entry3 .ensures .0))
     (read-stands (ix b) (ix b .program) (ix b .parsed) (x b) (i b) (lt b) (low b) (high b))
 
 -- The signal that is read.
-module _ (w : tie.After-wide Inv-loop μ-loop) where
+module _ (w : tie.After-from-byte Inv-loop μ-loop) where
   abbrev b : tie.In-loop Inv-loop μ-loop
   b = w .before .before .before .before .before
 
   module _ (p : Program) (e : parseProgram (text b) ≡ accepted p) where
-    signal-is : w .wide .result ≡ readAt p (x b) (passed b) .operands .signal
+    signal-is : w .from-byte .result ≡ readAt p (x b) (passed b) .operands .signal
     signal-is =
         let t = w .before .before in
-        w .wide .ensures .0 ∙
+        w .from-byte .ensures .0 ∙
         ap (λ (y : Taken). y .operands .signal)
         (taken-is (ix b) p e (x b) (i b) (lt b) (low b) (high b) (t .taken-at .result)
-        (subst (λ (k : ℕ). ReadTaken (text b) k (t .taken-at .result)) (t .before .wider3 .ensures .0) (t .taken-at .ensures)))
+        (subst (λ (k : ℕ). ReadTaken (text b) k (t .taken-at .result)) (t .before .from-entry3 .ensures .0) (t .taken-at .ensures)))
 
-  signal-small : w .wide .result < 64
+  signal-small : w .from-byte .result < 64
   signal-small =
       let p = ix b .program in
       let e = ix b .parsed in
@@ -143,7 +143,7 @@ returns-2 c =
     let l = c .before .loop in
     let a = c .before .before .before .before .before .before .before .before in
     let f : getD (now (a .args .firsts)) (a .args .reader + 1) 0 ≡ l .i =
-    omega (arith, l .inv .1, c .loop-test .left, c .before .before .wider2 .ensures .0) in
+    omega (arith, l .inv .1, c .loop-test .left, c .before .before .from-entry2 .ensures .0) in
     λ p e.
     let n = all-seen (a .pre .2 .indexed) p e (a .args .reader) (l .i) (a .pre .1) (l .inv .0) f in
     sym (ap markByte (none-any (isMarked (now (a .args .marks)) (a .args .input))
@@ -157,8 +157,8 @@ mark-of-spec =
     (λ c κs. search needs) (λ c. omega (arith, small (c .before .before .before .before)))
     (λ c. omega (arith, small (c .before .before .before .before)))
     (λ c. omega (arith, small (c .before .before .before .before)))
-    (λ c κs. search needs) loop-holds (λ c. omega (arith, c .loop-test .taken, c .before .before .wider2 .ensures .1))
+    (λ c κs. search needs) loop-holds (λ c. omega (arith, c .loop-test .taken, c .before .before .from-entry2 .ensures .1))
     (λ c. let b = c .before in in-table (ix b) (ix b .program) (ix b .parsed) (x b) (i b) (lt b) (low b) (high b))
     (λ c κs. search needs) taken-at-requires (λ c κs. search needs) (λ c κs. signal-small c) returns
-    (λ c. let l = b (c .before .before) in omega (arith, l .loop-test .taken, l .before .before .wider2 .ensures .1))
+    (λ c. let l = b (c .before .before) in omega (arith, l .loop-test .taken, l .before .before .from-entry2 .ensures .1))
     (λ c. let l = b (c .before .before) in omega (arith, l .loop-test .taken)) loop-again returns-2)

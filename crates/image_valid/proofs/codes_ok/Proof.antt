@@ -68,7 +68,7 @@ module _ (o : tie.After-code-offset2 Inv-loop μ-loop) where
   starts-at = o .before .before .code-offset .ensures
 
   middle-at : middle ≡ codeOffset image half
-  middle-at = o .code-offset2 .ensures ∙ ap (codeOffset image) (o .before .wide2 .ensures .0)
+  middle-at = o .code-offset2 .ensures ∙ ap (codeOffset image) (o .before .from-byte2 .ensures .0)
 
   checks : WithTables image n (o .before .before .before .before .before .shapes .result)
       (o .before .before .before .before .ceilings .result)

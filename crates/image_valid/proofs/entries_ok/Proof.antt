@@ -21,7 +21,7 @@ begins : (a : tie.After-lists-at) → let image = a .before .before .before .arg
 begins a =
     let w = a .before in
     let s = w .before .before in
-    rw (a .lists-at .ensures, w .wide .ensures .0, s .pre .2, s .pre .3)
+    rw (a .lists-at .ensures, w .from-byte .ensures .0, s .pre .2, s .pre .3)
 
 holds : (a : tie.After-lists-at) → a .lists-at .result ≤ start a .args .end
 holds a = omega (arith, begins a, start a .pre .4, room _ (listed (start a)))
@@ -30,7 +30,7 @@ lists-at-requires : tie.Need-lists-at-requires
 lists-at-requires c κs =
     let s = c .before .before in
     let h = head _ (s .pre .0) in
-    (omega (arith, c .wide .ensures .0, s .pre .2, h .signals), omega (arith, s .pre .3, h .hyper))
+    (omega (arith, c .from-byte .ensures .0, s .pre .2, h .signals), omega (arith, s .pre .3, h .hyper))
 
 returns : tie.Need-returns
 returns c =

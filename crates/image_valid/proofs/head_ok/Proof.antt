@@ -25,7 +25,7 @@ returns-3 c =
     rw (
       le-leb 4 _ (o .before .if1 .left),
       eq-eqb _ _ (sym (o .stated-length .ensures) ∙ e2 .if2 .left),
-      ← (w1 .wide .ensures .0),
+      ← (w1 .from-byte .ensures .0),
       lt-leb 1 _ (c .if3 .taken),
     )
 
@@ -39,7 +39,7 @@ returns-4 c =
     rw (
       le-leb 4 _ (o .before .if1 .left),
       eq-eqb _ _ (sym (o .stated-length .ensures) ∙ e2 .if2 .left),
-      ← (w1 .wide .ensures .0),
+      ← (w1 .from-byte .ensures .0),
       le-leb 1 _ (c .before .if3 .left),
       lt-leb _ 240 (c .if4 .taken),
     )
@@ -54,8 +54,8 @@ returns-5 c =
     rw (
       le-leb 4 _ (o .before .if1 .left),
       eq-eqb _ _ (sym (o .stated-length .ensures) ∙ e2 .if2 .left),
-      ← (w1 .wide .ensures .0),
-      ← (w2 .wide2 .ensures .0),
+      ← (w1 .from-byte .ensures .0),
+      ← (w2 .from-byte2 .ensures .0),
       le-leb 1 _ (c .before .before .if3 .left),
       le-leb _ 240 (c .before .if4 .left),
       lt-leb _ 64 (c .if5 .taken),
@@ -71,8 +71,8 @@ returns-6 c =
     rw (
       le-leb 4 _ (o .before .if1 .left),
       eq-eqb _ _ (sym (o .stated-length .ensures) ∙ e2 .if2 .left),
-      ← (w1 .wide .ensures .0),
-      ← (w2 .wide2 .ensures .0),
+      ← (w1 .from-byte .ensures .0),
+      ← (w2 .from-byte2 .ensures .0),
       le-leb 1 _ (c .before .before .before .if3 .left),
       le-leb _ 240 (c .before .before .if4 .left),
       le-leb _ 64 (c .before .if5 .left),

@@ -12,11 +12,11 @@ returns : tie.Need-returns
 unfolding endsCode
 returns c = rw (sym (c .before .is-last .ensures) ∙ not-true _ (c .if1 .taken))
 
-abbrev start : tie.After-wide2 → tie.Start
+abbrev start : tie.After-from-byte2 → tie.Start
 start w = w .before .before .before .before .before .before .before
 
 code-offset-requires : tie.Need-code-offset-requires
-code-offset-requires c κs = (start c .pre .0, c .before .wide .ensures .0 ∙ start c .pre .1)
+code-offset-requires c κs = (start c .pre .0, c .before .from-byte .ensures .0 ∙ start c .pre .1)
 
 returns-2 : tie.Need-returns-2
 unfolding endsCode
@@ -25,7 +25,7 @@ returns-2 c =
     let e = w .before .before in
     rw (
       sym (e .before .is-last .ensures) ∙ not-false _ (e .if1 .left),
-      c .code-offset .ensures ∙ ap (λ (k : ℕ). codeOffset (start w .args .image .now) (k + 1)) (w .wide2 .ensures .0),
+      c .code-offset .ensures ∙ ap (λ (k : ℕ). codeOffset (start w .args .image .now) (k + 1)) (w .from-byte2 .ensures .0),
     )
 
 pub is-end-spec : {M : Type 1} → statement M

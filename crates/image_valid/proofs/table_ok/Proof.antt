@@ -35,7 +35,7 @@ returns-2 c =
     let w = c .before in
     let e = w .before .before in
     let s = e .before .before .before in
-    ap₂ eqb (c .code-offset .ensures) (ap (λ (n : ℕ). s .args .at + 1 + 12 * n) (w .wide .ensures .0)) ∙
+    ap₂ eqb (c .code-offset .ensures) (ap (λ (n : ℕ). s .args .at + 1 + 12 * n) (w .from-byte .ensures .0)) ∙
     sym (by-area (s .args .image .now) (s .args .at) true (s .pre .2)
     (sym (e .before .area-ok .ensures) ∙ not-false _ (e .if1 .left)))
 
@@ -43,5 +43,5 @@ pub table-ok-spec : {M : Type 1} → statement M
 table-ok-spec =
     tie.close
     (tie.spec (λ c κs. search needs) returns (λ c. good (c .before) .inside) (λ c κs. search needs)
-    (λ c. omega (arith, good (c .before .before) .inside)) (λ c. omega (arith, c .wide .ensures .1))
-    (λ c. omega (arith, good (c .before .before) .inside, c .wide .ensures .1)) (λ c κs. search needs) returns-2)
+    (λ c. omega (arith, good (c .before .before) .inside)) (λ c. omega (arith, c .from-byte .ensures .1))
+    (λ c. omega (arith, good (c .before .before) .inside, c .from-byte .ensures .1)) (λ c κs. search needs) returns-2)

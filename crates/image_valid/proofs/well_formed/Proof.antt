@@ -27,7 +27,7 @@ shared-slice-read-n : tie.Need-shared-slice-read-n
 shared-slice-read-n c = omega (arith, head _ (good (c .before .before .before)) .four)
 
 lists-ok-requires : tie.Need-lists-ok-requires
-lists-ok-requires c κs = let w = c .before .before in (good (w .before .before), c .wide2 .ensures .0, w .wide .ensures .0)
+lists-ok-requires c κs = let w = c .before .before in (good (w .before .before), c .from-byte2 .ensures .0, w .from-byte .ensures .0)
 
 returns-2 : tie.Need-returns-2
 returns-2 c = let l = c .before in
@@ -40,11 +40,11 @@ judged e = e .before .before .before .before .before .before
 
 table-offset-requires : tie.Need-table-offset-requires
 table-offset-requires c κs =
-    (good (judged c), c .before .before .wide2 .ensures .0, c .before .before .before .before .wide .ensures .0)
+    (good (judged c), c .before .before .from-byte2 .ensures .0, c .before .before .before .before .from-byte .ensures .0)
 
 table-ok-requires : tie.Need-table-ok-requires
 table-ok-requires c κs =
-    (good (judged (c .before)), c .before .before .before .wide2 .ensures .0, c .table-offset .ensures)
+    (good (judged (c .before)), c .before .before .before .from-byte2 .ensures .0, c .table-offset .ensures)
 
 returns-3 : tie.Need-returns-3
 returns-3 c =
@@ -65,7 +65,7 @@ entries-ok-requires c κs =
       good (judged e),
       listed e,
       refl,
-      e .before .before .before .before .wide .ensures .0,
+      e .before .before .before .before .from-byte .ensures .0,
       c .before .before .table-offset .ensures,
     )
 

@@ -10,32 +10,32 @@ use Rattle.model.specs.Rules.Word.{byteAt}
 use Rattle.image_valid_code.proofs.after.Statement.{statement}
 use Rattle.image_valid_code.proofs.after.Tie as tie
 
-abbrev start : tie.After-wide3 → tie.Start
+abbrev start : tie.After-from-byte3 → tie.Start
 start w = w .before .before .before .before .before .before .before
 
-abbrev byte : tie.After-wide3 → ℕ
+abbrev byte : tie.After-from-byte3 → ℕ
 byte w = byteAt (start w .args .code .now) (start w .args .at)
 
-abbrev Small : tie.After-wide3 → Type 0
+abbrev Small : tie.After-from-byte3 → Type 0
 Small w = (byte w < 256) × (byteAt (start w .args .code .now) (start w .args .at + 1) < 256)
 
-small : (w : tie.After-wide3) → Small w
+small : (w : tie.After-from-byte3) → Small w
 small w =
-    let b = w .before .before .before .before .wide .ensures in
-    let x = w .before .before .wide2 .ensures in
+    let b = w .before .before .before .before .from-byte .ensures in
+    let x = w .before .before .from-byte2 .ensures in
     (rw (b .0) at (b .1), rw (x .0) at (x .1))
 
 -- the entry of a table for the byte
-shape : (w : tie.After-wide3) → w .wide3 .result ≡ byteAt (start w .args .shapes .now) (byte w)
-shape w = w .wide3 .ensures .0 ∙
-    ap (λ (i : ℕ). getD (start w .args .shapes .now) i 0) (w .before .before .before .before .wide .ensures .0)
+shape : (w : tie.After-from-byte3) → w .from-byte3 .result ≡ byteAt (start w .args .shapes .now) (byte w)
+shape w = w .from-byte3 .ensures .0 ∙
+    ap (λ (i : ℕ). getD (start w .args .shapes .now) i 0) (w .before .before .before .before .from-byte .ensures .0)
 
-abbrev tables : tie.After-wide4 → tie.After-wide3
+abbrev tables : tie.After-from-byte4 → tie.After-from-byte3
 tables l = l .before .before .before .before
 
-ceiling : (l : tie.After-wide4) → l .wide4 .result ≡ byteAt (start (tables l) .args .ceilings .now) (byte (tables l))
-ceiling l = l .wide4 .ensures .0 ∙
-    ap (λ (i : ℕ). getD (start (tables l) .args .ceilings .now) i 0) (tables l .before .before .before .before .wide .ensures .0)
+ceiling : (l : tie.After-from-byte4) → l .from-byte4 .result ≡ byteAt (start (tables l) .args .ceilings .now) (byte (tables l))
+ceiling l = l .from-byte4 .ensures .0 ∙
+    ap (λ (i : ℕ). getD (start (tables l) .args .ceilings .now) i 0) (tables l .before .before .before .before .from-byte .ensures .0)
 
 over : {a b m x : ℕ} → a ≡ m → b ≡ x → a < b → m < x
 over e f h = omega arith
@@ -55,8 +55,8 @@ returns-2 c =
     (simp (few, lt-ltb _ _ (rw (shape w) at (c .if2 .taken))), small w .0, small w .1)
 
 -- the stack's words are in the range
-module _ (l : tie.After-wide4) where
-  abbrev w : tie.After-wide3
+module _ (l : tie.After-from-byte4) where
+  abbrev w : tie.After-from-byte3
   w = tables l
 
   enough : 64 < start w .args .h + byteAt (start w .args .shapes .now) (byte w)
@@ -72,7 +72,7 @@ returns-3 c =
       simp (
         lt-leb _ _ (enough l),
         le-ltb _ _ (most l),
-        lt-ltb _ _ (over (ceiling l) (tables l .before .before .wide2 .ensures .0) (c .if3 .taken)),
+        lt-ltb _ _ (over (ceiling l) (tables l .before .before .from-byte2 .ensures .0) (c .if3 .taken)),
       ),
       small (tables l) .0,
       small (tables l) .1,
@@ -85,7 +85,7 @@ returns-4 c =
       rw (shape (tables l)) (simp (
         lt-leb _ _ (enough l),
         le-ltb _ _ (most l),
-        le-ltb _ _ (under (ceiling l) (tables l .before .before .wide2 .ensures .0) (c .if3 .left)),
+        le-ltb _ _ (under (ceiling l) (tables l .before .before .from-byte2 .ensures .0) (c .if3 .left)),
       )),
       small (tables l) .0,
       small (tables l) .1,

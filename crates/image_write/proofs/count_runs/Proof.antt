@@ -38,11 +38,11 @@ loop-holds c =
     )
 
 -- the signal of the turn
-small : (w : tie.After-wide Inv-loop μ-loop) → w .wide .result < 64
+small : (w : tie.After-from-byte Inv-loop μ-loop) → w .from-byte .result < 64
 small w =
     omega (
       arith,
-      w .wide .ensures .0,
+      w .from-byte .ensures .0,
       w .before .before .before .before .pre .0 .below (w .before .before .before .loop .i)
           (w .before .before .loop-test .taken),
     )
@@ -52,7 +52,7 @@ add-runs-requires c κs =
     let w = c .before .before .before in
     let l = w .before .before .before in
     let s = l .before in (
-      rw (w .wide .ensures .0) (s .pre .1 (l .loop .i) (w .before .before .loop-test .taken)),
+      rw (w .from-byte .ensures .0) (s .pre .1 (l .loop .i) (w .before .before .loop-test .taken)),
       s .pre .2,
       l .loop .inv .1,
       (λ d lt. omega (arith, l .loop .inv .2 d lt, w .before .before .loop-test .taken, s .pre .0 .few)),
@@ -81,7 +81,7 @@ loop-again c =
           omega (
             arith,
             r .raised d ld,
-            ap {B = ℕ} (λ (x : ℕ). cond (due (rateAt (now (a .periods)) (now (a .phases)) x) d) 1 0) (w .wide .ensures .0),
+            ap {B = ℕ} (λ (x : ℕ). cond (due (rateAt (now (a .periods)) (now (a .phases)) x) d) 1 0) (w .from-byte .ensures .0),
             run-size (now (a .periods)) (now (a .phases)) d (getD (now (a .order)) (l .loop .i) 0),
             parts-length (list-step (now (a .periods)) (now (a .order)) (now (a .phases)) (a .n) d (l .loop .i) lt),
             i .3 d ld,

@@ -21,8 +21,8 @@ abbrev μ-loop : tie.MeasureT-loop
 μ-loop text places n out₀ to end₀ x₀ out end x = n - x
 
 -- where signal x is declared
-module _ (w : tie.After-wider Inv-loop μ-loop) where
-  abbrev named : tie.After-narrow Inv-loop μ-loop
+module _ (w : tie.After-from-entry Inv-loop μ-loop) where
+  abbrev named : tie.After-to-byte Inv-loop μ-loop
   named = w .before .before
 
   abbrev s : tie.Start Inv-loop μ-loop
@@ -40,25 +40,25 @@ module _ (w : tie.After-wider Inv-loop μ-loop) where
   within : x < length g
   within = omega (arith, lt, s .pre .0 .count-is)
 
-  stands : nth g x .place ≡ w .wider .result
-  stands = s .pre .0 .stands x lt ∙ sym (w .wider .ensures .0)
+  stands : nth g x .place ≡ w .from-entry .result
+  stands = s .pre .0 .stands x lt ∙ sym (w .from-entry .ensures .0)
 
 loop-holds : tie.Need-loop-holds Inv-loop μ-loop
 loop-holds c = (omega arith, rw (codes-start (declaredBy (c .before .before .args .text .now))) starts)
 
-narrow-requires : tie.Need-narrow-requires Inv-loop μ-loop
-narrow-requires c κs = omega (arith, c .before .before .before .before .pre .0 .few)
+to-byte-requires : tie.Need-to-byte-requires Inv-loop μ-loop
+to-byte-requires c κs = omega (arith, c .before .before .before .before .pre .0 .few)
 
-mul-wider : tie.Need-mul-wider Inv-loop μ-loop
-mul-wider c = omega (arith, c .before .before .before .before .before .pre .0 .few)
+mul-from-entry : tie.Need-mul-from-entry Inv-loop μ-loop
+mul-from-entry c = omega (arith, c .before .before .before .before .before .pre .0 .few)
 
-element-copy-out-wider : tie.Need-element-copy-out-wider Inv-loop μ-loop
-element-copy-out-wider c = omega (arith, c .before .before .before .before .before .pre .0 .few)
+element-copy-out-from-entry : tie.Need-element-copy-out-from-entry Inv-loop μ-loop
+element-copy-out-from-entry c = omega (arith, c .before .before .before .before .before .pre .0 .few)
 
 emit-signal-requires : tie.Need-emit-signal-requires Inv-loop μ-loop
 emit-signal-requires c κs =
     let w = c .before in
-    rw (named w .narrow .ensures)
+    rw (named w .to-byte .ensures)
     (record {
       here = record { signal = nth (g w) (x w); stands = stands w; spelled = s w .pre .0 .spelled (x w) (lt w) };
       fits = room (codes-next (g w) (x w) (within w)) (named w .before .before .loop .inv .1) (s w .pre .1);
@@ -74,7 +74,7 @@ loop-again : tie.Need-loop-again Inv-loop μ-loop
 loop-again c =
     let w = c .before .before .before .before in
     let p =
-    (rw (named w .narrow .ensures) at (c .before .before .emit-signal .ensures)) .puts (nth (g w) (x w)) (stands w)
+    (rw (named w .to-byte .ensures) at (c .before .before .emit-signal .ensures)) .puts (nth (g w) (x w)) (stands w)
     (s w .pre .0 .spelled (x w) (lt w)) in (
       omega (arith, lt w),
       turn (codes-next (g w) (x w) (within w)) (named w .before .before .loop .inv .1) (record { holds = p .0; ends = p .1 }),
@@ -89,5 +89,5 @@ returns c =
 pub emit-codes-spec : {M : Type 1} → statement M
 emit-codes-spec =
     tie.close
-    (tie.spec Inv-loop μ-loop loop-holds narrow-requires mul-wider element-copy-out-wider (λ c κs. search needs)
+    (tie.spec Inv-loop μ-loop loop-holds to-byte-requires mul-from-entry element-copy-out-from-entry (λ c κs. search needs)
     emit-signal-requires add-x loop-less loop-again (λ c. c .before .loop .inv .1 .size) returns)

@@ -26,7 +26,7 @@ abbrev μ-loop : tie.MeasureT-loop
 μ-loop periods order phases n h nexts₀ out₀ to i₀ nexts out i = n - i
 
 -- the signal whose runs are written
-module _ (w : tie.After-wide Inv-loop μ-loop) where
+module _ (w : tie.After-from-byte Inv-loop μ-loop) where
   abbrev top : tie.At-loop Inv-loop μ-loop
   top = w .before .before .before
 
@@ -39,18 +39,18 @@ module _ (w : tie.After-wide Inv-loop μ-loop) where
   abbrev x : ℕ
   x = getD (s .args .order .now) (top .loop .i) 0
 
-  below : w .wide .result < 64
-  below = omega (arith, w .wide .ensures .0, s .pre .0 .0 .below (top .loop .i) lt)
+  below : w .from-byte .result < 64
+  below = omega (arith, w .from-byte .ensures .0, s .pre .0 .0 .below (top .loop .i) lt)
 
-  timed : getD (s .args .phases .now) (w .wide .result) 0 < getD (s .args .periods .now) (w .wide .result) 0
+  timed : getD (s .args .phases .now) (w .from-byte .result) 0 < getD (s .args .periods .now) (w .from-byte .result) 0
   timed =
-      subst (λ (y : ℕ). getD (s .args .phases .now) y 0 < getD (s .args .periods .now) y 0) (sym (w .wide .ensures .0))
+      subst (λ (y : ℕ). getD (s .args .phases .now) y 0 < getD (s .args .periods .now) y 0) (sym (w .from-byte .ensures .0))
       (s .pre .0 .1 (top .loop .i) lt)
 
   abbrev left : ℕ → ℕ → List ℕ
   left i c = listFrom (s .args .periods .now) (s .args .order .now) (s .args .phases .now) (s .args .n) c i
 
-  splits : Splits (rateAt (s .args .periods .now) (s .args .phases .now) (w .wide .result)) x (s .args .h) (left (top .loop .i))
+  splits : Splits (rateAt (s .args .periods .now) (s .args .phases .now) (w .from-byte .result)) x (s .args .h) (left (top .loop .i))
       (left (top .loop .i + 1))
   unfolding due
   splits =
@@ -58,7 +58,7 @@ module _ (w : tie.After-wide Inv-loop μ-loop) where
       (λ (y : ℕ).
       Splits (rateAt (s .args .periods .now) (s .args .phases .now) y) x (s .args .h) (left (top .loop .i))
       (left (top .loop .i + 1)))
-      (sym (w .wide .ensures .0))
+      (sym (w .from-byte .ensures .0))
       (λ c lc.
       list-step (s .args .periods .now) (s .args .order .now) (s .args .phases .now) (s .args .n) c (top .loop .i) lt .is)
 
@@ -114,23 +114,23 @@ loop-again c =
     let e = c .before .before .emit-runs .ensures in
     (omega (arith, lt w), e .0, e .1 _ _ _ (left w (l .i)) (left w (l .i + 1)) (l .inv .2) (splits w))
 
-mul-wider : tie.Need-mul-wider Inv-loop μ-loop
-mul-wider c = omega (arith, c .before .before .before .pre .0 .2)
+mul-from-entry : tie.Need-mul-from-entry Inv-loop μ-loop
+mul-from-entry c = omega (arith, c .before .before .before .pre .0 .2)
 
-element-copy-out-wider : tie.Need-element-copy-out-wider Inv-loop μ-loop
-element-copy-out-wider c = omega (arith, c .before .before .before .pre .0 .2)
+element-copy-out-from-entry : tie.Need-element-copy-out-from-entry Inv-loop μ-loop
+element-copy-out-from-entry c = omega (arith, c .before .before .before .pre .0 .2)
 
 add-result : tie.Need-add-result Inv-loop μ-loop
 add-result c =
     let l = c .before .before .before .loop in
-    omega (arith, c .wider .ensures .0, l .inv .2 .last, l .inv .2 .fits)
+    omega (arith, c .from-entry .ensures .0, l .inv .2 .last, l .inv .2 .fits)
 
 returns : tie.Need-returns Inv-loop μ-loop
 returns c =
     let l = c .before .before .before .loop in
     let b = c .before .before .before .before .before in
     let all = joined (listsBy (b .args .periods .now) (b .args .order .now) (b .args .phases .now) (b .args .n) (b .args .h)) in
-    subst (λ (k : ℕ). Wrote (b .args .out .now) (b .args .to) all (l .out) (b .args .to + k)) (sym (c .wider .ensures .0))
+    subst (λ (k : ℕ). Wrote (b .args .out .now) (b .args .to) all (l .out) (b .args .to + k)) (sym (c .from-entry .ensures .0))
     (pending-done
     (λ d lt.
     list-ends (b .args .periods .now) (b .args .order .now) (b .args .phases .now) (b .args .n) d (l .i)
@@ -141,5 +141,5 @@ pub emit-lists-spec : {M : Type 1} → statement M
 emit-lists-spec =
     tie.close
     (tie.spec Inv-loop μ-loop loop-holds element-copy-out-x (λ c κs. search needs) (λ c. below (c .before))
-    (λ c. below (c .before .before)) emit-runs-requires add-i loop-less loop-again mul-wider element-copy-out-wider
+    (λ c. below (c .before .before)) emit-runs-requires add-i loop-less loop-again mul-from-entry element-copy-out-from-entry
     (λ c κs. search needs) add-result (λ c. c .before .before .before .loop .inv .2 .size) returns)

@@ -67,7 +67,7 @@ module _ (t : tie.At-loop Inv-loop μ-loop) where
   small = omega (arith, so-far, few start-of)
 
 -- where the length of a list is known
-module _ (w : tie.After-widest Inv-loop μ-loop) where
+module _ (w : tie.After-from-count Inv-loop μ-loop) where
   abbrev at : tie.At-loop Inv-loop μ-loop
   at = w .before .before .before .before .before .before
 
@@ -77,10 +77,10 @@ module _ (w : tie.After-widest Inv-loop μ-loop) where
   lt : at .loop .c < h s
   lt = w .before .before .before .before .before .loop-test .taken
 
-  runs-are : w .widest .result ≡ length (f s (at .loop .c))
-  runs-are = w .widest .ensures ∙ at .before .count-runs .ensures .counted (at .loop .c) lt
+  runs-are : w .from-count .result ≡ length (f s (at .loop .c))
+  runs-are = w .from-count .ensures ∙ at .before .count-runs .ensures .counted (at .loop .c) lt
 
-  further : at .loop .before + w .widest .result + length (joinedFrom (f s) (h s) (at .loop .c + 1)) ≡ total s
+  further : at .loop .before + w .from-count .result + length (joinedFrom (f s) (h s) (at .loop .c + 1)) ≡ total s
   further = omega (arith, at .loop .inv .2, parts-length (joined-step (f s) (h s) (at .loop .c) lt), runs-are)
 
 loop-holds : tie.Need-loop-holds Inv-loop μ-loop
@@ -107,13 +107,13 @@ put-offset-requires c κs =
     room (pairs-step (f b) (h b) (b .args .start + t .loop .before) (t .loop .c) (c .before .loop-test .taken))
     (t .loop .inv .3) (b .pre .3)
 
-mul-widest : tie.Need-mul-widest Inv-loop μ-loop
-mul-widest c =
+mul-from-count : tie.Need-mul-from-count Inv-loop μ-loop
+mul-from-count c =
     let t = c .before .before .before .before in
     omega (arith, t .loop-test .taken, start-of (t .before) .pre .1 .2)
 
-array-read-widest : tie.Need-array-read-widest Inv-loop μ-loop
-array-read-widest c =
+array-read-from-count : tie.Need-array-read-from-count Inv-loop μ-loop
+array-read-from-count c =
     let t = c .before .before .before .before in
     omega (arith, t .loop-test .taken, start-of (t .before) .pre .1 .2)
 
@@ -121,7 +121,7 @@ loop-again : tie.Need-loop-again Inv-loop μ-loop
 loop-again c =
     let b = s c in
     let l = at c .loop in
-    let e : b .args .start + l .before + length (f b (l .c)) ≡ b .args .start + (l .before + c .widest .result) =
+    let e : b .args .start + l .before + length (f b (l .c)) ≡ b .args .start + (l .before + c .from-count .result) =
     omega (arith, runs-are c) in (
       omega (arith, lt c),
       length-set (l .starts) (l .c) _ ∙ l .inv .1,
@@ -129,7 +129,7 @@ loop-again c =
       rw (← e)
           (turn (pairs-step (f b) (h b) (b .args .start + l .before) (l .c) (lt c)) (l .inv .3)
           (c .before .before .before .put-offset .ensures)),
-      prefix-next (f b) (h b) (l .c) (l .before) (c .widest .result) (lt c) (runs-are c) (l .inv .4),
+      prefix-next (f b) (h b) (l .c) (l .before) (c .from-count .result) (lt c) (runs-are c) (l .inv .4),
       starts-more (f b) (h b) (l .starts) (l .c) (l .before) (omega (arith, lt c, l .inv .1, b .pre .1 .2))
           (prefix-stands (f b) (h b) (l .c) (l .before) (lt c) (l .inv .4)) (l .inv .5),
     )
@@ -179,7 +179,7 @@ emit-offsets-spec =
     tie.close
     (tie.spec Inv-loop μ-loop (λ c κs. c .before .pre .1) loop-holds (λ c. omega (arith, small (c .before)))
     (λ c. omega (arith, start-of (c .before) .pre .1 .2)) (λ c. omega (arith, start-of (c .before) .pre .1 .2)) add-put-offset
-    put-offset-requires mul-widest array-read-widest (λ c κs. search needs) (λ c. omega (arith, further c, few (s c)))
+    put-offset-requires mul-from-count array-read-from-count (λ c κs. search needs) (λ c. omega (arith, further c, few (s c)))
     (λ c. omega (arith, lt c, s c .pre .1 .2)) (λ c. omega (arith, lt c)) loop-again (λ c. omega (arith, small (c .before)))
     (λ c. omega (arith, start-of (c .before) .pre .1 .2)) (λ c. omega (arith, start-of (c .before) .pre .1 .2)) add-put-offset-2
     put-offset-requires-2 same-length returns)

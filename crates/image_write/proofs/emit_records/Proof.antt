@@ -44,7 +44,7 @@ module _ (s : tie.Start Inv-loop μ-loop) where
   many = omega (arith, starts-many 0 (s .args .start) g)
 
 -- where the code of signal x starts
-module _ (w : tie.After-wider Inv-loop μ-loop) where
+module _ (w : tie.After-from-entry Inv-loop μ-loop) where
   abbrev s : tie.Start Inv-loop μ-loop
   s = w .before .before .before .before .before .before
 
@@ -54,33 +54,33 @@ module _ (w : tie.After-wider Inv-loop μ-loop) where
   within : x ≤ length (g s)
   within = omega (arith, s .pre .0 .count-is, w .before .before .loop-test .taken)
 
-  starts-at : s .args .start + w .wider .result ≡ getD (at s) x 0
-  starts-at = ap (λ (m : ℕ). s .args .start + m) (w .wider .ensures .0) ∙ s .pre .1 x within
+  starts-at : s .args .start + w .from-entry .result ≡ getD (at s) x 0
+  starts-at = ap (λ (m : ℕ). s .args .start + m) (w .from-entry .ensures .0) ∙ s .pre .1 x within
 
 loop-holds : tie.Need-loop-holds Inv-loop μ-loop
 loop-holds c =
     let b = c .before .before in
     (omega arith, rw (records-start (g b) (at b)) starts)
 
-mul-wider : tie.Need-mul-wider Inv-loop μ-loop
-mul-wider c = omega (arith, c .before .before .before .before .pre .0 .few)
+mul-from-entry : tie.Need-mul-from-entry Inv-loop μ-loop
+mul-from-entry c = omega (arith, c .before .before .before .before .pre .0 .few)
 
-element-copy-out-wider : tie.Need-element-copy-out-wider Inv-loop μ-loop
-element-copy-out-wider c = omega (arith, c .before .before .before .before .pre .0 .few)
+element-copy-out-from-entry : tie.Need-element-copy-out-from-entry Inv-loop μ-loop
+element-copy-out-from-entry c = omega (arith, c .before .before .before .before .pre .0 .few)
 
-mul-wider-2 : tie.Need-mul-wider-2 Inv-loop μ-loop
-mul-wider-2 c = omega (arith, s c .pre .0 .few, c .before .before .loop-test .taken)
+mul-from-entry-2 : tie.Need-mul-from-entry-2 Inv-loop μ-loop
+mul-from-entry-2 c = omega (arith, s c .pre .0 .few, c .before .before .loop-test .taken)
 
-element-copy-out-wider-2 : tie.Need-element-copy-out-wider-2 Inv-loop μ-loop
-element-copy-out-wider-2 c = omega (arith, s c .pre .0 .few, c .before .before .loop-test .taken)
+element-copy-out-from-entry-2 : tie.Need-element-copy-out-from-entry-2 Inv-loop μ-loop
+element-copy-out-from-entry-2 c = omega (arith, s c .pre .0 .few, c .before .before .loop-test .taken)
 
 -- where the signal is declared
-stands : (d : tie.After-wider2 Inv-loop μ-loop) →
+stands : (d : tie.After-from-entry2 Inv-loop μ-loop) →
     let w = d .before .before in
-    nth (g (s w)) (x w) .place ≡ d .wider2 .result
+    nth (g (s w)) (x w) .place ≡ d .from-entry2 .result
 stands d =
     let w = d .before .before in
-    s w .pre .0 .stands (x w) (w .before .before .loop-test .taken) ∙ sym (d .wider2 .ensures .0)
+    s w .pre .0 .stands (x w) (w .before .before .loop-test .taken) ∙ sym (d .from-entry2 .ensures .0)
 
 add-put-record : tie.Need-add-put-record Inv-loop μ-loop
 add-put-record c =
@@ -134,6 +134,6 @@ returns c =
 pub emit-records-spec : {M : Type 1} → statement M
 emit-records-spec =
     tie.close
-    (tie.spec Inv-loop μ-loop loop-holds mul-wider element-copy-out-wider (λ c κs. search needs) mul-wider-2
-    element-copy-out-wider-2 (λ c κs. search needs) add-put-record put-record-requires add-x loop-less loop-again
+    (tie.spec Inv-loop μ-loop loop-holds mul-from-entry element-copy-out-from-entry (λ c κs. search needs) mul-from-entry-2
+    element-copy-out-from-entry-2 (λ c κs. search needs) add-put-record put-record-requires add-x loop-less loop-again
     (λ c. c .before .loop .inv .1 .size) returns)

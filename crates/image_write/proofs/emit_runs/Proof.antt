@@ -36,7 +36,7 @@ abbrev μ-loop : tie.MeasureT-loop
 μ-loop nexts₀ x period phase h out₀ to step c₀ nexts out c = h - c
 
 -- the run in cycle c
-module _ (w : tie.After-wider Inv-loop μ-loop) where
+module _ (w : tie.After-from-entry Inv-loop μ-loop) where
   abbrev top : tie.At-loop Inv-loop μ-loop
   top = w .before .before .before
 
@@ -72,20 +72,20 @@ module _ (w : tie.After-wider Inv-loop μ-loop) where
       (top .loop .out) (top .loop .nexts)
   pending = top .loop .inv .3 (begun .all) (begun .l) (begun .after) (begun .old) (begun .new) (begun .pending) (begun .splits)
 
-  inside : s .args .to + w .wider .result < length (top .loop .out)
+  inside : s .args .to + w .from-entry .result < length (top .loop .out)
   inside =
       omega (
         arith,
-        w .wider .ensures .0,
+        w .from-entry .ensures .0,
         entry-inside pending c (s .args .x) lt (first (begun .old) (begun .new) (begun .splits))
             (others (begun .old) (begun .new) (begun .splits)) room,
       )
 
-  small : w .wider .result < 65535
+  small : w .from-entry .result < 65535
   small =
       omega (
         arith,
-        w .wider .ensures .0,
+        w .from-entry .ensures .0,
         entry-small pending c (s .args .x) lt (first (begun .old) (begun .new) (begun .splits))
             (others (begun .old) (begun .new) (begun .splits)) room,
       )
@@ -94,19 +94,19 @@ loop-holds : tie.Need-loop-holds Inv-loop μ-loop
 loop-holds c =
     let b = c .before .before .before in
     let r = rate (b .args .period) (b .args .phase) in (
-      c .before .wide .ensures .0,
+      c .before .from-byte .ensures .0,
       b .pre .2,
-      rw (c .wide2 .ensures .0) (due-first r (b .pre .0)),
+      rw (c .from-byte2 .ensures .0) (due-first r (b .pre .0)),
       λ all l after old new p q.
-          rw (c .wide2 .ensures .0)
+          rw (c .from-byte2 .ensures .0)
           (pending-same (first-mixed r (b .pre .0) (b .args .x) (b .args .h) old new q) p),
     )
 
-mul-wider : tie.Need-mul-wider Inv-loop μ-loop
-mul-wider c = omega (arith, c .before .before .before .before .before .pre .1)
+mul-from-entry : tie.Need-mul-from-entry Inv-loop μ-loop
+mul-from-entry c = omega (arith, c .before .before .before .before .before .pre .1)
 
-element-copy-out-wider : tie.Need-element-copy-out-wider Inv-loop μ-loop
-element-copy-out-wider c = omega (arith, c .before .before .before .before .before .pre .1)
+element-copy-out-from-entry : tie.Need-element-copy-out-from-entry Inv-loop μ-loop
+element-copy-out-from-entry c = omega (arith, c .before .before .before .before .before .pre .1)
 
 add-out : tie.Need-add-out Inv-loop μ-loop
 add-out c = omega (arith, inside c, pending c .size, begun c .pending .size)
@@ -123,7 +123,7 @@ loop-again w =
       λ all k after old new p q.
           pending-same (λ d ld. ap (λ (j : ℕ). mixed old new (l .c + j) d) (sym (l .inv .0)))
           (pending-written (l .inv .3 all k after old new p q) (l .c) (s w .args .x) (lt w) (first w old new q)
-          (others w old new q) (room w) (w .wider .result) (w .wider .ensures .0)),
+          (others w old new q) (room w) (w .from-entry .result) (w .from-entry .ensures .0)),
     )
 
 same-length : tie.Need-same-length Inv-loop μ-loop
@@ -146,7 +146,7 @@ returns c =
 pub emit-runs-spec : {M : Type 1} → statement M
 emit-runs-spec =
     tie.close
-    (tie.spec Inv-loop μ-loop (λ c κs. search needs) (λ c κs. search needs) loop-holds mul-wider element-copy-out-wider
+    (tie.spec Inv-loop μ-loop (λ c κs. search needs) (λ c κs. search needs) loop-holds mul-from-entry element-copy-out-from-entry
     (λ c κs. search needs) add-out inside (λ c. omega (arith, small c)) (λ c. omega (arith, small c))
     (λ c. omega (arith, lt c, s c .pre .1)) (λ c. omega (arith, lt c, s c .pre .1)) add-c
     (λ c. omega (arith, lt c, v c, top c .loop .inv .0)) loop-again same-length returns)

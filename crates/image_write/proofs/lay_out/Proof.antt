@@ -22,16 +22,16 @@ use Rattle.image_write.proofs.lay_out.Tie as tie
 few : (s : tie.Start) → s .args .tables .signals ≤ 64
 few s = declared (s .pre .1 .prepared) .few
 
-mul-wider : tie.Need-mul-wider
-mul-wider c = omega (arith, few (c .before))
+mul-from-entry : tie.Need-mul-from-entry
+mul-from-entry c = omega (arith, few (c .before))
 
-array-read-wider : tie.Need-array-read-wider
-array-read-wider c = omega (arith, few (c .before))
+array-read-from-entry : tie.Need-array-read-from-entry
+array-read-from-entry c = omega (arith, few (c .before))
 
 lay-out-code-requires : tie.Need-lay-out-code-requires
 lay-out-code-requires c κs =
     let r = c .before .before .pre .1 in
-    (timed (r .prepared), phased (r .prepared), r .hyper, omega (arith, c .wider .ensures .1), few-rows (r .prepared))
+    (timed (r .prepared), phased (r .prepared), r .hyper, omega (arith, c .from-entry .ensures .1), few-rows (r .prepared))
 
 returns : tie.Need-returns
 returns c =
@@ -46,7 +46,7 @@ returns c =
         length-by r (s .args .h),
         l .code-at,
         l .ends,
-        c .before .wider .ensures .0,
+        c .before .from-entry .ensures .0,
         code-size r,
         table-size r,
       );
@@ -57,7 +57,7 @@ returns c =
             l .code-at,
             l .ends,
             l .tail-ends,
-            c .before .wider .ensures .0,
+            c .before .from-entry .ensures .0,
             code-size r,
             count-is r,
             table-size r,
@@ -67,4 +67,4 @@ returns c =
 pub lay-out-spec : {M : Type 1} → statement M
 lay-out-spec =
     tie.close
-    (tie.spec mul-wider array-read-wider (λ c κs. search needs) lay-out-code-requires returns)
+    (tie.spec mul-from-entry array-read-from-entry (λ c κs. search needs) lay-out-code-requires returns)

@@ -27,7 +27,7 @@ module _ (c : tie.After-slice-known2) where
 
   labelled : Wrote (start .args .out .now) (start .args .to) (twoBytes (start .args .label))
       (c .before .before .put-offset .last .0) (c .before .before .put-offset .result)
-  labelled = rw (c .before .before .before .before .wider .ensures .0) at (c .before .before .put-offset .ensures)
+  labelled = rw (c .before .before .before .before .from-entry .ensures .0) at (c .before .before .put-offset .ensures)
 
   here : c .before .before .put-offset .result ≡ start .args .to + 2
   here = omega (arith, labelled .ends, two-long (start .args .label))

@@ -14,7 +14,7 @@ returns : tie.Need-returns
 returns c =
     let c4 = c .before .before .before .before in
     let c5 = c4 .before in
-    let p = rw (c5 .narrow .ensures, c4 .narrow2 .ensures) at (c .before .before .put-offset .ensures) in
+    let p = rw (c5 .to-byte .ensures, c4 .to-byte2 .ensures) at (c .before .before .put-offset .ensures) in
     record { holds = p .holds; ends = omega (arith, p .ends) }
 
 pub put-head-spec : {M : Type 1} → statement M

@@ -2,9 +2,9 @@
 use mathlib.Core.Path.{_≡_, sym, _∙_}
 use denote.Ref.{now}
 use Rattle.basics.proofs.Judgements.{answers-fine, answers-refused}
-use Rattle.join_verdict.proofs.Steps.{none-parts}
+use Rattle.join_verdict.proofs.Verdict.{none-parts}
 use Rattle.join.specs.Ready.{JoinReady}
-use Rattle.join.proofs.Answers.{join-refused}
+use Rattle.join.proofs.Join.{join-refused}
 use Rattle.join.proofs.Written.{lents}
 use borrow.Author.Needs.{needs}
 use Rattle.join.proofs.join.Statement.{statement}

@@ -9,12 +9,12 @@ use Rattle.join_check.proofs.number_of.Tie as tie
 
 sum-is : (c : tie.After-result) →
     let s = c .before .before .before .before .before .before in
-    getD (s .args .bases .now) (c .before .before .before .wide .result) 0 + c .before .wide2 .result ≡
+    getD (s .args .bases .now) (c .before .before .before .from-byte .result) 0 + c .before .from-byte2 .result ≡
     getD (s .args .bases .now) (getD (s .args .links .now) (s .args .at) 0) 0 + getD (s .args .links .now) (s .args .at + 1) 0
 sum-is c =
     let s = c .before .before .before .before .before .before in
-    ap₂ (λ (k x : ℕ). getD (s .args .bases .now) k 0 + x) (c .before .before .before .wide .ensures .0)
-    (c .before .wide2 .ensures .0)
+    ap₂ (λ (k x : ℕ). getD (s .args .bases .now) k 0 + x) (c .before .before .before .from-byte .ensures .0)
+    (c .before .from-byte2 .ensures .0)
 
 add-result : tie.Need-add-result
 add-result c = omega (arith, sum-is c, c .before .before .before .before .before .before .pre .2)

@@ -23,11 +23,11 @@ loop-holds c =
     let a = c .before .before .args in
     (omega arith, rw (codes-left (a .text .now) (a .base) (a .last) (a .sources .now)) starts)
 
-mul-wider : tie.Need-mul-wider Inv-loop μ-loop
-mul-wider c = omega (arith, c .before .before .before .before .pre .0 .few, c .loop-test .taken)
+mul-from-entry : tie.Need-mul-from-entry Inv-loop μ-loop
+mul-from-entry c = omega (arith, c .before .before .before .before .pre .0 .few, c .loop-test .taken)
 
-element-copy-out-wider : tie.Need-element-copy-out-wider Inv-loop μ-loop
-element-copy-out-wider c = omega (arith, c .before .before .before .before .pre .0 .few, c .loop-test .taken)
+element-copy-out-from-entry : tie.Need-element-copy-out-from-entry Inv-loop μ-loop
+element-copy-out-from-entry c = omega (arith, c .before .before .before .before .pre .0 .few, c .loop-test .taken)
 
 element-copy-out-emit-joined : tie.Need-element-copy-out-emit-joined Inv-loop μ-loop
 element-copy-out-emit-joined c =
@@ -43,7 +43,7 @@ emit-joined-requires c κs =
     let a = s .args in
     let f = codeAs (a .text .now) (a .base) (a .sources .now) in (
       declaredAs (a .text .now) (a .base) (l .x),
-      here (s .pre .0) (l .inv .0) (t .loop-test .taken) (a .sources .now) (w .wider .ensures .0)
+      here (s .pre .0) (l .inv .0) (t .loop-test .taken) (a .sources .now) (w .from-entry .ensures .0)
           (room (joined-step f (a .last) (l .x) (t .loop-test .taken)) (l .inv .1) (s .pre .1)),
     )
 
@@ -66,7 +66,7 @@ loop-again c =
     let p = joined-step (codeAs (a .text .now) (a .base) (a .sources .now)) (a .last) (l .x) (t .loop-test .taken) in (
       omega (arith, l .inv .0),
       turn p (l .inv .1)
-          (code-wrote (s .pre .0) (l .inv .0) (t .loop-test .taken) (a .sources .now) (w .wider .ensures .0)
+          (code-wrote (s .pre .0) (l .inv .0) (t .loop-test .taken) (a .sources .now) (w .from-entry .ensures .0)
           (room p (l .inv .1) (s .pre .1)) (e .emit-joined .ensures)),
     )
 
@@ -79,5 +79,5 @@ returns c =
 pub emit-part-codes-spec : {M : Type 1} → statement M
 emit-part-codes-spec =
     tie.close
-    (tie.spec Inv-loop μ-loop loop-holds mul-wider element-copy-out-wider (λ c κs. search needs) element-copy-out-emit-joined
+    (tie.spec Inv-loop μ-loop loop-holds mul-from-entry element-copy-out-from-entry (λ c κs. search needs) element-copy-out-emit-joined
     emit-joined-requires add-x loop-less loop-again (λ c. c .before .loop .inv .1 .size) returns)

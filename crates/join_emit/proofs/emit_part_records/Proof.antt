@@ -24,19 +24,19 @@ loop-holds c =
     let a = c .before .before .args in
     (omega arith, rw (records-left (a .text .now) (a .base) (a .last) (a .codes .now) (a .start)) starts)
 
-mul-wider : tie.Need-mul-wider Inv-loop μ-loop
-mul-wider c = omega (arith, c .before .before .before .before .pre .0 .few, c .loop-test .taken)
+mul-from-entry : tie.Need-mul-from-entry Inv-loop μ-loop
+mul-from-entry c = omega (arith, c .before .before .before .before .pre .0 .few, c .loop-test .taken)
 
-element-copy-out-wider : tie.Need-element-copy-out-wider Inv-loop μ-loop
-element-copy-out-wider c = omega (arith, c .before .before .before .before .pre .0 .few, c .loop-test .taken)
+element-copy-out-from-entry : tie.Need-element-copy-out-from-entry Inv-loop μ-loop
+element-copy-out-from-entry c = omega (arith, c .before .before .before .before .pre .0 .few, c .loop-test .taken)
 
-mul-wider-2 : tie.Need-mul-wider-2 Inv-loop μ-loop
-mul-wider-2 c =
+mul-from-entry-2 : tie.Need-mul-from-entry-2 Inv-loop μ-loop
+mul-from-entry-2 c =
     let t = c .before .before in
     omega (arith, t .before .before .before .before .pre .0 .few, t .loop-test .taken)
 
-element-copy-out-wider-2 : tie.Need-element-copy-out-wider-2 Inv-loop μ-loop
-element-copy-out-wider-2 c =
+element-copy-out-from-entry-2 : tie.Need-element-copy-out-from-entry-2 Inv-loop μ-loop
+element-copy-out-from-entry-2 c =
     let t = c .before .before in
     omega (arith, t .before .before .before .before .pre .0 .few, t .loop-test .taken)
 
@@ -44,7 +44,7 @@ add-put-record : tie.Need-add-put-record Inv-loop μ-loop
 add-put-record c =
     let w = c .before .before in
     let s = w .before .before .before .before .before .before in
-    omega (arith, w .wider .ensures .1, s .pre .1, s .good .0 .1)
+    omega (arith, w .from-entry .ensures .1, s .pre .1, s .good .0 .1)
 
 put-record-requires : tie.Need-put-record-requires Inv-loop μ-loop
 put-record-requires c κs =
@@ -54,7 +54,7 @@ put-record-requires c κs =
     let s = t .before .before .before .before in
     let a = s .args in
     let f = recordAs (a .text .now) (a .base) (a .codes .now) (a .start) in (
-      record-here (s .pre .0) (l .inv .0) (t .loop-test .taken) (v .wider2 .ensures .0),
+      record-here (s .pre .0) (l .inv .0) (t .loop-test .taken) (v .from-entry2 .ensures .0),
       omega (
         arith,
         record-length (a .text .now) (a .base) (a .codes .now) (a .start) (l .x),
@@ -81,10 +81,10 @@ loop-again c =
     let a = s .args in
     let f = recordAs (a .text .now) (a .base) (a .codes .now) (a .start) in
     let e =
-    record-is (s .pre .0) (l .inv .0) (t .loop-test .taken) (a .codes .now) (a .start) (v .wider2 .ensures .0) in (
+    record-is (s .pre .0) (l .inv .0) (t .loop-test .taken) (a .codes .now) (a .start) (v .from-entry2 .ensures .0) in (
       omega (arith, l .inv .0),
       turn (rw e at (joined-step f (a .last) (l .x) (t .loop-test .taken))) (l .inv .1)
-          (rw (w .wider .ensures .0) at (p .put-record .ensures)),
+          (rw (w .from-entry .ensures .0) at (p .put-record .ensures)),
     )
 
 returns : tie.Need-returns Inv-loop μ-loop
@@ -97,6 +97,6 @@ returns c =
 pub emit-part-records-spec : {M : Type 1} → statement M
 emit-part-records-spec =
     tie.close
-    (tie.spec Inv-loop μ-loop loop-holds mul-wider element-copy-out-wider (λ c κs. search needs) mul-wider-2
-    element-copy-out-wider-2 (λ c κs. search needs) add-put-record put-record-requires add-x loop-less loop-again
+    (tie.spec Inv-loop μ-loop loop-holds mul-from-entry element-copy-out-from-entry (λ c κs. search needs) mul-from-entry-2
+    element-copy-out-from-entry-2 (λ c κs. search needs) add-put-record put-record-requires add-x loop-less loop-again
     (λ c. c .before .loop .inv .1 .size) returns)

@@ -50,8 +50,8 @@ number-of-requires-2 c κs =
     let t = c .before in
     (omega (arith, inside t .whole), inside t .other, rw (add-assoc (4 * i t) 2 1) (inside t .source))
 
-narrow-requires : tie.Need-narrow-requires Inv-loop μ-loop
-narrow-requires c κs =
+to-byte-requires : tie.Need-to-byte-requires Inv-loop μ-loop
+to-byte-requires c κs =
     let t = c .before .before in
     omega (arith, rw (add-assoc (4 * i t) 2 1) at (c .number-of2 .ensures), inside t .source)
 
@@ -68,8 +68,8 @@ loop-again c =
     let t = c .before .before .before in
     let l = t .before .loop in
     let f = wireBy (s t .args .links .now) (s t .args .bases .now) in
-    let w : c .narrow .result ≡ f (i t) .signal =
-    c .narrow .ensures ∙ (rw (add-assoc (4 * i t) 2 1) at (c .before .number-of2 .ensures)) in
+    let w : c .to-byte .result ≡ f (i t) .signal =
+    c .to-byte .ensures ∙ (rw (add-assoc (4 * i t) 2 1) at (c .before .number-of2 .ensures)) in
     let r : c .before .before .number-of .result ≡ f (i t) .input = c .before .before .number-of .ensures in (
       omega (arith, l .inv .0),
       length-set (l .sources) _ _ ∙ l .inv .1,
@@ -88,5 +88,5 @@ returns c =
 pub sources-of-spec : {M : Type 1} → statement M
 sources-of-spec =
     tie.close
-    (tie.spec Inv-loop μ-loop loop-holds sub-i mul-at number-of-requires add-number-of number-of-requires-2 narrow-requires
+    (tie.spec Inv-loop μ-loop loop-holds sub-i mul-at number-of-requires add-number-of number-of-requires-2 to-byte-requires
     array-write-sources loop-less loop-again returns)

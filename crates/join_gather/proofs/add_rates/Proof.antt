@@ -40,7 +40,7 @@ loop-again c =
       (λ e. fill-next _ _ _ (l .x) _ _ _ (i .4 e) (omega (arith, e, i .0, i .1, t .loop-test .taken)) refl),
       (λ e.
           fill-next _ _ _ (l .x) _ _ _ (i .5 e) (omega (arith, e, i .0, i .1, t .loop-test .taken))
-          (ap (λ (n : ℕ). eqb (byteAt (s .args .program .now) n) 0x10) (c .before .wider .ensures .0))),
+          (ap (λ (n : ℕ). eqb (byteAt (s .args .program .now) n) 0x10) (c .before .from-entry .ensures .0))),
     )
 
 returns : tie.Need-returns Inv-loop μ-loop
@@ -63,7 +63,7 @@ add-rates-spec =
     (λ c. omega (arith, c .before .before .loop .inv .0, c .before .before .loop .inv .1, c .before .loop-test .taken))
     (λ c.
     let t = c .before .before in
-    omega (arith, t .before .loop .inv .3 (t .before .loop .x) (t .loop-test .taken), c .before .wider .ensures .0))
+    omega (arith, t .before .loop .inv .3 (t .before .loop .x) (t .loop-test .taken), c .before .from-entry .ensures .0))
     (λ c.
     let t = c .before .before in
     omega (arith, t .before .loop .inv .0, t .before .loop .inv .1, t .loop-test .taken))

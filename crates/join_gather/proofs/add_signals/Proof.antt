@@ -35,7 +35,7 @@ loop-holds : tie.Need-loop-holds Inv-loop μ-loop
 loop-holds c =
     let s = begun (c .before) in (
       refl,
-      omega (arith, c .wider .ensures .0, c .wider .ensures .1),
+      omega (arith, c .from-entry .ensures .0, c .from-entry .ensures .1),
       s .pre .1,
       omega arith,
       s .pre .0,
@@ -60,7 +60,7 @@ module _ (t : tie.In-loop Inv-loop μ-loop) where
   room : first + t .before .loop .x < 64
   room = let l = t .before .loop in omega (arith, l .inv .0, l .inv .2, t .loop-test .taken)
 
-abbrev turn : tie.After-wide2 Inv-loop μ-loop → tie.In-loop Inv-loop μ-loop
+abbrev turn : tie.After-from-byte2 Inv-loop μ-loop → tie.In-loop Inv-loop μ-loop
 turn c = c .before .before .before
 
 loop-again : tie.Need-loop-again Inv-loop μ-loop
@@ -84,14 +84,14 @@ loop-again c =
         codes =
             rw e
             (copy-next _ _ (l .x) _ _ _ (a .codes) (omega (arith, rm, sp .codes))
-            (ap (λ (n : ℕ). n % 65536) (omega (arith, c .before .before .wider2 .ensures .0))));
+            (ap (λ (n : ℕ). n % 65536) (omega (arith, c .before .before .from-entry2 .ensures .0))));
         order =
             copy-next _ _ (l .x) _ _ _ (a .order) (omega (arith, rm, sp .order))
-            (ap (λ (n : ℕ). n % 256) (omega (arith, c .before .wide .ensures .0)));
+            (ap (λ (n : ℕ). n % 256) (omega (arith, c .before .from-byte .ensures .0)));
         phases = copy-next _ _ (l .x) _ _ _ (a .phases) (omega (arith, rm, sp .phases)) refl;
         ranks =
             copy-next _ _ (l .x) _ _ _ (a .ranks) (omega (arith, rm, sp .ranks))
-            (ap (λ (n : ℕ). n % 256) (omega (arith, c .wide2 .ensures .0)));
+            (ap (λ (n : ℕ). n % 256) (omega (arith, c .from-byte2 .ensures .0)));
         bases = a .bases;
       },
     )
@@ -101,7 +101,7 @@ returns c =
     let l = c .before .loop in
     let s = begun (c .before .before .before) in
     let e : l .x ≡ s .args .tables .signals = omega (arith, l .inv .3, c .loop-test .left) in
-    rw (sym (c .before .before .wider .ensures .0), sym e) (l .inv .5)
+    rw (sym (c .before .before .from-entry .ensures .0), sym e) (l .inv .5)
 
 pub add-signals-spec : {M : Type 1} → statement M
 add-signals-spec =
@@ -109,10 +109,10 @@ add-signals-spec =
     (tie.spec Inv-loop μ-loop (λ c. omega (arith, begun c .pre .1)) (λ c. omega (arith, begun c .pre .1))
     (λ c κs. search needs) loop-holds (λ c. omega (arith, room c)) (λ c. omega (arith, room c)) (λ c. omega (arith, room c))
     (λ c. omega (arith, room c)) (λ c κs. search needs)
-    (λ c. omega (arith, c .wider2 .ensures .1, c .before .before .loop .inv .1)) (λ c. omega (arith, room (c .before)))
-    (λ c κs. search needs) (λ c. omega (arith, c .wide .ensures .1, room (c .before .before)))
+    (λ c. omega (arith, c .from-entry2 .ensures .1, c .before .before .loop .inv .1)) (λ c. omega (arith, room (c .before)))
+    (λ c κs. search needs) (λ c. omega (arith, c .from-byte .ensures .1, room (c .before .before)))
     (λ c. omega (arith, room (c .before .before))) (λ c κs. search needs)
-    (λ c. omega (arith, c .wide2 .ensures .1, room (turn c))) (λ c. omega (arith, room (turn c)))
+    (λ c. omega (arith, c .from-byte2 .ensures .1, room (turn c))) (λ c. omega (arith, room (turn c)))
     (λ c. omega (arith, room (turn c))) (λ c. omega (arith, room (turn c))) (λ c. omega (arith, room (turn c)))
     (λ c. omega (arith, room (turn c))) (λ c. omega (arith, room (turn c))) (λ c. omega (arith, room (turn c)))
     (λ c. omega (arith, room (turn c))) (λ c. omega (arith, room (turn c))) (λ c. omega (arith, room (turn c)))

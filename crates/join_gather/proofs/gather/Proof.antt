@@ -9,7 +9,7 @@ use Rattle.model.specs.Rules.Join.{partsIn, textsAt, lent, programText, partPai
 use Rattle.model.specs.Rules.Outcome.{accepted}
 use Rattle.model.specs.Rules.Parts.{Part}
 use Rattle.model.specs.Rules.Search.{sum, table}
-use Rattle.check_pair.specs.Answers.{Checks}
+use Rattle.check_pair.specs.Checked.{Checks}
 use Rattle.basics.proofs.Judgements.{answers-fine, answers-refused}
 use Rattle.join_gather.specs.Gathering.{GatheredAs}
 use Rattle.join_gather.specs.Joint.{JointOf}

@@ -56,7 +56,7 @@ returns-3 c =
     )
 
 -- the entry of the IN
-module _ (c : tie.After-wide2) where
+module _ (c : tie.After-from-byte2) where
   abbrev declared : tie.Else1
   declared = c .before .before .before .before .before .before .before
 
@@ -72,7 +72,7 @@ module _ (c : tie.After-wide2) where
 
 element-copy-out-result : tie.Need-element-copy-out-result
 element-copy-out-result c =
-    omega (arith, inside c .0, inside c .1, c .wide2 .ensures .0, c .before .wide .ensures .0)
+    omega (arith, inside c .0, inside c .1, c .from-byte2 .ensures .0, c .before .from-byte .ensures .0)
 
 returns-4 : tie.Need-returns-4
 returns-4 c =
@@ -98,7 +98,7 @@ returns-4 c =
                 sym (declared-period parts _ _ reader) ∙ sym one ∙ same ∙ two ∙ declared-period parts _ _ source;
           } in
           ap (λ (n : ℕ). getD (s .args .inputs .now) n false)
-          (omega (arith, w .wide2 .ensures .0, w .before .wide .ensures .0)) ∙
+          (omega (arith, w .from-byte2 .ensures .0, w .before .from-byte .ensures .0)) ∙
           f .each (getD links (s .args .at) 0) (getD links (s .args .at + 1) 0) (inside w .0) (inside w .1) ∙
           ap (λ (b : Bool).
           cond b (isInput (signalIn parts (getD links (s .args .at) 0) (getD links (s .args .at + 1) 0) .body)) false &&

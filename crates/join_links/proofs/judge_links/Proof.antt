@@ -82,7 +82,7 @@ returns-2 c =
     (c .refuse2 .ensures)
 
 -- the entry of its IN
-module _ (c : tie.After-wide2 Inv-loop μ-loop) where
+module _ (c : tie.After-from-byte2 Inv-loop μ-loop) where
   abbrev judged : tie.After-is-right Inv-loop μ-loop
   judged = c .before .before .before .before .before
 
@@ -109,7 +109,7 @@ module _ (c : tie.After-wide2 Inv-loop μ-loop) where
 
 element-write-inputs : tie.Need-element-write-inputs Inv-loop μ-loop
 element-write-inputs c =
-    omega (arith, inside c .0, inside c .1, c .wide2 .ensures .0, c .before .before .wide .ensures .0)
+    omega (arith, inside c .0, inside c .1, c .from-byte2 .ensures .0, c .before .before .from-byte .ensures .0)
 
 loop-again : tie.Need-loop-again Inv-loop μ-loop
 loop-again c =
@@ -124,7 +124,7 @@ loop-again c =
           record {
             free =
                 subst (λ (n : ℕ). FreeInputs parts (links c) (suc i) (set (l .inputs) n false))
-                (omega (arith, c .wide2 .ensures .0, c .before .before .wide .ensures .0))
+                (omega (arith, c .from-byte2 .ensures .0, c .before .before .from-byte .ensures .0))
                 (free-next parts (links c) i (l .at) (l .inputs) (l .inv .1) (p .free) (inside c .0) (inside c .1));
             first =
                 p .first ∙
@@ -158,6 +158,6 @@ judge-links-spec =
     tie.close
     (tie.spec Inv-loop μ-loop loop-holds (λ c. omega arith) (λ c κs. search needs) returns is-right-requires
     (λ c κs. search needs) returns-2 (λ c. omega arith) (λ c. omega arith) (λ c κs. search needs)
-    (λ c. omega (arith, c .wide .ensures .1)) (λ c. omega arith)
-    (λ c κs. search needs) (λ c. omega (arith, c .wide2 .ensures .1, c .before .before .wide .ensures .1)) element-write-inputs
+    (λ c. omega (arith, c .from-byte .ensures .1)) (λ c. omega arith)
+    (λ c κs. search needs) (λ c. omega (arith, c .from-byte2 .ensures .1, c .before .before .from-byte .ensures .1)) element-write-inputs
     (λ c. omega (arith, fits c)) (λ c. omega (arith, fits c)) loop-again returns-3)

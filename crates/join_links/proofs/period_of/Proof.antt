@@ -33,16 +33,16 @@ returns-3 c =
       (λ lt. (omega (arith, c4 .if1 .left), omega (arith, c .before .before .before .if2 .left))),
       (λ parts t.
           ap (λ (n : ℕ). getD (a .periods .now) n 0)
-          (omega (arith, c .before .wide2 .ensures .0, c .before .before .wide .ensures .0)) ∙
+          (omega (arith, c .before .from-byte2 .ensures .0, c .before .before .from-byte .ensures .0)) ∙
           t .each (a .part) (a .signal) (omega (arith, c4 .if1 .left)) (omega (arith, c .before .before .before .if2 .left))),
     )
 
 pub period-of-spec : {M : Type 1} → statement M
 period-of-spec =
     tie.close
-    (tie.spec returns returns-2 (λ c κs. search needs) (λ c. omega (arith, c .wide .ensures .1)) (λ c κs. search needs)
-    (λ c. omega (arith, c .wide2 .ensures .1, c .before .wide .ensures .1))
+    (tie.spec returns returns-2 (λ c κs. search needs) (λ c. omega (arith, c .from-byte .ensures .1)) (λ c κs. search needs)
+    (λ c. omega (arith, c .from-byte2 .ensures .1, c .before .from-byte .ensures .1))
     (λ c.
     let w = c .before in
-    omega (arith, c .wide2 .ensures .0, w .wide .ensures .0, w .before .if2 .left, w .before .before .if1 .left))
+    omega (arith, c .from-byte2 .ensures .0, w .from-byte .ensures .0, w .before .if2 .left, w .before .before .if1 .left))
     returns-3)

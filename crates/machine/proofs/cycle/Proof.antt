@@ -1,5 +1,5 @@
 -- `machine::cycle` meets its contract. Assumes nothing.
-use Rattle.machine.proofs.Answers.{gives-refusal, gives-done}
+use Rattle.machine.proofs.Machine.{gives-refusal, gives-done}
 use Rattle.machine.proofs.Judging.{judged-refused, judged-runs, runs-done}
 use borrow.Author.Needs.{needs}
 use Rattle.machine.proofs.cycle.Statement.{statement}

@@ -17,8 +17,8 @@ word e = getD (e .before .before .before .before .before .args .state .now) 0 (p
 stood : (e : tie.Else1) → Position (word e)
 stood e = position _ (e .before .position .given) (e .if1 .left)
 
-shared-slice-read-wide : tie.Need-shared-slice-read-wide
-shared-slice-read-wide c = omega (arith, head _ (formed _ (c .before .before .pre .0) .good) .four)
+shared-slice-read-from-byte : tie.Need-shared-slice-read-from-byte
+shared-slice-read-from-byte c = omega (arith, head _ (formed _ (c .before .before .pre .0) .good) .four)
 
 returns : tie.Need-returns
 returns c =
@@ -31,9 +31,9 @@ cast-c c = rw (stood c .back) (tt, record { fits = omega (arith, stood c .small)
 returns-2 : tie.Need-returns-2
 returns-2 c =
     let image = c .before .before .before .before .before .args .image .now in
-    rw (stood c .back, c .before .before .wide .ensures .0) (sym (stood c .test (hyperOf image)))
+    rw (stood c .back, c .before .before .from-byte .ensures .0) (sym (stood c .test (hyperOf image)))
 
 pub is-positioned-spec : {M : Type 1} → statement M
 is-positioned-spec =
     tie.close
-    (tie.spec shared-slice-read-wide (λ c κs. search needs) (λ c. c .before .before .before .pre .1) returns cast-c returns-2)
+    (tie.spec shared-slice-read-from-byte (λ c κs. search needs) (λ c. c .before .before .before .pre .1) returns cast-c returns-2)

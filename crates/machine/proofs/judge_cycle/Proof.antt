@@ -12,7 +12,7 @@ use Rattle.model.specs.Rules.Machine.{hyperOf, countOf, wellFormed, isPosition}
 use Rattle.image_valid.specs.Lends.{Lends}
 use Rattle.image_valid.proofs.Parts.{head, formed}
 use Rattle.machine.specs.Runnable.{JudgesCycle}
-use Rattle.machine.proofs.Answers.{cycle-image, cycle-state, cycle-position, cycle-samples}
+use Rattle.machine.proofs.Machine.{cycle-image, cycle-state, cycle-position, cycle-samples}
 use borrow.Author.Needs.{needs}
 use Rattle.machine.proofs.judge_cycle.Statement.{statement}
 use Rattle.machine.proofs.judge_cycle.Tie as tie
@@ -27,22 +27,22 @@ part e = e .before .before
 well : (e : tie.Else1) → wellFormed (image (part e)) ≡ true
 well e = sym (e .before .well-formed .ensures) ∙ not-false _ (e .if1 .left)
 
-abbrev checked : tie.After-wide → tie.Else1
+abbrev checked : tie.After-from-byte → tie.Else1
 checked w = w .before .before
 
-abbrev start : tie.After-wide → tie.Start
+abbrev start : tie.After-from-byte → tie.Start
 start w = part (checked w) .before .before
 
-abbrev here : tie.After-wide → List ℕ
+abbrev here : tie.After-from-byte → List ℕ
 here w = image (part (checked w))
 
-lends : (w : tie.After-wide) → Lends (start w .args .lent .now) (here w)
+lends : (w : tie.After-from-byte) → Lends (start w .args .lent .now) (here w)
 lends w = part (checked w) .image-in .ensures
 
 room : (e : tie.Else2) → ltb (countOf (here (e .before))) (length (start (e .before) .args .state .now)) ≡ true
 room e =
     lt-ltb (countOf (here (e .before))) (length (start (e .before) .args .state .now))
-    (omega (arith, e .before .wide .ensures .0, e .if2 .left))
+    (omega (arith, e .before .from-byte .ensures .0, e .if2 .left))
 
 -- where the position is one
 abbrev long : tie.Else3 → tie.Else2
@@ -58,15 +58,15 @@ returns c =
     JudgesCycle.refuses {n = 20} (omega arith)
     (cycle-image (w .before .image-in .ensures) _ _ (sym (w .well-formed .ensures) ∙ not-true _ (c .if1 .taken)))
 
-shared-slice-read-wide : tie.Need-shared-slice-read-wide
-shared-slice-read-wide c = omega (arith, head _ (formed _ (well (c .before)) .good) .four)
+shared-slice-read-from-byte : tie.Need-shared-slice-read-from-byte
+shared-slice-read-from-byte c = omega (arith, head _ (formed _ (well (c .before)) .good) .four)
 
 returns-2 : tie.Need-returns-2
 returns-2 c =
     let w = c .before in
     JudgesCycle.refuses {n = 21} (omega arith)
     (cycle-state (lends w) _ _ (well (checked w))
-    (le-ltb (countOf (here w)) (length (start w .args .state .now)) (omega (arith, w .wide .ensures .0, c .if2 .taken))))
+    (le-ltb (countOf (here w)) (length (start w .args .state .now)) (omega (arith, w .from-byte .ensures .0, c .if2 .taken))))
 
 returns-3 : tie.Need-returns-3
 returns-3 c =
@@ -82,7 +82,7 @@ returns-4 c =
     let w = long q .before in
     JudgesCycle.refuses {n = 23} (omega arith)
     (cycle-samples (lends w) _ _ (well (checked w)) (room (long q)) (stands q)
-    (lt-leb (countOf (here w)) (length (start w .args .samples .now)) (omega (arith, w .wide .ensures .0, c .if4 .taken))))
+    (lt-leb (countOf (here w)) (length (start w .args .samples .now)) (omega (arith, w .from-byte .ensures .0, c .if4 .taken))))
 
 returns-5 : tie.Need-returns-5
 returns-5 c =
@@ -91,13 +91,13 @@ returns-5 c =
     JudgesCycle.runs (lends w)
     (record {
       formed = well (checked w);
-      long = omega (arith, w .wide .ensures .0, long q .if2 .left);
+      long = omega (arith, w .from-byte .ensures .0, long q .if2 .left);
       position = stands q;
-      enough = omega (arith, w .wide .ensures .0, c .if4 .left);
+      enough = omega (arith, w .from-byte .ensures .0, c .if4 .left);
     })
 
 pub judge-cycle-spec : {M : Type 1} → statement M
 judge-cycle-spec =
     tie.close
-    (tie.spec (λ c κs. search needs) (λ c κs. search needs) returns shared-slice-read-wide (λ c κs. search needs) returns-2
+    (tie.spec (λ c κs. search needs) (λ c κs. search needs) returns shared-slice-read-from-byte (λ c κs. search needs) returns-2
     (λ c κs. (well (checked (c .before)), omega arith)) returns-3 returns-4 returns-5)

@@ -9,7 +9,7 @@ use lib.IntN.{ℤ}
 use lib.ListN.{length}
 use Rattle.model.specs.Rules.Machine.{countOf, wellFormed}
 use Rattle.image_valid.proofs.Parts.{head, formed}
-use Rattle.machine.proofs.Answers.{gives-refusal, gives-done, reset-image, reset-state, reset-done}
+use Rattle.machine.proofs.Machine.{gives-refusal, gives-done, reset-image, reset-state, reset-done}
 use borrow.Author.Needs.{needs}
 use Rattle.machine.proofs.reset.Statement.{statement}
 use Rattle.machine.proofs.reset.Tie as tie
@@ -24,10 +24,10 @@ part e = e .before .before
 well : (e : tie.Else1) → wellFormed (image (part e)) ≡ true
 well e = sym (e .before .well-formed .ensures) ∙ not-false _ (e .if1 .left)
 
-abbrev checked : tie.After-wide → tie.Else1
+abbrev checked : tie.After-from-byte → tie.Else1
 checked w = w .before .before
 
-abbrev state : tie.After-wide → List ℤ
+abbrev state : tie.After-from-byte → List ℤ
 state w = part (checked w) .before .before .args .state .now
 
 returns : tie.Need-returns
@@ -37,8 +37,8 @@ returns c =
     (reset-image (w .before .image-in .ensures) _ (sym (w .well-formed .ensures) ∙ not-true _ (c .before .if1 .taken)))
     (c .refused .ensures)
 
-shared-slice-read-wide : tie.Need-shared-slice-read-wide
-shared-slice-read-wide c = omega (arith, head _ (formed _ (well (c .before)) .good) .four)
+shared-slice-read-from-byte : tie.Need-shared-slice-read-from-byte
+shared-slice-read-from-byte c = omega (arith, head _ (formed _ (well (c .before)) .good) .four)
 
 returns-2 : tie.Need-returns-2
 returns-2 c =
@@ -46,11 +46,11 @@ returns-2 c =
     let w = t .before in
     gives-refusal
     (reset-state (part (checked w) .image-in .ensures) _ (well (checked w))
-    (le-ltb (countOf (image (part (checked w)))) (length (state w)) (omega (arith, w .wide .ensures .0, t .if2 .taken))))
+    (le-ltb (countOf (image (part (checked w)))) (length (state w)) (omega (arith, w .from-byte .ensures .0, t .if2 .taken))))
     (c .refused2 .ensures)
 
 initial-words-requires : tie.Need-initial-words-requires
-initial-words-requires c κs = let e = c .before in let w = e .before in (well (checked w), w .wide .ensures .0, e .if2 .left)
+initial-words-requires c κs = let e = c .before in let w = e .before in (well (checked w), w .from-byte .ensures .0, e .if2 .left)
 
 returns-3 : tie.Need-returns-3
 returns-3 c =
@@ -58,11 +58,11 @@ returns-3 c =
     let w = e .before in
     gives-done
     (reset-done (part (checked w) .image-in .ensures) _ (well (checked w))
-    (lt-ltb (countOf (image (part (checked w)))) (length (state w)) (omega (arith, w .wide .ensures .0, e .if2 .left))))
+    (lt-ltb (countOf (image (part (checked w)))) (length (state w)) (omega (arith, w .from-byte .ensures .0, e .if2 .left))))
     refl (c .before .initial-words .ensures)
 
 pub reset-spec : {M : Type 1} → statement M
 reset-spec =
     tie.close
-    (tie.spec (λ c κs. search needs) (λ c κs. search needs) (λ c κs. search needs) returns shared-slice-read-wide
+    (tie.spec (λ c κs. search needs) (λ c κs. search needs) (λ c κs. search needs) returns shared-slice-read-from-byte
     (λ c κs. search needs) (λ c κs. search needs) returns-2 initial-words-requires (λ c. search needs) returns-3)

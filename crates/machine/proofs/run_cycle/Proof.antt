@@ -35,8 +35,8 @@ below q = ltb-true _ _ (sym (here q .test (hyperOf (image q))) ∙ start q .pre 
 place : (q : tie.After-position) → natAbs (toZ w32 (ofZ w32 (word q))) ≡ positionOf (word q)
 place q = ap natAbs (here q .back)
 
-hyper : (q : tie.After-position) → q .before .before .wide .result ≡ hyperOf (image q)
-hyper q = q .before .before .wide .ensures .0
+hyper : (q : tie.After-position) → q .before .before .from-byte .result ≡ hyperOf (image q)
+hyper q = q .before .before .from-byte .ensures .0
 
 -- before the table and the list are taken
 abbrev stood : tie.After-run-list → tie.After-position
@@ -70,8 +70,8 @@ inside r =
     (list-is r) in
     omega (arith, e, lists-inside (image (stood r)) (positionOf (word (stood r))))
 
-shared-slice-read-wide : tie.Need-shared-slice-read-wide
-shared-slice-read-wide c = omega (arith, head _ (formed _ (c .before .before .pre .formed) .good) .four)
+shared-slice-read-from-byte : tie.Need-shared-slice-read-from-byte
+shared-slice-read-from-byte c = omega (arith, head _ (formed _ (c .before .before .pre .formed) .good) .four)
 
 shared-slice-read-n : tie.Need-shared-slice-read-n
 shared-slice-read-n c = omega (arith, head _ (formed _ (c .before .before .before .before .pre .formed) .good) .four)
@@ -111,7 +111,7 @@ returns c =
 pub run-cycle-spec : {M : Type 1} → statement M
 run-cycle-spec =
     tie.close
-    (tie.spec shared-slice-read-wide (λ c κs. search needs) shared-slice-read-n (λ c. search needs) cast-c
+    (tie.spec shared-slice-read-from-byte (λ c κs. search needs) shared-slice-read-n (λ c. search needs) cast-c
     (λ c κs. start c .pre .formed) (λ c κs. (start (c .before) .pre .formed, rw (place (c .before)) (below (c .before))))
     run-signals-requires next-position-requires (λ c. search needs)
     (λ c. search needs) returns)

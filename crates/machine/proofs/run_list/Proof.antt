@@ -23,14 +23,14 @@ rises o = let s = start o in rw (o .before .list-offset .ensures, o .list-offset
 
 list-offset-requires : tie.Need-list-offset-requires
 list-offset-requires c κs = let s = c .before .before .before in
-    (formed _ (s .pre .0) .good, c .wide .ensures .0, omega (arith, s .pre .1))
+    (formed _ (s .pre .0) .good, c .from-byte .ensures .0, omega (arith, s .pre .1))
 
 add-list-offset : tie.Need-add-list-offset
 add-list-offset c = let s = c .before .before .before .before in omega (arith, s .pre .1, top s .hyper)
 
 list-offset-requires-2 : tie.Need-list-offset-requires-2
 list-offset-requires-2 c κs = let s = c .before .before .before .before in
-    (formed _ (s .pre .0) .good, c .before .wide .ensures .0, omega (arith, s .pre .1))
+    (formed _ (s .pre .0) .good, c .before .from-byte .ensures .0, omega (arith, s .pre .1))
 
 part-result-end : tie.Need-part-result-end
 part-result-end c = let s = start c in

@@ -85,7 +85,7 @@ this : (o : tie.After-code-offset2 Inv-loop μ-loop)
 this o =
     let s = start (turn o) in
     let image = s .args .image .now in
-    let own = o .before .before .wide2 .ensures .0 in
+    let own = o .before .before .from-byte2 .ensures .0 in
     part _ _ _ _ _ (codes image (formed image (s .pre .0 .0) .coded) (signal o)
     (rw (← (s .pre .0 .1)) (s .pre .1 .0 (turn o .loop .i) (taken o)))) (s .pre .0 .1)
     (o .before .code-offset .ensures ∙ ap (codeOffset image) own)
@@ -93,11 +93,11 @@ this o =
 
 code-offset-requires : tie.Need-code-offset-requires Inv-loop μ-loop
 code-offset-requires c κs = let l = c .before .before .before in let s = start l in
-    (good s, l .before .wide .ensures .0 ∙ s .pre .0 .1)
+    (good s, l .before .from-byte .ensures .0 ∙ s .pre .0 .1)
 
 code-offset-requires-2 : tie.Need-code-offset-requires-2 Inv-loop μ-loop
 code-offset-requires-2 c κs = let l = c .before .before .before .before in let s = start l in
-    (good s, l .before .wide .ensures .0 ∙ s .pre .0 .1)
+    (good s, l .before .from-byte .ensures .0 ∙ s .pre .0 .1)
 
 -- the table
 tabled : (s : tie.Start Inv-loop μ-loop) → Served (s .args .image .now) (s .args .table .now)
@@ -117,17 +117,17 @@ run-code-requires c κs =
     )
 
 add-w : tie.Need-add-w Inv-loop μ-loop
-add-w c = let o = c .before .before .before .before in omega (arith, o .before .before .wide2 .ensures .1)
+add-w c = let o = c .before .before .before .before in omega (arith, o .before .before .from-byte2 .ensures .1)
 
 mul-w : tie.Need-mul-w Inv-loop μ-loop
-mul-w c = let o = c .before .before .before .before in omega (arith, o .before .before .wide2 .ensures .1)
+mul-w c = let o = c .before .before .before .before in omega (arith, o .before .before .from-byte2 .ensures .1)
 
 slice-set-from-w : tie.Need-slice-set-from-w Inv-loop μ-loop
 slice-set-from-w c =
     let o = c .before .before .before .before in
     let l = turn o in
     let s = start l in
-    omega (arith, o .before .before .wide2 .ensures .0, l .loop .inv .1, s .pre .1 .1 .0, s .pre .1 .0 (l .loop .i) (taken o))
+    omega (arith, o .before .before .from-byte2 .ensures .0, l .loop .inv .1, s .pre .1 .1 .0, s .pre .1 .0 (l .loop .i) (taken o))
 
 -- the commands of the turn's code
 counted : (r : tie.After-run-code Inv-loop μ-loop) → let o = r .before .before .before in
@@ -167,7 +167,7 @@ loop-again c =
     (this o .part) in (
       ap₂ (λ (k : ℕ) (w : ℤ). runSignals (a .image .now) (drop (l .loop .i + 1) (a .list .now)) (a .samples .now)
           (set (l .loop .state) (k + 1) w))
-          (o .before .before .wide2 .ensures .0) word
+          (o .before .before .from-byte2 .ensures .0) word
           ∙ sym (signals-next (a .image .now) (a .list .now) (l .loop .i) (a .samples .now) (l .loop .state) (taken o)) ∙
           l .loop .inv .0,
       simp length-set (l .loop .inv .1),
@@ -188,6 +188,6 @@ pub run-signals-spec : {M : Type 1} → statement M
 run-signals-spec =
     tie.close
     (tie.spec Inv-loop μ-loop (λ c κs. search needs) (λ c. (refl, refl, omega arith, omega arith)) (λ c. omega arith)
-    (λ c κs. search needs) code-offset-requires (λ c. omega (arith, c .before .wide2 .ensures .1)) code-offset-requires-2
+    (λ c κs. search needs) code-offset-requires (λ c. omega (arith, c .before .from-byte2 .ensures .1)) code-offset-requires-2
     (λ c. this c .ordered) (λ c. this c .ordered) (λ c. this c .within) run-code-requires add-w mul-w slice-set-from-w add-total
     (λ c. omega arith) (λ c. omega arith) loop-again (λ c. c .before .loop .inv .1) returns)

@@ -33,6 +33,6 @@ table-of-spec =
     (tie.spec (λ c. omega (arith, top (c .before .before) .four)) (λ c κs. search needs)
     (λ c. omega (arith, top (c .before .before .before .before) .four)) (λ c κs. search needs)
     (λ c κs. let s = c .before .before .before .before .before in
-    (formed _ (s .pre) .good, c .wide2 .ensures .0, c .before .before .wide .ensures .0))
+    (formed _ (s .pre) .good, c .from-byte2 .ensures .0, c .before .before .from-byte .ensures .0))
     (λ c κs. let s = c .before .before .before .before .before .before in
-    (formed _ (s .pre) .good, c .before .wide2 .ensures .0)) rises rises part-result-end returns)
+    (formed _ (s .pre) .good, c .before .from-byte2 .ensures .0)) rises rises part-result-end returns)

@@ -13,7 +13,7 @@ use Rattle.move_rule.proofs.narrow_by_chain.Tie as tie
 returns : tie.Need-returns
 returns c =
     let a = c .before .before .before in
-    let same = sym (c .before .before .wide .ensures .0) ∙ c .if1 .taken ∙ c .before .wide2 .ensures .0 in
+    let same = sym (c .before .before .from-byte .ensures .0) ∙ c .if1 .taken ∙ c .before .from-byte2 .ensures .0 in
     λ p s h ch t k.
     unnarrowed (a .pre .1) (λ x f lt below.
     same-stays p s h ch (a .args .leeway) k (a .pre .0 .kept) (t .last-byte) (t .source-byte) same x f (omega (
@@ -35,11 +35,11 @@ returns-2 c =
     let g = c .before .before .before in
     let r = a .args .leeway in
     let phases = now (a .args .phases) in
-    let last-same = w2 .before .wide .ensures .0 in
-    let first-same = w2 .wide2 .ensures .0 in
+    let last-same = w2 .before .from-byte .ensures .0 in
+    let first-same = w2 .from-byte2 .ensures .0 in
     λ p s h ch t k.
-    let at-last = n .before .before .before .wide3 .ensures .0 ∙ ap (λ x. getD phases x 0) last-same ∙ t .last-is in
-    let at-first = g .before .wide4 .ensures .0 ∙ ap (λ x. getD phases x 0) first-same ∙ t .source-is in
+    let at-last = n .before .before .before .from-byte3 .ensures .0 ∙ ap (λ x. getD phases x 0) last-same ∙ t .last-is in
+    let at-first = g .before .from-byte4 .ensures .0 ∙ ap (λ x. getD phases x 0) first-same ∙ t .source-is in
     narrowed-both (narrowed-at (n .narrow .ensures)) (narrowed-at (c .narrow2 .ensures)) (λ x f lt below.
     let stays = apart-stays p s h ch r k (a .pre .0 .kept) (t .last-byte) (t .source-byte)
     (λ z. e .if1 .left (last-same ∙ z ∙ sym first-same)) x f (omega (arith, t .short x lt)) in

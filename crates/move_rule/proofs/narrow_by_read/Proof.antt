@@ -32,11 +32,11 @@ returns c =
     let a = c .before .before in
     λ p s ρ t lr k o m.
     unnarrowed (a .pre .2) (λ x f lt below.
-    self-stays p s (a .args .reader) ρ m (ap (λ y. y .signal) (sym o) ∙ sym (c .before .wide .ensures .0) ∙ c .if1 .taken)
+    self-stays p s (a .args .reader) ρ m (ap (λ y. y .signal) (sym o) ∙ sym (c .before .from-byte .ensures .0) ∙ c .if1 .taken)
     (t .feasible .ordered .phases (a .args .reader) lr) x f below)
 
 -- The read, by what the tables say of it.
-module _ (c : tie.After-wide2) (p : Program) (s : Schedule) (ρ : Read) where
+module _ (c : tie.After-from-byte2) (p : Program) (s : Schedule) (ρ : Read) where
   abbrev start : tie.Start
   start =
       let b = c .before .before .before .before .before in
@@ -46,7 +46,7 @@ module _ (c : tie.After-wide2) (p : Program) (s : Schedule) (ρ : Read) where
   reader = start .args .reader
 
   abbrev read : ℕ
-  read = c .before .before .before .before .before .before .before .before .before .wide .result
+  read = c .before .before .before .before .before .before .before .before .before .from-byte .result
 
   abbrev rate : ℕ → Rate
   rate x = rateAt (now (start .args .periods)) (now (start .args .phases)) x
@@ -61,7 +61,7 @@ module _ (c : tie.After-wide2) (p : Program) (s : Schedule) (ρ : Read) where
       w = ρ .operands .signal
 
       signal-is : read ≡ w
-      signal-is = c .before .before .before .before .before .before .before .before .before .wide .ensures .0 ∙ ap (λ y.
+      signal-is = c .before .before .before .before .before .before .before .before .before .from-byte .ensures .0 ∙ ap (λ y.
           y .signal) o
 
       read-rate : rate read ≡ rateOf p s w
@@ -70,10 +70,10 @@ module _ (c : tie.After-wide2) (p : Program) (s : Schedule) (ρ : Read) where
       reader-rate : rate reader ≡ rateOf p s reader
       reader-rate = rate-is (now (start .args .periods)) (t .periods-are) (t .slots-are) reader lr
 
-      index-is : c .wide2 .result ≡ settled p s reader ρ
+      index-is : c .from-byte2 .result ≡ settled p s reader ρ
       unfolding settled
       index-is =
-          c .wide2 .ensures .0 ∙ c .before .settled-index .ensures ∙
+          c .from-byte2 .ensures .0 ∙ c .before .settled-index .ensures ∙
           (λ j. settledIndex (k j) (read-rate j) (reader-rate j) (o j .factor) (o j .index))
 
       before-here : first ≡ before s w reader
@@ -81,7 +81,7 @@ module _ (c : tie.After-wide2) (p : Program) (s : Schedule) (ρ : Read) where
           ap (λ y. ltb (getD (now (start .args .ranks)) y 0) (getD (now (start .args .ranks)) reader 0)) signal-is ∙
           before-is t w reader (m .declared) lr
 
-      met-in : (b : Bool) (q : Phases) → MetIn b (start .args .kind) (rate read) (rate reader) (c .wide2 .result) first q →
+      met-in : (b : Bool) (q : Phases) → MetIn b (start .args .kind) (rate read) (rate reader) (c .from-byte2 .result) first q →
           MetIn b (ρ .kind) (rateOf p s w) (rateOf p s reader) (settled p s reader ρ) (before s w reader) q
       met-in b q h = transport (λ j. MetIn b (k j) (read-rate j) (reader-rate j) (index-is j) (before-here j) q) h
 

@@ -65,7 +65,7 @@ module _ (b : tie.In-loop Inv-loop μ-loop) where
   low = b .before .loop .inv .0
 
   high : i < getD firsts (x + 1) 0
-  high = omega (arith, b .loop-test .taken, b .before .before .wider2 .ensures .0)
+  high = omega (arith, b .loop-test .taken, b .before .before .from-entry2 .ensures .0)
 
 small : (a : tie.Start Inv-loop μ-loop) → a .args .reader < 64
 small a = omega (arith, a .pre .1 .1, a .pre .1 .0 .tabled .few)
@@ -73,10 +73,10 @@ small a = omega (arith, a .pre .1 .1, a .pre .1 .0 .tabled .few)
 loop-holds : tie.Need-loop-holds Inv-loop μ-loop
 loop-holds c =
     let a = c .before .before .before .before .before .before in
-    let f = c .before .before .wider .ensures .0 in
+    let f = c .before .before .from-entry .ensures .0 in
     let k = a .pre .1 .0 in (
       omega (arith, f),
-      omega (arith, f, c .wider2 .ensures .0, rises-at (index k) (a .args .reader) (a .pre .1 .1)),
+      omega (arith, f, c .from-entry2 .ensures .0, rises-at (index k) (a .args .reader) (a .pre .1 .1)),
       a .pre .0,
       λ p s e t.
           subst (λ n. Narrowed p (FirstStay p s (a .args .reader) n) (now (a .args .lows)) (now (a .args .highs)) (now
@@ -88,7 +88,7 @@ loop-holds c =
 taken-at-requires : tie.Need-taken-at-requires Inv-loop μ-loop
 taken-at-requires c κs =
     let b = c .before .before in
-    subst (ReadStands _) (sym (c .wider3 .ensures .0))
+    subst (ReadStands _) (sym (c .from-entry3 .ensures .0))
     (read-stands (ix b) (known b .program) (known b .parsed) (x b) (i b) (lt b) (low b) (high b))
 
 -- The read that is taken.
@@ -103,7 +103,7 @@ module _ (t : tie.After-taken-at Inv-loop μ-loop) (p : Program) where
     taken : t .taken-at .result ≡ record { kind = ρ .kind; operands = ρ .operands }
     taken =
         taken-is (ix b) p e (x b) (i b) (lt b) (low b) (high b) (t .taken-at .result)
-        (subst (λ (k : ℕ). ReadTaken (now (start b .args .text)) k (t .taken-at .result)) (t .before .wider3 .ensures .0)
+        (subst (λ (k : ℕ). ReadTaken (now (start b .args .text)) k (t .taken-at .result)) (t .before .from-entry3 .ensures .0)
         (t .taken-at .ensures))
 
     reader-count : x b < count p
@@ -165,7 +165,7 @@ returns c =
     let a = c .before .before .before .before .before .before .before .before in
     let k = a .pre .1 .0 in
     let f : getD (now (a .args .firsts)) (a .args .reader + 1) 0 ≡ l .i =
-    omega (arith, l .inv .1, c .loop-test .left, c .before .before .wider2 .ensures .0) in (
+    omega (arith, l .inv .1, c .loop-test .left, c .before .before .from-entry2 .ensures .0) in (
       l .inv .2,
       λ p s e g.
           let n = all-seen (index k) p e (a .args .reader) (l .i) (a .pre .1 .1) (l .inv .0) f in
@@ -186,8 +186,8 @@ narrow-by-signal-spec =
       small
           (c .before .before .before .before),
     ))
-    (λ c κs. search needs) loop-holds (λ c. omega (arith, c .loop-test .taken, c .before .before .wider2 .ensures .1))
+    (λ c κs. search needs) loop-holds (λ c. omega (arith, c .loop-test .taken, c .before .before .from-entry2 .ensures .1))
     (λ c. let b = c .before in in-table (ix b) (known b .program) (known b .parsed) (x b) (i b) (lt b) (low b) (high b))
     (λ c κs. search needs) taken-at-requires narrow-by-read-requires
-    (λ c. let b = here c in omega (arith, b .loop-test .taken, b .before .before .wider2 .ensures .1))
+    (λ c. let b = here c in omega (arith, b .loop-test .taken, b .before .before .from-entry2 .ensures .1))
     (λ c. let b = here c in omega (arith, b .loop-test .taken)) loop-again returns)

@@ -37,9 +37,9 @@ loop-again c =
     let t = c .before .before in
     let l = t .before .loop in (
       omega (arith, t .loop-test .taken),
-      length-set (l .highs) (l .x) (c .wide .result) ∙ l .inv .1,
-      copied (l .highs) (now (t .before .before .args .periods)) (l .x) (c .wide .result) (t .loop-test .taken) (l .inv .1)
-          (c .wide .ensures .0) (l .inv .2),
+      length-set (l .highs) (l .x) (c .from-byte .result) ∙ l .inv .1,
+      copied (l .highs) (now (t .before .before .args .periods)) (l .x) (c .from-byte .result) (t .loop-test .taken) (l .inv .1)
+          (c .from-byte .ensures .0) (l .inv .2),
     )
 
 returns : tie.Need-returns Inv-loop μ-loop

@@ -21,7 +21,7 @@ returns c =
     (λ e. inr (λ k lt d. ap (λ b. isOver (capOf b (a .limit)) (getD (now (a .loads)) k 0 + a .weight)) free), λ h. refl)
 
 returns-2 : tie.Need-returns-2
-returns-2 c = (λ e. inl (c .if2 .taken ∙ c .before .wide .ensures .0), λ h. refl)
+returns-2 c = (λ e. inl (c .if2 .taken ∙ c .before .from-byte .ensures .0), λ h. refl)
 
 returns-3 : tie.Need-returns-3
 returns-3 c =
@@ -39,7 +39,7 @@ returns-3 c =
         let a = c .before .before .before .before .args in
         FitsAt (now (a .loads)) (a .capped) (a .limit) (a .period) (a .weight) (a .present) (a .h) (a .phase) →
         c .has-room .result ≡ true
-    room c (inl q) = absurd (c .before .if2 .left (q ∙ sym (c .before .before .wide .ensures .0)))
+    room c (inl q) = absurd (c .before .if2 .left (q ∙ sym (c .before .before .from-byte .ensures .0)))
     room c (inr h) =
         let a = c .before .before .before .before .args in
         let capped : a .capped ≡ true = not-false (a .capped) (c .before .before .before .if1 .left) in

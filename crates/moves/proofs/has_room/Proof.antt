@@ -63,7 +63,7 @@ loop-again c =
     let w = t .before .before in
     let a = w .before in
     let r = rate (a .args .period) (a .args .phase) in
-    let step : l .next + w .wide .result ≡ l .next + a .args .period = ap (l .next +_) (w .wide .ensures .0) in (
+    let step : l .next + w .from-byte .result ≡ l .next + a .args .period = ap (l .next +_) (w .from-byte .ensures .0) in (
       ap (due r) step ∙ due-next r (a .pre .0) (l .next) (l .inv .0),
       passed r (a .pre .0) (now (a .args .loads)) (a .args .limit) (a .args .weight) (l .next) _ step (l .inv .0) (l .inv .1)
           (le-ltb (a .args .limit) (getD (now (a .args .loads)) (l .next) 0 + a .args .weight)
@@ -83,8 +83,8 @@ has-room-spec =
     (λ c. omega (arith, c .loop-test .taken, c .before .before .before .pre .1)) (λ c κs. search needs) returns
     (λ c.
     let t = c .before .before .before in
-    omega (arith, t .loop-test .taken, t .before .before .before .pre .1, t .before .before .wide .ensures .1))
+    omega (arith, t .loop-test .taken, t .before .before .before .pre .1, t .before .before .from-byte .ensures .1))
     (λ c.
     let t = c .before .before .before in
-    omega (arith, t .loop-test .taken, t .before .before .before .pre .0, t .before .before .wide .ensures .0)) loop-again
+    omega (arith, t .loop-test .taken, t .before .before .before .pre .0, t .before .before .from-byte .ensures .0)) loop-again
     returns-2)

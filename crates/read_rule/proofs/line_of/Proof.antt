@@ -33,18 +33,18 @@ module _ (c : tie.After-either6) where
 
   period-small : period-at .either .result ≤ 256
   period-small =
-      period-at .either .ensures .1 (omega (arith, period-at .before .before .wide .ensures .1))
-      (omega (arith, period-at .before .wide2 .ensures .1))
+      period-at .either .ensures .1 (omega (arith, period-at .before .before .from-byte .ensures .1))
+      (omega (arith, period-at .before .from-byte2 .ensures .1))
 
   start-small : start-at .either2 .result ≤ 256
   start-small =
-      start-at .either2 .ensures .1 (omega (arith, start-at .before .before .wide3 .ensures .1))
-      (omega (arith, start-at .before .wide4 .ensures .1))
+      start-at .either2 .ensures .1 (omega (arith, start-at .before .before .from-byte3 .ensures .1))
+      (omega (arith, start-at .before .from-byte4 .ensures .1))
 
   cycle-small : cycle-at .either3 .result ≤ 256
   cycle-small =
-      cycle-at .either3 .ensures .1 (omega (arith, cycle-at .before .before .wide5 .ensures .1))
-      (omega (arith, cycle-at .before .wide6 .ensures .1))
+      cycle-at .either3 .ensures .1 (omega (arith, cycle-at .before .before .from-byte5 .ensures .1))
+      (omega (arith, cycle-at .before .from-byte6 .ensures .1))
 
   step-small : step-at .either4 .result ≤ 256
   step-small = step-at .either4 .ensures .1 (omega arith) period-small
@@ -73,14 +73,14 @@ returns c =
             l .either5 .ensures .0,
             p .either4 .ensures .0,
             y .either3 .ensures .0,
-            y .before .wide6 .ensures .0,
-            y .before .before .wide5 .ensures .0,
+            y .before .from-byte6 .ensures .0,
+            y .before .before .from-byte5 .ensures .0,
             t .either2 .ensures .0,
-            t .before .wide4 .ensures .0,
-            t .before .before .wide3 .ensures .0,
+            t .before .from-byte4 .ensures .0,
+            t .before .before .from-byte3 .ensures .0,
             d .either .ensures .0,
-            d .before .wide2 .ensures .0,
-            d .before .before .wide .ensures .0,
+            d .before .from-byte2 .ensures .0,
+            d .before .before .from-byte .ensures .0,
             f .is-current .ensures,
             f .before .is-plain .ensures,
           );
@@ -99,8 +99,8 @@ returns c =
                   stride-within (f .before .is-plain .result) (d .either .result),
                 );
           };
-      read-byte = omega (arith, t .before .wide4 .ensures);
-      reader-byte = omega (arith, t .before .before .wide3 .ensures);
+      read-byte = omega (arith, t .before .from-byte4 .ensures);
+      reader-byte = omega (arith, t .before .before .from-byte3 .ensures);
     }
 
 pub line-of-spec : {M : Type 1} → statement M

@@ -6,7 +6,7 @@ use native.Mathlib.Omega.{arith}
 use borrow.Author.Needs.{needs}
 use borrow.Author.Tests.{not-true}
 use lib.ListN.{length, length-take}
-use Rattle.trial_step.specs.Steps.{linesLeft, Underway}
+use Rattle.trial_step.specs.Underway.{linesLeft, Underway}
 use Rattle.trial_step.proofs.Filling.{falls}
 use Rattle.replay.proofs.hash_lines.Statement.{statement}
 use Rattle.replay.proofs.hash_lines.Tie as tie

@@ -61,17 +61,17 @@ module _ (image : List ℕ) (at : ℕ) where
 returns : tie.Need-returns
 returns c = sym (outside _ _ (omega arith))
 
-shared-slice-read-wide : tie.Need-shared-slice-read-wide
-shared-slice-read-wide c = search needs
+shared-slice-read-from-byte : tie.Need-shared-slice-read-from-byte
+shared-slice-read-from-byte c = search needs
 
-wide-requires : tie.Need-wide-requires
-wide-requires c κs = search needs
+from-byte-requires : tie.Need-from-byte-requires
+from-byte-requires c κs = search needs
 
 returns-2 : tie.Need-returns-2
 returns-2 c =
     let w = c .before in
     let s = w .before .before .before .before in
-    sym (many (s .args .image .now) (s .args .at) (omega (arith, w .before .before .if1 .left)) (omega (arith, w .wide .ensures)))
+    sym (many (s .args .image .now) (s .args .at) (omega (arith, w .before .before .if1 .left)) (omega (arith, w .from-byte .ensures)))
 
 add-start : tie.Need-add-start
 add-start c = search needs
@@ -87,17 +87,17 @@ returns-3 c =
     let w = c .before .before in
     let s = w .before .before .before .before in
     let h = w .before .before .if1 .left in
-    sym (short (s .args .image .now) (s .args .at) (omega arith) (omega (arith, w .wide .ensures))
-    (omega (arith, w .wide .ensures)))
+    sym (short (s .args .image .now) (s .args .at) (omega arith) (omega (arith, w .from-byte .ensures))
+    (omega (arith, w .from-byte .ensures)))
 
 returns-4 : tie.Need-returns-4
 returns-4 c =
     let w = c .before .before .before in
     let s = w .before .before .before .before in
     let h = w .before .before .if1 .left in
-    sym (none (s .args .image .now) (s .args .at) (omega arith) (omega (arith, w .wide .ensures))
-    (omega (arith, w .wide .ensures))
-    (omega (arith, w .wide .ensures)))
+    sym (none (s .args .image .now) (s .args .at) (omega arith) (omega (arith, w .from-byte .ensures))
+    (omega (arith, w .from-byte .ensures))
+    (omega (arith, w .from-byte .ensures)))
 
 chain-ok-requires : tie.Need-chain-ok-requires
 chain-ok-requires c κs = search needs
@@ -108,18 +108,18 @@ returns-5 c =
     let w = e .before .before .before in
     let s = w .before .before .before .before in
     let h = w .before .before .if1 .left in
-    c .chain-ok .ensures ∙ ap (λ n. chained (rowsFrom (s .args .image .now) (s .args .at + 1) n)) (w .wide .ensures .0)
-    ∙ sym (some (s .args .image .now) (s .args .at) (omega arith) (omega (arith, w .wide .ensures))
-    (omega (arith, w .wide .ensures))
-    (λ q. omega (arith, w .wide .ensures, e .if4 .left)))
+    c .chain-ok .ensures ∙ ap (λ n. chained (rowsFrom (s .args .image .now) (s .args .at + 1) n)) (w .from-byte .ensures .0)
+    ∙ sym (some (s .args .image .now) (s .args .at) (omega arith) (omega (arith, w .from-byte .ensures))
+    (omega (arith, w .from-byte .ensures))
+    (λ q. omega (arith, w .from-byte .ensures, e .if4 .left)))
 
 pub area-ok-spec : {M : Type 1} → statement M
 area-ok-spec =
     tie.close
     (tie.spec
     returns
-    shared-slice-read-wide
-    wide-requires
+    shared-slice-read-from-byte
+    from-byte-requires
     returns-2
     add-start
     sub-if3

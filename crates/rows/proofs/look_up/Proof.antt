@@ -48,43 +48,43 @@ Inv-loop area w count i₀ i = (i ≤ count) × ((k : ℕ) → k < i → leZ (to
 abbrev μ-loop : tie.MeasureT-loop
 μ-loop area w count i₀ i = count - i
 
-abbrev known : tie.After-wide Inv-loop μ-loop → tie.After-shared-slice-known Inv-loop μ-loop
+abbrev known : tie.After-from-byte Inv-loop μ-loop → tie.After-shared-slice-known Inv-loop μ-loop
 known w = w .before .before
 
 ordered : (k : tie.After-shared-slice-known Inv-loop μ-loop) → let area = k .before .args .area .now in
     (byteAt area 0 ≤ 32) × (0 + 1 + 12 * byteAt area 0 ≤ length area) × ((byteAt area 0 ≡ 0) ⊎ InOrder (areaRows area 0))
 ordered k = area-true (k .before .args .area .now) 0 (k .before .pre)
 
-shared-slice-read-wide : tie.Need-shared-slice-read-wide Inv-loop μ-loop
-shared-slice-read-wide c = omega (arith, ordered (c .before) .1)
+shared-slice-read-from-byte : tie.Need-shared-slice-read-from-byte Inv-loop μ-loop
+shared-slice-read-from-byte c = omega (arith, ordered (c .before) .1)
 
-wide-requires : tie.Need-wide-requires Inv-loop μ-loop
-wide-requires c κs = search needs
+from-byte-requires : tie.Need-from-byte-requires Inv-loop μ-loop
+from-byte-requires c κs = search needs
 
 loop-holds : tie.Need-loop-holds Inv-loop μ-loop
 loop-holds c = (omega arith, λ k l. absurd (omega arith))
 
 mul-at : tie.Need-mul-at Inv-loop μ-loop
-mul-at c = omega (arith, c .before .before .wide .ensures)
+mul-at c = omega (arith, c .before .before .from-byte .ensures)
 
 add-at : tie.Need-add-at Inv-loop μ-loop
-add-at c = omega (arith, c .before .before .wide .ensures)
+add-at c = omega (arith, c .before .before .from-byte .ensures)
 
 add-word-at : tie.Need-add-word-at Inv-loop μ-loop
-add-word-at c = omega (arith, c .before .before .wide .ensures)
+add-word-at c = omega (arith, c .before .before .from-byte .ensures)
 
 word-at-requires : tie.Need-word-at-requires Inv-loop μ-loop
 word-at-requires c κs =
     let w = c .before .before in
-    let t = c .loop-test .taken in omega (arith, w .wide .ensures, ordered (known w) .1)
+    let t = c .loop-test .taken in omega (arith, w .from-byte .ensures, ordered (known w) .1)
 
 add-word-at-2 : tie.Need-add-word-at-2 Inv-loop μ-loop
-add-word-at-2 c = omega (arith, c .before .before .before .before .wide .ensures, c .before .before .loop-test .taken)
+add-word-at-2 c = omega (arith, c .before .before .before .before .from-byte .ensures, c .before .before .loop-test .taken)
 
 word-at-requires-2 : tie.Need-word-at-requires-2 Inv-loop μ-loop
 word-at-requires-2 c κs =
     let w = c .before .before .before .before in
-    let t = c .before .before .loop-test .taken in omega (arith, w .wide .ensures, ordered (known w) .1)
+    let t = c .before .before .loop-test .taken in omega (arith, w .from-byte .ensures, ordered (known w) .1)
 
 returns : tie.Need-returns Inv-loop μ-loop
 returns c =
@@ -97,7 +97,7 @@ returns c =
     let z = toZ-ofZ (s .fits .w) in
     kept _ (c .word-at2 .ok) ∙ c .word-at2 .ensures
     ∙ sym (found (s .args .area .now) (s .args .w) (s .fits .w) (ordered (known w) .2) (l .loop .i)
-    (omega (arith, w .wide .ensures))
+    (omega (arith, w .from-byte .ensures))
     (λ k x. ap (λ (v : ℤ). leZ v (row (s .args .area .now) k .high)) (sym z) ∙ l .loop .inv .1 k x)
     (rw (kept (a .word-at .result) (a .word-at .ok), a .word-at .ensures, z) at (t .if1 .taken)))
 
@@ -127,7 +127,7 @@ returns-2 c =
     sym (miss (s .args .area .now) (s .args .w)
     (λ k x. past (s .args .area .now) (s .args .w) (l .loop .i)
     (λ j y. ap (λ (v : ℤ). leZ v (row (s .args .area .now) j .high)) (sym z) ∙ l .loop .inv .1 j y) k
-    (omega (arith, w .wide .ensures))))
+    (omega (arith, w .from-byte .ensures))))
 
 pub look-up-spec : {M : Type 1} → statement M
 look-up-spec =
@@ -135,8 +135,8 @@ look-up-spec =
     (tie.spec
     Inv-loop
     μ-loop
-    shared-slice-read-wide
-    wide-requires
+    shared-slice-read-from-byte
+    from-byte-requires
     loop-holds
     mul-at
     add-at

@@ -49,23 +49,23 @@ returns : tie.Need-returns
 returns c = let t = c .before in kept _ (c .word-at .ok) ∙ c .word-at .ensures ∙ rw (at-push t .1)
 
 shared-slice-copy-out-result : tie.Need-shared-slice-copy-out-result
-shared-slice-copy-out-result c = omega (arith, c .before .wide .ensures .0, at-load c .1)
+shared-slice-copy-out-result c = omega (arith, c .before .from-byte .ensures .0, at-load c .1)
 
 returns-2 : tie.Need-returns-2
 returns-2 c =
     let t = c .before in
     let s = start (t .before .before .before) in
-    kept _ (c .result .given) ∙ ap (λ (x : ℕ). getD (s .args .state .now) (x + 1) (pos 0)) (t .before .wide .ensures .0) ∙
+    kept _ (c .result .given) ∙ ap (λ (x : ℕ). getD (s .args .state .now) (x + 1) (pos 0)) (t .before .from-byte .ensures .0) ∙
     rw (at-load t .2)
 
 shared-slice-copy-out-result-2 : tie.Need-shared-slice-copy-out-result-2
-shared-slice-copy-out-result-2 c = omega (arith, c .before .wide .ensures .0, at-fetch c .1)
+shared-slice-copy-out-result-2 c = omega (arith, c .before .from-byte .ensures .0, at-fetch c .1)
 
 returns-3 : tie.Need-returns-3
 returns-3 c =
     let t = c .before in
     let s = start (t .before .before .before) in
-    kept _ (c .result2 .given) ∙ ap (λ (x : ℕ). getD (s .args .samples .now) x (pos 0)) (t .before .wide .ensures .0) ∙
+    kept _ (c .result2 .given) ∙ ap (λ (x : ℕ). getD (s .args .samples .now) x (pos 0)) (t .before .from-byte .ensures .0) ∙
     rw (at-fetch t .2)
 
 pub leaf-word-spec : {M : Type 1} → statement M

@@ -9,7 +9,7 @@ use Rattle.model.specs.Rules.Outcome.{accepted, refused}
 use Rattle.model.specs.Rules.TextForm.{Assembled, keywords, keywordAt, spelled, lowBytes}
 use Rattle.text_keyword.specs.Cells.{commandRows, cells, byteOf, pendingAt}
 use Rattle.text_keyword.proofs.Rows.{cells-length, keyword-row, keyword-search, keyword-found}
-use Rattle.text_assemble.specs.Answers.{readOf}
+use Rattle.text_assemble.specs.Assembled.{readOf}
 use Rattle.text_assemble.proofs.Walk.{keyword-read, keyword-refused, one-byte}
 use Rattle.text_assemble.proofs.read_keyword.Statement.{statement}
 use Rattle.text_assemble.proofs.read_keyword.Tie as tie

@@ -7,7 +7,7 @@ use Rattle.model.specs.Rules.Outcome.{accepted, refused}
 use Rattle.model.specs.Rules.TextForm.{token, lowBytes}
 use Rattle.text_keyword.specs.Cells.{pendingAt}
 use Rattle.model.specs.Rules.Outcome.{yieldedOf}
-use Rattle.text_assemble.specs.Answers.{readOf}
+use Rattle.text_assemble.specs.Assembled.{readOf}
 use Rattle.text_assemble.proofs.Walk.{operand-read, operand-refused, size-small}
 use Rattle.text_assemble.proofs.read_operand.Statement.{statement}
 use Rattle.text_assemble.proofs.read_operand.Tie as tie

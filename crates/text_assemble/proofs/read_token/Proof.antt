@@ -8,7 +8,7 @@ use Rattle.model.specs.Rules.Word.{byteAt}
 use Rattle.model.specs.declared.Operand.{Operand}
 use Rattle.text_keyword.specs.Cells.{allCells, cells, operandBy, pendingAt}
 use Rattle.text_keyword.proofs.Rows.{pending-none, pending-more}
-use Rattle.text_assemble.specs.Answers.{ReadsAs}
+use Rattle.text_assemble.specs.Assembled.{ReadsAs}
 use Rattle.text_assemble.proofs.read_token.Statement.{statement}
 use Rattle.text_assemble.proofs.read_token.Tie as tie
 

@@ -31,7 +31,7 @@ loop-again c =
     let s = l .before .before in (
       omega (arith, l .loop .inv .0),
       sym (low-next (s .args .bytes .now) (s .args .n) (s .args .at) (l .loop .i) (omega arith) (l .loop .inv .0) ∙
-          sum (ap (λ (m : ℕ). 256 * m) (sym (l .loop .inv .1))) (sym (c .wide .ensures .0))),
+          sum (ap (λ (m : ℕ). 256 * m) (sym (l .loop .inv .1))) (sym (c .from-byte .ensures .0))),
     )
   where
     sum : {a b c d : ℕ} → a ≡ b → c ≡ d → a + c ≡ b + d
@@ -56,5 +56,5 @@ value-at-spec =
     (λ c. omega arith) (λ c. omega (arith, c .before .loop .inv .0, c .before .before .before .pre .1))
     (λ c. omega (arith, c .before .before .loop .inv .0, c .before .before .before .before .pre .1)) (λ c κs. search needs)
     (λ c. omega (arith, small (c .before .before .before))) (λ c. omega
-    (arith, small (c .before .before .before), c .wide .ensures .1))
+    (arith, small (c .before .before .before), c .from-byte .ensures .1))
     (λ c. omega arith) loop-again returns)

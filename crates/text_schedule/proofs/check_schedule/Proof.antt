@@ -105,12 +105,12 @@ returns-2 c =
     (c .unplaced2 .ensures ∙ told)
 
 -- the entries that the PUT is written to
-module _ (c : tie.After-wide Inv-loop μ-loop) where
+module _ (c : tie.After-from-byte Inv-loop μ-loop) where
   abbrev judged-at : tie.After-judge-put Inv-loop μ-loop
   judged-at = c .before .before .before
 
-  signal-low : c .wide .result < 64
-  signal-low = omega (arith, c .wide .ensures .0, declared judged-at (c .before .enum-told .given .1))
+  signal-low : c .from-byte .result < 64
+  signal-low = omega (arith, c .from-byte .ensures .0, declared judged-at (c .before .enum-told .given .1))
 
   puts-few : top judged-at .loop .puts < 64
   puts-few = let l = top judged-at in omega (arith, l .loop .inv .0, l .loop .inv .3)
@@ -128,7 +128,7 @@ loop-again c =
       λ p o n per e z.
           let g = l .inv .4 p o n per e z in
           let few : length (g .done) < 64 = omega (arith, g .after .puts-are, puts-few w) in
-          rw (c .in-schedule .ensures, w .wide .ensures .0)
+          rw (c .in-schedule .ensures, w .from-byte .ensures .0)
           (put-fine _ p o (l .at) _ _ (slots j) g (omega arith) (is-put j) (declared j told) few
           (sym told ∙ j .judge-put .ensures (slots j) refl .judged p (g .done) n per (g .after) few)),
     )

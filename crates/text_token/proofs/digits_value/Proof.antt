@@ -23,23 +23,23 @@ returns : tie.Need-returns Inv-loop μ-loop
 returns c =
     let l = c .before .before .before .before in
     sym (l .loop .inv .2 ∙ digits-low (l .before .before .args .token .now) (l .loop .v) (l .loop .i) (omega arith)
-    (omega (arith, c .before .wide .ensures .0)))
+    (omega (arith, c .before .from-byte .ensures .0)))
 
 returns-2 : tie.Need-returns-2 Inv-loop μ-loop
 returns-2 c =
     let w = c .before .before in
     let l = w .before .before .before in
     sym (l .loop .inv .2 ∙ digits-high (l .before .before .args .token .now) (l .loop .v) (l .loop .i) (omega arith)
-    (omega (arith, w .wide .ensures .0)))
+    (omega (arith, w .from-byte .ensures .0)))
 
 loop-again : tie.Need-loop-again Inv-loop μ-loop
 loop-again c =
     let w = c .before .before .before in
     let l = w .before .before .before in
     let token = l .before .before .args .token .now in
-    let d = w .wide .ensures .0 in
+    let d = w .from-byte .ensures .0 in
     let same : min (10 * l .loop .v + (byteAt token (l .loop .i) - 48)) (2 ^ 32) ≡
-    min (10 * l .loop .v + (w .wide .result - 48)) (2 ^ 32) = ap (λ (n : ℕ). min (10 * l .loop .v + (n - 48)) (2 ^ 32))
+    min (10 * l .loop .v + (w .from-byte .result - 48)) (2 ^ 32) = ap (λ (n : ℕ). min (10 * l .loop .v + (n - 48)) (2 ^ 32))
     (sym d) in (
       omega arith,
       omega (arith, c .hold .ensures),

@@ -4,7 +4,7 @@ use mathlib.Core.Path.{_≡_, refl, _∙_}
 use denote.Ref.{now}
 use Rattle.model.specs.Rules.Compile.{Pair, pairOf}
 use Rattle.model.specs.Rules.Outcome.{accepted}
-use Rattle.check_pair.specs.Answers.{Checks}
+use Rattle.check_pair.specs.Checked.{Checks}
 use Rattle.basics.proofs.Judgements.{answers-fine, answers-refused}
 use Rattle.text_program.proofs.ByIndex.{few-signals}
 use Rattle.text_schedule.proofs.Arranged.{short-hypercycle, phases-below}

@@ -6,7 +6,7 @@ use native.Mathlib.Omega.{arith}
 use borrow.Author.Needs.{needs}
 use borrow.Author.Tests.{not-true}
 use lib.ListN.{length, length-take}
-use Rattle.trial_step.specs.Steps.{linesLeft, Underway}
+use Rattle.trial_step.specs.Underway.{linesLeft, Underway}
 use Rattle.trial_step.proofs.Filling.{falls}
 use Rattle.trial.proofs.print_lines.Statement.{statement}
 use Rattle.trial.proofs.print_lines.Tie as tie

@@ -6,7 +6,7 @@ use borrow.Author.Needs.{needs}
 use Rattle.model.specs.Rules.Outcome.{accepted, refused}
 use Rattle.model.specs.Rules.Script.{checkOf}
 use Rattle.trial_script.specs.Inputs.{fetches}
-use Rattle.trial_script.specs.Steps.{ruledOf}
+use Rattle.trial_script.specs.Script.{ruledOf}
 use Rattle.trial_prepare.specs.Prepares.{PreparesOn}
 use Rattle.trial_prepare.proofs.Begins.{checked-short}
 use Rattle.trial_prepare.proofs.prepare_image.Statement.{statement}

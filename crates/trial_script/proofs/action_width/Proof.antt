@@ -1,5 +1,5 @@
 -- `trial_script::action_width` meets its contract. Assumes nothing.
-use Rattle.trial_script.specs.Steps.{actionWidth}
+use Rattle.trial_script.specs.Script.{actionWidth}
 use borrow.Author.Needs.{needs}
 use Rattle.trial_script.proofs.action_width.Statement.{statement}
 use Rattle.trial_script.proofs.action_width.Tie as tie

@@ -1,6 +1,6 @@
 -- `trial_script::check_script` meets its contract. Assumes nothing.
 use Rattle.trial_script.proofs.Walk.{check-long, check-cut, check-rest}
-use Rattle.trial_script.specs.Steps.{ruledOf}
+use Rattle.trial_script.specs.Script.{ruledOf}
 use mathlib.Core.Path.{sym, ap, _∙_}
 use borrow.Author.Needs.{needs}
 use Rattle.trial_script.proofs.check_script.Statement.{statement}

@@ -1,6 +1,6 @@
 -- `trial_script::check_sets` meets its contract. Assumes nothing.
 use Rattle.trial_script.proofs.Walk.{inside, actions-past, actions-here, sets-none, sets-bad, sets-more}
-use Rattle.trial_script.specs.Steps.{ruledOf, actionWidth, mayStand}
+use Rattle.trial_script.specs.Script.{ruledOf, actionWidth, mayStand}
 use Rattle.model.specs.Rules.Script.{scriptCommandAt, scriptAt, inputsOnly}
 use Rattle.trial_script.specs.Inputs.{marked}
 use lib.ListN.{length}

@@ -1,6 +1,6 @@
 -- `trial_script::count_cycles` meets its contract. Assumes nothing.
 use Rattle.trial_script.proofs.Walk.{inside, actions-past, actions-here, cycles-none, cycles-more}
-use Rattle.trial_script.specs.Steps.{actionWidth, cyclesMade}
+use Rattle.trial_script.specs.Script.{actionWidth, cyclesMade}
 use Rattle.model.specs.Rules.Script.{scriptCommandAt, scriptAt, cyclesOf}
 use lib.ListN.{length}
 use Prim.Native.Nat.{ℕ, _+_, _-_, _*_, _≤_}
@@ -40,7 +40,7 @@ returns c = let w = c .before in
 add-total : tie.Need-add-total Inv-loop μ-loop
 add-total c =
     let w = c .before .before .before in
-    omega (arith, turn w .loop .inv .1, turn w .before .before .pre, c .wide .ensures .1)
+    omega (arith, turn w .loop .inv .1, turn w .before .before .pre, c .from-byte .ensures .1)
 
 add-at : tie.Need-add-at Inv-loop μ-loop
 add-at c = let w = c .before .before .before in omega (arith, within w)
@@ -51,10 +51,10 @@ loop-less c = let w = c .before .before .before in omega (arith, within w)
 loop-again : tie.Need-loop-again Inv-loop μ-loop
 loop-again c = let w = c .before .before .before in
     let l = turn w in
-    let runs : c .wide .result ≡ cyclesMade (scriptCommandAt (text w) (l .loop .at)) =
-    c .wide .ensures .0 ∙ c .before .cycles-made .ensures ∙ ap cyclesMade (w .before .script-command-at .ensures) in
+    let runs : c .from-byte .result ≡ cyclesMade (scriptCommandAt (text w) (l .loop .at)) =
+    c .from-byte .ensures .0 ∙ c .before .cycles-made .ensures ∙ ap cyclesMade (w .before .script-command-at .ensures) in
     let more = cycles-more (text w) (l .loop .at) (w .action-width .result) (width w) (omega arith) in
-    (omega (arith, runs, more, l .loop .inv .0), omega (arith, c .wide .ensures .1, l .loop .inv .1), within w)
+    (omega (arith, runs, more, l .loop .inv .0), omega (arith, c .from-byte .ensures .1, l .loop .inv .1), within w)
 
 returns-2 : tie.Need-returns-2 Inv-loop μ-loop
 returns-2 c = let l = c .before in

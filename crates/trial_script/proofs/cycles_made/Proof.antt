@@ -1,5 +1,5 @@
 -- `trial_script::cycles_made` meets its contract. Assumes nothing.
-use Rattle.trial_script.specs.Steps.{cyclesMade}
+use Rattle.trial_script.specs.Script.{cyclesMade}
 use borrow.Author.Needs.{needs}
 use Rattle.trial_script.proofs.cycles_made.Statement.{statement}
 use Rattle.trial_script.proofs.cycles_made.Tie as tie

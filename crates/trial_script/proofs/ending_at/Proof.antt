@@ -1,6 +1,6 @@
 -- `trial_script::ending_at` meets its contract. Assumes nothing.
 use mathlib.Core.Path.{ap}
-use Rattle.trial_script.specs.Steps.{ruledOf, endingAt}
+use Rattle.trial_script.specs.Script.{ruledOf, endingAt}
 use Rattle.model.specs.Rules.Outcome.{provided}
 use borrow.Author.Tests.{le-leb, lt-leb}
 use lib.ListN.{length}

@@ -29,7 +29,7 @@ loop-again c =
     let image = l .before .before .before .args .image .now in
     let below : l .loop .x < 256 = omega arith in (
       subst (λ (t : List ℕ). Marks image (l .loop .x + 1) t)
-          (sym (ap₂ (set (l .loop .inputs)) (c .wide .ensures .0) (c .before .mark-of .ensures)))
+          (sym (ap₂ (set (l .loop .inputs)) (c .from-byte .ensures .0) (c .before .mark-of .ensures)))
           (marks-more (l .loop .inv .0) below),
       omega arith,
     )

@@ -1,5 +1,5 @@
 -- `trial_script::may_stand` meets its contract. Assumes nothing.
-use Rattle.trial_script.specs.Steps.{mayStand}
+use Rattle.trial_script.specs.Script.{mayStand}
 use borrow.Author.Needs.{needs}
 use Rattle.trial_script.proofs.may_stand.Statement.{statement}
 use Rattle.trial_script.proofs.may_stand.Tie as tie

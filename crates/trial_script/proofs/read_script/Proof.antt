@@ -1,6 +1,6 @@
 -- `trial_script::read_script` meets its contract. Assumes nothing.
 use Rattle.trial_script.proofs.Walk.{inside, ending-past, ending-here, ending-more}
-use Rattle.trial_script.specs.Steps.{ruledOf, actionWidth, endingAt}
+use Rattle.trial_script.specs.Script.{ruledOf, actionWidth, endingAt}
 use Rattle.model.specs.Rules.Script.{scriptCommandAt, scriptAt}
 use lib.ListN.{length}
 use Prim.Native.Nat.{ℕ, _+_, _-_, _≤_}

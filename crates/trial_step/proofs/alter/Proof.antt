@@ -1,6 +1,6 @@
 -- `trial_step::alter` meets its contract. Assumes nothing.
 use mir.Facts.{toZ-ofZ}
-use Rattle.trial_script.specs.Steps.{altered}
+use Rattle.trial_script.specs.Script.{altered}
 use lib.ListN.{set}
 use lib.IntN.{ℤ}
 use mathlib.Core.Path.{ap, _∙_}

@@ -7,7 +7,7 @@ use borrow.Author.Needs.{needs}
 use borrow.Rule.Slice.PartMut.{putMid, postOf, same-len-mid, take-put}
 use lib.ListN.{length, take, drop, length-take, length-drop, drop-of-length-le}
 use lib.Seq.{take-all}
-use Rattle.trial_step.specs.Steps.{linesLeft, Lined, stepOf, Stepped, fillFrom, blockOf}
+use Rattle.trial_step.specs.Underway.{linesLeft, Lined, stepOf, Stepped, fillFrom, blockOf}
 use Rattle.trial_step.proofs.Fills.{fill-line, fill-ended, fill-full}
 use Rattle.trial_step.proofs.Left.{is-lined, is-ended}
 use Rattle.trial_step.proofs.Filling.{Filling, filling-none, filling-all, filling-more}

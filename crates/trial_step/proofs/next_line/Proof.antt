@@ -1,7 +1,7 @@
 -- `trial_step::next_line` meets its contract. Assumes nothing.
 use Rattle.trial_step.proofs.Left.{left-some, left-none, lined, none-left}
 use Rattle.machine.specs.Runnable.{Runnable}
-use Rattle.trial_step.specs.Steps.{callsLeft, soughtCalls, Seeking, nextCycle, StepsOn}
+use Rattle.trial_step.specs.Underway.{callsLeft, soughtCalls, Seeking, nextCycle, StepsOn}
 use Rattle.trial_step.specs.declared.Sought.{Sought}
 use Rattle.trial_step.proofs.Seeks.{sought-is, within-run, after-run, stepped-cycle, stepped-none}
 use Rattle.model.specs.Says.Calls.{cycle}

@@ -15,8 +15,8 @@ use borrow.Author.Needs.{needs}
 use Rattle.trial_step.proofs.print_cycle.Statement.{statement}
 use Rattle.trial_step.proofs.print_cycle.Tie as tie
 
-shared-slice-read-wide : tie.Need-shared-slice-read-wide
-shared-slice-read-wide c =
+shared-slice-read-from-byte : tie.Need-shared-slice-read-from-byte
+shared-slice-read-from-byte c =
     omega (arith, head _ (formed _ (c .before .before .before .before .before .before .pre .0 .formed) .good) .four)
 
 put-line-requires : tie.Need-put-line-requires
@@ -25,7 +25,7 @@ put-line-requires c κs = let w = c .before .before .before in
       omega (
         arith,
         c .put-line-arg2 .given .1,
-        w .wide .ensures .0,
+        w .from-byte .ensures .0,
         head _
             (formed _ (s .pre .0 .formed) .good) .signals,
       ),
@@ -37,7 +37,7 @@ returns c = let w = c .before .before .before .before .before .before in
     let r = w .before .before .before in
     let s = r .before .before .before .before in
     let state = r .run-cycle .last .1 .0 in
-    let count : w .wide .result + 1 - 1 ≡ countOf (s .args .image .now) = omega (arith, w .wide .ensures .0) in
+    let count : w .from-byte .result + 1 - 1 ≡ countOf (s .args .image .now) = omega (arith, w .from-byte .ensures .0) in
     record {
       state-is = r .run-cycle .ensures .1;
       line-is =
@@ -50,5 +50,5 @@ returns c = let w = c .before .before .before .before .before .before in
 pub print-cycle-spec : {M : Type 1} → statement M
 print-cycle-spec =
     tie.close
-    (tie.spec (λ c κs. search needs) shared-slice-read-wide (λ c κs. search needs) (λ c. search needs) (λ c. search needs)
+    (tie.spec (λ c κs. search needs) shared-slice-read-from-byte (λ c κs. search needs) (λ c. search needs) (λ c. search needs)
     (λ c. search needs) (λ c. search needs) put-line-requires (λ c. search needs) (λ c. search needs) returns)

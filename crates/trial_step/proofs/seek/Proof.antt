@@ -1,10 +1,10 @@
 -- `trial_step::seek` meets its contract. Assumes nothing.
 use Rattle.trial_step.proofs.Left.{seek-step, left-some, left-none}
-use Rattle.trial_step.specs.Steps.{callsLeft, nothingSought, cycleSought, seekFrom, seekOf}
+use Rattle.trial_step.specs.Underway.{callsLeft, nothingSought, cycleSought, seekFrom, seekOf}
 use Rattle.trial_step.specs.declared.Sought.the-variants as Sought
 use Rattle.trial_step.proofs.Seeks.{seek-none, seek-past, seek-cycle, seek-on}
 use Rattle.trial_script.proofs.Walk.{inside, actions-past, actions-here, calls-none}
-use Rattle.trial_script.specs.Steps.{actionWidth, cyclesMade, altered}
+use Rattle.trial_script.specs.Script.{actionWidth, cyclesMade, altered}
 use Rattle.model.specs.Rules.Script.{scriptCommandAt, scriptAt, callsFrom}
 use lib.ListN.{length}
 use Prim.Native.Nat.{ℕ, _+_, _-_, _≤_, _<_}

@@ -9,7 +9,7 @@ returns c =
     let w3 = c .before .before in
     let w2 = w3 .before .before in
     let w1 = w2 .before .before in
-    rw (w1 .wide .ensures .0, w2 .wide2 .ensures .0, w3 .wide3 .ensures .0, c .wide4 .ensures .0)
+    rw (w1 .bits-of-byte .ensures .0, w2 .bits-of-byte2 .ensures .0, w3 .bits-of-byte3 .ensures .0, c .bits-of-byte4 .ensures .0)
 
 pub four-at-spec : {M : Type 1} → statement M
 four-at-spec =

@@ -7,7 +7,7 @@ returns : tie.Need-returns
 unfolding twoAt
 returns c =
     let a = c .before .before in
-    rw (a .wide .ensures .0, c .wide2 .ensures .0)
+    rw (a .bits-of-byte .ensures .0, c .bits-of-byte2 .ensures .0)
 
 pub two-at-spec : {M : Type 1} → statement M
 two-at-spec =
