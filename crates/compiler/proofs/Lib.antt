@@ -1,2 +1,2 @@
 -- Each function's proof stands in a folder of its name.
-pub mod Compile
+pub mod Compiling

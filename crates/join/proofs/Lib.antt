@@ -1,4 +1,4 @@
 -- Laws that the proofs of several functions cite.
 pub mod Wires
 pub mod Written
-pub mod Join
+pub mod Joining

@@ -14,7 +14,7 @@ use Rattle.image_write.proofs.Imaged.{declared, tail-by}
 use Rattle.image_write.proofs.Written.{tail-room, all-written}
 use Rattle.check_pair.specs.Checked.{Checks}
 use Rattle.basics.proofs.Judgements.{answers-fine, answers-refused}
-use Rattle.compiler.proofs.Compile.{compile-refused, compile-short, compile-done}
+use Rattle.compiler.proofs.Compiling.{compile-refused, compile-short, compile-done}
 use Rattle.compiler.proofs.compile.Statement.{statement}
 use Rattle.compiler.proofs.compile.Tie as tie
 

@@ -7,7 +7,7 @@ use lib.Seq.{sets}
 use Rattle.model.specs.Rules.Image.{lengthOf, imageOf}
 use Rattle.image_write.specs.Prepared.{LaidOut}
 use Rattle.image_write.proofs.Written.{image-first, tail-room, all-written}
-use Rattle.join.proofs.Join.{join-left}
+use Rattle.join.proofs.Joining.{join-left}
 use Rattle.join.proofs.Wires.{wires-inside}
 use Rattle.join.proofs.Written.{joinedProgram, joinedSchedule, joining, few, tail-is, laid-out, image-is, fits}
 use borrow.Author.Needs.{needs}

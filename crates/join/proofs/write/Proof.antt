@@ -3,7 +3,7 @@ use mathlib.Core.Path.{refl}
 use native.Mathlib.Omega.{arith}
 use Rattle.image_write.specs.Prepared.{LaidOut}
 use Rattle.join_rows.proofs.Stand.{few-rows}
-use Rattle.join.proofs.Join.{join-short, join-answer}
+use Rattle.join.proofs.Joining.{join-short, join-answer}
 use Rattle.join.proofs.Written.{joinedProgram, joinedSchedule, times, rows-ready, laid-out}
 use borrow.Author.Needs.{needs}
 use Rattle.join.proofs.write.Statement.{statement}
