@@ -3,11 +3,12 @@ use basics::Judged;
 use model::Found;
 use model::refusals;
 ghost use mathlib.Core.Path.{_≡_};
-ghost use mathlib.Core.Bool.{true};
+ghost use mathlib.Core.Bool.{true, cond};
 ghost use Prim.Native.Nat.{ℕ, _+_, _*_, _<_, _≤_};
 ghost use lib.IntN.{sucℤ};
 ghost use lib.ListN.{length, getD};
 ghost use lib.Seq.{sets};
+ghost use lib.Signed.{ltZ};
 ghost use Rattle.basics.specs.Judgement.{judgementOf};
 ghost use Rattle.model.specs.Rules.Cover.{apart, meetsEarlier, startingAt, continues, noGap, covering, chained, areaOk};
 ghost use Rattle.model.specs.Rules.Search.{firstBelow, isFound, foundOr, allBelow};
@@ -29,20 +30,31 @@ fn after(w: i32) -> i64
     (w as i64) + 1
 }
 
-// What the table in an area gives for w: the result of the first row whose high is not below it. The rows cover, by rising low.
+// 1 where a high is below w, else 0: a choice that takes no branch.
+fn count_below(high: i32, w: i32) -> usize
+    ensures { λ r. ⌜ r ≡ cond (ltZ high w) 1 0 ⌝ }
+{
+    if high < w { 1 } else { 0 }
+}
+
+// What the table in an area gives for w. The rows cover, by rising low: so many as have a high below w come first, and the next
+// one contains it. All highs are compared: where a search may end would be guessed, and often wrong.
 pub fn look_up(area: &[u8], w: i32) -> i32
     requires { ⌜ areaOk (now area) 0 ≡ true ⌝ }
     ensures { λ r. ⌜ r ≡ tableWord (areaRows (now (area .entry)) 0) w ⌝ }
 {
     let count = basics::from_byte(area[0]);
+    let mut below: usize = 0;
     let mut i: usize = 0;
     while i < count {
         let at = 1 + 12 * i;
         let high = word::word_at(area, at + 4);
-        if w <= high {
-            return word::word_at(area, at + 8);
-        }
+        below = below + count_below(high, w);
         i = i + 1;
+    }
+    if below < count {
+        let at = 1 + 12 * below;
+        return word::word_at(area, at + 8);
     }
     0
 }

@@ -272,6 +272,9 @@ module _ (tabled : Bool) (rows : List Row) (code : List ℕ) (n own : ℕ) (stat
   module _ {stored : ℤ} {total ran at height : ℕ} {stack : List ℤ} (here : at < length code)
       (g : Goes stored total ran at stack height)
       (long : n < length state) (many : n ≤ length samples) (mine : own < n) where
+    named : (x : ℕ) → x < n → (ltb (x + 1) (length state) && ltb x (length samples)) ≡ true
+    named x l = rw (lt-ltb (x + 1) (length state) (omega arith), lt-ltb x (length samples) (omega arith))
+
     at-push : byteAt code at ≡ 0x50 → Leaf stored total ran at stack height
     at-push e =
         let c = push here g e in
@@ -288,7 +291,7 @@ module _ (tabled : Bool) (rows : List Row) (code : List ℕ) (n own : ℕ) (stat
         let p = loaded (c .1) in
         record {
           high = p .1;
-          reads = rw k (lt-ltb (byteAt code (at + 1) + 1) (length state) (omega (arith, p .0)));
+          reads = rw (k, named (byteAt code (at + 1)) (omega (arith, p .0)));
           next =
               rw (e, k) (p .2);
         }
@@ -301,7 +304,7 @@ module _ (tabled : Bool) (rows : List Row) (code : List ℕ) (n own : ℕ) (stat
         let p = fetched (c .1) in
         record {
           high = p .1;
-          reads = rw k (lt-ltb (byteAt code (at + 1)) (length samples) (omega (arith, p .0)));
+          reads = rw (k, named (byteAt code (at + 1)) (omega (arith, p .0)));
           next =
               rw (e, k) (p .2);
         }
@@ -327,13 +330,21 @@ module _ (code : List ℕ) (at : ℕ) (state samples : List ℤ) (reads : leafOk
   pub push-leaf : byteAt code at ≡ 0x50 → (at + 5 ≤ length code) × (codeAt code at ≡ Code.Push (wordAt code (at + 1)))
   push-leaf e = cut 5 _ (is-push code at within e)
 
-  pub load-leaf : byteAt code at ≡ 0x51
-      → (at + 2 ≤ length code) × (byteAt code (at + 1) + 1 < length state) × (codeAt code at ≡ Code.Load (byteAt code (at + 1)))
-  load-leaf e = let c = cut 2 _ (is-load code at within e) in (c .0, ltb-true _ _ (rw (c .1) at reads), c .1)
+  abbrev x : ℕ
+  x = byteAt code (at + 1)
 
-  pub fetch-leaf : byteAt code at ≡ 0x52
-      → (at + 2 ≤ length code) × (byteAt code (at + 1) < length samples) × (codeAt code at ≡ Code.Fetch (byteAt code (at + 1)))
-  fetch-leaf e = let c = cut 2 _ (is-fetch code at within e) in (c .0, ltb-true _ _ (rw (c .1) at reads), c .1)
+  abbrev Named : Code → Type 0
+  Named k = (at + 2 ≤ length code) × (x + 1 < length state) × (x < length samples) × (codeAt code at ≡ k)
+
+  there : {k : Code} → (at + 2 ≤ length code) × (codeAt code at ≡ k) →
+      (ltb (x + 1) (length state) && ltb x (length samples)) ≡ true → Named k
+  there c h = let f = both (ltb (x + 1) (length state)) _ h in (c .0, ltb-true _ _ (f .0), ltb-true _ _ (f .1), c .1)
+
+  pub load-leaf : byteAt code at ≡ 0x51 → Named (Code.Load x)
+  load-leaf e = let c = cut 2 _ (is-load code at within e) in there c (rw (c .1) at reads)
+
+  pub fetch-leaf : byteAt code at ≡ 0x52 → Named (Code.Fetch x)
+  fetch-leaf e = let c = cut 2 _ (is-fetch code at within e) in there c (rw (c .1) at reads)
 
 pub leaf-some : (b : ℕ) → 2 ≤ leafLength b
 leaf-some b = by (eqb b 0x50) (λ t. rw t (omega arith)) (λ t. rw t (omega arith))

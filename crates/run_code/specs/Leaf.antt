@@ -1,6 +1,6 @@
 -- Leaves: the commands that push a word, 50 PUSH, 51 LOAD and 52 FETCH.
 use Prim.Native.Nat.{ℕ, _+_}
-use mathlib.Core.Bool.{Bool, true, false, cond}
+use mathlib.Core.Bool.{Bool, true, false, cond, _&&_}
 use mathlib.Core.List.{List}
 use lib.Dec.{ltb, eqb}
 use lib.IntN.{ℤ, pos}
@@ -21,11 +21,11 @@ leafWord state samples Code.If = pos 0
 leafWord state samples Code.EndsEarly = pos 0
 leafWord state samples Code.Unknown = pos 0
 
--- It is a leaf, and what it reads is there.
+-- It is a leaf, and what it reads is there: a LOAD or FETCH names a word of the state and a sample.
 abbrev pub leafOk : List ℤ → List ℤ → Code → Bool
 leafOk state samples (Code.Push w) = true
-leafOk state samples (Code.Load x) = ltb (x + 1) (length state)
-leafOk state samples (Code.Fetch x) = ltb x (length samples)
+leafOk state samples (Code.Load x) = ltb (x + 1) (length state) && ltb x (length samples)
+leafOk state samples (Code.Fetch x) = ltb (x + 1) (length state) && ltb x (length samples)
 leafOk state samples (Code.Store x) = false
 leafOk state samples (Code.Binary operator) = false
 leafOk state samples (Code.Unary operator) = false

@@ -29,7 +29,8 @@ fn operator(byte: u8) -> Binary
     }
 }
 
-// The word that the leaf at `at` pushes: its operand, a signal's word or a sample.
+// The word that the leaf at `at` pushes: its operand, a signal's word or a sample. These two are both read, and one is chosen:
+// which of them it is would be guessed.
 fn leaf_word(code: &[u8], at: usize, state: &[i32], samples: &[i32]) -> i32
     requires { ⌜ (0x50 ≤ byteAt (now code) at) × (byteAt (now code) at ≤ 0x52) ×
         (leafOk (now state) (now samples) (codeAt (now code) at) ≡ true) ⌝ }
@@ -40,10 +41,9 @@ fn leaf_word(code: &[u8], at: usize, state: &[i32], samples: &[i32]) -> i32
         return word::word_at(code, at + 1);
     }
     let x = basics::from_byte(code[at + 1]);
-    if byte == 0x51 {
-        return state[x + 1];
-    }
-    samples[x]
+    let loaded = state[x + 1];
+    let fetched = samples[x];
+    if byte == 0x51 { loaded } else { fetched }
 }
 
 // LOAD and FETCH are one line of the list.
