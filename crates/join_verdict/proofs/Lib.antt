@@ -1,2 +1,2 @@
 -- Laws that the proof cites.
-pub mod Verdict
+pub mod InOrder

@@ -2,7 +2,7 @@
 use mathlib.Core.Path.{_≡_, sym, _∙_}
 use denote.Ref.{now}
 use Rattle.basics.proofs.Judgements.{answers-fine, answers-refused}
-use Rattle.join_verdict.proofs.Verdict.{none-parts}
+use Rattle.join_verdict.proofs.InOrder.{none-parts}
 use Rattle.join.specs.Ready.{JoinReady}
 use Rattle.join.proofs.Joining.{join-refused}
 use Rattle.join.proofs.Written.{lents}

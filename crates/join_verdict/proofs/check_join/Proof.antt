@@ -25,7 +25,7 @@ use Rattle.join_gather.specs.Rates.{RatesBy}
 use Rattle.join_gather.specs.Rows.{TableOf}
 use Rattle.join_links.specs.ByPart.{FreeInputs}
 use Rattle.join_whole.specs.Whole.{Joining}
-use Rattle.join_verdict.proofs.Verdict.{
+use Rattle.join_verdict.proofs.InOrder.{
   answers-map,
   rates-none,
   none-lent,
