@@ -17,26 +17,13 @@ use Rattle.model.specs.declared.Declaration.{Declaration}
 use Rattle.model.specs.declared.Declaration.the-variants as Declaration
 use Rattle.model.specs.declared.Fault.{Fault}
 use Rattle.model.proofs.Declaration.{enum}
-use Rattle.text_program.specs.Results.{hereOf, linksOf, chainOf}
+use Rattle.text_program.specs.Results.{linksOf, chainOf}
 use Rattle.text_program.specs.Results as Results
 use Rattle.text_program.specs.declared.Entry.the-variants as Entry
 use Rattle.text_program.specs.declared.LinksRead.{LinksRead}
 use Rattle.text_program.specs.declared.LinksRead.the-variants as Read
-use Rattle.text_program.specs.declared.Reached.{Reached}
-use Rattle.text_program.specs.declared.Reached.the-variants as Reached
 use Rattle.text_program.specs.declared.Step.{Step}
 use Rattle.text_program.specs.declared.Step.the-variants as Step
-
--- A condition that holds, and one that does not.
-pub here-next : (at n : ℕ) (o : Outcome (Unit {0})) → Reached.Next n ≡ hereOf at o → o ≡ accepted tt
-unfolding hereOf
-here-next at n (accepted a) e = refl
-here-next at n (refused f) e = let z : _≡_ {A = ℕ} 0 1 = cc in absurd (omega arith)
-
-pub here-refused : (at : ℕ) (o : Outcome (Unit {0})) {f : Fault} → Reached.Refused f ≡ hereOf at o → o ≡ refused f
-unfolding hereOf
-here-refused at (accepted a) e = let z : _≡_ {A = ℕ} 0 1 = cc in absurd (omega arith)
-here-refused at (refused f) e = cc
 
 -- The LINKs of a chain end, are too many, are cut, or go on.
 abbrev pub linkAt : List ℕ → ℕ → Link

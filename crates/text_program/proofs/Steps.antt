@@ -40,7 +40,8 @@ use Rattle.model.specs.declared.Mode.{Mode}
 use Rattle.model.proofs.Texts.Commands.{byteOf, declaration-sound, written-byte}
 use Rattle.model.proofs.Texts.Room.{fit-declaration, signal-room, chain-room, row-room}
 use Rattle.model.proofs.Texts.Written.{as-written}
-use Rattle.text_program.specs.Results.{chainOf, tagOf, endOf}
+use Rattle.basics.specs.Judgement.{judgementOf}
+use Rattle.text_program.specs.Results.{chainOf, tagOf, stopOf}
 use Rattle.text_program.specs.Steps.{Adds, Stepped}
 use Rattle.text_program.specs.Walks.{placesOf, Moves, EquationBy, WalksEquation}
 use Rattle.text_program.specs.declared.Entry.the-variants as Entry
@@ -97,13 +98,13 @@ module _ (least : ℕ) (text : List ℕ) (at label : ℕ) (p : Program) (l : Lis
 
     -- END is the last byte, or something follows it.
     end-by : (b : Bool) → leb (length text) (at + 1) ≡ b → declarationAt text at ≡ Declaration.End →
-        Stepped least text at label p l n to looks l (endOf (provided b 6 (at + 1)))
-    unfolding Stepped endOf provided declare _▷_
+        Stepped least text at label p l n to looks l (stopOf (judgementOf (provided b 6 (at + 1))))
+    unfolding Stepped stopOf judgementOf provided declare _▷_
     end-by true h e = (λ left. declared Declaration.End e left ∙ rw h, refl)
     end-by false h e = λ left. declared Declaration.End e left ∙ rw h
 
     pub step-end : declarationAt text at ≡ Declaration.End →
-        Stepped least text at label p l n to looks l (endOf (provided (leb (length text) (at + 1)) 6 (at + 1)))
+        Stepped least text at label p l n to looks l (stopOf (judgementOf (provided (leb (length text) (at + 1)) 6 (at + 1))))
     step-end e = end-by (leb (length text) (at + 1)) refl e
 
     -- An EQ goes on after its expression.

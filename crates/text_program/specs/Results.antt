@@ -9,18 +9,13 @@ use Rattle.model.specs.Rules.Outcome.{Outcome, accepted, refused, fault, Parsed
 use Rattle.model.specs.Rules.Program.{Link}
 use Rattle.model.specs.Rules.Width.{inProgram}
 use Rattle.model.specs.Rules.Word.{byteAt}
+use Rattle.basics.specs.declared.Judged.{Judged}
+use Rattle.basics.specs.declared.Judged.the-variants as Judged
 use Rattle.text_program.specs.declared.Entry.the-variants as Entry
 use Rattle.text_program.specs.declared.LinksRead.{LinksRead}
 use Rattle.text_program.specs.declared.LinksRead.the-variants as Read
-use Rattle.text_program.specs.declared.Reached.{Reached}
-use Rattle.text_program.specs.declared.Reached.the-variants as Reached
 use Rattle.text_program.specs.declared.Step.{Step}
 use Rattle.text_program.specs.declared.Step.the-variants as Step
-
--- Reading goes on at `at` where a condition holds.
-unfoldable pub hereOf : ℕ → Outcome (Unit {0}) → Reached
-hereOf at (accepted a) = Reached.Next at
-hereOf at (refused f) = Reached.Refused f
 
 -- How many LINKs a chain has, and where they end.
 unfoldable pub linksOf : Outcome (Parsed (List Link)) → LinksRead
@@ -45,7 +40,7 @@ tagOf text at label count to looks =
     (Step.Refused (fault 3 at)))
     (Step.Refused (fault 2 (length text)))
 
--- The step of END, from what follows it.
-unfoldable pub endOf : Outcome (Unit {0}) → Step
-endOf (accepted a) = Step.End
-endOf (refused f) = Step.Refused f
+-- The step at which reading stops with a judgement: END where it is fine.
+unfoldable pub stopOf : Judged → Step
+stopOf Judged.Fine = Step.End
+stopOf (Judged.Refused f) = Step.Refused f

@@ -13,39 +13,25 @@ ghost use lib.ListN.{length};
 ghost use Rattle.model.specs.Rules.Command.{isSignal};
 ghost use Rattle.model.specs.Rules.Outcome.{provided};
 ghost use Rattle.model.specs.Rules.Program.{Program, operatorHere, parseExpr, parseLinks, declarationHere, parseWith};
-ghost use Rattle.model.specs.Rules.Width.{inProgram};
+ghost use Rattle.model.specs.Rules.Width.{inProgram, inCode};
 ghost use Rattle.model.specs.declared.Fault.{Fault};
-ghost use Rattle.text_program.specs.Results.{hereOf, linksOf, chainOf, tagOf, endOf};
+ghost use Rattle.basics.specs.Judgement.{judgementOf};
+ghost use Rattle.text_program.specs.Results.{linksOf, chainOf, tagOf, stopOf};
 ghost use Rattle.text_program.specs.Steps.{Counts, Stepped};
 ghost use Rattle.text_program.specs.Tables.{judgedOf, Unread, ProgramReads};
 ghost use Rattle.text_program.specs.Walks.{deepOf, outlines, leafOf, WalkRoom, LeafRoom, Walks, WalksEquation};
 
-// The offset at which reading goes on, or the refusal.
-pub enum Reached {
-    Next(usize),
-    Refused(Fault),
-}
-
-fn refuse(number: u8, place: usize) -> Reached
-    ensures { λ r. ⌜ r ≡ Reached.Refused (record { number = number; place = place }) ⌝ }
-{
-    Reached::Refused(Fault {
-        number: number,
-        place: place,
-    })
-}
-
 // Whether an operator of an expression stands at `at`: 2 and 3 come before its depth and its operands.
-fn operator_here(text: &[u8], at: usize) -> Reached
-    ensures { λ r. ⌜ r ≡ hereOf at (operatorHere (now (text .entry)) at) ⌝ }
+fn operator_here(text: &[u8], at: usize) -> Judged
+    ensures { λ r. ⌜ r ≡ judgementOf (operatorHere (now (text .entry)) at) ⌝ }
 {
     if text.len() <= at {
-        return refuse(refusals::PROGRAM_ENDS_EARLY, text.len());
+        return basics::refuse(refusals::PROGRAM_ENDS_EARLY, text.len());
     }
     let width = width::expression(text[at]);
     match width {
-        Width::Bytes(_) => Reached::Next(at),
-        Width::Unlisted => refuse(refusals::NO_SUCH_COMMAND, at),
+        Width::Bytes(_) => Judged::Fine,
+        Width::Unlisted => basics::refuse(refusals::NO_SUCH_COMMAND, at),
     }
 }
 
@@ -90,8 +76,8 @@ fn too_deep(text: &[u8], at: usize) -> Walked
 {
     let here = operator_here(text, at);
     match here {
-        Reached::Next(_) => refuse_walk(refusals::OVER_A_BOUND, at),
-        Reached::Refused(fault) => Walked::Refused(fault),
+        Judged::Fine => refuse_walk(refusals::OVER_A_BOUND, at),
+        Judged::Refused(fault) => Walked::Refused(fault),
     }
 }
 
@@ -245,14 +231,14 @@ fn refuse_step(number: u8, place: usize) -> Step
     })
 }
 
-// Goes on at `at` where a condition holds.
-fn judge(holds: bool, number: u8, at: usize) -> Reached
-    ensures { λ r. ⌜ r ≡ hereOf at (provided holds number at) ⌝ }
+// The refusal at `at` unless a condition holds.
+fn judge(holds: bool, number: u8, at: usize) -> Judged
+    ensures { λ r. ⌜ r ≡ judgementOf (provided holds number at) ⌝ }
 {
     if holds {
-        Reached::Next(at)
+        Judged::Fine
     } else {
-        refuse(number, at)
+        basics::refuse(number, at)
     }
 }
 
@@ -264,36 +250,37 @@ fn declaration_here(
     chains: usize,
     rows: usize,
     capped: bool,
-) -> Reached
+) -> Judged
     ensures { λ r. ⌜ ((p : Program) → Counts p signals chains rows capped →
-        r ≡ hereOf at (declarationHere (now (text .entry)) at p)) ⌝ }
+        r ≡ judgementOf (declarationHere (now (text .entry)) at p)) ⌝ }
 {
     if text.len() <= at {
-        return refuse(refusals::PROGRAM_ENDS_EARLY, text.len());
+        return basics::refuse(refusals::PROGRAM_ENDS_EARLY, text.len());
     }
     let byte = text[at];
     match byte {
-        0x00 => Reached::Next(at),
+        0x00 => Judged::Fine,
         0x10 => judge(signals < 64, refusals::OVER_A_BOUND, at),
         0x11 => judge(signals < 64, refusals::OVER_A_BOUND, at),
         0x12 => judge(chains < 16, refusals::OVER_A_BOUND, at),
         0x14 => judge(!capped, refusals::OPERAND_OUT_OF_RANGE, at),
-        0x15 => Reached::Next(at),
+        0x15 => Judged::Fine,
         0x16 => judge(rows < 32, refusals::OVER_A_BOUND, at),
-        _ => refuse(refusals::NO_SUCH_COMMAND, at),
+        _ => basics::refuse(refusals::NO_SUCH_COMMAND, at),
+    }
+}
+
+// The step at which reading stops with a judgement: END where it is fine.
+fn stop(judged: Judged) -> Step
+    ensures { λ r. ⌜ r ≡ stopOf judged ⌝ }
+{
+    match judged {
+        Judged::Fine => Step::End,
+        Judged::Refused(fault) => Step::Refused(fault),
     }
 }
 
 // The step of a refusal. A reading that goes on is none: no caller asks.
-fn step_of_reached(reached: Reached) -> Step
-    ensures { λ r. ⌜ ((f : Fault) → reached ≡ Reached.Refused f → r ≡ Step.Refused f) ⌝ }
-{
-    match reached {
-        Reached::Next(at) => refuse_step(refusals::NO_SUCH_COMMAND, at),
-        Reached::Refused(fault) => Step::Refused(fault),
-    }
-}
-
 fn step_of_walked(walked: Walked) -> Step
     ensures { λ r. ⌜ ((f : Fault) → walked ≡ Walked.Refused f → r ≡ Step.Refused f) ⌝ }
 {
@@ -312,63 +299,95 @@ fn step_of_links(read: LinksRead) -> Step
     }
 }
 
-// The step to an entry.
-fn adds(entry: Entry, at: usize, count: usize, to: usize, looks: usize) -> Step
-    ensures { λ r. ⌜ r ≡ Step.Adds entry (record { at = at; reads = count; code = to; lookups = looks }) ⌝ }
+// The step to an entry that ends at `next` and has no code.
+fn adds(entry: Entry, next: usize, walk: Walk) -> Step
+    ensures { λ r. ⌜ r ≡ Step.Adds entry
+        (record { at = next; reads = walk .reads; code = walk .code; lookups = walk .lookups }) ⌝ }
 {
     Step::Adds(
         entry,
         Walk {
-            at: at,
-            reads: count,
-            code: to,
-            lookups: looks,
+            at: next,
+            reads: walk.reads,
+            code: walk.code,
+            lookups: walk.lookups,
+        },
+    )
+}
+
+// An IN, whose code is FETCH and STORE.
+fn input_step(period: u8, walk: Walk) -> Step
+    requires { ⌜ (walk .at ≤ 8192) × (walk .code ≤ 8192) ⌝ }
+    ensures { λ r. ⌜ r ≡ Step.Adds (Entry.Signal period 0)
+        (record {
+          at = walk .at + inProgram 0x10;
+          reads = walk .reads;
+          code = walk .code + (inCode 0x52 + inCode 0x5F);
+          lookups = walk .lookups;
+        }) ⌝ }
+{
+    let next = walk.at + width::in_program(0x10);
+    let coded = width::in_code(0x52) + width::in_code(0x5F);
+    let end = walk.code + coded;
+    Step::Adds(
+        Entry::Signal(period, 0),
+        Walk {
+            at: next,
+            reads: walk.reads,
+            code: end,
+            lookups: walk.lookups,
         },
     )
 }
 
 // An EQ ends where its expression does; after the expression's code comes a STORE.
-fn equation_step(
-    least: u8,
-    text: &[u8],
-    at: usize,
-    entry: Entry,
-    count: usize,
-    to: usize,
-    looks: usize,
-    reads: &mut [u16],
-) -> Step
-    requires { ⌜ (at < length (now text)) × WalkRoom (length (now text)) at count to looks (length (now reads)) ⌝ }
-    ensures { λ r. ⌜ WalksEquation (parseExpr least 16 (now (text .entry)) (at + inProgram 0x11)) entry (now (reads .entry)) count
-        to looks (now (reads .exit)) r ⌝ }
+fn equation_step(least: u8, text: &[u8], entry: Entry, walk: Walk, reads: &mut [u16]) -> Step
+    requires { ⌜ (walk .at < length (now text)) ×
+        WalkRoom (length (now text)) (walk .at) (walk .reads) (walk .code) (walk .lookups) (length (now reads)) ⌝ }
+    ensures { λ r. ⌜ WalksEquation (parseExpr least 16 (now (text .entry)) (walk .at + inProgram 0x11)) entry (now (reads .entry))
+        (walk .reads) (walk .code) (walk .lookups) (now (reads .exit)) r ⌝ }
 {
-    let start = at + width::in_program(0x11);
-    let walked = read_expressions(least, &text, 1, start, count, to, looks, 16, reads);
+    let start = walk.at + width::in_program(0x11);
+    let walked = read_expressions(
+        least,
+        &text,
+        1,
+        start,
+        walk.reads,
+        walk.code,
+        walk.lookups,
+        16,
+        reads,
+    );
     let Walked::Next(w) = walked else {
         return step_of_walked(walked);
     };
-    adds(
+    let end = w.code + width::in_code(0x5F);
+    Step::Adds(
         entry,
-        w.at,
-        w.reads,
-        w.code + width::in_code(0x5F),
-        w.lookups,
+        Walk {
+            at: w.at,
+            reads: w.reads,
+            code: end,
+            lookups: w.lookups,
+        },
     )
 }
 
 // A LAT ends where its LINKs do; a chain has two of them at least.
-fn chain_step(text: &[u8], at: usize, count: usize, to: usize, looks: usize) -> Step
-    requires { ⌜ at < length (now text) ⌝ }
-    ensures { λ r. ⌜ r ≡ chainOf at count to looks (parseLinks 16 (now (text .entry)) (at + inProgram 0x12) []) ⌝ }
+fn chain_step(text: &[u8], walk: Walk) -> Step
+    requires { ⌜ walk .at < length (now text) ⌝ }
+    ensures { λ r. ⌜ r ≡ chainOf (walk .at) (walk .reads) (walk .code) (walk .lookups)
+        (parseLinks 16 (now (text .entry)) (walk .at + inProgram 0x12) []) ⌝ }
 {
-    let read = read_links(text, at + width::in_program(0x12));
+    let read = read_links(text, walk.at + width::in_program(0x12));
     let LinksRead::Links(links, next) = read else {
         return step_of_links(read);
     };
     if links < 2 {
-        return refuse_step(refusals::OPERAND_OUT_OF_RANGE, at);
+        return refuse_step(refusals::OPERAND_OUT_OF_RANGE, walk.at);
     }
-    adds(Entry::Chain(links), next, count, to, looks)
+    adds(Entry::Chain(links), next, walk)
 }
 
 fn is_signal(byte: u8) -> bool
@@ -378,55 +397,52 @@ fn is_signal(byte: u8) -> bool
 }
 
 // A TAG stands directly before IN or EQ, which takes its label.
-fn tag_step(text: &[u8], at: usize, label: u16, count: usize, to: usize, looks: usize) -> Step
-    requires { ⌜ at < length (now text) ⌝ }
-    ensures { λ r. ⌜ r ≡ tagOf (now (text .entry)) at label count to looks ⌝ }
+fn tag_step(text: &[u8], label: u16, walk: Walk) -> Step
+    requires { ⌜ walk .at < length (now text) ⌝ }
+    ensures { λ r. ⌜ r ≡ tagOf (now (text .entry)) (walk .at) label (walk .reads) (walk .code) (walk .lookups) ⌝ }
 {
-    let next = at + width::in_program(0x15);
+    let next = walk.at + width::in_program(0x15);
     if text.len() <= next {
         return refuse_step(refusals::PROGRAM_ENDS_EARLY, text.len());
     }
     let byte = text[next];
     if !is_signal(byte) {
-        return refuse_step(refusals::NO_SUCH_COMMAND, at);
+        return refuse_step(refusals::NO_SUCH_COMMAND, walk.at);
     }
-    adds(Entry::Label(label), next, count, to, looks)
+    adds(Entry::Label(label), next, walk)
 }
 
 // END is the last byte.
 fn end_step(text: &[u8], at: usize) -> Step
     requires { ⌜ at < length (now text) ⌝ }
-    ensures { λ r. ⌜ r ≡ endOf (provided (leb (length (now (text .entry))) (at + inProgram 0x00)) 6 (at + inProgram 0x00)) ⌝ }
+    ensures { λ r. ⌜ r ≡ stopOf
+        (judgementOf (provided (leb (length (now (text .entry))) (at + inProgram 0x00)) 6 (at + inProgram 0x00))) ⌝ }
 {
     let next = at + width::in_program(0x00);
-    if next < text.len() {
-        return refuse_step(refusals::BYTES_AFTER_END, next);
-    }
-    Step::End
+    let last = judge(text.len() <= next, 6, next);
+    stop(last)
 }
 
-// One declaration of the program text, after so many signals, chains and rows. Its reads are kept from `count` on; the code
-// before it takes `to` bytes and has `looks` TABLEs.
+// One declaration of the program text, after so many signals, chains and rows, where the reading stands at `walk`.
 fn read_command(
     least: u8,
     text: &[u8],
-    at: usize,
+    walk: Walk,
     signals: usize,
     chains: usize,
     rows: usize,
     capped: bool,
-    count: usize,
-    to: usize,
-    looks: usize,
     reads: &mut [u16],
 ) -> Step
-    requires { ⌜ WalkRoom (length (now text)) at count to looks (length (now reads)) ⌝ }
+    requires { ⌜ WalkRoom (length (now text)) (walk .at) (walk .reads) (walk .code) (walk .lookups) (length (now reads)) ⌝ }
     ensures { λ r. ⌜ ((p : Program) (label : ℕ) → Counts p signals chains rows capped →
-        Stepped least (now (text .entry)) at label p (now (reads .entry)) count to looks (now (reads .exit)) r) ⌝ }
+        Stepped least (now (text .entry)) (walk .at) label p (now (reads .entry)) (walk .reads) (walk .code) (walk .lookups)
+        (now (reads .exit)) r) ⌝ }
 {
+    let at = walk.at;
     let here = declaration_here(text, at, signals, chains, rows, capped);
-    let Reached::Next(_) = here else {
-        return step_of_reached(here);
+    let Judged::Fine = here else {
+        return stop(here);
     };
     let declaration = text_command::declaration_at(text, at);
     match declaration {
@@ -434,26 +450,15 @@ fn read_command(
         Declaration::Unknown => refuse_step(refusals::NO_SUCH_COMMAND, at),
         Declaration::OutOfRange => refuse_step(refusals::OPERAND_OUT_OF_RANGE, at),
         Declaration::End => end_step(text, at),
-        Declaration::Input(period, _) => {
-            let next = at + width::in_program(0x10);
-            let end = to + (width::in_code(0x52) + width::in_code(0x5F));
-            adds(Entry::Signal(period, 0), next, count, end, looks)
-        }
+        Declaration::Input(period, _) => input_step(period, walk),
         Declaration::Equation(period, _, weight) => {
-            let entry = Entry::Signal(period, weight);
-            equation_step(least, text, at, entry, count, to, looks, reads)
+            equation_step(least, text, Entry::Signal(period, weight), walk, reads)
         }
-        Declaration::Latency(_, _) => chain_step(text, at, count, to, looks),
+        Declaration::Latency(_, _) => chain_step(text, walk),
         Declaration::Link(_) => refuse_step(refusals::NO_SUCH_COMMAND, at),
-        Declaration::Cap(limit) => {
-            let next = at + width::in_program(0x14);
-            adds(Entry::Cap(limit), next, count, to, looks)
-        }
-        Declaration::Tag(label) => tag_step(text, at, label, count, to, looks),
-        Declaration::Row(_, _, _) => {
-            let next = at + width::in_program(0x16);
-            adds(Entry::Row, next, count, to, looks)
-        }
+        Declaration::Cap(limit) => adds(Entry::Cap(limit), at + width::in_program(0x14), walk),
+        Declaration::Tag(label) => tag_step(text, label, walk),
+        Declaration::Row(_, _, _) => adds(Entry::Row, at + width::in_program(0x16), walk),
     }
 }
 
@@ -534,17 +539,20 @@ pub fn read_program(least: u8, text: &[u8], reads: &mut [u16]) -> ProgramRead
         let signals = tables.signals;
         let chains = tables.chains;
         let rows = tables.rows;
+        let here = Walk {
+            at: at,
+            reads: count,
+            code: to,
+            lookups: tables.lookups,
+        };
         let step = read_command(
             least,
             text,
-            at,
+            here,
             signals,
             chains,
             rows,
             tables.capped,
-            count,
-            to,
-            tables.lookups,
             reads,
         );
         let Step::Adds(entry, walk) = step else {

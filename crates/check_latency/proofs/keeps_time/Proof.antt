@@ -98,6 +98,7 @@ returns-2 c =
 pub keeps-time-spec : {M : Type 1} → statement M
 keeps-time-spec =
     tie.close
-    (tie.spec (λ c. omega (arith, few c)) few (λ c κs. search needs) (λ c κs. search needs) (λ c. search needs) returns (λ c κs. search needs)
-    (λ c. search needs) (λ c κs. search needs) (λ c. search needs) (λ c κs. search needs) window-of-requires first-run-requires
+    (tie.spec (λ c. omega (arith, few c)) few (λ c κs. search needs) (λ c κs. search needs) (λ c. search needs) returns
+    (λ c κs. search needs) (λ c. search needs) (λ c κs. search needs) (λ c. search needs) (λ c κs. search needs)
+    window-of-requires first-run-requires
     (λ c. search needs) is-timely-requires returns-2)

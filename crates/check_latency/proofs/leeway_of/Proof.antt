@@ -106,6 +106,7 @@ returns-2 c =
 pub leeway-of-spec : {M : Type 1} → statement M
 leeway-of-spec =
     tie.close
-    (tie.spec (λ c. omega (arith, few c)) few (λ c κs. search needs) (λ c κs. search needs) (λ c. search needs) returns (λ c κs. search needs)
-    (λ c. search needs) (λ c κs. search needs) (λ c. search needs) (λ c κs. search needs) window-of-requires first-run-requires
+    (tie.spec (λ c. omega (arith, few c)) few (λ c κs. search needs) (λ c κs. search needs) (λ c. search needs) returns
+    (λ c κs. search needs) (λ c. search needs) (λ c κs. search needs) (λ c. search needs) (λ c κs. search needs)
+    window-of-requires first-run-requires
     least-bound-requires (λ c κs. search needs) returns-2)

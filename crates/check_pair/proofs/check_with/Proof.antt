@@ -166,7 +166,8 @@ abbrev arrangement : tie.After-enum-told9 → tie.After-enum-told7
 arrangement f = f .before .before .before .before .before
 
 reads-met : (f : tie.After-enum-told9) → met (program (arrangement f)) (schedule (arrangement f)) ≡ accepted tt
-reads-met f = judgement-fine _ _ (f .before .before .check-reads .ensures _ _ (arranged (arrangement f) .2)) (f .enum-told9 .given .1)
+reads-met f =
+    judgement-fine _ _ (f .before .before .check-reads .ensures _ _ (arranged (arrangement f) .2)) (f .enum-told9 .given .1)
 
 abbrev met-at : tie.After-enum-told11 → tie.After-enum-told9
 met-at f = f .before .before .before

@@ -13,10 +13,10 @@ use Rattle.text_program.proofs.chain_step.Tie as tie
 -- the LINKs
 module _ (c : tie.After-read-links) where
   abbrev start : tie.Start
-  start = c .before .before .before
+  start = c .before .before .before .before
 
-  links : c .read-links .result ≡ linksOf (parseLinks 16 (now (start .args .text)) (start .args .at + 4) [])
-  links = rw (c .before .in-program .ensures) at (c .read-links .ensures)
+  links : c .read-links .result ≡ linksOf (parseLinks 16 (now (start .args .text)) (start .args .walk .at + 4) [])
+  links = rw (c .before .before .in-program .ensures) at (c .read-links .ensures)
 
 returns : tie.Need-returns
 returns c =

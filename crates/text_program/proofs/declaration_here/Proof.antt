@@ -9,7 +9,7 @@ use mathlib.Core.Path.{_≡_, sym, ap, _∙_}
 use Rattle.model.specs.Rules.Outcome.{_▷_, provided}
 use Rattle.model.specs.Rules.Program.{Program, roomFor, declarationHere}
 use Rattle.model.specs.Rules.Word.{byteAt}
-use Rattle.text_program.specs.Results.{hereOf}
+use Rattle.basics.specs.Judgement.{judgementOf}
 use Rattle.text_program.proofs.declaration_here.Statement.{statement}
 use Rattle.text_program.proofs.declaration_here.Tie as tie
 
@@ -25,15 +25,15 @@ module _ (c : tie.Else1) where
   abbrev at : ℕ
   at = c .before .before .args .at
 
-  inside : (p : Program) → hereOf at (declarationHere text at p) ≡ hereOf at (roomFor at p (byteAt text at))
-  inside p = ap (hereOf at) (of-byte text at p (c .if1 .left))
+  inside : (p : Program) → judgementOf (declarationHere text at p) ≡ judgementOf (roomFor at p (byteAt text at))
+  inside p = ap judgementOf (of-byte text at p (c .if1 .left))
 
 returns : tie.Need-returns
-unfolding hereOf declarationHere provided _▷_
+unfolding judgementOf declarationHere provided _▷_
 returns c = λ p k. rw (le-ltb _ _ (c .before .if1 .taken)) (c .refuse .ensures)
 
 returns-2 : tie.Need-returns-2
-unfolding hereOf roomFor
+unfolding judgementOf roomFor
 returns-2 c = λ p k. sym (inside (c .before .before) p ∙ rw (c .match .keys1))
 
 returns-3 : tie.Need-returns-3
@@ -57,7 +57,7 @@ returns-6 c = λ p k.
     (rw (← k .cap-is) at (c .judge4 .ensures)) ∙ sym (inside (c .before .before .before) p ∙ rw (c .before .match .keys5))
 
 returns-7 : tie.Need-returns-7
-unfolding hereOf roomFor
+unfolding judgementOf roomFor
 returns-7 c = λ p k. sym (inside (c .before .before) p ∙ rw (c .match .keys6))
 
 returns-8 : tie.Need-returns-8
@@ -66,7 +66,7 @@ returns-8 c = λ p k.
     (rw (← k .rows-are) at (c .judge5 .ensures)) ∙ sym (inside (c .before .before .before) p ∙ rw (c .before .match .keys7))
 
 returns-9 : tie.Need-returns-9
-unfolding hereOf roomFor
+unfolding judgementOf roomFor
 returns-9 c = λ p k.
     let e = c .before .before .before in
     let b = byteAt (text e) (at e) in

@@ -19,35 +19,37 @@ one-walk least text at k e w = rw (sym (one-outline (parseExpr least 16 text) (a
 
 read-expressions-requires : tie.Need-read-expressions-requires
 read-expressions-requires c κs =
-    let c5 = c .before .before .before .before .before in
-    rw (c .before .before .in-program .ensures) (room-after 8 (c5 .pre .1))
+    let c3 = c .before .before .before in
+    rw (c3 .in-program .ensures) (room-after 8 (c3 .before .before .before .pre .1))
 
 returns : tie.Need-returns
 returns c =
     let c5 = c .before .before .before .before .before in
     let told = c .before .enum-told .given in
-    equation-walks _ (one-walk _ _ _ _ (c5 .before .before .before .in-program .ensures) (c5 .read-expressions .ensures)) _
+    let c9 = c5 .before .before .before .before in
+    equation-walks _ (one-walk _ _ _ _ (c9 .in-program .ensures) (c5 .read-expressions .ensures)) _
     (c .step-of-walked .ensures _ (told .1) ∙ ap (equationStep _) (sym (told .1)))
 
-add-adds : tie.Need-add-adds
-add-adds c =
+add-end : tie.Need-add-end
+add-end c =
     let c3 = c .before .before .before in
     let c7 = c3 .before .before .before .before in
-    let c10 = c7 .before .before .before in
-    let h = ahead _ _ 16 (room-after 8 (c10 .before .before .before .pre .1))
-    (one-walk _ _ _ _ (c10 .in-program .ensures) (c7 .read-expressions .ensures)) (c3 .walked .given .1) in
+    let c11 = c7 .before .before .before .before in
+    let h = ahead _ _ 16 (room-after 8 (c11 .before .before .before .pre .1))
+    (one-walk _ _ _ _ (c11 .in-program .ensures) (c7 .read-expressions .ensures)) (c3 .walked .given .1) in
     omega (arith, h .left .short, h .left .small, h .inside)
 
 returns-2 : tie.Need-returns-2
 returns-2 c =
-    let c4 = c .before .before .before .before in
-    let c8 = c4 .before .before .before .before in
-    equation-walks _ (one-walk _ _ _ _ (c8 .before .before .before .in-program .ensures) (c8 .read-expressions .ensures)) _
-    ((rw (c .before .before .in-code .ensures) at (c .adds .ensures)) ∙ ap (equationStep _) (sym (c4 .walked .given .1)))
+    let c3 = c .before .before .before in
+    let c7 = c3 .before .before .before .before in
+    let c11 = c7 .before .before .before .before in
+    rw (c .before .in-code .ensures)
+    (equation-walks _ (one-walk _ _ _ _ (c11 .in-program .ensures) (c7 .read-expressions .ensures)) _
+    (ap (equationStep _) (sym (c3 .walked .given .1))))
 
 pub equation-step-spec : {M : Type 1} → statement M
 equation-step-spec =
     tie.close
     (tie.spec (λ c κs. search needs) (λ c. search needs) read-expressions-requires (λ c. search needs) (λ c. search needs)
-    (λ c κs. search needs) (λ c. search needs) returns (λ c κs. search needs) add-adds (λ c κs. search needs)
-    (λ c. search needs) returns-2)
+    (λ c κs. search needs) (λ c. search needs) returns (λ c κs. search needs) add-end (λ c. search needs) returns-2)

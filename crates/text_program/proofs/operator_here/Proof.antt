@@ -4,22 +4,22 @@ use borrow.Author.Tests.{lt-ltb, le-ltb}
 use mathlib.Core.Path.{sym, _∙_}
 use Rattle.model.specs.Rules.Outcome.{_▷_, provided}
 use Rattle.model.specs.Rules.Program.{operatorHere}
-use Rattle.text_program.specs.Results.{hereOf}
+use Rattle.basics.specs.Judgement.{judgementOf}
 use Rattle.text_program.proofs.operator_here.Statement.{statement}
 use Rattle.text_program.proofs.operator_here.Tie as tie
 
 returns : tie.Need-returns
-unfolding hereOf operatorHere provided _▷_
+unfolding judgementOf operatorHere provided _▷_
 returns c = rw (le-ltb _ _ (c .before .if1 .taken)) (c .refuse .ensures)
 
 returns-2 : tie.Need-returns-2
-unfolding hereOf operatorHere provided _▷_
+unfolding judgementOf operatorHere provided _▷_
 returns-2 c =
     let w = c .before .before .expression .ensures in
     rw (lt-ltb _ _ (c .before .before .before .before .if1 .left), sym w ∙ c .enum-told .given .1)
 
 returns-3 : tie.Need-returns-3
-unfolding hereOf operatorHere provided _▷_
+unfolding judgementOf operatorHere provided _▷_
 returns-3 c =
     let w = c .before .before .before .expression .ensures in
     rw (lt-ltb _ _ (c .before .before .before .before .before .if1 .left), sym w ∙ c .before .enum-told2 .given .1)

@@ -1,7 +1,7 @@
 -- `text_program::read_command` meets its contract. Assumes nothing.
 use Prim.Native.Nat.{ℕ, _<_}
 use mathlib.Core.List.{List}
-use mathlib.Core.Path.{_≡_, refl, sym, subst, _∙_}
+use mathlib.Core.Path.{_≡_, refl, sym, ap, subst, _∙_}
 use lib.ListN.{length}
 use denote.Ref.{now}
 use native.Mathlib.Omega.{arith}
@@ -11,10 +11,12 @@ use Rattle.model.specs.Rules.Program.{Program, declarationHere, declare}
 use Rattle.model.specs.declared.Declaration.{Declaration}
 use Rattle.model.specs.declared.Declaration.the-variants as Declaration
 use Rattle.model.specs.declared.Fault.{Fault}
+use Rattle.basics.proofs.Judgements.{judgement-fine, judgement-refused}
+use Rattle.text_program.specs.Results.{stopOf}
 use Rattle.text_program.specs.Steps.{Counts, Stepped}
 use Rattle.text_program.specs.declared.Step.{Step}
 use Rattle.text_program.specs.declared.Step.the-variants as Step
-use Rattle.text_program.proofs.Parts.{here-next, here-refused, declaration-inside}
+use Rattle.text_program.proofs.Parts.{declaration-inside}
 use Rattle.text_program.proofs.Steps.{
   step-stopped,
   step-refused,
@@ -42,7 +44,7 @@ module _ (c : tie.After-declaration-at) where
   text = now (start .args .text)
 
   abbrev at : ℕ
-  at = start .args .at
+  at = start .args .walk .at
 
   abbrev HasSoFar : Program → Type 0
   HasSoFar p = Counts p (start .args .signals) (start .args .chains) (start .args .rows) (start .args .capped)
@@ -50,11 +52,12 @@ module _ (c : tie.After-declaration-at) where
   abbrev Steps : List ℕ → Step → Type 0
   Steps l r =
       (p : Program) (label : ℕ) → HasSoFar p →
-      Stepped least text at label p (now (start .args .reads)) (start .args .count) (start .args .to)
-      (start .args .looks) l r
+      Stepped least text at label p (now (start .args .reads)) (start .args .walk .reads)
+      (start .args .walk .code) (start .args .walk .lookups) l r
 
   stands : (p : Program) → HasSoFar p → declarationHere text at p ≡ accepted tt
-  stands p k = here-next _ _ _ (sym (c .before .enum-told .given .1) ∙ c .before .before .before .declaration-here .ensures p k)
+  stands p k =
+      judgement-fine _ _ (c .before .before .before .declaration-here .ensures p k) (c .before .enum-told .given .1)
 
   module _ {k : Declaration} (e : c .declaration-at .result ≡ k) where
     is : declarationAt text at ≡ k
@@ -72,28 +75,21 @@ module _ (c : tie.After-declaration-at) where
         (step-refused least text at label p _ _ _ _ (stands p n) k _ is (λ next. h next label p))
 
 returns : tie.Need-returns
+unfolding stopOf
 returns c = λ p label k.
     let told = c .before .enum-told2 .given .1 in
-    subst (Stepped _ _ _ label p _ _ _ _ _) (sym (c .step-of-reached .ensures _ told))
+    subst (Stepped _ _ _ label p _ _ _ _ _) (sym (c .stop .ensures ∙ ap stopOf told))
     (step-stopped _ _ _ label p _ _ _ _
-    (here-refused _ _ (sym told ∙ c .before .before .before .declaration-here .ensures p k)))
+    (judgement-refused _ _ _ (c .before .before .before .declaration-here .ensures p k) told))
 
 end-step-requires : tie.Need-end-step-requires
 end-step-requires c κs = inside (c .before .before) (c .enum-told6 .given .1) (λ e. let z : _≡_ {A = ℕ} 0 1 = cc in omega arith)
 
-add-next : tie.Need-add-next
-add-next c =
-    let b = c .before .before .before .before in
-    let i = inside b (c .before .before .declaration .given .1) (λ e. let z : _≡_ {A = ℕ} 0 1 = cc in omega arith) in
-    omega (arith, i, start b .pre .short, start b .pre .small)
-
-add-end-2 : tie.Need-add-end-2
-add-end-2 c =
-    let c4 = c .before .before .before .before in
-    let c6 = c4 .before .before in
-    let b = c6 in
-    let i = inside b (c4 .declaration .given .1) (λ e. let z : _≡_ {A = ℕ} 0 1 = cc in omega arith) in
-    omega (arith, i, start b .pre .short, start b .pre .small)
+input-step-requires : tie.Need-input-step-requires
+input-step-requires c κs =
+    let b = c .before .before .before in
+    let i = inside b (c .before .declaration .given .1) (λ e. let z : _≡_ {A = ℕ} 0 1 = cc in omega arith) in
+    (omega (arith, i, start b .pre .short), omega (arith, i, start b .pre .short, start b .pre .small))
 
 equation-step-requires : tie.Need-equation-step-requires
 equation-step-requires c κs =
@@ -103,14 +99,14 @@ equation-step-requires c κs =
 chain-step-requires : tie.Need-chain-step-requires
 chain-step-requires c κs = inside (c .before .before) (c .enum-told7 .given .1) (λ e. let z : _≡_ {A = ℕ} 0 1 = cc in omega arith)
 
-add-next-2 : tie.Need-add-next-2
-add-next-2 c =
+add-adds : tie.Need-add-adds
+add-adds c =
     let b = c .before .before .before .before in
     let i = inside b (c .before .before .declaration3 .given .1) (λ e. let z : _≡_ {A = ℕ} 0 1 = cc in omega arith) in
     omega (arith, i, start b .pre .short, start b .pre .small)
 
-add-next-3 : tie.Need-add-next-3
-add-next-3 c =
+add-adds-2 : tie.Need-add-adds-2
+add-adds-2 c =
     let b = c .before .before .before in
     let i = inside b (c .before .enum-told9 .given .1) (λ e. let z : _≡_ {A = ℕ} 0 1 = cc in omega arith) in
     omega (arith, i, start b .pre .short, start b .pre .small)
@@ -141,15 +137,10 @@ returns-5 c = λ p label k.
     (step-end _ _ _ label p _ _ _ _ (stands b p k) (is b (c .before .enum-told6 .given .1)))
 
 returns-6 : tie.Need-returns-6
-returns-6 c =
-    let c3 = c .before .before .before in
-    let c5 = c3 .before .before in
-    let c7 = c5 .before .before in
-    λ p label k.
-    let b = c7 in
-    subst (Stepped _ _ _ label p _ _ _ _ _) (sym
-    (rw (c3 .in-program .ensures, c .before .before .in-code .ensures, c .before .in-code2 .ensures) at
-    (c .adds .ensures))) (step-input _ _ _ label p _ _ _ _ (stands b p k) _ _ (is b (c5 .declaration .given .1)))
+returns-6 c = λ p label k.
+    let b = c .before .before .before .before in
+    subst (Stepped _ _ _ label p _ _ _ _ _) (sym (c .input-step .ensures))
+    (step-input _ _ _ label p _ _ _ _ (stands b p k) _ _ (is b (c .before .before .declaration .given .1)))
 
 returns-7 : tie.Need-returns-7
 returns-7 c =
@@ -174,7 +165,7 @@ returns-9 c =
 returns-10 : tie.Need-returns-10
 returns-10 c = λ p label k.
     let b = c .before .before .before .before .before in
-    subst (Stepped _ _ _ label p _ _ _ _ _) (sym (rw (c .before .in-program2 .ensures) at (c .adds2 .ensures)))
+    subst (Stepped _ _ _ label p _ _ _ _ _) (sym (rw (c .before .in-program .ensures) at (c .adds .ensures)))
     (step-cap _ _ _ label p _ _ _ _ (stands b p k) _ (is b (c .before .before .before .declaration3 .given .1)))
 
 returns-11 : tie.Need-returns-11
@@ -186,7 +177,7 @@ returns-11 c = λ p label k.
 returns-12 : tie.Need-returns-12
 returns-12 c = λ p label k.
     let b = c .before .before .before .before in
-    subst (Stepped _ _ _ label p _ _ _ _ _) (sym (rw (c .before .in-program3 .ensures) at (c .adds3 .ensures)))
+    subst (Stepped _ _ _ label p _ _ _ _ _) (sym (rw (c .before .in-program2 .ensures) at (c .adds2 .ensures)))
     (step-row _ _ _ label p _ _ _ _ (stands b p k) _ _ _ (is b (c .before .before .enum-told9 .given .1)))
 
 pub read-command-spec : {M : Type 1} → statement M
@@ -194,10 +185,8 @@ read-command-spec =
     tie.close
     (tie.spec (λ c κs. search needs) (λ c. search needs) (λ c. search needs) (λ c κs. search needs) returns
     (λ c κs. search needs) (λ c. search needs) (λ c κs. search needs) (λ c. search needs) (λ c κs. search needs)
-    (λ c. search needs) (λ c κs. search needs) (λ c. search needs) end-step-requires (λ c. search needs) (λ c κs. search needs)
-    add-next (λ c κs. search needs) (λ c κs. search needs) (λ c. search needs) add-end-2 (λ c κs. search needs)
+    (λ c. search needs) (λ c κs. search needs) (λ c. search needs) end-step-requires (λ c. search needs) input-step-requires
     (λ c. search needs) equation-step-requires (λ c. search needs) chain-step-requires (λ c. search needs)
-    (λ c κs. search needs) (λ c. search needs) (λ c κs. search needs) add-next-2 (λ c κs. search needs) (λ c. search needs)
-    tag-step-requires (λ c. search needs) (λ c κs. search needs) add-next-3 (λ c κs. search needs) returns-2 returns-3 returns-4
-    returns-5 returns-6 (λ c. search needs) returns-7 returns-8 returns-9
-    returns-10 returns-11 returns-12)
+    (λ c κs. search needs) (λ c. search needs) (λ c κs. search needs) add-adds (λ c κs. search needs) (λ c. search needs)
+    tag-step-requires (λ c. search needs) (λ c κs. search needs) add-adds-2 (λ c κs. search needs) returns-2 returns-3 returns-4
+    returns-5 returns-6 (λ c. search needs) returns-7 returns-8 returns-9 returns-10 returns-11 returns-12)

@@ -62,7 +62,7 @@ module _ (c : tie.After-known-told Inv-loop μ-loop) where
   inside = b .before .before .loop-test .taken
 
   abbrev kept : List ℕ
-  kept = b .read-command .last .1 .1 .1 .1 .1 .1 .1 .1 .1 .1 .0
+  kept = b .read-command .last .1 .1 .1 .1 .1 .1 .1 .0
 
   abbrev entry : Entry
   entry = c .before .step .given .0 .0

@@ -16,13 +16,13 @@ use Rattle.text_program.proofs.tag_step.Tie as tie
 -- where the byte after the TAG is judged
 module _ (c : tie.After-is-signal) where
   abbrev text : List ℕ
-  text = now (c .before .before .before .before .before .args .text)
+  text = now (c .before .before .before .before .before .before .args .text)
 
   abbrev at : ℕ
-  at = c .before .before .before .before .before .args .at
+  at = c .before .before .before .before .before .before .args .walk .at
 
-  width : c .before .before .before .in-program .result ≡ 3
-  width = c .before .before .before .in-program .ensures
+  width : c .before .before .before .before .in-program .result ≡ 3
+  width = c .before .before .before .before .in-program .ensures
 
   told : c .is-signal .result ≡ isSignal (byteAt text (at + 3))
   told = rw width at (c .is-signal .ensures)

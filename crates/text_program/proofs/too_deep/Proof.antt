@@ -1,7 +1,7 @@
 -- `text_program::too_deep` meets its contract. Assumes nothing.
 use mathlib.Core.Path.{sym, ap, _∙_}
 use Rattle.text_program.specs.Walks.{deepOf}
-use Rattle.text_program.proofs.Parts.{here-next, here-refused}
+use Rattle.basics.proofs.Judgements.{judgement-fine, judgement-refused}
 use borrow.Author.Needs.{needs}
 use Rattle.text_program.proofs.too_deep.Statement.{statement}
 use Rattle.text_program.proofs.too_deep.Tie as tie
@@ -10,13 +10,14 @@ returns : tie.Need-returns
 unfolding deepOf
 returns c =
     c .refuse-walk .ensures ∙
-    sym (ap (deepOf _) (here-next _ _ _
-    (sym (c .before .enum-told .given .1) ∙ c .before .before .before .operator-here .ensures)))
+    sym (ap (deepOf _)
+    (judgement-fine _ _ (c .before .before .before .operator-here .ensures) (c .before .enum-told .given .1)))
 
 returns-2 : tie.Need-returns-2
 unfolding deepOf
 returns-2 c =
-    sym (ap (deepOf _) (here-refused _ _ (sym (c .before .here .given .1) ∙ c .before .before .before .operator-here .ensures)))
+    sym (ap (deepOf _)
+    (judgement-refused _ _ _ (c .before .before .before .operator-here .ensures) (c .before .here .given .1)))
 
 pub too-deep-spec : {M : Type 1} → statement M
 too-deep-spec =
