@@ -54,8 +54,3 @@ pub judgement-answers : (Q : Unit {0} → Type 0) (o : Outcome (Unit {0})) (j : 
 unfolding Answers judgementOf
 judgement-answers Q (accepted tt) j e h = (e, h refl)
 judgement-answers Q (refused f) j e h = e
-
-pub answers-judgement : (o : Outcome (Unit {0})) (j : Judged) → Answers (λ _. Unit {0}) o j → j ≡ judgementOf o
-unfolding Answers judgementOf
-answers-judgement (accepted tt) j h = h .0
-answers-judgement (refused f) j h = h

@@ -5,13 +5,12 @@ use mathlib.Core.List.{List, [], _∷_, _++_}
 use mathlib.Core.Path.{_≡_, refl, sym, ap, _∙_}
 use native.Mathlib.Numerals.{add-one}
 use native.Mathlib.Omega.{arith}
-use borrow.Author.Tests.{leb-true, le-leb, lt-leb}
-use lib.Dec.{leb, eqb}
+use borrow.Author.Tests.{le-leb, lt-leb}
+use lib.Dec.{eqb}
 use lib.ListN.{length, getD, take, drop, length-drop}
 use lib.Seq.{drop-cons, length-take-le, sets-eq}
 use Rattle.model.specs.Rules.Command.{isOperator, declarationAt, operatorAt}
 use Rattle.model.specs.Rules.Rewrite.{singleKind}
-use Rattle.model.specs.Rules.Machine.{effect}
 use Rattle.model.specs.Rules.Outcome.{Outcome, accepted, refused, refuse, _▷_, provided}
 use Rattle.model.specs.Rules.Program.{Program, parseWith}
 use Rattle.model.specs.Rules.Width.{readWidth}
@@ -253,22 +252,3 @@ module _ (o : Outcome Program) (reads : List ℕ) (r : ProgramRead) where
       go : (o : Outcome Program) → ProgramReads o reads r → (p : Program) × (o ≡ accepted p)
       go (accepted p) h = (p, refl)
       go (refused g) h = let z : _≡_ {A = ℕ} 0 1 = cc in absurd (omega arith)
-
--- What is accepted fits.
-pub convert-fits : (program buffer : List ℕ) (n : ℕ) → accepted n ≡ convertOf program buffer .answer → n ≤ length buffer
-unfolding convertOf provided _▷_
-convert-fits program buffer n e =
-    go (leb (length program) 8192) (parseWith 1 program) (leb (length (rewrite program)) (length buffer)) refl e
-  where
-    size : ℕ
-    size = length (rewrite program)
-
-    go : (a : Bool) (o : Outcome Program) (b : Bool) → leb size (length buffer) ≡ b →
-        accepted n ≡
-        effect buffer
-        (provided a 1 0 ▷ λ _. o ▷ λ p. provided b 17 size ▷ λ _.
-        accepted (record { yields = size; leaves = rewrite program ++ drop size buffer })) .answer → n ≤ length buffer
-    go false o b q e = let z : _≡_ {A = ℕ} 0 1 = cc in absurd (omega arith)
-    go true (refused f) b q e = let z : _≡_ {A = ℕ} 0 1 = cc in absurd (omega arith)
-    go true (accepted p) false q e = let z : _≡_ {A = ℕ} 0 1 = cc in absurd (omega arith)
-    go true (accepted p) true q e = let z : n ≡ size = cc in omega (arith, leb-true size (length buffer) q)

@@ -1,11 +1,9 @@
 -- What a call that writes a list of bytes answers and leaves, by its tests. Assumes nothing.
 use Prim.Native.Nat.{ℕ, _+_, _≤_, _<_}
-use mathlib.Core.Bool.{Bool, true, false}
 use mathlib.Core.List.{List, _++_}
 use mathlib.Core.Path.{_≡_, refl, sym, ap, _∙_}
 use native.Mathlib.Omega.{arith}
-use borrow.Author.Tests.{leb-true, le-leb, lt-leb}
-use lib.Dec.{leb}
+use borrow.Author.Tests.{le-leb, lt-leb}
 use lib.ListN.{length, drop}
 use lib.Seq.{sets-eq}
 use Rattle.model.specs.Rules.Machine.{effect}
@@ -56,26 +54,3 @@ module _ (taken : List ℕ) (o : Outcome (List ℕ)) (buffer : List ℕ) where
             ap accepted (w .ends ∙ whole),
             w .holds ∙ sets-eq l buffer 0 (omega arith) ∙ ap (λ (m : ℕ). l ++ drop m buffer) whole,
           )
-
--- What is accepted fits.
-pub answered-fits : (taken : List ℕ) (o : Outcome (List ℕ)) (buffer : List ℕ) (n : ℕ) →
-    accepted n ≡ effect buffer (writeJob taken o buffer) .answer → n ≤ length buffer
-unfolding provided _▷_
-answered-fits taken o buffer n e = go (leb (length taken) 16777216) o e
-  where
-    fit : (l : List ℕ) (b : Bool) → leb (length l) (length buffer) ≡ b →
-        accepted n ≡
-        effect buffer
-        (provided b 44 (length l) ▷ λ _.
-        accepted (record { yields = length l; leaves = l ++ drop (length l) buffer })) .answer → n ≤ length buffer
-    fit l true q e = let z : n ≡ length l = cc in omega (arith, leb-true (length l) (length buffer) q)
-    fit l false q e = let z : _≡_ {A = ℕ} 0 1 = cc in absurd (omega arith)
-
-    go : (a : Bool) (o : Outcome (List ℕ)) →
-        accepted n ≡
-        effect buffer
-        (provided a 47 0 ▷ λ _. o ▷ λ l. provided (leb (length l) (length buffer)) 44 (length l) ▷ λ _.
-        accepted (record { yields = length l; leaves = l ++ drop (length l) buffer })) .answer → n ≤ length buffer
-    go false o e = let z : _≡_ {A = ℕ} 0 1 = cc in absurd (omega arith)
-    go true (refused f) e = let z : _≡_ {A = ℕ} 0 1 = cc in absurd (omega arith)
-    go true (accepted l) e = fit l (leb (length l) (length buffer)) refl e

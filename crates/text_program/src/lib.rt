@@ -419,7 +419,7 @@ fn end_step(text: &[u8], at: usize) -> Step
         (judgementOf (provided (leb (length (now (text .entry))) (at + inProgram 0x00)) 6 (at + inProgram 0x00))) ⌝ }
 {
     let next = at + width::in_program(0x00);
-    let last = judge(text.len() <= next, 6, next);
+    let last = judge(text.len() <= next, refusals::BYTES_AFTER_END, next);
     stop(last)
 }
 
