@@ -54,19 +54,6 @@ fn denied(number: u8) -> Turned
     Turned::Refused(Fault { number, place: 0 })
 }
 
-// The refusal of a load or a mark.
-fn refused(number: u8) -> Ran
-    ensures { λ r. ⌜ ranOf r ≡ refuse number 0 ⌝ }
-{
-    Ran::Refused(Fault { number, place: 0 })
-}
-
-fn stopped(number: u8) -> Cycled
-    ensures { λ r. ⌜ cycledOf r ≡ refuse number 0 ⌝ }
-{
-    Cycled::Refused(Fault { number, place: 0 })
-}
-
 // One turn more, held at the maximum.
 fn count_up(n: u32) -> u32
     ensures { λ r. ⌜ r ≡ countUp n ⌝ }
@@ -79,7 +66,7 @@ fn reset_place(images: &[u8], start: usize, size: usize, words: &mut [i32]) -> R
     ensures { λ r. ⌜ Does (resetIn (now (images .entry)) start size (now (words .entry))) (ranOf r) (now (words .exit)) ⌝ }
 {
     if !basics::is_inside(start, size, images.len()) {
-        return refused(refusals::STRETCH_OUTSIDE);
+        return machine::refused(refusals::STRETCH_OUTSIDE);
     }
     let end = start + size;
     machine::reset(&images[start..end], &mut words[..])
@@ -99,16 +86,16 @@ fn cycle_place(
         (cycledOf r) (now (words .exit)) ⌝ }
 {
     if !basics::is_inside(start, size, images.len()) {
-        return stopped(refusals::STRETCH_OUTSIDE);
+        return machine::stopped(refusals::STRETCH_OUTSIDE);
     }
     let end = start + size;
     let lent = &images[start..end];
     let image = image_valid::image_in(lent);
     if !image_valid::well_formed(image) {
-        return stopped(refusals::IMAGE_NOT_WELL_FORMED);
+        return machine::stopped(refusals::IMAGE_NOT_WELL_FORMED);
     }
     if !machine::is_positioned(image, &words[..]) {
-        return stopped(refusals::POSITION);
+        return machine::stopped(refusals::POSITION);
     }
     let total = machine::run_cycle(image, &mut words[..], samples);
     Cycled::Commands(total)
@@ -231,10 +218,10 @@ pub fn load(
         place start size .left ⌝ }
 {
     if PLACES <= place {
-        return refused(refusals::NO_SUCH_PLACE);
+        return machine::refused(refusals::NO_SUCH_PLACE);
     }
     if state.len() < WORDS {
-        return refused(refusals::STATE_SHORT);
+        return machine::refused(refusals::STATE_SHORT);
     }
     let ran = load_place(images, start, size, &mut state[..], place);
     let Ran::Done = ran else {
@@ -255,11 +242,11 @@ pub fn mark(words: &mut [usize; 17], place: usize) -> Ran
         markRecord (now (words .entry)) place (markPlaceOf (boardOf (now (words .entry))) place .answer) ⌝ }
 {
     if PLACES <= place {
-        return refused(refusals::NO_SUCH_PLACE);
+        return machine::refused(refusals::NO_SUCH_PLACE);
     }
     let at = 4 * place;
     if !is_loaded(words[at]) {
-        return refused(refusals::NEVER_LOADED);
+        return machine::refused(refusals::NEVER_LOADED);
     }
     words[at] = 3;
     Ran::Done

@@ -25,13 +25,14 @@ ghost use Rattle.machine.specs.Runnable.{tableIn, Runnable, JudgesCycle}
 ghost use Rattle.model.specs.Rules.Outcome.{refuse};
 ghost use Rattle.model.specs.Rules.Word.{byteAt};
 
-fn refused(number: u8) -> Ran
+// The refusals of a reset and of a cycle, and of a board's calls: all have place 0.
+pub fn refused(number: u8) -> Ran
     ensures { λ r. ⌜ ranOf r ≡ refuse number 0 ⌝ }
 {
     Ran::Refused(Fault { number, place: 0 })
 }
 
-fn stopped(number: u8) -> Cycled
+pub fn stopped(number: u8) -> Cycled
     ensures { λ r. ⌜ cycledOf r ≡ refuse number 0 ⌝ }
 {
     Cycled::Refused(Fault { number, place: 0 })

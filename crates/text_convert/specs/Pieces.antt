@@ -20,7 +20,7 @@ widthIn (Piece.Short n byte signal) = n
 
 abbrev pub newLength : Piece → ℕ
 newLength (Piece.Keep n) = n
-newLength (Piece.Short n byte signal) = 2
+newLength (Piece.Short n byte signal) = inExpression 0x21
 
 abbrev pub bytesIn : Piece → List ℕ → List ℕ
 bytesIn (Piece.Keep n) bytes = bytes

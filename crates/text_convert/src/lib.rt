@@ -111,7 +111,7 @@ fn new_length(piece: Piece) -> usize
 {
     match piece {
         Piece::Keep(n) => n,
-        Piece::Short(_, _, _) => 2,
+        Piece::Short(_, _, _) => width::in_expression(0x21),
     }
 }
 
@@ -142,7 +142,7 @@ fn put(text: &[u8], at: usize, piece: Piece, out: &mut [u8], to: usize) -> usize
         Piece::Short(_, byte, signal) => {
             out[to] = byte;
             out[to + 1] = signal;
-            to + 2
+            to + width::in_expression(0x21)
         }
     }
 }
