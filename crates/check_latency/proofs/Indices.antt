@@ -16,7 +16,7 @@ use Rattle.model.specs.declared.Found.{Found}
 use Rattle.model.specs.declared.Found.the-variants.{At, Nowhere}
 use Rattle.model.specs.declared.Kind.{Kind}
 use Rattle.model.proofs.Pairs.Decide.{is-first}
-use Rattle.model.proofs.Texts.Legal.{legal}
+use Rattle.model.proofs.Texts.Legal.{stands}
 use Rattle.check_rates.specs.Rates.{periodAt}
 use Rattle.text_program.specs.declared.Tables.{Tables}
 use Rattle.check_latency.specs.Timely.{ByteFound, Known}
@@ -30,10 +30,10 @@ settle-byte kind w r n lt = go (firstBelow n (line kind w r)) refl
     go (At i) e = let h = is-first n (line kind w r) (At i) e in omega arith
     go Nowhere e = tt
 
-module _ {text : List ℕ} {tables : Tables} {periods phases : List ℕ} {p : Program} {s : Schedule}
-    (k : Known text tables periods phases p s) where
+module _ {text reads : List ℕ} {tables : Tables} {periods phases : List ℕ} {p : Program} {s : Schedule}
+    (k : Known text reads tables periods phases p s) where
   pub few : count p ≤ 64
-  few = legal text p (k .parsed) .1 .fewSignals
+  few = stands text p (k .stands .declares) .1 .fewSignals
 
   -- The tables have the rate of every signal.
   pub rate-at : (x : ℕ) → x < count p →

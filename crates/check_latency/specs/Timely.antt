@@ -1,25 +1,26 @@
 -- What is known of a pair whose latencies are judged.
-use Prim.Native.Nat.{ℕ, _/_, _≤_, _<_}
+use Prim.Native.Nat.{ℕ, _≤_, _<_}
 use mathlib.Core.List.{List, _∷_}
 use mathlib.Core.Path.{_≡_}
 use lib.Dec.{leb}
-use lib.ListN.{length, getD}
-use Rattle.latency_rule.specs.Hops.{HopsOf}
+use lib.ListN.{getD}
+use Rattle.latency_rule.specs.Hops.{RouteOver}
 use Rattle.model.specs.Says.Feasible.{Feasible, Multiple}
 use Rattle.model.specs.Rules.Latency.{readsBack, source, backwards, keeps}
 use Rattle.model.specs.Rules.Outcome.{accepted}
-use Rattle.model.specs.Rules.Program.{Program, Chain, count, parseProgram}
+use Rattle.model.specs.Rules.Program.{Program, Chain, count}
 use Rattle.model.specs.Rules.Rates.{declaredAndRated, linked}
 use Rattle.model.specs.Rules.Reads.{met}
 use Rattle.model.specs.Rules.Schedule.{Schedule, phaseOf}
 use Rattle.model.specs.declared.Found.{Found}
 use Rattle.model.specs.declared.Found.the-variants.{At, Nowhere}
-use Rattle.text_program.specs.Tables.{PeriodsOf, TablesOf}
+use Rattle.text_program.specs.Tables.{PeriodsOf, Stands}
 use Rattle.text_program.specs.declared.Tables.{Tables}
 use Rattle.text_schedule.specs.Arranged.{Arranged}
 use Rattle.text_schedule.specs.declared.PairTables.{PairTables}
+use Rattle.check_latency.specs.declared.Followed.{Followed}
 use Rattle.check_latency.specs.declared.Leeway.{Leeway}
-use Rattle.check_latency.specs.declared.Route.{Route}
+use Rattle.check_latency.specs.declared.Limit.{Limit}
 
 -- An index is a byte.
 abbrev pub ByteFound : Found → Type 0
@@ -27,48 +28,47 @@ ByteFound (At i) = i < 256
 ByteFound Nowhere = Unit {0}
 
 -- There is a pair that has these tables, and its reads are met.
-abbrev pub MetPair : List ℕ → PairTables → Type 0
-MetPair text t = (p : Program) × (s : Schedule) × Arranged text t p s × (met p s ≡ accepted tt)
+abbrev pub MetPair : List ℕ → List ℕ → PairTables → Type 0
+MetPair text reads t = (p : Program) × (s : Schedule) × Arranged text reads t p s × (met p s ≡ accepted tt)
 
--- The text and the tables are those of p and s.
-pub record Known (text : List ℕ) (tables : Tables) (periods phases : List ℕ) (p : Program) (s : Schedule) : Type 0 where
-  pub parsed : parseProgram text ≡ accepted p
-  pub tables-are : TablesOf p tables
+-- Text, reads and tables stand for p and s.
+pub record Known (text reads : List ℕ) (tables : Tables) (periods phases : List ℕ) (p : Program) (s : Schedule) : Type 0 where
+  pub stands : Stands text reads tables p
   pub periods-are : PeriodsOf p periods
   pub phases-are : (x : ℕ) → x < count p → getD phases x 0 ≡ phaseOf s x
 
 -- Its links are of declared signals, each with one read of the link before.
-pub record ChainsLinked (text : List ℕ) (tables : Tables) (periods phases : List ℕ) (p : Program) (s : Schedule) : Type 0 where
-  pub known : Known text tables periods phases p s
+pub record ChainsLinked (text reads : List ℕ) (tables : Tables) (periods phases : List ℕ) (p : Program) (s : Schedule) :
+    Type 0 where
+  pub known : Known text reads tables periods phases p s
   pub rated : declaredAndRated p ≡ accepted tt
   pub links : linked p ≡ accepted tt
 
-abbrev pub Joinable : List ℕ → Tables → List ℕ → List ℕ → Type 0
-Joinable text tables periods phases = (p : Program) × (s : Schedule) × ChainsLinked text tables periods phases p s
+abbrev pub Joinable : List ℕ → List ℕ → Tables → List ℕ → List ℕ → Type 0
+Joinable text reads tables periods phases = (p : Program) × (s : Schedule) × ChainsLinked text reads tables periods phases p s
 
 -- All its reads are met, and h is its hypercycle.
-pub record Timed (text : List ℕ) (tables : Tables) (periods phases : List ℕ) (h : ℕ) (p : Program) (s : Schedule) : Type 0 where
-  pub joined : ChainsLinked text tables periods phases p s
+pub record Timed (text reads : List ℕ) (tables : Tables) (periods phases : List ℕ) (h : ℕ) (p : Program) (s : Schedule) :
+    Type 0 where
+  pub joined : ChainsLinked text reads tables periods phases p s
   pub accepted : Feasible p s
   pub multiple : Multiple p h
   pub hyper : h ≤ 240
 
-abbrev pub Judgeable : List ℕ → Tables → List ℕ → List ℕ → ℕ → Type 0
-Judgeable text tables periods phases h = (p : Program) × (s : Schedule) × Timed text tables periods phases h p s
+abbrev pub Judgeable : List ℕ → List ℕ → Tables → List ℕ → List ℕ → ℕ → Type 0
+Judgeable text reads tables periods phases h = (p : Program) × (s : Schedule) × Timed text reads tables periods phases h p s
 
--- The hops by which one goes back over the links ws from the last link, and the signal at which that ends.
-pub record Along (p : Program) (s : Schedule) (route : Route) (ws : List ℕ) : Type 0 where
-  pub hops-are : HopsOf p s (route .hops) (route .last) (readsBack p (route .last) ws)
-  pub many : length ws ≡ route .count
-  pub ends : source p s (route .last) (readsBack p (route .last) ws) ≡ route .source
+-- The limit of a chain.
+abbrev pub limitOf : Chain → Limit
+limitOf c = record { mode = c .mode; bound = c .bound }
 
--- The route is that of the links `back`, the last of them first.
-abbrev pub RouteOf : Program → Schedule → Route → List ℕ → Type 0
-RouteOf p s route back = (ws : List ℕ) × (back ≡ route .last ∷ ws) × (route .count ≤ 15) × Along p s route ws
-
--- How many runs of the last link decide a chain: those of one hypercycle.
-abbrev pub windowBy : ℕ → ℕ → ℕ
-windowBy h period = h / period
+-- The route is that of the links `back`, the last of them first, and the signals are those of the last and the first.
+pub record RouteOf (p : Program) (s : Schedule) (f : Followed) (back : List ℕ) : Type 0 where
+  pub ws : List ℕ
+  pub whole : back ≡ f .last ∷ ws
+  pub few : f .route .count ≤ 15
+  pub over : RouteOver p s (f .route) (f .last) (readsBack p (f .last) ws)
+  pub ends : source p s (f .last) (readsBack p (f .last) ws) ≡ f .source
 
 -- A chain with another bound.
 abbrev pub withBound : Chain → ℕ → Chain

@@ -1,18 +1,21 @@
 // The hops of a chain, each by the one read of the link before.
 use basics::Judged;
 use latency_rule::Hop;
+use latency_rule::Route;
 use model::Declaration;
 use model::Fault;
 use model::Found;
 use model::Index;
 use model::Kind;
+use model::Mode;
 use model::Sampled;
 use model::refusals;
 use read_rule::Timing;
 use text_program::Tables;
 use text_schedule::Slots;
 ghost use mathlib.Core.Path.{_≡_};
-ghost use Prim.Native.Nat.{_*_, _≤_, _<_};
+ghost use Prim.Native.Nat.{ℕ, _<_};
+ghost use Rattle.model.specs.Rules.Command.{declarationAt};
 ghost use Rattle.model.specs.Rules.Latency.{readAmong, backwards, keeps, timely};
 ghost use Rattle.model.specs.Rules.Outcome.{accepted};
 ghost use Rattle.model.specs.Rules.Program.{Program, count, signalAt, bodyReads};
@@ -20,11 +23,13 @@ ghost use Rattle.model.specs.Rules.Rates.{countReads};
 ghost use Rattle.model.specs.Rules.Reads.{settledIndex, met};
 ghost use Rattle.model.specs.Rules.Schedule.{Schedule};
 ghost use Rattle.model.specs.Rules.Search.{foundOr};
+ghost use Rattle.model.specs.declared.Declaration.the-variants.{Latency};
+ghost use Rattle.model.specs.declared.Mode.{Mode};
 ghost use Rattle.latency_rule.specs.Back.{noHop};
 ghost use Rattle.latency_rule.specs.Hops.{hopOf};
 ghost use Rattle.check_rates.specs.Rates.{periodAt};
 ghost use Rattle.basics.specs.Judgement.{judgementOf};
-ghost use Rattle.text_program.specs.Tables.{chainAt, TabledAs};
+ghost use Rattle.text_program.specs.Tables.{chainAt, Standing};
 ghost use Rattle.text_schedule.specs.Arranged.{Arranged, pairTables};
 ghost use Rattle.read_rule.specs.Reads.{rateIn};
 ghost use Rattle.check_latency.specs.Timely.{
@@ -35,8 +40,8 @@ ghost use Rattle.check_latency.specs.Timely.{
   Joinable,
   Timed,
   Judgeable,
+  limitOf,
   RouteOf,
-  windowBy,
   LeewayOf,
 };
 
@@ -66,19 +71,43 @@ pub fn settled_index(kind: Kind, sampled: Sampled, w: Timing, r: Timing) -> u8
 }
 
 // A signal's period and phase by the tables.
-fn timing_at(periods: &[u8; 64], phases: &[u8; 64], x: usize) -> Timing
+fn timing_at(periods: &[u8; 64], phases: &[u8; 64], x: u8) -> Timing
     ensures { λ r. ⌜ r ≡ record { period = periodAt (now (periods .entry)) x; phase = periodAt (now (phases .entry)) x } ⌝ }
 {
     Timing {
-        period: check_rates::period_at(periods, x),
-        phase: check_rates::period_at(phases, x),
+        period: check_rates::period_at(periods, x as usize),
+        phase: check_rates::period_at(phases, x as usize),
     }
 }
 
-// The way of a chain: its hops in the order of the links, and the signals of its first and its last link.
-pub struct Route {
-    pub hops: [Hop; 15],
-    pub count: usize,
+// The limit of a chain: which runs are to keep the bound, and the bound.
+pub struct Limit {
+    pub mode: Mode,
+    pub bound: u16,
+}
+
+// The limit that a LAT gives.
+fn limit_at(text: &[u8], at: usize) -> Limit
+    ensures { λ r. ⌜ ((mode : Mode) (bound : ℕ) → declarationAt (now (text .entry)) at ≡ Latency mode bound →
+        r ≡ record { mode = mode; bound = bound }) ⌝ }
+{
+    let declaration = text_command::declaration_at(text, at);
+    let Declaration::Latency(mode, bound) = declaration else {
+        return Limit {
+            mode: Mode::Exists,
+            bound: 0,
+        };
+    };
+    Limit {
+        mode: mode,
+        bound: bound,
+    }
+}
+
+// A chain as its commands give it: its limit, its route, and the signals of its first and its last link.
+pub struct Followed {
+    pub limit: Limit,
+    pub route: Route,
     pub source: u8,
     pub last: u8,
 }
@@ -104,9 +133,10 @@ pub fn hop_at(
     w: u8,
     r: u8,
 ) -> Hop
-    requires { ⌜ TabledAs (now text) (now reads) tables ⌝ }
+    requires { ⌜ Standing (now text) (now reads) tables ⌝ }
     ensures { λ h. ⌜ ((p : Program) (s : Schedule) →
-        Known (now (text .entry)) tables (now (periods .entry)) (now (phases .entry)) p s → w < count p → r < count p →
+        Known (now (text .entry)) (now (reads .entry)) tables (now (periods .entry)) (now (phases .entry)) p s →
+        w < count p → r < count p →
         countReads w (bodyReads (signalAt p r .body)) ≡ 1 → h ≡ hopOf p s r (readAmong w (bodyReads (signalAt p r .body)))) ⌝ }
 {
     let firsts = tables.firsts;
@@ -115,8 +145,8 @@ pub fn hop_at(
         return no_hop();
     };
     let taken = text_command::taken_at(text, at);
-    let read = timing_at(periods, phases, w as usize);
-    let reader = timing_at(periods, phases, r as usize);
+    let read = timing_at(periods, phases, w);
+    let reader = timing_at(periods, phases, r);
     let kind = taken.kind;
     let operands = taken.operands;
     let index = settled_index(kind, operands, read, reader);
@@ -127,7 +157,7 @@ pub fn hop_at(
     }
 }
 
-// The route of a chain, link after link.
+// Follows a chain, link after link.
 fn follow(
     text: &[u8],
     reads: &[u16],
@@ -135,16 +165,16 @@ fn follow(
     periods: &[u8; 64],
     phases: &[u8; 64],
     chain: usize,
-) -> Route
-    requires { ⌜ Joinable (now text) tables (now periods) (now phases) × (chain < tables .chains) ×
-        TabledAs (now text) (now reads) tables ⌝ }
+) -> Followed
+    requires { ⌜ Joinable (now text) (now reads) tables (now periods) (now phases) × (chain < tables .chains) ⌝ }
     ensures { λ r. ⌜ ((p : Program) (s : Schedule) →
-        ChainsLinked (now (text .entry)) tables (now (periods .entry)) (now (phases .entry)) p s →
-        RouteOf p s r (backwards (chainAt p chain))) ⌝ }
+        ChainsLinked (now (text .entry)) (now (reads .entry)) tables (now (periods .entry)) (now (phases .entry)) p s →
+        (r .limit ≡ limitOf (chainAt p chain)) × RouteOf p s r (backwards (chainAt p chain))) ⌝ }
 {
     let starts = tables.starts;
     let lengths = tables.lengths;
-    let mut at = basics::from_entry(starts[chain]) + width::in_program(0x12);
+    let start = basics::from_entry(starts[chain]);
+    let mut at = start + width::in_program(0x12);
     let mut left = basics::from_byte(lengths[chain]);
     let source = text[at + 1];
     let mut last = source;
@@ -160,28 +190,18 @@ fn follow(
         at = second;
         left = left - 1;
     }
-    Route {
+    let route = Route {
         hops: hops,
         count: count,
+        source: timing_at(periods, phases, source),
+        last: timing_at(periods, phases, last),
+    };
+    Followed {
+        limit: limit_at(text, start),
+        route: route,
         source: source,
         last: last,
     }
-}
-
-// How many runs of the last link decide a chain: those of one hypercycle.
-fn window_of(h: usize, period: u8) -> usize
-    requires { ⌜ (h ≤ 240) × (0 < period) ⌝ }
-    ensures { λ r. ⌜ (r ≡ windowBy h period) × (r ≤ 240) ⌝ }
-{
-    h / (period as usize)
-}
-
-// The first of these runs: after as many hypercycles as there are hops every run counts.
-fn first_run(count: usize, window: usize) -> usize
-    requires { ⌜ (count ≤ 15) × (window ≤ 240) ⌝ }
-    ensures { λ r. ⌜ (r ≡ count * window) × (r ≤ 3600) ⌝ }
-{
-    count * window
 }
 
 // Whether a chain keeps its limit.
@@ -194,34 +214,16 @@ fn keeps_time(
     h: usize,
     chain: usize,
 ) -> bool
-    requires { ⌜ Judgeable (now text) tables (now periods) (now phases) h × (chain < tables .chains) ×
-        TabledAs (now text) (now reads) tables ⌝ }
+    requires { ⌜ Judgeable (now text) (now reads) tables (now periods) (now phases) h × (chain < tables .chains) ⌝ }
     ensures { λ r. ⌜ ((p : Program) (s : Schedule) →
-        Timed (now (text .entry)) tables (now (periods .entry)) (now (phases .entry)) h p s →
+        Timed (now (text .entry)) (now (reads .entry)) tables (now (periods .entry)) (now (phases .entry)) h p s →
         r ≡ keeps p s h (chainAt p chain)) ⌝ }
 {
-    let starts = tables.starts;
-    let declaration = text_command::declaration_at(text, basics::from_entry(starts[chain]));
-    let Declaration::Latency(mode, bound) = declaration else {
-        return false;
-    };
-    let route = follow(text, reads, tables, periods, phases, chain);
-    let last = timing_at(periods, phases, route.last as usize);
-    let source = timing_at(periods, phases, route.source as usize);
-    let hops = route.hops;
-    let count = route.count;
-    let window = window_of(h, last.period);
-    let from = first_run(count, window);
-    latency_rule::is_timely(
-        mode,
-        bound as usize,
-        hops,
-        count,
-        last,
-        source,
-        from,
-        window,
-    )
+    let followed = follow(text, reads, tables, periods, phases, chain);
+    let limit = followed.limit;
+    let mode = limit.mode;
+    let route = followed.route;
+    latency_rule::is_timely(mode, limit.bound as usize, route, h)
 }
 
 // 16 at the lowest LAT whose chain does not keep its limit. (Chains × links × runs in the window.)
@@ -233,9 +235,10 @@ fn judge_chains(
     phases: &[u8; 64],
     h: usize,
 ) -> Judged
-    requires { ⌜ Judgeable (now text) tables (now periods) (now phases) h × TabledAs (now text) (now reads) tables ⌝ }
+    requires { ⌜ Judgeable (now text) (now reads) tables (now periods) (now phases) h ⌝ }
     ensures { λ r. ⌜ ((p : Program) (s : Schedule) →
-        Timed (now (text .entry)) tables (now (periods .entry)) (now (phases .entry)) h p s → r ≡ judgementOf (timely p s h)) ⌝ }
+        Timed (now (text .entry)) (now (reads .entry)) tables (now (periods .entry)) (now (phases .entry)) h p s →
+        r ≡ judgementOf (timely p s h)) ⌝ }
 {
     let starts = tables.starts;
     let mut chain: usize = 0;
@@ -259,9 +262,9 @@ pub fn check_latency(
     slots: Slots,
     hypercycle: usize,
 ) -> Judged
-    requires { ⌜ MetPair (now text) (pairTables tables slots hypercycle) × TabledAs (now text) (now reads) tables ⌝ }
+    requires { ⌜ MetPair (now text) (now reads) (pairTables tables slots hypercycle) ⌝ }
     ensures { λ r. ⌜ ((p : Program) (s : Schedule) →
-        Arranged (now (text .entry)) (pairTables tables slots hypercycle) p s → met p s ≡ accepted tt →
+        Arranged (now (text .entry)) (now (reads .entry)) (pairTables tables slots hypercycle) p s → met p s ≡ accepted tt →
         r ≡ judgementOf (timely p s hypercycle)) ⌝ }
 {
     if tables.chains == 0 {
@@ -290,34 +293,19 @@ pub fn leeway_of(
     h: usize,
     chain: usize,
 ) -> Leeway
-    requires { ⌜ Judgeable (now text) tables (now periods) (now phases) h × (chain < tables .chains) ×
-        TabledAs (now text) (now reads) tables ⌝ }
+    requires { ⌜ Judgeable (now text) (now reads) tables (now periods) (now phases) h × (chain < tables .chains) ⌝ }
     ensures { λ r. ⌜ ((p : Program) (s : Schedule) →
-        Timed (now (text .entry)) tables (now (periods .entry)) (now (phases .entry)) h p s →
+        Timed (now (text .entry)) (now (reads .entry)) tables (now (periods .entry)) (now (phases .entry)) h p s →
         LeewayOf p s h (chainAt p chain) r) ⌝ }
 {
-    let starts = tables.starts;
-    let declaration = text_command::declaration_at(text, basics::from_entry(starts[chain]));
-    let Declaration::Latency(mode, bound) = declaration else {
-        return Leeway {
-            source: 0,
-            last: 0,
-            bound: 0,
-            least: 0,
-        };
-    };
-    let route = follow(text, reads, tables, periods, phases, chain);
-    let last = timing_at(periods, phases, route.last as usize);
-    let source = timing_at(periods, phases, route.source as usize);
-    let hops = route.hops;
-    let count = route.count;
-    let window = window_of(h, last.period);
-    let from = first_run(count, window);
-    let least = latency_rule::least_bound(mode, hops, count, last, source, from, window);
+    let followed = follow(text, reads, tables, periods, phases, chain);
+    let limit = followed.limit;
+    let mode = limit.mode;
+    let route = followed.route;
     Leeway {
-        source: route.source,
-        last: route.last,
-        bound: basics::from_entry(bound),
-        least: least,
+        source: followed.source,
+        last: followed.last,
+        bound: basics::from_entry(limit.bound),
+        least: latency_rule::least_bound(mode, route, h),
     }
 }

@@ -84,8 +84,9 @@ pub fn judge_load(
 
 // 15 of a pair by its tables.
 pub fn check_load(tables: Tables, slots: Slots, hypercycle: usize) -> Judged
-    requires { ⌜ ((text : List ℕ) × Arrangement text (pairTables tables slots hypercycle)) ⌝ }
-    ensures { λ r. ⌜ ((text : List ℕ) (p : Program) (s : Schedule) → Arranged text (pairTables tables slots hypercycle) p s →
+    requires { ⌜ ((text reads : List ℕ) × Arrangement text reads (pairTables tables slots hypercycle)) ⌝ }
+    ensures { λ r. ⌜ ((text reads : List ℕ) (p : Program) (s : Schedule) →
+        Arranged text reads (pairTables tables slots hypercycle) p s →
         r ≡ judgementOf (loaded p s hypercycle)) ⌝ }
 {
     if !tables.capped {

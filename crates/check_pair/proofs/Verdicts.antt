@@ -9,38 +9,42 @@ use lib.ListN.{length}
 use Rattle.model.specs.Rules.Compile.{shortEnough, pairOf}
 use Rattle.model.specs.Rules.Cover.{tabled}
 use Rattle.model.specs.Rules.Outcome.{Outcome, accepted, refused, _▷_, Parsed}
-use Rattle.model.specs.Rules.Program.{Program, parseProgram}
+use Rattle.model.specs.Rules.Program.{leastFactor, Program, parseProgram}
 use Rattle.model.specs.Rules.Rates.{declaredAndRated, hypercycle, linked}
 use Rattle.model.specs.Rules.Schedule.{Schedule, Put, parseSchedule, placed}
+use Rattle.model.proofs.Texts.Spelled.{declared}
 use Rattle.model.proofs.Basics.Outcomes.{then-accepted, then-then, then-same, provided-true}
 use Rattle.basics.specs.Judgement.{Answers}
 use Rattle.basics.proofs.Judgements.{answers-fine}
-use Rattle.text_program.specs.Tables.{ProgramReads, TablesOf, ReadsOf, SlotsOf, TabledAs}
+use Rattle.text_program.specs.Tables.{ProgramReads, TablesOf, ReadsOf, SlotsOf, Stands}
 use Rattle.basics.specs.declared.Judged.{Judged}
 use Rattle.basics.specs.declared.Judged.the-variants as Judged
-use Rattle.text_program.specs.declared.ProgramRead.{ProgramRead}
+use Rattle.text_program.specs.declared.Tables.{Tables}
 use Rattle.text_schedule.specs.Slots.{ScheduledAs}
-use Rattle.text_schedule.specs.declared.Placing.{Placing}
+use Rattle.text_schedule.specs.declared.Slots.{Slots}
 use Rattle.check_pair.specs.Groups.{ratesOf, scheduleFor, stepsOf}
 
 -- The other forms in which the checks below answer.
-pub program-answers : (o : Outcome Program) (reads : List ℕ) (r : ProgramRead) → ProgramReads o reads r →
-    Answers (λ p. TablesOf p (r .tables) × ReadsOf p reads (r .tables .firsts)) o (r .judged)
+pub program-answers : (o : Outcome Program) (reads : List ℕ) (t : Tables) → ProgramReads o reads t →
+    Answers (λ p. TablesOf p t × ReadsOf p reads (t .firsts)) o (t .judged)
 unfolding Answers ProgramReads
-program-answers (accepted p) reads r h = (h .0, (h .1, h .2))
-program-answers (refused f) reads r h = h
+program-answers (accepted p) reads t h = (h .0, (h .1, h .2))
+program-answers (refused f) reads t h = h
 
-pub program-read : (text reads : List ℕ) (r : ProgramRead) → ProgramReads (parseProgram text) reads r → r .judged ≡ Judged.Fine →
-    TabledAs text reads (r .tables)
-program-read text reads r h e =
-    let a = answers-fine _ _ _ (program-answers _ reads r h) e in
-    (a .0, a .1, a .2 .0, a .2 .1)
+pub program-read : (text reads : List ℕ) (t : Tables) → ProgramReads (parseProgram text) reads t → t .judged ≡ Judged.Fine →
+    (p : Program) × (parseProgram text ≡ accepted p) × Stands text reads t p
+program-read text reads t h e =
+    let a = answers-fine _ _ _ (program-answers _ reads t h) e in (
+      a .0,
+      a .1,
+      record { declares = declared leastFactor text (a .0) (a .1); tables-are = a .2 .0; reads-are = a .2 .1 },
+    )
 
-pub schedule-answers : (p : Program) (o : Outcome Schedule) (r : Placing) → ScheduledAs p o r →
-    Answers (λ s. SlotsOf p s (r .slots .order) (r .slots .phases) (r .slots .ranks)) o (r .judged)
+pub schedule-answers : (p : Program) (o : Outcome Schedule) (t : Slots) → ScheduledAs p o t →
+    Answers (λ s. SlotsOf p s (t .order) (t .phases) (t .ranks)) o (t .judged)
 unfolding Answers ScheduledAs
-schedule-answers p (accepted s) r h = (h .0, h .2)
-schedule-answers p (refused f) r h = h
+schedule-answers p (accepted s) t h = (h .0, h .2)
+schedule-answers p (refused f) t h = h
 
 -- The steps are those of the verdict.
 rates-then : {B : Type 0} (p : Program) (next : ℕ → Outcome B) →

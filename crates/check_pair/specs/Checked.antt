@@ -4,22 +4,22 @@ use mathlib.Core.List.{List}
 use mathlib.Core.Path.{_≡_}
 use Rattle.model.specs.Rules.Compile.{Pair}
 use Rattle.model.specs.Rules.Outcome.{Outcome}
-use Rattle.text_program.specs.Prepared.{Prepared}
 use Rattle.basics.specs.Judgement.{Answers}
 use Rattle.text_schedule.specs.Arranged.{Arranged}
 use Rattle.text_schedule.specs.declared.PairTables.{PairTables}
 use Rattle.check_pair.specs.declared.Checked.{Checked}
 
--- The tables are those of the accepted pair q, as the emitter wants them; and the pair is one that has passed 2 to 13.
-pub record Checks (text : List ℕ) (t : PairTables) (q : Pair) : Type 0 where
-  pub prepared : Prepared text (t .tables) (t .tables .periods) (t .slots .order) (t .slots .phases) (q .program) (q .schedule)
-  pub ranks-are : prepared .ranks ≡ t .slots .ranks
+-- Text, reads and tables stand for the accepted pair q.
+pub record Checks (text reads : List ℕ) (t : PairTables) (q : Pair) : Type 0 where
   pub hyper : t .hypercycle ≡ q .hypercycle
-  pub bound : t .hypercycle ≤ 240
-  pub arranged : Arranged text t (q .program) (q .schedule)
+  pub arranged : Arranged text reads t (q .program) (q .schedule)
+
+-- The answer is the definition's, and the tables are the pair's, with those of the reads, or with some.
+abbrev pub CheckedWith : List ℕ → List ℕ → Outcome Pair → Checked → Type 0
+CheckedWith text reads o r = Answers (Checks text reads (r .pair)) o (r .judged)
 
 abbrev pub CheckedAs : List ℕ → Outcome Pair → Checked → Type 0
-CheckedAs text o r = Answers (Checks text (r .pair)) o (r .judged)
+CheckedAs text o r = (reads : List ℕ) × CheckedWith text reads o r
 
 -- A table of `room` entries is enough for the reads of a program of `size` bytes, if that passes 1.
 abbrev pub Spacious : ℕ → ℕ → Type 0

@@ -4,20 +4,18 @@ use check_rates::Cycles;
 use model::refusals;
 use text_program::Tables;
 use text_schedule::PairTables;
-use text_schedule::Placing;
 use text_schedule::Slots;
 ghost use mathlib.Core.Path.{_≡_};
 ghost use Prim.Native.Nat.{_≤_};
 ghost use lib.ListN.{length};
 ghost use Rattle.model.specs.Rules.Compile.{shortEnough, pairOf};
-ghost use Rattle.model.specs.Rules.Outcome.{accepted};
-ghost use Rattle.model.specs.Rules.Program.{Program, parseProgram, count};
+ghost use Rattle.model.specs.Rules.Program.{Program, count};
 ghost use Rattle.basics.specs.Judgement.{judgementOf};
 ghost use Rattle.check_rates.specs.Rates.{CyclesAs};
-ghost use Rattle.text_program.specs.Tables.{TablesOf, PeriodsOf, TabledAs};
+ghost use Rattle.text_program.specs.Tables.{PeriodsOf, Stands, Standing};
 ghost use Rattle.text_schedule.specs.Arranged.{pairTables};
 ghost use Rattle.text_schedule.specs.Slots.{ScheduledAs};
-ghost use Rattle.check_pair.specs.Checked.{CheckedAs, Spacious};
+ghost use Rattle.check_pair.specs.Checked.{CheckedWith, CheckedAs, Spacious};
 ghost use Rattle.check_pair.specs.Groups.{ratesOf, scheduleFor};
 
 // The least factor of a read, as the definition's `leastFactor`.
@@ -47,9 +45,8 @@ pub fn check_lengths(program: &[u8], schedule: &[u8]) -> Judged
 
 // A program that is read: 7 to 10, then 29 and 30. The hypercycle is of use where it is fine.
 fn check_program(text: &[u8], reads: &[u16], tables: Tables) -> Cycles
-    requires { ⌜ TabledAs (now text) (now reads) tables ⌝ }
-    ensures { λ r. ⌜ ((p : Program) → parseProgram (now (text .entry)) ≡ accepted p → TablesOf p tables →
-        CyclesAs (ratesOf p) r) ⌝ }
+    requires { ⌜ Standing (now text) (now reads) tables ⌝ }
+    ensures { λ r. ⌜ ((p : Program) → Stands (now (text .entry)) (now (reads .entry)) tables p → CyclesAs (ratesOf p) r) ⌝ }
 {
     let rates = check_rates::check_rates(text, reads, tables); // 7, 8
     let Judged::Fine = rates else {
@@ -72,7 +69,7 @@ fn check_program(text: &[u8], reads: &[u16], tables: Tables) -> Cycles
 }
 
 // The schedule of a program with these signals: 11, then 12 and 13.
-fn check_puts(schedule: &[u8], signals: usize, periods: &[u8; 64]) -> Placing
+fn check_puts(schedule: &[u8], signals: usize, periods: &[u8; 64]) -> Slots
     requires { ⌜ (signals ≤ 64) × (length (now schedule) ≤ 193) ⌝ }
     ensures { λ r. ⌜ ((p : Program) → count p ≡ signals → PeriodsOf p (now (periods .entry)) →
         ScheduledAs p (scheduleFor p (now (schedule .entry))) r) ⌝ }
@@ -114,31 +111,29 @@ fn refused(judged: Judged) -> Checked
 // that passes 1. The table is of use where all is fine.
 pub fn check_with(program: &[u8], schedule: &[u8], reads: &mut [u16]) -> Checked
     requires { ⌜ Spacious (length (now program)) (length (now reads)) ⌝ }
-    ensures answer { λ r. ⌜ CheckedAs (now (program .entry)) (pairOf (now (program .entry)) (now (schedule .entry))) r ⌝ }
-    ensures tabled { λ r. ⌜ (r .judged ≡ Judged.Fine → TabledAs (now (program .entry)) (now (reads .exit)) (r .pair .tables)) ⌝ }
+    ensures { λ r. ⌜ CheckedWith (now (program .entry)) (now (reads .exit))
+        (pairOf (now (program .entry)) (now (schedule .entry))) r ⌝ }
 {
     let lengths = check_lengths(program, schedule); // 1
     let Judged::Fine = lengths else {
         return refused(lengths);
     };
-    let read = text_program::read_program(LEAST_FACTOR, program, reads); // 2 to 6
-    let parsed = read.judged;
+    let tables = text_program::read_program(LEAST_FACTOR, program, reads); // 2 to 6
+    let parsed = tables.judged;
     let Judged::Fine = parsed else {
         return refused(parsed);
     };
-    let tables = read.tables;
     let cycles = check_program(program, reads, tables); // 7 to 10, 29, 30
     let rated = cycles.judged;
     let Judged::Fine = rated else {
         return refused(rated);
     };
     let periods = tables.periods;
-    let placing = check_puts(schedule, tables.signals, &periods); // 11 to 13
-    let placed = placing.judged;
+    let slots = check_puts(schedule, tables.signals, &periods); // 11 to 13
+    let placed = slots.judged;
     let Judged::Fine = placed else {
         return refused(placed);
     };
-    let slots = placing.slots;
     let h = cycles.hypercycle;
     let met = check_reads::check_reads(program, reads, tables, slots, h); // 14
     let Judged::Fine = met else {

@@ -11,20 +11,20 @@ use lib.Dec.{eqb}
 use lib.ListN.{length, getD, drop, List·getD-eq-default}
 use lib.Seq.{drop-cons, drop-length}
 use Rattle.model.specs.Rules.Command.{operatorAt}
-use Rattle.model.specs.Rules.Outcome.{accepted}
-use Rattle.model.specs.Rules.Program.{Program, Read, noSignal, count, signalAt, bodyReads, parseProgram}
+use Rattle.model.specs.Rules.Program.{Program, Read, noSignal, count, signalAt, bodyReads}
 use Rattle.model.specs.Rules.Latency.{readAmong}
 use Rattle.model.specs.Rules.Rates.{countReads}
 use Rattle.model.specs.declared.Operator.the-variants as Operator
 use Rattle.model.specs.declared.Found.the-variants.{At, Nowhere}
 use Rattle.model.specs.declared.Kind.{Kind}
 use Rattle.model.specs.declared.Sampled.{Sampled}
-use Rattle.model.proofs.Texts.Legal.{legal, signal-reads}
+use Rattle.model.proofs.Texts.Legal.{stands, signal-reads}
+use Rattle.model.specs.Says.Grammar.{LegalProgram}
 use Rattle.model.specs.Says.Stands.{SpellsRead}
 use Rattle.model.proofs.Pairs.Links.{read-of}
 use Rattle.text_command.specs.Operator.{ReadStands}
 use Rattle.text_command.proofs.Shape.{Shape, read-shape}
-use Rattle.text_program.specs.Tables.{Indexed}
+use Rattle.text_program.specs.Tables.{Indexes}
 use Rattle.check_rates.specs.Rates.{oneRead}
 use Rattle.text_program.proofs.ByIndex.{noRead, readAt, all-seen, seen, place-is, spells}
 
@@ -118,8 +118,7 @@ unfolding countReads oneRead
 none-far p w x le = rw (List·getD-eq-default (p .signals) noSignal le)
 
 -- The search by the index in the table, where the first entry has a name.
-module _ {text reads firsts : List ℕ} {n : ℕ} (ix : Indexed text reads firsts n) (p : Program)
-    (e : parseProgram text ≡ accepted p)
+module _ {text reads firsts : List ℕ} {n : ℕ} {p : Program} (ix : Indexes text reads firsts n p)
     (w x i : ℕ) (lt : x < n) (first : ℕ) (start : first ≡ getD firsts x 0) (low : first ≤ i) where
   abbrev ρs : List Read
   ρs = bodyReads (signalAt p x .body)
@@ -129,22 +128,22 @@ module _ {text reads firsts : List ℕ} {n : ℕ} (ix : Indexed text reads first
 
   module _ (high : i < getD firsts (x + 1) 0) (at : ℕ) (z : at ≡ getD reads i 0) where
     inside : i - first < length ρs
-    inside = omega (arith, seen ix p e x i lt least high, start)
+    inside = omega (arith, seen ix x i lt least high, start)
 
-    stands : readAt p x (i - first) .place ≡ at
-    stands = rw start (sym (place-is ix p e x i lt least high) ∙ sym z)
+    place-at : readAt p x (i - first) .place ≡ at
+    place-at = rw start (sym (place-is ix x i lt least high) ∙ sym z)
 
     names : readAt p x (i - first) .operands .signal ≡ getD text (at + 1) 0
     names =
         signal-byte text (readAt p x (i - first) .place) (readAt p x (i - first) .kind) (readAt p x (i - first) .operands)
-        (rw start (spells ix p e x i lt least high)) .0 ∙
-        ap (λ (m : ℕ). getD text (m + 1) 0) stands
+        (rw start (spells ix x i lt least high)) .0 ∙
+        ap (λ (m : ℕ). getD text (m + 1) 0) place-at
 
     module _ {many found : ℕ} (s : Searched w ρs (i - first) many found) where
       pub one-hit : getD text (at + 1) 0 ≡ w → Searched w ρs (i + 1 - first) (many + 1) at
       one-hit q =
           subst (λ (m : ℕ). Searched w ρs m (many + 1) at) (omega (arith, low))
-          (search-hits w ρs (i - first) inside s at stands (names ∙ q))
+          (search-hits w ρs (i - first) inside s at place-at (names ∙ q))
 
       pub one-missed : (getD text (at + 1) 0 ≡ w → ⊥) → Searched w ρs (i + 1 - first) many found
       one-missed q =
@@ -152,7 +151,7 @@ module _ {text reads firsts : List ℕ} {n : ℕ} (ix : Indexed text reads first
           (search-misses w ρs (i - first) inside s (λ r. q (sym names ∙ r)))
 
   pub over : getD firsts (x + 1) 0 ≡ i → i - first ≡ length ρs
-  over h = omega (arith, all-seen ix p e x i lt least h, start)
+  over h = omega (arith, all-seen ix x i lt least h, start)
 
 -- What the answer says of the reads.
 module _ (w : ℕ) (ρs : List Read) where
@@ -173,7 +172,7 @@ module _ (w : ℕ) (ρs : List Read) where
       go false h = refl
 
 -- The one read of w in the equation of x stands at `at`.
-module _ (text : List ℕ) (p : Program) (e : parseProgram text ≡ accepted p) (w x at : ℕ)
+module _ (text : List ℕ) (p : Program) (e : LegalProgram text p) (w x at : ℕ)
     (one : oneRead w (bodyReads (signalAt p x .body)) ≡ At at) where
   abbrev only : Read
   only = readAmong w (bodyReads (signalAt p x .body))
@@ -194,7 +193,7 @@ module _ (text : List ℕ) (p : Program) (e : parseProgram text ≡ accepted p) 
       let f = found-one w ρs at one in
       let many : 1 ≤ countReads w ρs = omega (arith, eqb-true (countReads w ρs) 1 (f .0)) in
       subst (λ (m : ℕ). operatorAt text m ≡ Operator.Read (only .kind) (only .operands)) (f .1)
-      (read-of (SpellsRead text) w ρs (signal-reads (legal text p e .1) x declared) many .0)
+      (read-of (SpellsRead text) w ρs (signal-reads (stands text p e .1) x declared) many .0)
 
   pub one-stands : ReadStands text at
   one-stands = record { kind = only .kind; operands = only .operands; is = one-spelled }

@@ -9,22 +9,21 @@ use lib.ListN.{length, getD}
 use borrow.Author.Tests.{lt-ltb, ltb-true}
 use Rattle.model.specs.Says.Feasible.{All}
 use Rattle.model.specs.Rules.Outcome.{Outcome, accepted, refused, fault, lowest}
-use Rattle.model.specs.Rules.Program.{Program, Read, Link, Signal, count, signalAt, bodyReads, parseProgram}
+use Rattle.model.specs.Rules.Program.{Program, Read, Link, Signal, count, signalAt, bodyReads}
 use Rattle.model.specs.Rules.Rates.{periodRule, readFaults, linkFaults, declaredAndRated}
 use Rattle.model.specs.Says.Grammar.{SpellsLinks}
 use Rattle.model.specs.Rules.Word.{byteAt}
 use Rattle.model.specs.declared.Fault.{Fault}
 use Rattle.model.proofs.Basics.All.{all-at}
-use Rattle.model.proofs.Texts.Legal.{legal}
+use Rattle.model.proofs.Texts.Legal.{stands}
 use Rattle.model.specs.Says.Stands.{SpellsChain}
-use Rattle.model.proofs.Basics.Outcomes.{accepted-same}
 use Rattle.text_command.specs.Operator.{ReadTaken}
 use Rattle.text_command.specs.declared.Taken.{Taken}
 use Rattle.basics.specs.Judgement.{judgementOf}
-use Rattle.text_program.specs.Tables.{noChain, chainAt, TablesOf, PeriodsOf, ReadAs, TabledAs, Indexed}
+use Rattle.text_program.specs.Tables.{noChain, chainAt, TablesOf, PeriodsOf, Stands, Indexes}
 use Rattle.text_program.specs.declared.Tables.{Tables}
 use Rattle.basics.specs.declared.Judged.{Judged}
-use Rattle.text_program.proofs.ByIndex.{noLink, readAt, counted, place-is, taken-is}
+use Rattle.text_program.proofs.ByIndex.{noLink, readAt, place-is, taken-is}
 use Rattle.text_program.proofs.InTurn.{AtPlaces, within-more, single-at, singles-within, orLower, lowest-append}
 use Rattle.text_program.proofs.Rising.{signalPlaces, chainPlaces}
 use Rattle.check_rates.specs.Rates.{
@@ -111,8 +110,7 @@ module _ (p : Program) where
         go false e = refl
 
 -- One read of the table.
-module _ {text reads firsts : List ℕ} {n : ℕ} (ix : Indexed text reads firsts n) (p : Program)
-    (e : parseProgram text ≡ accepted p)
+module _ {text reads firsts : List ℕ} {n : ℕ} {p : Program} (ix : Indexes text reads firsts n p)
     (periods : List ℕ) (few : n ≤ 64) (table : PeriodsOf p periods) (x i : ℕ) (lt : x < n) (low : getD firsts x 0 ≤ i)
     (high : i < getD firsts (x + 1) 0) where
   abbrev ρ : Read
@@ -121,10 +119,10 @@ module _ {text reads firsts : List ℕ} {n : ℕ} (ix : Indexed text reads first
   pub one-read : (r : Taken) (j : Judged) (at : ℕ) → at ≡ getD reads i 0 → ReadTaken text at r →
       j ≡ readJudged n periods at x (r .kind) (r .operands) → j ≡ judgementOf (lowest (readFaults p (signalAt p x) ρ))
   one-read r j at z h q =
-      let t = taken-is ix p e x i lt low high r (subst (λ (k : ℕ). ReadTaken text k r) z h) in
-      let c = counted ix p e in
+      let t = taken-is ix x i lt low high r (subst (λ (k : ℕ). ReadTaken text k r) z h) in
+      let c = ix .count-is in
       q ∙ ap (λ (y : Taken). readJudged n periods at x (y .kind) (y .operands)) t ∙
-      ap (λ (k : ℕ). readJudged n periods k x (ρ .kind) (ρ .operands)) (z ∙ place-is ix p e x i lt low high) ∙
+      ap (λ (k : ℕ). readJudged n periods k x (ρ .kind) (ρ .operands)) (z ∙ place-is ix x i lt low high) ∙
       ap (λ (k : ℕ). readJudged k periods (ρ .place) x (ρ .kind) (ρ .operands)) (sym c) ∙
       judged-rate p periods (omega (arith, c)) table x ρ (omega (arith, c))
 
@@ -152,16 +150,17 @@ module _ {text : List ℕ} where
       let z : at + 2 + 2 * j ≡ at + 2 * suc j = omega arith in
       (omega (arith, h .0), rw z at (h .1), omega (arith, h .2))
 
-module _ (text : List ℕ) (t : Tables) (h : ReadAs text t) (p : Program) (e : parseProgram text ≡ accepted p) where
-  tables : TablesOf p t
-  tables = subst (λ (q : Program). TablesOf q t) (accepted-same (h .0) p (sym (h .1) ∙ e)) (h .2)
+module _ {text reads : List ℕ} {t : Tables} {p : Program} (h : Stands text reads t p) where
+  abbrev tables : TablesOf p t
+  tables = h .tables-are
 
   pub chains-are : length (p .chains) ≡ t .chains
   chains-are = tables .counts .chains-are
 
   module _ (x : ℕ) (lt : x < t .chains) where
     chain-stands : SpellsChain text (chainAt p x)
-    chain-stands = all-at (SpellsChain text) (p .chains) noChain (legal text p e .1 .chains) x (omega (arith, chains-are))
+    chain-stands =
+        all-at (SpellsChain text) (p .chains) noChain (stands text p (h .declares) .1 .chains) x (omega (arith, chains-are))
 
     start-is : getD (t .starts) x 0 ≡ chainAt p x .place
     start-is = tables .starts x (omega (arith, chains-are))
@@ -191,8 +190,3 @@ module _ (text : List ℕ) (t : Tables) (h : ReadAs text t) (p : Program) (e : p
           ap (λ (k : ℕ). rateJudged (ltb k (count p)) true at) b ∙
           ap (λ (k : ℕ). rateJudged (ltb signal k) true at) (tables .counts .signals-are)) ∙
           judged-link p l
-
-pub periods-of : (text reads : List ℕ) (t : Tables) → TabledAs text reads t → (p : Program) → parseProgram text ≡ accepted p →
-    PeriodsOf p (t .periods)
-periods-of text reads t h p e =
-    subst (λ (q : Program). PeriodsOf q (t .periods)) (accepted-same (h .0) p (sym (h .1) ∙ e)) (h .2 .periods)

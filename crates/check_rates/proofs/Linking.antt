@@ -6,19 +6,19 @@ use mathlib.Core.Path.{_≡_, refl, ap, _∙_}
 use native.Mathlib.Omega.{arith}
 use lib.Dec.{eqb}
 use lib.ListN.{length, getD}
-use Rattle.model.specs.Rules.Outcome.{accepted, fault, lowest}
-use Rattle.model.specs.Rules.Program.{Link, Chain, Program, signalAt, parseProgram, bodyReads}
+use Rattle.model.specs.Rules.Outcome.{fault, lowest}
+use Rattle.model.specs.Rules.Program.{Link, Chain, Program, signalAt, bodyReads}
 use Rattle.model.specs.Rules.Rates.{countReads, isLinked}
 use Rattle.model.specs.Rules.Word.{byteAt}
 use Rattle.model.specs.declared.Fault.{Fault}
 use Rattle.model.proofs.Basics.All.{all-at}
 use Rattle.model.proofs.Texts.Commands.{declaration-sound}
-use Rattle.model.proofs.Texts.Legal.{legal}
+use Rattle.model.proofs.Texts.Legal.{stands}
 use Rattle.model.specs.Says.Stands.{SpellsChain}
-use Rattle.model.specs.Says.Grammar.{SpellsLinks}
+use Rattle.model.specs.Says.Grammar.{SpellsLinks, LegalProgram}
 use Rattle.basics.specs.Judgement.{judgementOf}
 use Rattle.basics.specs.declared.Judged.the-variants as Judged
-use Rattle.text_program.specs.Tables.{noChain, chainAt, TablesOf, ReadAs}
+use Rattle.text_program.specs.Tables.{noChain, chainAt, TablesOf, Stands}
 use Rattle.text_program.specs.declared.Tables.{Tables}
 use Rattle.text_program.proofs.InTurn.{Within, AtPlaces}
 use Rattle.text_program.proofs.Rising.{chainPlaces, rising-le}
@@ -89,30 +89,33 @@ module _ (text : List ℕ) (p : Program) where
     link-over le = h .judged ∙ one (h .links) (omega (arith, h .many))
 
 -- Where a chain's links start.
-pub chain-start : (text : List ℕ) (p : Program) → parseProgram text ≡ accepted p → (j : ℕ) → j < length (p .chains) →
+pub chain-start : (text : List ℕ) (p : Program) → LegalProgram text p → (j : ℕ) → j < length (p .chains) →
     (chainAt p j .place + 4 ≤ length text) ×
     LinksLeft text p (chainAt p j .links) (chainAt p j .place + 4) (length (chainAt p j .links))
 chain-start text p q j lt =
-    let c = all-at (SpellsChain text) (p .chains) noChain (legal text p q .1 .chains) j lt in (
+    let c = all-at (SpellsChain text) (p .chains) noChain (stands text p q .1 .chains) j lt in (
       declaration-sound text _ _ (c .command),
       record { links = chainAt p j .links; end = c .end; spelled = c .links; many = refl; judged = refl },
     )
 
 -- What the tables say of a chain: that it has a place in them, and where its links start.
-pub few-chains : (text : List ℕ) (tables : Tables) → ReadAs text tables → tables .chains ≤ 16
-few-chains text tables (p, q, t) = omega (arith, t .counts .chains-are, legal text p q .1 .fewChains)
+module _ {text reads : List ℕ} {tables : Tables} {p : Program} (h : Stands text reads tables p) where
+  abbrev t : TablesOf p tables
+  t = h .tables-are
 
-module _ (text : List ℕ) (tables : Tables) (chain : ℕ) (lt : chain < tables .chains) where
-  pub chain-begins : (p : Program) → parseProgram text ≡ accepted p → TablesOf p tables →
-      LinksLeft text p (chainAt p chain .links) (getD (tables .starts) chain 0 + 4) (getD (tables .lengths) chain 0)
-  chain-begins p q t =
-      let l : chain < length (p .chains) = omega (arith, t .counts .chains-are) in
-      rw (t .starts chain l, t .lengths chain l) (chain-start text p q chain l .1)
+  pub few-chains : tables .chains ≤ 16
+  few-chains = omega (arith, t .counts .chains-are, stands text p (h .declares) .1 .fewChains)
 
-  pub chain-inside : ReadAs text tables → getD (tables .starts) chain 0 + 4 ≤ length text
-  chain-inside (p, q, t) =
-      let l : chain < length (p .chains) = omega (arith, t .counts .chains-are) in
-      omega (arith, t .starts chain l, chain-start text p q chain l .0)
+  module _ (chain : ℕ) (lt : chain < tables .chains) where
+    l : chain < length (p .chains)
+    l = omega (arith, t .counts .chains-are)
+
+    pub chain-begins :
+        LinksLeft text p (chainAt p chain .links) (getD (tables .starts) chain 0 + 4) (getD (tables .lengths) chain 0)
+    chain-begins = rw (t .starts chain l, t .lengths chain l) (chain-start text p (h .declares) chain l .1)
+
+    pub chain-inside : getD (tables .starts) chain 0 + 4 ≤ length text
+    chain-inside = omega (arith, t .starts chain l, chain-start text p (h .declares) chain l .0)
 
 -- The fault of a LAT that fails a test stands at its place.
 pub lat-at : (number : ℕ) (test : Chain → Bool) → AtPlaces chainPlaces (λ j c. cond (test c) [] (fault number (c .place) ∷ []))

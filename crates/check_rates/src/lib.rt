@@ -5,14 +5,15 @@ use model::Kind;
 use model::Sampled;
 use model::refusals;
 use text_program::Tables;
+ghost use mathlib.Core.List.{List};
 ghost use mathlib.Core.Path.{_≡_};
-ghost use Prim.Native.Nat.{_%_, _≤_, _<_};
+ghost use Prim.Native.Nat.{ℕ, _%_, _≤_, _<_};
 ghost use lib.Dec.{eqb};
 ghost use lib.ListN.{length};
-ghost use Rattle.model.specs.Rules.Outcome.{accepted, lowest};
-ghost use Rattle.model.specs.Rules.Program.{Program, signalAt, parseProgram, bodyReads};
+ghost use Rattle.model.specs.Rules.Outcome.{lowest};
+ghost use Rattle.model.specs.Rules.Program.{Program, signalAt, bodyReads};
 ghost use Rattle.model.specs.Rules.Rates.{periodRule, declaredAndRated, isMultiple, hypercycle, isLinked, linked};
-ghost use Rattle.text_program.specs.Tables.{TablesOf, PeriodsOf, ReadAs, TabledAs, Indexed, chainAt};
+ghost use Rattle.text_program.specs.Tables.{PeriodsOf, Stands, Standing, Indexes, Indexed, chainAt};
 ghost use Rattle.check_rates.specs.Rates.{
   CyclesAs,
   periodAt,
@@ -101,8 +102,8 @@ fn judge_signal(
     reader: usize,
 ) -> Judged
     requires { ⌜ (reader < count) × (count ≤ 64) × Indexed (now text) (now reads) (now firsts) count ⌝ }
-    ensures { λ r. ⌜ ((p : Program) → parseProgram (now (text .entry)) ≡ accepted p → PeriodsOf p (now (periods .entry)) →
-        r ≡ judgementOf (lowest (signalRates p (signalAt p reader)))) ⌝ }
+    ensures { λ r. ⌜ ((p : Program) → Indexes (now (text .entry)) (now (reads .entry)) (now (firsts .entry)) count p →
+        PeriodsOf p (now (periods .entry)) → r ≡ judgementOf (lowest (signalRates p (signalAt p reader)))) ⌝ }
 {
     let mut i = basics::from_entry(firsts[reader]);
     let end = basics::from_entry(firsts[reader + 1]);
@@ -129,8 +130,8 @@ fn judge_reads(
     periods: &[u8; 64],
 ) -> Judged
     requires { ⌜ (count ≤ 64) × Indexed (now text) (now reads) (now firsts) count ⌝ }
-    ensures { λ r. ⌜ ((p : Program) → parseProgram (now (text .entry)) ≡ accepted p → PeriodsOf p (now (periods .entry)) →
-        r ≡ judgementOf (lowest (readRates p))) ⌝ }
+    ensures { λ r. ⌜ ((p : Program) → Indexes (now (text .entry)) (now (reads .entry)) (now (firsts .entry)) count p →
+        PeriodsOf p (now (periods .entry)) → r ≡ judgementOf (lowest (readRates p))) ⌝ }
 {
     let mut reader: usize = 0;
     while reader < count {
@@ -145,8 +146,8 @@ fn judge_reads(
 
 // The first LINK of a chain that is of an undeclared signal (7).
 fn judge_chain(text: &[u8], tables: Tables, chain: usize) -> Judged
-    requires { ⌜ ReadAs (now text) tables × (chain < tables .chains) ⌝ }
-    ensures { λ r. ⌜ ((p : Program) → parseProgram (now (text .entry)) ≡ accepted p →
+    requires { ⌜ ((reads : List ℕ) × Standing (now text) reads tables) × (chain < tables .chains) ⌝ }
+    ensures { λ r. ⌜ ((p : Program) (reads : List ℕ) → Stands (now (text .entry)) reads tables p →
         r ≡ judgementOf (lowest (chainRates p (chainAt p chain)))) ⌝ }
 {
     let starts = tables.starts;
@@ -168,8 +169,9 @@ fn judge_chain(text: &[u8], tables: Tables, chain: usize) -> Judged
 
 // The same of all chains.
 fn judge_links(text: &[u8], tables: Tables) -> Judged
-    requires { ⌜ ReadAs (now text) tables ⌝ }
-    ensures { λ r. ⌜ ((p : Program) → parseProgram (now (text .entry)) ≡ accepted p → r ≡ judgementOf (lowest (linkRates p))) ⌝ }
+    requires { ⌜ ((reads : List ℕ) × Standing (now text) reads tables) ⌝ }
+    ensures { λ r. ⌜ ((p : Program) (reads : List ℕ) → Stands (now (text .entry)) reads tables p →
+        r ≡ judgementOf (lowest (linkRates p))) ⌝ }
 {
     let mut chain: usize = 0;
     while chain < tables.chains {
@@ -202,8 +204,9 @@ fn lower(a: Judged, b: Judged) -> Judged
 
 // 7 and 8 in order of offset.
 pub fn check_rates(text: &[u8], reads: &[u16], tables: Tables) -> Judged
-    requires { ⌜ TabledAs (now text) (now reads) tables ⌝ }
-    ensures { λ r. ⌜ ((p : Program) → parseProgram (now (text .entry)) ≡ accepted p → r ≡ judgementOf (declaredAndRated p)) ⌝ }
+    requires { ⌜ Standing (now text) (now reads) tables ⌝ }
+    ensures { λ r. ⌜ ((p : Program) → Stands (now (text .entry)) (now (reads .entry)) tables p →
+        r ≡ judgementOf (declaredAndRated p)) ⌝ }
 {
     let firsts = tables.firsts;
     let periods = tables.periods;
@@ -279,7 +282,7 @@ pub fn one_read(
     signal: u8,
 ) -> Found
     requires { ⌜ (count ≤ 64) × Indexed (now text) (now reads) (now firsts) count ⌝ }
-    ensures { λ r. ⌜ ((p : Program) → parseProgram (now (text .entry)) ≡ accepted p →
+    ensures { λ r. ⌜ ((p : Program) → Indexes (now (text .entry)) (now (reads .entry)) (now (firsts .entry)) count p →
         r ≡ oneRead before (bodyReads (signalAt p signal .body))) ⌝ }
 {
     let index = basics::from_byte(signal);
@@ -307,8 +310,8 @@ pub fn one_read(
 
 // Whether the equation of each link of a chain after the first has exactly one read of the link before.
 fn is_linked(text: &[u8], reads: &[u16], tables: Tables, chain: usize) -> bool
-    requires { ⌜ TabledAs (now text) (now reads) tables × (chain < tables .chains) ⌝ }
-    ensures { λ r. ⌜ ((p : Program) → parseProgram (now (text .entry)) ≡ accepted p → TablesOf p tables →
+    requires { ⌜ Standing (now text) (now reads) tables × (chain < tables .chains) ⌝ }
+    ensures { λ r. ⌜ ((p : Program) → Stands (now (text .entry)) (now (reads .entry)) tables p →
         r ≡ isLinked p (chainAt p chain .links)) ⌝ }
 {
     let firsts = tables.firsts;
@@ -332,8 +335,8 @@ fn is_linked(text: &[u8], reads: &[u16], tables: Tables, chain: usize) -> bool
 
 // 10 at the lowest LAT whose links are not linked. (Links × the reads of their equations.)
 pub fn check_links(text: &[u8], reads: &[u16], tables: Tables) -> Judged
-    requires { ⌜ TabledAs (now text) (now reads) tables ⌝ }
-    ensures { λ r. ⌜ ((p : Program) → parseProgram (now (text .entry)) ≡ accepted p → TablesOf p tables →
+    requires { ⌜ Standing (now text) (now reads) tables ⌝ }
+    ensures { λ r. ⌜ ((p : Program) → Stands (now (text .entry)) (now (reads .entry)) tables p →
         r ≡ judgementOf (linked p)) ⌝ }
 {
     if tables.chains == 0 {

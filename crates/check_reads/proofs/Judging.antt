@@ -8,23 +8,23 @@ use lib.ListN.{getD}
 use borrow.Author.Tests.{lt-ltb}
 use Rattle.model.specs.Says.Feasible.{All}
 use Rattle.model.specs.Rules.Outcome.{accepted, fault, lowest}
-use Rattle.model.specs.Rules.Program.{Program, Read, count, signalAt, bodyReads, parseProgram}
+use Rattle.model.specs.Rules.Program.{Program, Read, count, signalAt, bodyReads}
 use Rattle.model.specs.Rules.Rates.{declaredAndRated}
 use Rattle.model.specs.Rules.Reads.{isMet}
 use Rattle.model.specs.Rules.Schedule.{Schedule}
 use Rattle.model.specs.Rules.Search.{joinFrom}
 use Rattle.model.specs.declared.Fault.{Fault}
 use Rattle.model.proofs.Basics.All.{all-at}
-use Rattle.model.proofs.Texts.Legal.{legal, read-sound, signal-reads}
+use Rattle.model.proofs.Texts.Legal.{stands, read-sound, signal-reads}
 use Rattle.model.specs.Says.Stands.{SpellsRead}
 use Rattle.model.proofs.Pairs.Verdict.{Rated, reads-rated}
 use Rattle.text_command.specs.Operator.{ReadTaken}
 use Rattle.text_command.specs.declared.Taken.{Taken}
-use Rattle.text_program.specs.Tables.{PeriodsOf, SlotsOf, Indexed}
+use Rattle.text_program.specs.Tables.{PeriodsOf, SlotsOf, Indexes}
 use Rattle.basics.specs.declared.Judged.{Judged}
 use Rattle.basics.specs.declared.Judged.the-variants as Judged
 use Rattle.basics.specs.Judgement.{judgementOf}
-use Rattle.text_program.proofs.ByIndex.{noRead, readAt, rate-is, counted, seen, place-is, taken-is}
+use Rattle.text_program.proofs.ByIndex.{noRead, readAt, rate-is, seen, place-is, taken-is}
 use Rattle.text_program.proofs.InTurn.{AtPlaces, single-at, singles-within}
 use Rattle.text_program.proofs.Rising.{signalPlaces}
 use Rattle.read_rule.specs.Reads.{metBy}
@@ -74,8 +74,7 @@ module _ (p : Program) (s : Schedule) where
         go false = refl
 
 -- One read of the table.
-module _ {text reads firsts : List ℕ} {n : ℕ} (ix : Indexed text reads firsts n) (p : Program)
-    (e : parseProgram text ≡ accepted p)
+module _ {text reads firsts : List ℕ} {n : ℕ} {p : Program} (ix : Indexes text reads firsts n p)
     (s : Schedule) (order periods phases ranks : List ℕ) (rated : declaredAndRated p ≡ accepted tt) (table : PeriodsOf p periods)
     (slots : SlotsOf p s order phases ranks) (below : Below periods phases n) (x i : ℕ) (lt : x < n) (low : getD firsts x 0 ≤ i)
     (high : i < getD firsts (x + 1) 0) where
@@ -83,26 +82,26 @@ module _ {text reads firsts : List ℕ} {n : ℕ} (ix : Indexed text reads first
   ρ = readAt p x (i - getD firsts x 0)
 
   reader-count : x < count p
-  reader-count = omega (arith, counted ix p e)
+  reader-count = omega (arith, ix .count-is)
 
   rated-read : Rated p x ρ
   rated-read =
       all-at (Rated p x) (bodyReads (signalAt p x .body)) noRead (reads-rated p rated x reader-count) (i - getD firsts x 0)
-      (seen ix p e x i lt low high)
+      (seen ix x i lt low high)
 
   declared : ρ .operands .signal < count p
   declared = rated-read .0
 
   paced : PacedAt periods phases x (ρ .kind) (ρ .operands)
   paced =
-      let l = legal text p e in
+      let l = stands text p (ix .declares) in
       let spelled =
       all-at (SpellsRead text) (bodyReads (signalAt p x .body)) noRead (signal-reads (l .1) x reader-count)
-      (i - getD firsts x 0) (seen ix p e x i lt low high) in
+      (i - getD firsts x 0) (seen ix x i lt low high) in
       record {
         rule = rw (table (ρ .operands .signal) declared, table x reader-count) (rated-read .1);
         positive = read-sound text ρ spelled .positive;
-        read-below = below (ρ .operands .signal) (omega (arith, counted ix p e, declared));
+        read-below = below (ρ .operands .signal) (omega (arith, ix .count-is, declared));
         reader-below = below x lt;
       }
 
@@ -110,9 +109,9 @@ module _ {text reads firsts : List ℕ} {n : ℕ} (ix : Indexed text reads first
       (PacedAt periods phases x (r .kind) (r .operands) → j ≡ readMet periods phases ranks n at x (r .kind) (r .operands)) →
       j ≡ judgementOf (lowest (readFault p s x ρ))
   one-read r j at z h q =
-      let t = taken-is ix p e x i lt low high r (subst (λ (k : ℕ). ReadTaken text k r) z h) in
+      let t = taken-is ix x i lt low high r (subst (λ (k : ℕ). ReadTaken text k r) z h) in
       q (subst (λ (y : Taken). PacedAt periods phases x (y .kind) (y .operands)) (sym t) paced) ∙
       ap (λ (y : Taken). readMet periods phases ranks n at x (y .kind) (y .operands)) t ∙
-      ap (λ (k : ℕ). readMet periods phases ranks n k x (ρ .kind) (ρ .operands)) (z ∙ place-is ix p e x i lt low high) ∙
-      ap (λ (k : ℕ). readMet periods phases ranks k (ρ .place) x (ρ .kind) (ρ .operands)) (sym (counted ix p e)) ∙
+      ap (λ (k : ℕ). readMet periods phases ranks n k x (ρ .kind) (ρ .operands)) (z ∙ place-is ix x i lt low high) ∙
+      ap (λ (k : ℕ). readMet periods phases ranks k (ρ .place) x (ρ .kind) (ρ .operands)) (sym (ix .count-is)) ∙
       judged-met p s order periods phases ranks table slots x ρ reader-count declared

@@ -8,12 +8,12 @@ use text_program::Tables;
 use text_schedule::Slots;
 ghost use mathlib.Core.Path.{_≡_};
 ghost use Prim.Native.Nat.{_≤_, _<_};
-ghost use Rattle.model.specs.Rules.Outcome.{accepted, lowest};
-ghost use Rattle.model.specs.Rules.Program.{Program, parseProgram};
+ghost use Rattle.model.specs.Rules.Outcome.{lowest};
+ghost use Rattle.model.specs.Rules.Program.{Program};
 ghost use Rattle.model.specs.Rules.Reads.{met};
 ghost use Rattle.model.specs.Rules.Schedule.{Schedule};
 ghost use Rattle.basics.specs.Judgement.{judgementOf};
-ghost use Rattle.text_program.specs.Tables.{Indexed, TabledAs};
+ghost use Rattle.text_program.specs.Tables.{Indexes, Indexed};
 ghost use Rattle.text_schedule.specs.Arranged.{Arranged, Arrangement, pairTables};
 ghost use Rattle.check_reads.specs.Met.{Below, PacedAt, readMet, unmet, MetAs};
 
@@ -67,7 +67,7 @@ fn signal_met(
 ) -> Judged
     requires { ⌜ (reader < signals) × (signals ≤ 64) × Below (now periods) (now phases) signals ×
         Indexed (now text) (now reads) (now firsts) signals ⌝ }
-    ensures { λ r. ⌜ ((p : Program) → parseProgram (now (text .entry)) ≡ accepted p →
+    ensures { λ r. ⌜ ((p : Program) → Indexes (now (text .entry)) (now (reads .entry)) (now (firsts .entry)) signals p →
         MetAs p (now (periods .entry)) (now (phases .entry)) (now (ranks .entry)) (λ s. lowest (unmet p s reader)) r) ⌝ }
 {
     let mut i = basics::from_entry(firsts[reader]);
@@ -98,7 +98,7 @@ fn reads_met(
 ) -> Judged
     requires { ⌜ (signals ≤ 64) × Below (now periods) (now phases) signals ×
         Indexed (now text) (now reads) (now firsts) signals ⌝ }
-    ensures { λ r. ⌜ ((p : Program) → parseProgram (now (text .entry)) ≡ accepted p →
+    ensures { λ r. ⌜ ((p : Program) → Indexes (now (text .entry)) (now (reads .entry)) (now (firsts .entry)) signals p →
         MetAs p (now (periods .entry)) (now (phases .entry)) (now (ranks .entry)) (λ s. met p s) r) ⌝ }
 {
     let mut reader: usize = 0;
@@ -120,8 +120,9 @@ pub fn check_reads(
     slots: Slots,
     hypercycle: usize,
 ) -> Judged
-    requires { ⌜ Arrangement (now text) (pairTables tables slots hypercycle) × TabledAs (now text) (now reads) tables ⌝ }
-    ensures { λ r. ⌜ ((p : Program) (s : Schedule) → Arranged (now (text .entry)) (pairTables tables slots hypercycle) p s →
+    requires { ⌜ Arrangement (now text) (now reads) (pairTables tables slots hypercycle) ⌝ }
+    ensures { λ r. ⌜ ((p : Program) (s : Schedule) →
+        Arranged (now (text .entry)) (now (reads .entry)) (pairTables tables slots hypercycle) p s →
         r ≡ judgementOf (met p s)) ⌝ }
 {
     let firsts = tables.firsts;

@@ -3,9 +3,6 @@ use basics::Judged;
 use model::Fault;
 use model::Yielded;
 use model::refusals;
-use text_program::Tables;
-use text_schedule::Slots;
-ghost use mathlib.Core.Path.{_≡_};
 ghost use Rattle.model.specs.Rules.Machine.{Does};
 ghost use Rattle.model.specs.Rules.Compile.{compileOf};
 ghost use Rattle.model.specs.Rules.Outcome.{yieldedOf};
@@ -23,13 +20,7 @@ pub fn compile(program: &[u8], schedule: &[u8], image: &mut [u8]) -> Yielded
         return basics::refused(judged);
     };
     let pair = checked.pair;
-    let tables: Tables = pair.tables;
-    let periods = tables.periods;
-    let slots: Slots = pair.slots;
-    let order = slots.order;
-    let phases = slots.phases;
-    let h = pair.hypercycle;
-    let layout = image_write::lay_out(tables, &periods, &order, &phases, h);
+    let layout = image_write::lay_out(pair);
     let written = layout.written;
     if image.len() < written {
         return Yielded::Refused(Fault {
@@ -37,18 +28,6 @@ pub fn compile(program: &[u8], schedule: &[u8], image: &mut [u8]) -> Yielded
             place: written,
         });
     }
-    image_write::emit(
-        program,
-        tables,
-        &periods,
-        &order,
-        &phases,
-        h,
-        layout,
-        &mut image[..],
-    );
-    let n = tables.signals;
-    let labels = tables.labels;
-    image_write::emit_tail(&labels, &periods, &phases, n, &mut image[..], layout.end);
+    image_write::emit(program, pair, layout, &mut image[..]);
     Yielded::Number(written)
 }

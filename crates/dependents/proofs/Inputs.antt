@@ -2,7 +2,7 @@
 use Prim.Native.Nat.{ℕ, _≤_, _<_}
 use mathlib.Core.Bool.{true, false, cond}
 use mathlib.Core.List.{List}
-use mathlib.Core.Path.{_≡_, refl, sym, ap, subst, _∙_}
+use mathlib.Core.Path.{_≡_, refl, sym, ap, _∙_}
 use native.Mathlib.Omega.{arith}
 use borrow.Author.Tests.{lt-ltb, le-ltb}
 use lib.Dec.{eqb}
@@ -20,22 +20,20 @@ use Rattle.model.specs.Rules.Program.{
   count,
   signalAt,
   bodyReads,
-  parseProgram,
 }
 use Rattle.model.specs.Rules.Script.{isInputBody, isInputOf}
 use Rattle.model.specs.Rules.Word.{byteAt}
 use Rattle.model.specs.declared.Fault.{Fault}
 use Rattle.model.proofs.Texts.Commands.{declaration-sound, written-byte}
 use Rattle.model.proofs.Texts.Written.{as-written}
-use Rattle.model.proofs.Texts.Legal.{legal, signal-spelled}
+use Rattle.model.proofs.Texts.Legal.{stands, signal-spelled}
 use Rattle.model.specs.Says.Stands.{SpellsBody}
 use Rattle.model.specs.Says.Feasible.{All, Met}
 use Rattle.model.proofs.Basics.All.{all-map}
-use Rattle.model.proofs.Basics.Outcomes.{accepted-same}
-use Rattle.model.proofs.Pairs.Verdict.{pair-passed, pair-accepted}
-use Rattle.text_program.specs.Tables.{TablesOf, TabledAs}
+use Rattle.model.proofs.Pairs.Verdict.{pair-accepted}
+use Rattle.text_program.specs.Tables.{TablesOf, Stands}
 use Rattle.text_program.specs.declared.Tables.{Tables}
-use Rattle.text_program.proofs.ByIndex.{few-signals}
+use Rattle.text_program.proofs.ByIndex.{few-signals, indexes}
 use Rattle.dependents.specs.Marks.{ReadsDeclared}
 
 input-byte : (text : List ℕ) (σ : Signal) (b : Body) → SpellsBody text σ b → isInputBody b ≡ eqb (byteAt text (σ .place)) 0x10
@@ -47,7 +45,10 @@ place-inside text σ input g = omega (arith, declaration-sound text _ _ g .3)
 place-inside text σ (equation w x) g = omega (arith, declaration-sound text _ _ (g .0) .3)
 
 -- A signal of a program that is read.
-module _ (text : List ℕ) (t : Tables) (p : Program) (e : parseProgram text ≡ accepted p) (tables : TablesOf p t) (x : ℕ) where
+module _ {text reads : List ℕ} {t : Tables} {p : Program} (known : Stands text reads t p) (x : ℕ) where
+  abbrev tables : TablesOf p t
+  tables = known .tables-are
+
   pub no-signal : t .signals ≤ x → isInputOf p x ≡ false
   unfolding isInputOf
   no-signal le =
@@ -58,35 +59,33 @@ module _ (text : List ℕ) (t : Tables) (p : Program) (e : parseProgram text ≡
     below : x < count p
     below = omega (arith, tables .counts .signals-are)
 
-    pub stands : getD (t .places) x 0 < length text
-    stands =
+    pub place-stands : getD (t .places) x 0 < length text
+    place-stands =
         omega (
           arith,
           tables .places x below,
-          place-inside text (signalAt p x) (signalAt p x .body) (signal-spelled (legal text p e .1) x below),
+          place-inside text (signalAt p x) (signalAt p x .body) (signal-spelled (stands text p (known .declares) .1) x below),
         )
 
     pub by-byte : eqb (byteAt text (getD (t .places) x 0)) 0x10 ≡ isInputOf p x
     unfolding isInputOf
     by-byte =
         ap (λ (n : ℕ). eqb (byteAt text n) 0x10) (tables .places x below) ∙
-        sym (input-byte text (signalAt p x) (signalAt p x .body) (signal-spelled (legal text p e .1) x below)) ∙
+        sym (input-byte text (signalAt p x) (signalAt p x .body) (signal-spelled (stands text p (known .declares) .1) x below)) ∙
         sym (ap (λ b. cond b (isInputBody (signalAt p x .body)) false) (lt-ltb x (count p) below))
 
 -- The reads of an accepted pair are of its signals.
 pub reads-declared : (text schedule reads : List ℕ) (t : Tables) (q : Pair) → pairOf text schedule ≡ accepted q →
-    TabledAs text reads t → ReadsDeclared text reads (t .firsts) (t .signals)
+    Stands text reads t (q .program) → ReadsDeclared text reads (t .firsts) (t .signals)
 reads-declared text schedule reads t q e h =
-    let same = accepted-same (q .program) (h .0) (sym (pair-passed text schedule q e .parses) ∙ h .1) in
-    let n : count (q .program) ≡ t .signals = ap (λ (p : Program). count p) same ∙ h .2 .counts .signals-are in
+    let n = h .tables-are .counts .signals-are in
     record {
-      indexed = record { program = h .0; parsed = h .1; count-is = h .2 .counts .signals-are; reads-are = h .3 };
-      few = few-signals text t (h .0) (h .1) (h .2);
+      indexed = (q .program, indexes h);
+      few = few-signals text t (q .program) (h .declares) (h .tables-are);
       declared = λ x lt.
-          subst (λ (p : Program). All (λ (ρ : Read). ρ .operands .signal < t .signals) (bodyReads (signalAt p x .body))) same
-          (all-map (Met (q .program) (q .schedule) x) (λ (ρ : Read). ρ .operands .signal < t .signals)
+          all-map (Met (q .program) (q .schedule) x) (λ (ρ : Read). ρ .operands .signal < t .signals)
           (λ ρ m. omega (arith, m .declared, n)) (bodyReads (signalAt (q .program) x .body))
-          (pair-accepted text schedule q e .met x (omega (arith, n))));
+          (pair-accepted text schedule q e .met x (omega (arith, n)));
     }
 
 -- What the call answers and leaves.

@@ -23,4 +23,4 @@ pub record MarksBy (bs : List Bool) (marks : List ℕ) : Type 0 where
 pub record ReadsDeclared (text reads firsts : List ℕ) (n : ℕ) : Type 0 where
   pub indexed : Indexed text reads firsts n
   pub few : n ≤ 64
-  pub declared : (x : ℕ) → x < n → All (λ (ρ : Read). ρ .operands .signal < n) (bodyReads (signalAt (indexed .program) x .body))
+  pub declared : (x : ℕ) → x < n → All (λ (ρ : Read). ρ .operands .signal < n) (bodyReads (signalAt (indexed .0) x .body))

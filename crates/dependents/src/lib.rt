@@ -11,11 +11,10 @@ ghost use Prim.Native.Nat.{ℕ, _≤_, _<_};
 ghost use lib.ListN.{length};
 ghost use Rattle.model.specs.Rules.Dependents.{anyRead, markReaders, markByte, markBytes, dependentsOf};
 ghost use Rattle.model.specs.Rules.Machine.{Does, ranOf};
-ghost use Rattle.model.specs.Rules.Outcome.{accepted};
-ghost use Rattle.model.specs.Rules.Program.{Program, signalAt, bodyReads, parseProgram};
+ghost use Rattle.model.specs.Rules.Program.{Program, signalAt, bodyReads};
 ghost use Rattle.model.specs.Rules.Script.{isInputOf};
 ghost use Rattle.model.specs.declared.Fault.{Fault};
-ghost use Rattle.text_program.specs.Tables.{ReadAs};
+ghost use Rattle.text_program.specs.Tables.{Stands, Standing, Indexes};
 ghost use Rattle.check_pair.specs.Checked.{Spacious};
 ghost use Rattle.dependents.specs.Marks.{isMarked, MarksBy, ReadsDeclared};
 
@@ -33,8 +32,8 @@ fn refused(judged: Judged) -> Ran
 
 // Whether signal x of a program that is read is an IN.
 fn is_input(text: &[u8], tables: Tables, x: usize) -> bool
-    requires { ⌜ ReadAs (now text) tables ⌝ }
-    ensures { λ r. ⌜ ((p : Program) → parseProgram (now (text .entry)) ≡ accepted p → r ≡ isInputOf p x) ⌝ }
+    requires { ⌜ ((reads : List ℕ) × Standing (now text) reads tables) ⌝ }
+    ensures { λ r. ⌜ ((p : Program) (reads : List ℕ) → Stands (now (text .entry)) reads tables p → r ≡ isInputOf p x) ⌝ }
 {
     if tables.signals <= x {
         return false;
@@ -66,8 +65,8 @@ fn mark_of(
     reader: usize,
 ) -> u8
     requires { ⌜ ((n : ℕ) × (reader < n) × ReadsDeclared (now text) (now reads) (now firsts) n) ⌝ }
-    ensures { λ r. ⌜ ((p : Program) → parseProgram (now (text .entry)) ≡ accepted p →
-        r ≡ markByte (anyRead (isMarked (now (marks .entry)) input) (bodyReads (signalAt p reader .body)))) ⌝ }
+    ensures { λ r. ⌜ ((p : Program) (n : ℕ) → Indexes (now (text .entry)) (now (reads .entry)) (now (firsts .entry)) n p →
+        reader < n → r ≡ markByte (anyRead (isMarked (now (marks .entry)) input) (bodyReads (signalAt p reader .body)))) ⌝ }
 {
     let mut i = basics::from_entry(firsts[reader]);
     let end = basics::from_entry(firsts[reader + 1]);
@@ -94,8 +93,8 @@ fn mark_readers(
     input: usize,
 ) -> [u8; 64]
     requires { ⌜ ReadsDeclared (now text) (now reads) (now firsts) signals ⌝ }
-    ensures { λ r. ⌜ ((p : Program) → parseProgram (now (text .entry)) ≡ accepted p → (bs : List Bool) →
-        MarksBy bs (now (old .entry)) → MarksBy (markReaders p input bs) r) ⌝ }
+    ensures { λ r. ⌜ ((p : Program) → Indexes (now (text .entry)) (now (reads .entry)) (now (firsts .entry)) signals p →
+        (bs : List Bool) → MarksBy bs (now (old .entry)) → MarksBy (markReaders p input bs) r) ⌝ }
 {
     let mut marks: [u8; 64] = [0; 64];
     let mut reader: usize = 0;
@@ -115,7 +114,8 @@ fn mark_all(
     input: usize,
 ) -> [u8; 64]
     requires { ⌜ ReadsDeclared (now text) (now reads) (now firsts) signals ⌝ }
-    ensures { λ r. ⌜ ((p : Program) → parseProgram (now (text .entry)) ≡ accepted p → r ≡ markBytes p input) ⌝ }
+    ensures { λ r. ⌜ ((p : Program) → Indexes (now (text .entry)) (now (reads .entry)) (now (firsts .entry)) signals p →
+        r ≡ markBytes p input) ⌝ }
 {
     let mut marks: [u8; 64] = [0; 64];
     let mut round: usize = 0;

@@ -1,22 +1,22 @@
 // The image of an accepted pair and its tail: their layout, and their parts one after another.
-use text_program::Tables;
+use text_schedule::PairTables;
 ghost use mathlib.Core.Path.{_≡_};
 ghost use mathlib.Core.List.{List, _∷_, _++_};
 ghost use Prim.Native.Nat.{ℕ, _+_, _≤_, _<_};
 ghost use lib.ListN.{length, getD, drop};
 ghost use lib.Seq.{sets};
-ghost use Rattle.model.specs.Rules.Image.{joined, offsets, records, lengthOf, imageOf, tailEntry};
+ghost use Rattle.model.specs.Rules.Image.{joined, offsets, records, writtenOf, tailEntry};
 ghost use Rattle.model.specs.Rules.Program.{Program};
 ghost use Rattle.model.specs.Rules.Reads.{stored};
 ghost use Rattle.model.specs.Rules.Schedule.{Schedule};
 ghost use Rattle.model.specs.Rules.Width.{inProgram};
 ghost use Rattle.model.specs.Rules.Word.{twoBytes, wordAt, wordBytes};
 ghost use Rattle.text_program.specs.Tables.{rateAt};
+ghost use Rattle.text_schedule.specs.Arranged.{Arranged, Arrangement};
 ghost use Rattle.image_write.specs.Codes.{declaredBy, codesFrom, Declared, CodesAt};
 ghost use Rattle.image_write.specs.Cursors.{StartsOf, Open, WritesRuns};
+ghost use Rattle.image_write.specs.Layout.{LaidOut, LaidOutBy, Fits};
 ghost use Rattle.image_write.specs.Lists.{listBy, listsBy, pairs, HasPeriods, Phased, RunsCounted};
-ghost use Rattle.text_program.specs.Prepared.{Prepared};
-ghost use Rattle.image_write.specs.Prepared.{LaidOut, LaidOutBy, Tabled, Fits};
 ghost use Rattle.image_write.specs.Rows.{tableBy, TableStands};
 ghost use Rattle.image_write.specs.Tail.{tailBy};
 ghost use Rattle.model.specs.Rules.Writing.{Wrote};
@@ -297,39 +297,35 @@ pub fn lay_out_code(
 }
 
 // Lays the image out. The text is not read again: the tables have the length of the code.
-pub fn lay_out(
-    tables: Tables,
-    periods: &[u8; 64],
-    order: &[u8; 64],
-    phases: &[u8; 64],
-    h: usize,
-) -> Layout
-    requires { ⌜ Tabled tables (now periods) (now order) (now phases) h ⌝ }
-    ensures { λ r. ⌜ ((text : List ℕ) (p : Program) (s : Schedule) →
-        Prepared text tables (now (periods .entry)) (now (order .entry)) (now (phases .entry)) p s → LaidOut p s h r) ⌝ }
+pub fn lay_out(pair: PairTables) -> Layout
+    requires { ⌜ ((text reads : List ℕ) × Arrangement text reads pair) ⌝ }
+    ensures { λ r. ⌜ ((text reads : List ℕ) (p : Program) (s : Schedule) → Arranged text reads pair p s →
+        LaidOut p s (pair .hypercycle) r) ⌝ }
 {
+    let tables = pair.tables;
+    let slots = pair.slots;
+    let periods = tables.periods;
+    let order = slots.order;
+    let phases = slots.phases;
     let n = tables.signals;
     let codes = tables.codes;
     let size = basics::from_entry(codes[n]);
-    lay_out_code(size, tables.rows, periods, order, phases, n, h)
+    let h = pair.hypercycle;
+    lay_out_code(size, tables.rows, &periods, &order, &phases, n, h)
 }
 
-// Writes the image, laid out as `layout` says, into the first L bytes.
-pub fn emit(
-    text: &[u8],
-    tables: Tables,
-    periods: &[u8; 64],
-    order: &[u8; 64],
-    phases: &[u8; 64],
-    h: usize,
-    layout: Layout,
-    out: &mut [u8],
-)
-    requires { ⌜ Fits (now text) tables (now periods) (now order) (now phases) h layout (length (now out)) ⌝ }
-    ensures { λ _. ⌜ ((p : Program) (s : Schedule) →
-        Prepared (now (text .entry)) tables (now (periods .entry)) (now (order .entry)) (now (phases .entry)) p s →
-        now (out .exit) ≡ imageOf p s h ++ drop (lengthOf p s h) (now (out .entry))) ⌝ }
+// Writes the image, laid out as `layout` says, into the first L bytes, and its tail after it.
+pub fn emit(text: &[u8], pair: PairTables, layout: Layout, out: &mut [u8])
+    requires { ⌜ Fits (now text) pair layout (length (now out)) ⌝ }
+    ensures { λ _. ⌜ ((reads : List ℕ) (p : Program) (s : Schedule) → Arranged (now (text .entry)) reads pair p s →
+        now (out .exit) ≡ writtenOf p s (pair .hypercycle) ++ drop (layout .written) (now (out .entry))) ⌝ }
 {
+    let tables = pair.tables;
+    let slots = pair.slots;
+    let periods = tables.periods;
+    let order = slots.order;
+    let phases = slots.phases;
+    let h = pair.hypercycle;
     let n = tables.signals;
     let places = tables.places;
     let code_starts = tables.codes;
@@ -337,9 +333,9 @@ pub fn emit(
     let offsets = emit_records(text, &places, n, &code_starts, layout.code, out, records);
     let mut nexts: [u16; 241] = [0; 241];
     let lists = emit_offsets(
-        periods,
-        order,
-        phases,
+        &periods,
+        &order,
+        &phases,
         n,
         h,
         layout.lists,
@@ -347,10 +343,12 @@ pub fn emit(
         out,
         offsets,
     );
-    let table = emit_lists(periods, order, phases, n, h, &mut nexts, out, lists);
+    let table = emit_lists(&periods, &order, &phases, n, h, &mut nexts, out, lists);
     let row_offsets = tables.offsets;
     let codes = emit_table(text, &row_offsets, tables.rows, out, table);
     emit_codes(text, &places, n, out, codes);
+    let labels = tables.labels;
+    emit_tail(&labels, &periods, &phases, n, out, layout.end);
 }
 
 // Writes the entry of a signal in the tail.

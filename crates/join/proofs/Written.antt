@@ -31,7 +31,7 @@ use Rattle.model.proofs.Images.Stretches.{image-length}
 use Rattle.model.proofs.Pairs.Hypercycle.{hypercycle-least}
 use Rattle.text_program.specs.Tables.{Sums, codeIn}
 use Rattle.image_write.specs.Lists.{pairs}
-use Rattle.image_write.specs.Prepared.{LaidOut, LaidOutBy}
+use Rattle.image_write.specs.Layout.{LaidOut, LaidOutBy}
 use Rattle.image_write.specs.Tail.{tailBy}
 use Rattle.image_write.specs.declared.Layout.{Layout}
 use Rattle.image_write.proofs.Timed.{codesBy, imageBy, TimedBy, timed, phased, code-by, image-by, tail-by}

@@ -6,7 +6,7 @@ use lib.ListN.{getD}
 use Rattle.model.specs.Rules.Compile.{Pair}
 use Rattle.model.specs.Rules.Join.{joinedPairOf}
 use Rattle.model.specs.Rules.Outcome.{accepted}
-use Rattle.image_write.specs.Prepared.{LaidOutBy}
+use Rattle.image_write.specs.Layout.{LaidOutBy}
 use Rattle.image_write.specs.declared.Layout.{Layout}
 use Rattle.join_gather.specs.declared.Joint.{Joint}
 use Rattle.join_verdict.specs.Verdict.{JoinChecks}

@@ -7,7 +7,7 @@ use Rattle.model.specs.Rules.Image.{joined, offsets, listsAt}
 use Rattle.model.specs.Rules.Search.{table}
 use Rattle.model.specs.Rules.Word.{twoBytes}
 use Rattle.image_write.specs.Lists.{listsBy, pairs, HasPeriods, Phased}
-use Rattle.image_write.specs.Prepared.{LaidOutBy}
+use Rattle.image_write.specs.Layout.{LaidOutBy}
 use Rattle.image_write.specs.declared.Layout.{Layout}
 use Rattle.join_gather.specs.declared.Joint.{Joint}
 use Rattle.join_gather.specs.declared.Table.{Table}

@@ -44,11 +44,12 @@ use Rattle.model.proofs.Basics.Outcomes.{
 }
 use Rattle.model.proofs.Images.Stretches.{joined-cons}
 use Rattle.model.proofs.Pairs.Verdict.{pair-passed}
-use Rattle.model.proofs.Texts.Legal.{legal}
+use Rattle.model.proofs.Texts.Legal.{stands}
 use Rattle.read_rule.proofs.Searches.{search-here, search-from}
 use Rattle.check_pair.specs.Checked.{Checks}
-use Rattle.text_program.specs.Tables.{codeIn, SlotsOf}
+use Rattle.text_program.specs.Tables.{codeIn}
 use Rattle.text_program.specs.declared.Tables.{Tables}
+use Rattle.text_schedule.proofs.Arranged.{ordered}
 use Rattle.text_schedule.specs.declared.PairTables.{PairTables}
 use Rattle.text_schedule.specs.declared.Slots.{Slots}
 use Rattle.join_gather.specs.Joint.{Nothing, PartTables, JointTables, CodeWithin, JointOf}
@@ -85,15 +86,10 @@ abbrev pub asPart : Pair → Part
 asPart q = record { program = q .program; schedule = q .schedule }
 
 module _ (program schedule : List ℕ) (q : Pair) (e : pairOf program schedule ≡ accepted q) (t : PairTables)
-    (c : Checks program t q)
+    (reads : List ℕ) (c : Checks program reads t q)
   where
     pub part-tables : PartTables (asPart q) (t .tables) (t .slots)
-    part-tables =
-        record {
-          tables-are = c .prepared .tables;
-          slots-are =
-              subst (SlotsOf (q .program) (q .schedule) (t .slots .order) (t .slots .phases)) (c .ranks-are) (c .prepared .slots);
-        }
+    part-tables = record { tables-are = c .arranged .stands .tables-are; slots-are = c .arranged .slots-are }
 
     pub part-ordered : OrderedPart (asPart q)
     unfolding placed scheduleOf
@@ -104,26 +100,26 @@ module _ (program schedule : List ℕ) (q : Pair) (e : pairOf program schedule �
         then-accepted (provided (allBelow (count (q .program)) (isPut (passed .puts .value))) 12 (passed .puts .next)) _ _
         (a .2) in
         record {
-          ordered = c .prepared .ordered;
+          ordered = ordered (c .arranged);
           phased =
               ap (λ (s : Schedule). length (s .phases)) (sym (accepted-same _ _ (b .2))) ∙
               table-length (count (q .program)) (putPhase (passed .puts .value));
         }
 
     pub part-rates : RatesOf program (t .tables) (asPart q)
-    part-rates = record { parsed = c .prepared .parsed; tables-are = c .prepared .tables }
+    part-rates = record { declares = c .arranged .stands .declares; tables-are = c .arranged .stands .tables-are }
 
     pub part-within : CodeWithin (t .tables) (length program)
     unfolding codes
     part-within =
-        let l = legal program (q .program) (c .prepared .parsed) in
-        let s = c .prepared .tables .codes in
+        let l = stands program (q .program) (c .arranged .stands .declares) in
+        let s = c .arranged .stands .tables-are .codes in
         let total =
         codes-total (q .program .signals) 0 (t .tables .codes) (λ x lt.
         subst (λ (n : ℕ).
         getD (t .tables .codes) (suc n) 0 ≡ getD (t .tables .codes) n 0 + codeIn n (getD (q .program .signals) x noSignal))
         (sym (zero-add x)) (s .rises x lt)) in
-        let n = c .prepared .tables .counts .signals-are in
+        let n = c .arranged .stands .tables-are .counts .signals-are in
         omega (
           arith,
           total,
@@ -135,8 +131,8 @@ module _ (program schedule : List ℕ) (q : Pair) (e : pairOf program schedule �
 
     pub part-small : (t .tables .signals ≤ 64) × (t .tables .chains ≤ 16)
     part-small =
-        let l = legal program (q .program) (c .prepared .parsed) .1 in
-        let n = c .prepared .tables .counts in
+        let l = stands program (q .program) (c .arranged .stands .declares) .1 in
+        let n = c .arranged .stands .tables-are .counts in
         (omega (arith, l .fewSignals, n .signals-are), omega (arith, l .fewChains, n .chains-are))
 
 -- The first k parts are checked.

@@ -15,7 +15,7 @@ use Rattle.model.specs.Rules.Program.{Signal, Body, input, equation, count, sig
 use Rattle.model.specs.Rules.Word.{byteAt}
 use Rattle.model.proofs.Texts.Commands.{declaration-sound, written-byte}
 use Rattle.model.proofs.Texts.Written.{as-written}
-use Rattle.model.proofs.Texts.Legal.{legal, signal-spelled, signal-period}
+use Rattle.model.proofs.Texts.Legal.{stands, signal-spelled, signal-period}
 use Rattle.model.specs.Says.Stands.{SpellsBody}
 use Rattle.text_program.specs.declared.Tables.{Tables}
 use Rattle.join_links.specs.ByPart.{signalIn, valueIn}
@@ -105,7 +105,7 @@ module _ (parts : List Part) (a : Part) where
     all = sym (of .tables-are .counts .signals-are)
 
     small : count (a .program) ≤ 64
-    small = legal text (a .program) (of .parsed) .1 .fewSignals
+    small = stands text (a .program) (of .declares) .1 .fewSignals
 
     -- What holds of the declared signals of the parts before and of the new one.
     by-declared : (P : ℕ → ℕ → Type 0) → ((k x : ℕ) → k < length parts → isDeclared parts k x ≡ true → P k x) →
@@ -136,7 +136,7 @@ module _ (parts : List Part) (a : Part) where
                     rw (part-before k l) (old .periods-are .positive k x d))
                     (λ k x e l.
                     rw (part-last k e)
-                    (omega (arith, signal-period (legal text (a .program) (of .parsed) .1) x l .0)));
+                    (omega (arith, signal-period (stands text (a .program) (of .declares) .1) x l .0)));
                 each =
                     filled-next (λ σ. σ .period) 0 (tables .signals) _ periods periods′ all small new-periods
                     (of .tables-are .periods) (old .periods-are .each);
@@ -148,7 +148,7 @@ module _ (parts : List Part) (a : Part) where
               (λ x l.
               ap (λ (n : ℕ). eqb (byteAt text n) 0x10) (of .tables-are .places x l) ∙
               sym (input-byte text (signalAt (a .program) x) (signalAt (a .program) x .body)
-              (signal-spelled (legal text (a .program) (of .parsed) .1) x l)))
+              (signal-spelled (stands text (a .program) (of .declares) .1) x l)))
               (old .inputs-are);
         }
       where

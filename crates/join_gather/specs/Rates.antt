@@ -4,9 +4,8 @@ use mathlib.Core.Bool.{Bool, false}
 use mathlib.Core.List.{List}
 use mathlib.Core.Path.{_≡_}
 use lib.ListN.{length, getD}
-use Rattle.model.specs.Rules.Outcome.{accepted}
+use Rattle.model.specs.Says.Grammar.{LegalProgram}
 use Rattle.model.specs.Rules.Parts.{Part}
-use Rattle.model.specs.Rules.Program.{parseProgram}
 use Rattle.text_program.specs.Tables.{TablesOf}
 use Rattle.text_program.specs.declared.Tables.{Tables}
 use Rattle.join_links.specs.ByPart.{inputIn, PeriodsBy}
@@ -18,9 +17,9 @@ pub record Filled {A : Type 0} (d : A) (f : ℕ → A) (from n : ℕ) (old new :
   pub filled : (y : ℕ) → y < n → getD new (from + y) d ≡ f y
   pub after : (y : ℕ) → from + n ≤ y → getD new y d ≡ getD old y d
 
--- The tables of a part are those of its program text.
+-- The text declares a part's program, and the tables are its own.
 pub record RatesOf (text : List ℕ) (tables : Tables) (a : Part) : Type 0 where
-  pub parsed : parseProgram text ≡ accepted (a .program)
+  pub declares : LegalProgram text (a .program)
   pub tables-are : TablesOf (a .program) tables
 
 -- The tables of the parts: periods, and which signals are INs.

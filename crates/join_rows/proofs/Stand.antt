@@ -24,7 +24,7 @@ use Rattle.join_gather.proofs.Each.{parts-count, part-of}
 use Rattle.join_rows.specs.Rows.{RowsReady, rowsBy}
 
 -- Rows as the writer wants them.
-pub record Stands (text offsets : List ℕ) (count : ℕ) (rows : List Row) : Type 0 where
+pub record RowsStand (text offsets : List ℕ) (count : ℕ) (rows : List Row) : Type 0 where
   pub rows-are : textRows text offsets count ≡ rows
   pub placed : Placed text offsets count
   pub upright : AllUpright (textRows text offsets count)
@@ -32,7 +32,7 @@ pub record Stands (text offsets : List ℕ) (count : ℕ) (rows : List Row) : Ty
 
 text-stands : (text : List ℕ) (p : Program) → parseProgram text ≡ accepted p → tabled p ≡ accepted tt → (offsets : List ℕ) →
     ((n : ℕ) → n < length (p .rows) → getD offsets n 0 ≡ rowAt (p .rows) n .place) → (count : ℕ) → length (p .rows) ≡ count →
-    Stands text offsets count (p .rows)
+    RowsStand text offsets count (p .rows)
 unfolding textRows
 text-stands text p e t offsets stand count n =
     let l = legal text p e .1 in
@@ -56,13 +56,13 @@ module _ (texts numbers : List ℕ) (t : Table) (q : RowsReady texts numbers t) 
   part-inside some =
       omega (arith, rows-of .inside some, parts-count texts numbers (partsIn numbers) 0 (q .parts) (q .checked))
 
-  pub part-stands : 0 < t .rows → Stands (programText texts (textsAt numbers (t .part))) (t .offsets) (t .rows) rows
+  pub part-stands : 0 < t .rows → RowsStand (programText texts (textsAt numbers (t .part))) (t .offsets) (t .rows) rows
   part-stands some =
       let r = part-of texts numbers (q .parts) (q .checked) (t .part) (rows-of .inside some) in
       let passed = pair-passed _ _ (r .pair) (r .checked) in
       let same : r .pair .program .rows ≡ rows =
       ap (λ (a : Part). a .program .rows) (sym (r .is)) ∙ rows-of .rows-are some in
-      subst (Stands (programText texts (textsAt numbers (t .part))) (t .offsets) (t .rows)) same
+      subst (RowsStand (programText texts (textsAt numbers (t .part))) (t .offsets) (t .rows)) same
       (text-stands (programText texts (textsAt numbers (t .part))) (r .pair .program) (passed .parses) (passed .tables)
       (t .offsets)
       (λ n lt.
@@ -70,7 +70,7 @@ module _ (texts numbers : List ℕ) (t : Table) (q : RowsReady texts numbers t) 
       (t .rows) (ap (λ (l : List Row). length l) same ∙ rows-of .counted))
 
   -- Where there are none.
-  pub none-stand : t .rows ≡ 0 → (text : List ℕ) → Stands text (t .offsets) 0 rows
+  pub none-stand : t .rows ≡ 0 → (text : List ℕ) → RowsStand text (t .offsets) 0 rows
   unfolding textRows table tableFrom
   none-stand none text =
       record {
@@ -99,7 +99,7 @@ module _ (texts numbers : List ℕ) (t : Table) (q : RowsReady texts numbers t) 
       go zero e = ap (λ (n : ℕ). bytes (textRows text (t .offsets) n)) e ∙ ap bytes (none-stand e text .rows-are)
       go (suc n) e = ap bytes (part-stands (omega arith) .rows-are)
 
-  pub bytes-are : (text : List ℕ) (count : ℕ) → Stands text (t .offsets) count rows →
+  pub bytes-are : (text : List ℕ) (count : ℕ) → RowsStand text (t .offsets) count rows →
       tableBytes (byLow (textRows text (t .offsets) count)) ≡ rowsBy texts numbers t
   bytes-are text count s = ap (λ (l : List Row). tableBytes (byLow l)) (s .rows-are) ∙ sym rows-by
 

@@ -6,7 +6,6 @@ use mathlib.Core.Path.{_≡_, refl, sym, ap, _∙_}
 use native.Mathlib.Omega.{arith}
 use lib.ListN.{getD}
 use Rattle.model.specs.Rules.Latency.{onward, latencyOf}
-use Rattle.model.specs.Rules.Reads.{Rate}
 use Rattle.model.specs.Rules.Search.{firstFrom, firstBelow, isFound, allBelow}
 use Rattle.model.specs.declared.Found.the-variants.{At, Nowhere}
 use Rattle.model.specs.declared.Kind.{Kind}
@@ -16,6 +15,7 @@ use Rattle.model.specs.declared.Mode.the-variants.{Exists, Backward}
 use Rattle.model.proofs.Pairs.Decide.{all-true}
 use Rattle.read_rule.specs.Lines.{isPlain}
 use Rattle.latency_rule.specs.declared.Hop.{Hop}
+use Rattle.latency_rule.specs.declared.Route.{Route}
 use Rattle.latency_rule.specs.Back.{
   noHop,
   usedBy,
@@ -25,7 +25,6 @@ use Rattle.latency_rule.specs.Back.{
   inTimeBy,
   timelyBy,
   allPlain,
-  Decide,
 }
 
 -- A test with one answer.
@@ -67,36 +66,41 @@ module _ (hops : List Hop) where
       go LastWhen e t b = absurd (false≢true t)
       go Current e t b = absurd (false≢true t)
 
-  module _ (n : ℕ) (last source : Rate) (equal : last .period ≡ source .period) (plain : allPlain hops n ≡ true) where
-    -- One latency for all runs.
-    alike-latency : (l : ℕ) × ((k : ℕ) → n ≤ k → runLatencyBy hops n last source k ≡ At l)
-    unfolding runLatencyBy latencyOf
-    alike-latency = go (plain-back n (all-true n _ plain))
-      where
-        go : (d : ℕ) × (d ≤ n) × ((k : ℕ) → n ≤ k → backBy hops n k ≡ At (k - d)) →
-            (l : ℕ) × ((k : ℕ) → n ≤ k → runLatencyBy hops n last source k ≡ At l)
-        go (d, le, f) = (d * last .period + last .phase - source .phase + 1, λ k g. rw (f k g) (ap At (same k (omega arith))))
-          where
-            same : (k : ℕ) → d ≤ k →
-                k * last .period + last .phase - ((k - d) * source .period + source .phase) + 1 ≡
-                d * last .period + last .phase - source .phase + 1
-            same k g =
-                let e : k ≡ k - d + d = omega arith in
-                omega (arith, ap (_* last .period) e, ap ((k - d) *_) equal)
+module _ (route : Route) (equal : route .last .period ≡ route .source .period)
+    (plain : allPlain (route .hops) (route .count) ≡ true) where
+  -- One latency for all runs.
+  alike-latency : (l : ℕ) × ((k : ℕ) → route .count ≤ k → runLatencyBy route k ≡ At l)
+  unfolding runLatencyBy latencyOf
+  alike-latency = go (plain-back (route .hops) (route .count) (all-true (route .count) _ plain))
+    where
+      go : (d : ℕ) × (d ≤ route .count) × ((k : ℕ) → route .count ≤ k → backBy (route .hops) (route .count) k ≡ At (k - d)) →
+          (l : ℕ) × ((k : ℕ) → route .count ≤ k → runLatencyBy route k ≡ At l)
+      go (d, le, f) = (
+        d * route .last .period + route .last .phase - route .source .phase + 1,
+        λ k g. rw (f k g) (ap At (same k (omega arith))),
+      )
+        where
+          same : (k : ℕ) → d ≤ k →
+              k * route .last .period + route .last .phase - ((k - d) * route .source .period + route .source .phase) + 1 ≡
+              d * route .last .period + route .last .phase - route .source .phase + 1
+          same k g =
+              let e : k ≡ k - d + d = omega arith in
+              omega (arith, ap (_* route .last .period) e, ap ((k - d) *_) equal)
 
-    timely-alike : (from w : ℕ) → n ≤ from → (mode : Mode) (bound : ℕ) →
-        timelyBy mode bound hops n last source from 1 ≡ timelyBy mode bound hops n last source from (suc w)
-    unfolding timelyBy firstBelow
-    timely-alike from w g Backward bound =
-        let l = alike-latency .0 in
-        let t : (i : ℕ) → not (lateBy bound (runLatencyBy hops n last source (from + i))) ≡ not (lateBy bound (At l)) =
-        λ i. ap (λ f. not (lateBy bound f)) (alike-latency .1 (from + i) (omega arith)) in
-        all-constant 0 _ _ t ∙ sym (all-constant w _ _ t)
-    timely-alike from w g Exists bound =
-        let t : (i : ℕ) → inTimeBy bound (runLatencyBy hops n last source (from + i)) ≡ inTimeBy bound (At (alike-latency .0)) =
-        λ i. ap (inTimeBy bound) (alike-latency .1 (from + i) (omega arith)) in
-        found-constant 0 0 _ _ t ∙ sym (found-constant w 0 _ _ t)
+  timely-alike : (from w : ℕ) → route .count ≤ from → (mode : Mode) (bound : ℕ) →
+      timelyBy mode bound route from 1 ≡ timelyBy mode bound route from (suc w)
+  unfolding timelyBy firstBelow
+  timely-alike from w g Backward bound =
+      let l = alike-latency .0 in
+      let t : (i : ℕ) → not (lateBy bound (runLatencyBy route (from + i))) ≡ not (lateBy bound (At l)) =
+      λ i. ap (λ f. not (lateBy bound f)) (alike-latency .1 (from + i) (omega arith)) in
+      all-constant 0 _ _ t ∙ sym (all-constant w _ _ t)
+  timely-alike from w g Exists bound =
+      let t : (i : ℕ) → inTimeBy bound (runLatencyBy route (from + i)) ≡ inTimeBy bound (At (alike-latency .0)) =
+      λ i. ap (inTimeBy bound) (alike-latency .1 (from + i) (omega arith)) in
+      found-constant 0 0 _ _ t ∙ sym (found-constant w 0 _ _ t)
 
-    pub one-decides : (from window : ℕ) → n ≤ from → 1 ≤ window → Decide hops n last source from window 1
-    one-decides from zero g le = absurd (omega arith)
-    one-decides from (suc w) g le = record { within = le; alike = timely-alike from w g }
+  pub one-decides : (from window : ℕ) → route .count ≤ from → 1 ≤ window → (mode : Mode) (bound : ℕ) →
+      timelyBy mode bound route from 1 ≡ timelyBy mode bound route from window
+  one-decides from zero g le = absurd (omega arith)
+  one-decides from (suc w) g le = timely-alike from w g

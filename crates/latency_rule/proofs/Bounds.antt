@@ -1,14 +1,12 @@
 -- The least bound that the runs of a window keep, run after run. Assumes nothing.
 use Prim.Native.Nat.{ℕ, suc, _+_, _≤_, _<_}
 use mathlib.Core.Bool.{Bool, true, false, cond, not, _&&_, _||_, and-eq-true-iff}
-use mathlib.Core.List.{List}
 use mathlib.Core.Path.{_≡_, refl, sym, ap, _∙_}
 use native.Mathlib.Decide.{decLt}
 use native.Mathlib.Numerals.{add-one}
 use native.Mathlib.Omega.{arith}
 use borrow.Author.Tests.{leb-true, ltb-true, ltb-false, le-leb, le-ltb, lt-leb}
 use lib.Dec.{leb, ltb}
-use Rattle.model.specs.Rules.Reads.{Rate}
 use Rattle.model.specs.Rules.Search.{firstFrom, firstBelow, isFound, allBelow}
 use Rattle.model.specs.declared.Found.{Found}
 use Rattle.model.specs.declared.Found.the-variants.{At, Nowhere}
@@ -16,7 +14,7 @@ use Rattle.model.specs.declared.Mode.{Mode}
 use Rattle.model.specs.declared.Mode.the-variants.{Exists, Backward}
 use Rattle.model.proofs.Basics.Tests.{both, together}
 use Rattle.model.proofs.Pairs.Decide.{isFound-true, true-isFound}
-use Rattle.latency_rule.specs.declared.Hop.{Hop}
+use Rattle.latency_rule.specs.declared.Route.{Route}
 use Rattle.latency_rule.specs.Back.{
   runLatencyBy,
   lateBy,
@@ -94,17 +92,17 @@ sooner-kept b m Nowhere = go (leb m b)
     go true = refl
     go false = refl
 
-module _ (hops : List Hop) (n : ℕ) (last source : Rate) (from : ℕ) where
-  pub bound-none : (mode : Mode) → LeastBound mode hops n last source from 0 (enoughForNone mode)
+module _ (route : Route) (from : ℕ) where
+  pub bound-none : (mode : Mode) → LeastBound mode route from 0 (enoughForNone mode)
   unfolding timelyBy allBelow firstBelow firstFrom
   bound-none Backward b lt = sym (le-leb 0 b (omega arith))
   bound-none Exists b lt = sym (lt-leb 1000000000 b lt)
 
-  pub bound-more : (mode : Mode) (i m : ℕ) → LeastBound mode hops n last source from i m →
-      LeastBound mode hops n last source from (i + 1) (enoughFor mode m (runLatencyBy hops n last source (from + i)))
+  pub bound-more : (mode : Mode) (i m : ℕ) → LeastBound mode route from i m →
+      LeastBound mode route from (i + 1) (enoughFor mode m (runLatencyBy route (from + i)))
   unfolding timelyBy allBelow
-  bound-more Backward i m h b lt = rw (add-one i) (ap (_&& not (lateBy b (runLatencyBy hops n last source (from + i)))) (h b lt) ∙
-      later-kept b m (runLatencyBy hops n last source (from + i)))
+  bound-more Backward i m h b lt = rw (add-one i) (ap (_&& not (lateBy b (runLatencyBy route (from + i)))) (h b lt) ∙
+      later-kept b m (runLatencyBy route (from + i)))
   bound-more Exists i m h b lt = rw (add-one i) (found-more i _ ∙
-      ap (_|| inTimeBy b (runLatencyBy hops n last source (from + i))) (h b lt) ∙
-      sooner-kept b m (runLatencyBy hops n last source (from + i)))
+      ap (_|| inTimeBy b (runLatencyBy route (from + i))) (h b lt) ∙
+      sooner-kept b m (runLatencyBy route (from + i)))

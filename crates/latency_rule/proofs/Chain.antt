@@ -20,7 +20,8 @@ use Rattle.model.proofs.Pairs.Rate.{stored-high, bit}
 use Rattle.model.proofs.Pairs.Links.{used-is}
 use Rattle.model.proofs.Pairs.Links.{ChainMet}
 use Rattle.latency_rule.specs.declared.Hop.{Hop}
-use Rattle.latency_rule.specs.Hops.{HopsOf}
+use Rattle.latency_rule.specs.declared.Route.{Route}
+use Rattle.latency_rule.specs.Hops.{HopsOf, RouteOver}
 use Rattle.latency_rule.specs.Back.{usedBy, backBy, Small, onwardSmall, latencyBy, runLatencyBy, lateBy, inTimeBy, timelyBy}
 
 module _ (p : Program) (s : Schedule) where
@@ -47,24 +48,24 @@ module _ (p : Program) (s : Schedule) where
   in-time-is bound (At l) = refl
   in-time-is bound Nowhere = refl
 
-  run-is : (hops : List Hop) (r k : ℕ) (ρs : List Read) → HopsOf p s hops r ρs →
-      runLatency p s r ρs k ≡ runLatencyBy hops (length ρs) (rateOf p s r) (rateOf p s (source p s r ρs)) k
+  run-is : (route : Route) (r k : ℕ) (ρs : List Read) → RouteOver p s route r ρs →
+      runLatency p s r ρs k ≡ runLatencyBy route k
   unfolding runLatency runLatencyBy
-  run-is hops r k ρs h =
+  run-is route r k ρs h =
       latency-is r (source p s r ρs) k (back p s r k ρs) ∙
-      ap (latencyBy (rateOf p s r) (rateOf p s (source p s r ρs)) k) (back-is hops r k ρs h)
+      rw (h .last-is, h .source-is, ← (h .many))
+      (ap (latencyBy (rateOf p s r) (rateOf p s (source p s r ρs)) k) (back-is (route .hops) r k ρs (h .hops-are)))
 
-  -- The constraint decided by the hops is the one decided by the reads.
-  pub timely-is : (mode : Mode) (bound from window : ℕ) (hops : List Hop) (r : ℕ) (ρs : List Read) → HopsOf p s hops r ρs →
-      isTimely p s mode r ρs bound from window ≡
-      timelyBy mode bound hops (length ρs) (rateOf p s r) (rateOf p s (source p s r ρs)) from window
+  -- The constraint decided by the route is the one decided by the reads.
+  pub timely-is : (mode : Mode) (bound from window : ℕ) (route : Route) (r : ℕ) (ρs : List Read) → RouteOver p s route r ρs →
+      isTimely p s mode r ρs bound from window ≡ timelyBy mode bound route from window
   unfolding timelyBy
-  timely-is Backward bound from window hops r ρs h =
+  timely-is Backward bound from window route r ρs h =
       ap (allBelow window)
-      (λ j i. not ((late-is bound (runLatency p s r ρs (from + i)) ∙ ap (lateBy bound) (run-is hops r (from + i) ρs h)) j))
-  timely-is Exists bound from window hops r ρs h =
+      (λ j i. not ((late-is bound (runLatency p s r ρs (from + i)) ∙ ap (lateBy bound) (run-is route r (from + i) ρs h)) j))
+  timely-is Exists bound from window route r ρs h =
       ap (λ t. isFound (firstBelow window t))
-      (λ j i. (in-time-is bound (runLatency p s r ρs (from + i)) ∙ ap (inTimeBy bound) (run-is hops r (from + i) ρs h)) j)
+      (λ j i. (in-time-is bound (runLatency p s r ρs (from + i)) ∙ ap (inTimeBy bound) (run-is route r (from + i) ρs h)) j)
 
   module _ (acc : Feasible p s) where
     one : (b : Bool) → bit b ≤ 1

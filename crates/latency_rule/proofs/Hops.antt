@@ -1,7 +1,7 @@
 -- Laws of going back over hops. Assumes nothing.
 use Prim.Native.Nat.{ℕ, zero, suc, _+_, _*_, _-_, _≤_, _<_}
 use mathlib.Core.List.{List}
-use mathlib.Core.Path.{_≡_, refl, sym, ap, subst, _∙_}
+use mathlib.Core.Path.{_≡_, refl, ap, subst, _∙_}
 use native.Mathlib.Nat.{mul-le-mul-left, mul-le-mul-right, le-trans}
 use native.Mathlib.Omega.{arith}
 use lib.ListN.{getD}
@@ -9,7 +9,8 @@ use Rattle.model.specs.Rules.Latency.{onward}
 use Rattle.model.specs.declared.Found.{Found}
 use Rattle.model.specs.declared.Found.the-variants.{At}
 use Rattle.latency_rule.specs.declared.Hop.{Hop}
-use Rattle.latency_rule.specs.Back.{noHop, usedBy, backBy, Small, onwardSmall}
+use Rattle.latency_rule.specs.declared.Route.{Route}
+use Rattle.latency_rule.specs.Back.{noHop, usedBy, backBy, Small, onwardSmall, Passable}
 
 -- A product of an element's number and a byte.
 pub times-byte : (k n : ℕ) → k ≤ 1000000 → n < 256 → k * n ≤ 255000000
@@ -55,3 +56,25 @@ onward-at go (suc m) h = ap go (omega arith)
 pub small-onward : (go : ℕ → Type 0) (e : ℕ) → (e ≡ 0 → ⊥) → onwardSmall go e → go (e - 1)
 small-onward go zero h s = absurd (h refl)
 small-onward go (suc m) h s = subst go (omega arith) s
+
+-- From one run, from some of the runs, and from a run of the window.
+module _ {route : Route} {from : ℕ} where
+  pub small-run : Passable route from 1 → Small (route .hops) (route .count) from
+  small-run h = subst (Small (route .hops) (route .count)) (omega arith) (h .small 0 (omega arith))
+
+  module _ {window : ℕ} (h : Passable route from window) where
+    pub fewer-runs : (runs : ℕ) → runs ≤ window → Passable route from runs
+    fewer-runs runs le = record {
+      few = h .few;
+      sound = h .sound;
+      small = λ i lt. h .small i (omega arith);
+      within = omega (arith, h .within);
+    }
+
+    pub one-run : (i : ℕ) → i < window → Passable route (from + i) 1
+    one-run i lt = record {
+      few = h .few;
+      sound = h .sound;
+      small = λ j one. subst (Small (route .hops) (route .count)) (omega arith) (h .small i lt);
+      within = omega (arith, h .within);
+    }

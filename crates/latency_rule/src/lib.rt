@@ -5,21 +5,22 @@ use model::Mode;
 use read_rule::Timing;
 ghost use mathlib.Core.Path.{_≡_};
 ghost use mathlib.Core.Bool.{not};
-ghost use Prim.Native.Nat.{ℕ, _+_, _*_, _-_, _/_, _≤_, _<_};
-ghost use lib.ListN.{getD};
+ghost use Prim.Native.Nat.{_+_, _*_, _-_, _/_, _≤_, _<_};
 ghost use Rattle.model.specs.Rules.Search.{firstBelow, isFound, allBelow};
 ghost use Rattle.model.specs.Rules.Reads.{runCycle};
 ghost use Rattle.read_rule.specs.Reads.{rateIn};
 ghost use Rattle.latency_rule.specs.Back.{
   usedBy,
   backBy,
-  Sound,
-  Small,
   SmallFound,
+  Passable,
   runLatencyBy,
   lateBy,
   inTimeBy,
-  timelyBy,
+  windowBy,
+  fromBy,
+  timelyIn,
+  PassableIn,
   allPlain,
   Decide,
   enoughForNone,
@@ -32,6 +33,20 @@ pub struct Hop {
     pub kind: Kind,
     pub factor: u8,
     pub index: u8,
+}
+
+// The way back over a chain: its reads in the order of the links, and the rates of its first and last link.
+pub struct Route {
+    pub hops: [Hop; 15],
+    pub count: usize,
+    pub source: Timing,
+    pub last: Timing,
+}
+
+// So many runs of the last link, from one on.
+pub struct Runs {
+    pub from: usize,
+    pub count: usize,
 }
 
 // The history entry of the signal read that element k of the reader uses.
@@ -52,11 +67,12 @@ fn entry_of(hop: Hop, k: usize) -> usize
 }
 
 // Goes back from element k over the hops, the last of them first.
-fn go_back(hops: [Hop; 15], count: usize, k: usize) -> Found
-    requires { ⌜ (count ≤ 15) × Sound hops count × Small hops count k ⌝ }
-    ensures { λ r. ⌜ (r ≡ backBy hops count k) × SmallFound r ⌝ }
+fn go_back(route: Route, k: usize) -> Found
+    requires { ⌜ Passable route k 1 ⌝ }
+    ensures { λ r. ⌜ (r ≡ backBy (route .hops) (route .count) k) × SmallFound r ⌝ }
 {
-    let mut left = count;
+    let hops = route.hops;
+    let mut left = route.count;
     let mut element = k;
     while 0 < left {
         let hop = hops[left - 1];
@@ -86,14 +102,14 @@ fn cycles_between(from: usize, to: usize) -> usize
 }
 
 // The latency of run k of the last link, if the run counts.
-fn run_latency(hops: [Hop; 15], count: usize, last: Timing, source: Timing, k: usize) -> Found
-    requires { ⌜ (count ≤ 15) × Sound hops count × Small hops count k × (k ≤ 1000000) ⌝ }
-    ensures { λ r. ⌜ r ≡ runLatencyBy hops count (rateIn last) (rateIn source) k ⌝ }
+fn run_latency(route: Route, k: usize) -> Found
+    requires { ⌜ Passable route k 1 ⌝ }
+    ensures { λ r. ⌜ r ≡ runLatencyBy route k ⌝ }
 {
-    let found = go_back(hops, count, k);
+    let found = go_back(route, k);
     match found {
         Found::At(m) => {
-            let cycles = cycles_between(cycle_of(source, m), cycle_of(last, k));
+            let cycles = cycles_between(cycle_of(route.source, m), cycle_of(route.last, k));
             let latency = cycles + 1;
             Found::At(latency)
         }
@@ -120,23 +136,13 @@ fn is_in_time(bound: usize, latency: Found) -> bool
 }
 
 // Backward: whether every run of the window that counts is within the bound.
-fn all_in_time(
-    bound: usize,
-    hops: [Hop; 15],
-    count: usize,
-    last: Timing,
-    source: Timing,
-    from: usize,
-    window: usize,
-) -> bool
-    requires { ⌜ (count ≤ 15) × Sound hops count × ((i : ℕ) → i < window → Small hops count (from + i)) ×
-        (from + window ≤ 1000000) ⌝ }
-    ensures { λ r. ⌜ r ≡ allBelow window
-        (λ i. not (lateBy bound (runLatencyBy hops count (rateIn last) (rateIn source) (from + i)))) ⌝ }
+fn all_in_time(bound: usize, route: Route, from: usize, window: usize) -> bool
+    requires { ⌜ Passable route from window ⌝ }
+    ensures { λ r. ⌜ r ≡ allBelow window (λ i. not (lateBy bound (runLatencyBy route (from + i)))) ⌝ }
 {
     let mut i: usize = 0;
     while i < window {
-        let latency = run_latency(hops, count, last, source, from + i);
+        let latency = run_latency(route, from + i);
         if is_late(bound, latency) {
             return false;
         }
@@ -146,23 +152,13 @@ fn all_in_time(
 }
 
 // Exists: whether some run of the window that counts is within the bound.
-fn one_in_time(
-    bound: usize,
-    hops: [Hop; 15],
-    count: usize,
-    last: Timing,
-    source: Timing,
-    from: usize,
-    window: usize,
-) -> bool
-    requires { ⌜ (count ≤ 15) × Sound hops count × ((i : ℕ) → i < window → Small hops count (from + i)) ×
-        (from + window ≤ 1000000) ⌝ }
-    ensures { λ r. ⌜ r ≡ isFound
-        (firstBelow window (λ i. inTimeBy bound (runLatencyBy hops count (rateIn last) (rateIn source) (from + i)))) ⌝ }
+fn one_in_time(bound: usize, route: Route, from: usize, window: usize) -> bool
+    requires { ⌜ Passable route from window ⌝ }
+    ensures { λ r. ⌜ r ≡ isFound (firstBelow window (λ i. inTimeBy bound (runLatencyBy route (from + i)))) ⌝ }
 {
     let mut i: usize = 0;
     while i < window {
-        let latency = run_latency(hops, count, last, source, from + i);
+        let latency = run_latency(route, from + i);
         if is_in_time(bound, latency) {
             return true;
         }
@@ -171,12 +167,13 @@ fn one_in_time(
     false
 }
 
-fn all_plain(hops: [Hop; 15], count: usize) -> bool
-    requires { ⌜ count ≤ 15 ⌝ }
-    ensures { λ r. ⌜ r ≡ allPlain hops count ⌝ }
+fn all_plain(route: Route) -> bool
+    requires { ⌜ route .count ≤ 15 ⌝ }
+    ensures { λ r. ⌜ r ≡ allPlain (route .hops) (route .count) ⌝ }
 {
+    let hops = route.hops;
     let mut i: usize = 0;
-    while i < count {
+    while i < route.count {
         let hop = hops[i];
         let kind = hop.kind;
         if !read_rule::is_plain(kind) {
@@ -187,53 +184,42 @@ fn all_plain(hops: [Hop; 15], count: usize) -> bool
     true
 }
 
-// How many runs of the window decide: one where all periods on the way are equal, since every run that counts then goes back
-// alike.
-fn deciding_runs(
-    hops: [Hop; 15],
-    count: usize,
-    last: Timing,
-    source: Timing,
-    from: usize,
-    window: usize,
-) -> usize
-    requires { ⌜ count ≤ 15 ⌝ }
-    ensures { λ r. ⌜ Decide hops count (rateIn last) (rateIn source) from window r ⌝ }
+// The runs that decide: those of one hypercycle h, after as many hypercycles as there are hops, since every run counts from there
+// on; and the first of them where all periods on the way are equal, since every run that counts then goes back alike.
+fn deciding_runs(route: Route, h: usize) -> Runs
+    requires { ⌜ PassableIn route h ⌝ }
+    ensures { λ r. ⌜ Decide route h r ⌝ }
 {
+    let window = h / (route.last.period as usize);
+    let from = route.count * window;
+    let all = Runs {
+        from: from,
+        count: window,
+    };
     if window < 2 {
-        return window;
+        return all;
     }
-    if from < count {
-        return window;
+    if route.last.period != route.source.period {
+        return all;
     }
-    if last.period != source.period {
-        return window;
+    if !all_plain(route) {
+        return all;
     }
-    if !all_plain(hops, count) {
-        return window;
+    Runs {
+        from: from,
+        count: 1,
     }
-    1
 }
 
-// Whether the runs of the window from run `from` on keep the bound. (Links × runs in the window.)
-pub fn is_timely(
-    mode: Mode,
-    bound: usize,
-    hops: [Hop; 15],
-    count: usize,
-    last: Timing,
-    source: Timing,
-    from: usize,
-    window: usize,
-) -> bool
-    requires { ⌜ (count ≤ 15) × Sound hops count × ((i : ℕ) → i < window → Small hops count (from + i)) ×
-        (from + window ≤ 1000000) ⌝ }
-    ensures { λ r. ⌜ r ≡ timelyBy mode bound hops count (rateIn last) (rateIn source) from window ⌝ }
+// Whether a chain keeps the bound in hypercycles of h. (Links × runs in the window.)
+pub fn is_timely(mode: Mode, bound: usize, route: Route, h: usize) -> bool
+    requires { ⌜ PassableIn route h ⌝ }
+    ensures { λ r. ⌜ r ≡ timelyIn mode bound route h ⌝ }
 {
-    let runs = deciding_runs(hops, count, last, source, from, window);
+    let runs = deciding_runs(route, h);
     match mode {
-        Mode::Exists => one_in_time(bound, hops, count, last, source, from, runs),
-        Mode::Backward => all_in_time(bound, hops, count, last, source, from, runs),
+        Mode::Exists => one_in_time(bound, route, runs.from, runs.count),
+        Mode::Backward => all_in_time(bound, route, runs.from, runs.count),
     }
 }
 
@@ -260,25 +246,16 @@ fn enough_for_none(mode: Mode) -> usize
     }
 }
 
-// The least bound that the runs of the window from run `from` on keep. (Links × runs in the window.)
-pub fn least_bound(
-    mode: Mode,
-    hops: [Hop; 15],
-    count: usize,
-    last: Timing,
-    source: Timing,
-    from: usize,
-    window: usize,
-) -> usize
-    requires { ⌜ (count ≤ 15) × Sound hops count × ((i : ℕ) → i < window → Small hops count (from + i)) ×
-        (from + window ≤ 1000000) ⌝ }
-    ensures { λ r. ⌜ LeastBound mode hops count (rateIn last) (rateIn source) from window r ⌝ }
+// The least bound that a chain keeps in hypercycles of h. (Links × runs in the window.)
+pub fn least_bound(mode: Mode, route: Route, h: usize) -> usize
+    requires { ⌜ PassableIn route h ⌝ }
+    ensures { λ r. ⌜ LeastBound mode route (fromBy route h) (windowBy route h) r ⌝ }
 {
-    let runs = deciding_runs(hops, count, last, source, from, window);
+    let runs = deciding_runs(route, h);
     let mut bound = enough_for_none(mode);
     let mut i: usize = 0;
-    while i < runs {
-        let latency = run_latency(hops, count, last, source, from + i);
+    while i < runs.count {
+        let latency = run_latency(route, runs.from + i);
         bound = enough_for(mode, bound, latency);
         i = i + 1;
     }

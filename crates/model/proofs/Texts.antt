@@ -6,3 +6,4 @@ pub mod Written
 pub mod Spelled
 pub mod Legal
 pub mod Puts
+pub mod Parses

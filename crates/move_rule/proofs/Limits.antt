@@ -39,12 +39,13 @@ pub record Links (p : Program) (r : Leeway) : Type 0 where
   pub source-is : r .source < count p
   pub kept : r .least ≤ r .bound
 
-pub leeway-links : {text : List ℕ} {tables : Tables} {periods phases : List ℕ} {h : ℕ} {p : Program} {s : Schedule} →
-    Timed text tables periods phases h p s → timely p s h ≡ accepted tt → (chain : ℕ) → chain < tables .chains → (r : Leeway) →
+pub leeway-links : {text reads : List ℕ} {tables : Tables} {periods phases : List ℕ} {h : ℕ} {p : Program} {s : Schedule} →
+    Timed text reads tables periods phases h p s → timely p s h ≡ accepted tt → (chain : ℕ) →
+    chain < tables .chains → (r : Leeway) →
     LeewayOf p s h (chainAt p chain) r → Links p r
 leeway-links {tables = tables} {h = h} {p = p} {s = s} t e chain lt r k =
     let j = t .joined in
-    let l : chain < length (p .chains) = omega (arith, j .known .tables-are .counts .chains-are) in
+    let l : chain < length (p .chains) = omega (arith, j .known .stands .tables-are .counts .chains-are) in
     let ws = k .links .0 in
     let d : All (λ w. w < count p) (r .last ∷ ws) =
     subst (All (λ w. w < count p)) (k .links .1) (declared-backwards p (chainAt p chain)

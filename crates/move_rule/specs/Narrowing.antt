@@ -4,11 +4,10 @@ use mathlib.Core.List.{List}
 use mathlib.Core.Logic.{_↔_}
 use mathlib.Core.Path.{_≡_}
 use lib.ListN.{length, getD}
-use Rattle.model.specs.Rules.Outcome.{accepted}
-use Rattle.model.specs.Rules.Program.{Program, count, signalAt, parseProgram}
+use Rattle.model.specs.Rules.Program.{Program, count, signalAt}
 use Rattle.model.specs.Rules.Schedule.{Schedule, phaseOf}
 use Rattle.model.specs.Says.Feasible.{Between, Feasible}
-use Rattle.text_program.specs.Tables.{PeriodsOf, SlotsOf, ReadsOf}
+use Rattle.text_program.specs.Tables.{PeriodsOf, SlotsOf, Indexes}
 use Rattle.check_latency.specs.declared.Leeway.{Leeway}
 use Rattle.read_rule.specs.declared.Phases.{Phases}
 
@@ -40,18 +39,21 @@ pub record MetTables (periods phases ranks : List ℕ) (p : Program) (s : Schedu
   pub short : (x : ℕ) → x < count p → signalAt p x .period ≤ 240
   pub few : count p ≤ 64
 
--- The text is a program whose reads the tables have, and so have those of a schedule that meets them.
+-- The text declares p, whose reads the tables have, and so have those of s, which meets them.
+pub record ReadingOf (text reads firsts periods phases ranks : List ℕ) (p : Program) (s : Schedule) : Type 0 where
+  pub indexes : Indexes text reads firsts (count p) p
+  pub tabled : MetTables periods phases ranks p s
+
+-- There are such a program and a schedule.
 pub record Reading (text reads firsts periods phases ranks : List ℕ) : Type 0 where
   pub program : Program
   pub schedule : Schedule
-  pub parsed : parseProgram text ≡ accepted program
-  pub tabled : MetTables periods phases ranks program schedule
-  pub reads-are : ReadsOf program reads firsts
+  pub reading : ReadingOf text reads firsts periods phases ranks program schedule
 
--- What holds of every program and schedule that the text and the tables are of.
-abbrev pub Claim : (text periods phases ranks : List ℕ) → (Program → Schedule → Type 0) → Type 0
-Claim text periods phases ranks C =
-    (p : Program) (s : Schedule) → parseProgram text ≡ accepted p → MetTables periods phases ranks p s → C p s
+-- What holds of all of them.
+abbrev pub Claim : (text reads firsts periods phases ranks : List ℕ) → (Program → Schedule → Type 0) → Type 0
+Claim text reads firsts periods phases ranks C =
+    (p : Program) (s : Schedule) → ReadingOf text reads firsts periods phases ranks p s → C p s
 
 -- The numbers of a chain that keeps its limit are small.
 pub record Slack (r : Leeway) : Type 0 where

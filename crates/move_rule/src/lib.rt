@@ -14,7 +14,6 @@ ghost use Rattle.model.specs.Rules.Outcome.{accepted};
 ghost use Rattle.model.specs.Rules.Program.{Program, Chain, Read, count, signalAt, bodyReads};
 ghost use Rattle.model.specs.Rules.Schedule.{Schedule};
 ghost use Rattle.model.specs.Says.Feasible.{All, Met};
-ghost use Rattle.text_program.specs.Tables.{TabledAs};
 ghost use Rattle.check_latency.specs.Timely.{Timed, LeewayOf};
 ghost use Rattle.move_rule.specs.Ranges.{ReadStays, ReadsStay, ChainStays, ChainsStay};
 ghost use Rattle.move_rule.specs.Narrowing.{Long, NarrowedAt, Narrowed, MetTables, Reading, Claim, Slack, LinksPhased};
@@ -95,8 +94,9 @@ fn narrow_by_signal(
         ((k : Reading (now text) (now reads) (now firsts) (now periods) (now phases) (now ranks)) ×
         (reader < count (k .program))) ⌝ }
     ensures { λ _. ⌜ Long (now (lows .exit)) (now (highs .exit)) ×
-        Claim (now (text .entry)) (now (periods .entry)) (now (phases .entry)) (now (ranks .entry))
-        (λ p s. Narrowed p (λ x f. All (ReadStays p s x f reader) (bodyReads (signalAt p reader .body)))
+        Claim (now (text .entry)) (now (reads .entry)) (now (firsts .entry)) (now (periods .entry)) (now (phases .entry))
+        (now (ranks .entry)) (λ p s. reader < count p →
+        Narrowed p (λ x f. All (ReadStays p s x f reader) (bodyReads (signalAt p reader .body)))
         (now (lows .entry)) (now (highs .entry)) (now (lows .exit)) (now (highs .exit))) ⌝ }
 {
     let mut i = basics::from_entry(firsts[reader]);
@@ -127,8 +127,8 @@ pub fn narrow_by_reads(
         ((k : Reading (now text) (now reads) (now firsts) (now periods) (now phases) (now ranks)) ×
         (count (k .program) ≡ signals)) ⌝ }
     ensures { λ _. ⌜ Long (now (lows .exit)) (now (highs .exit)) ×
-        Claim (now (text .entry)) (now (periods .entry)) (now (phases .entry)) (now (ranks .entry))
-        (λ p s. Narrowed p (ReadsStay p s)
+        Claim (now (text .entry)) (now (reads .entry)) (now (firsts .entry)) (now (periods .entry)) (now (phases .entry))
+        (now (ranks .entry)) (λ p s. count p ≡ signals → Narrowed p (ReadsStay p s)
         (now (lows .entry)) (now (highs .entry)) (now (lows .exit)) (now (highs .exit))) ⌝ }
 {
     let mut reader: usize = 0;
@@ -193,11 +193,12 @@ pub fn narrow_by_chains(
     phases: &[u8; 64],
     h: usize,
 )
-    requires { ⌜ Long (now lows) (now highs) × TabledAs (now text) (now reads) tables ×
-        ((p : Program) × (s : Schedule) × Timed (now text) tables (now periods) (now phases) h p s ×
+    requires { ⌜ Long (now lows) (now highs) ×
+        ((p : Program) × (s : Schedule) × Timed (now text) (now reads) tables (now periods) (now phases) h p s ×
         (timely p s h ≡ accepted tt)) ⌝ }
     ensures { λ _. ⌜ Long (now (lows .exit)) (now (highs .exit)) ×
-        ((p : Program) (s : Schedule) → Timed (now (text .entry)) tables (now (periods .entry)) (now (phases .entry)) h p s →
+        ((p : Program) (s : Schedule) →
+        Timed (now (text .entry)) (now (reads .entry)) tables (now (periods .entry)) (now (phases .entry)) h p s →
         timely p s h ≡ accepted tt → Narrowed p (ChainsStay p s h)
         (now (lows .entry)) (now (highs .entry)) (now (lows .exit)) (now (highs .exit))) ⌝ }
 {

@@ -16,6 +16,7 @@ use Rattle.model.specs.Says.Feasible.{All, Met, Feasible, Multiple}
 use Rattle.model.proofs.Basics.All.{all-at, all-map, all-both}
 use Rattle.model.proofs.Basics.Outcomes.{none-lowest, none-joinFrom}
 use Rattle.model.proofs.Pairs.Links.{LinkedBack, linked-backwards, declared-backwards}
+use Rattle.model.proofs.Texts.Legal.{legal}
 use Rattle.model.proofs.Pairs.Verdict.{
   Passed,
   pair-passed,
@@ -112,7 +113,8 @@ module _ (program schedule : List ℕ) (q : Pair) (e : pairOf program schedule �
 
   feasible : met p s′ ≡ accepted tt → Feasible p s′
   feasible m =
-      steps-accepted program p s′ (passed .parses) (passed .rated) (moved-ordered p s s′ x f mv (acc .ordered) below) m
+      steps-accepted p s′ (legal program p (passed .parses) .1) (passed .rated)
+      (moved-ordered p s s′ x f mv (acc .ordered) below) m
 
   -- Whether signal x may take phase f is told by the reads, the chains and the loads.
   pub take-decides : (mayTake program schedule q x f ≡ true) ↔ Stays

@@ -3,7 +3,7 @@ use Prim.Native.Nat.{ℕ, _+_, _<_}
 use mathlib.Core.Bool.{true}
 use mathlib.Core.List.{List}
 use mathlib.Core.Logic.{_↔_, inl, inr}
-use mathlib.Core.Path.{_≡_, refl, sym, ap, subst, _∙_}
+use mathlib.Core.Path.{_≡_, refl, sym, ap, _∙_}
 use native.Mathlib.Omega.{arith}
 use lib.ListN.{getD}
 use Rattle.model.specs.Rules.Compile.{Pair, pairOf}
@@ -14,10 +14,9 @@ use Rattle.model.specs.declared.Fault.{Fault}
 use Rattle.model.specs.Rules.Program.{Program, count, signalAt, weightOf}
 use Rattle.model.specs.Rules.Reads.{rateOf, due}
 use Rattle.model.specs.Rules.Schedule.{Schedule}
-use Rattle.model.proofs.Basics.Outcomes.{accepted-same}
 use Rattle.model.proofs.Pairs.Verdict.{pair-passed, pair-accepted, pair-multiple}
-use Rattle.model.proofs.Texts.Legal.{legal, signal-period}
-use Rattle.text_program.specs.Tables.{TabledAs, ReadsOf, capOf}
+use Rattle.model.proofs.Texts.Legal.{stands, signal-period}
+use Rattle.text_program.specs.Tables.{capOf}
 use Rattle.text_schedule.specs.declared.PairTables.{PairTables}
 use Rattle.text_schedule.proofs.Arranged.{short-hypercycle}
 use Rattle.read_rule.specs.Reads.{atPhase}
@@ -25,7 +24,7 @@ use Rattle.check_load.specs.Load.{LoadsOf, loadIn}
 use Rattle.check_load.proofs.Loads.{load-is}
 use Rattle.check_latency.specs.Timely.{Timed}
 use Rattle.move_rule.specs.Ranges.{ReadsStay, ChainsStay, Room}
-use Rattle.move_rule.specs.Narrowing.{IsLeft, Narrowed, MetTables, Reading}
+use Rattle.move_rule.specs.Narrowing.{IsLeft, Narrowed, MetTables, ReadingOf}
 use Rattle.model.specs.Rules.Moves.{mayTake, entriesOf, allEntries, movesOf}
 use Rattle.model.specs.Rules.Search.{joinBelow}
 use Rattle.moves.specs.Listing.{FitsAt, TellsMoves, passing, Written, AcceptedBy, NarrowedBy}
@@ -33,7 +32,7 @@ use Rattle.move_rule.proofs.Narrowings.{narrowed-both}
 use Rattle.moves.proofs.Decides.{take-decides}
 use Rattle.moves.proofs.Entries.{join-same}
 
-module _ {text schedule : List ℕ} {t : PairTables} {q : Pair} (k : AcceptedBy text schedule t q) where
+module _ {text reads schedule : List ℕ} {t : PairTables} {q : Pair} (k : AcceptedBy text reads schedule t q) where
   abbrev p : Program
   p = q .program
 
@@ -53,43 +52,36 @@ module _ {text schedule : List ℕ} {t : PairTables} {q : Pair} (k : AcceptedBy 
   signals = t .tables .signals
 
   pub counted : count p ≡ signals
-  counted = k .arranged .tables-are .counts .signals-are
+  counted = k .arranged .stands .tables-are .counts .signals-are
 
   pub tabled : MetTables periods phases (t .slots .ranks) p s
   tabled =
       record {
-        periods-are = k .arranged .tables-are .periods;
+        periods-are = k .arranged .stands .tables-are .periods;
         order = t .slots .order;
         slots-are = k .arranged .slots-are;
         feasible = pair-accepted text schedule q (k .pair-is);
-        short = λ x lt. signal-period (legal text p (k .arranged .parsed) .1) x lt .1;
-        few = legal text p (k .arranged .parsed) .1 .fewSignals;
+        short = λ x lt. signal-period (stands text p (k .arranged .stands .declares) .1) x lt .1;
+        few = stands text p (k .arranged .stands .declares) .1 .fewSignals;
       }
 
-  abbrev pub reading : (reads : List ℕ) → TabledAs text reads (t .tables) →
-      Reading text reads (t .tables .firsts) periods phases (t .slots .ranks)
-  reading reads a =
+  abbrev pub reading : ReadingOf text reads (t .tables .firsts) periods phases (t .slots .ranks) p s
+  reading =
+      let known = k .arranged .stands in
       record {
-        program = p;
-        schedule = s;
-        parsed = k .arranged .parsed;
+        indexes = record { declares = known .declares; count-is = refl; reads-are = known .reads-are };
         tabled = tabled;
-        reads-are =
-            subst (λ (x : Program). ReadsOf x reads (t .tables .firsts)) (accepted-same (a .0) p (sym (a .1) ∙
-            k .arranged .parsed))
-            (a .3);
       }
 
-  pub timed : Timed text (t .tables) periods phases (t .hypercycle) p s
+  pub timed : Timed text reads (t .tables) periods phases (t .hypercycle) p s
   timed =
       record {
         joined =
             record {
               known =
                   record {
-                    parsed = k .arranged .parsed;
-                    tables-are = k .arranged .tables-are;
-                    periods-are = k .arranged .tables-are .periods;
+                    stands = k .arranged .stands;
+                    periods-are = k .arranged .stands .tables-are .periods;
                     phases-are = k .arranged .slots-are .phases-are;
                   };
               rated = k .arranged .rated;
@@ -106,17 +98,18 @@ module _ {text schedule : List ℕ} {t : PairTables} {q : Pair} (k : AcceptedBy 
   -- A signal fits where there is room for it.
   module _ (loads : List ℕ) (l : LoadsOf periods phases weights signals (t .hypercycle) loads) (x f : ℕ) (lt : x < count p) where
     period-is : getD periods x 0 ≡ signalAt p x .period
-    period-is = k .arranged .tables-are .periods x lt
+    period-is = k .arranged .stands .tables-are .periods x lt
 
     load-here : (c : ℕ) → c < t .hypercycle →
         isOver (capOf (t .tables .capped) (t .tables .limit)) (getD loads c 0 + getD weights x 0) ≡
         isOver (p .cap) (load p s c + weightOf (signalAt p x .body))
     load-here c lc =
         let a = l c lc ∙ ap (λ n. loadIn periods phases weights n c) (sym counted) ∙
-        sym (load-is p s periods phases weights (k .arranged .tables-are .periods) (k .arranged .tables-are .weights)
+        sym (load-is p s periods phases weights (k .arranged .stands .tables-are .periods)
+        (k .arranged .stands .tables-are .weights)
         (k .arranged .slots-are .phases-are) c) in
-        let w = k .arranged .tables-are .weights x lt in
-        let cap = sym (k .arranged .tables-are .cap) in
+        let w = k .arranged .stands .tables-are .weights x lt in
+        let cap = sym (k .arranged .stands .tables-are .cap) in
         λ i. isOver (cap i) (a i + w i)
 
     due-here : (c : ℕ) → due (record { period = getD periods x 0; phase = f }) c ≡ due (atPhase (rateOf p s x) f) c
@@ -176,7 +169,8 @@ module _ {text schedule : List ℕ} {t : PairTables} {q : Pair} (k : AcceptedBy 
   unfolding allEntries entriesOf
   entries-are =
       ap (λ n. joinBelow n (λ x. passing x (getD periods x 0) (mayTake text schedule q x))) (sym counted) ∙
-      join-same (count p) _ _ (λ x lt. ap (λ n. passing x n (mayTake text schedule q x)) (k .arranged .tables-are .periods x lt))
+      join-same (count p) _ _ (λ x lt. ap (λ n. passing x n (mayTake text schedule q x))
+      (k .arranged .stands .tables-are .periods x lt))
 
 -- What moves answers and leaves.
 module _ (program schedule list : List ℕ) where

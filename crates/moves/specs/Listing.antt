@@ -11,7 +11,7 @@ use Rattle.model.specs.Rules.Load.{isOver}
 use Rattle.model.specs.Rules.Outcome.{accepted}
 use Rattle.model.specs.Rules.Reads.{Rate, due}
 use Rattle.model.specs.Says.Feasible.{Between}
-use Rattle.text_program.specs.Tables.{TabledAs, capOf}
+use Rattle.text_program.specs.Tables.{capOf}
 use Rattle.text_schedule.specs.Arranged.{Arranged}
 use Rattle.text_schedule.specs.declared.PairTables.{PairTables}
 use Rattle.move_rule.specs.Ranges.{ReadsStay, ChainsStay}
@@ -75,17 +75,16 @@ ListsAll n lows highs loads capped limit periods weights phases h list list′ c
     Written (joinBelow n (λ x. passing x (getD periods x 0) (g x))) list list′ count
 
 -- The tables are those of the accepted pair q of these texts.
-pub record AcceptedBy (text schedule : List ℕ) (t : PairTables) (q : Pair) : Type 0 where
+pub record AcceptedBy (text reads schedule : List ℕ) (t : PairTables) (q : Pair) : Type 0 where
   pub pair-is : pairOf text schedule ≡ accepted q
-  pub arranged : Arranged text t (q .program) (q .schedule)
+  pub arranged : Arranged text reads t (q .program) (q .schedule)
   pub hyper : t .hypercycle ≡ q .hypercycle
 
--- The tables, with those of the reads, are those of some accepted pair.
+-- Text, reads and tables are those of some accepted pair.
 pub record Accepted (text reads : List ℕ) (t : PairTables) : Type 0 where
-  pub tabled : TabledAs text reads (t .tables)
   pub schedule : List ℕ
   pub pair : Pair
-  pub known : AcceptedBy text schedule t pair
+  pub known : AcceptedBy text reads schedule t pair
 
 -- Of the phases of each signal of q those are left at which every read and every chain stays.
 abbrev pub NarrowedBy : Pair → (h : ℕ) → (lows highs lows′ highs′ : List ℕ) → Type 0

@@ -208,7 +208,7 @@ fn narrow_all(
     pair: PairTables,
 )
     requires { ⌜ Long (now lows) (now highs) × Accepted (now text) (now reads) pair ⌝ }
-    ensures { λ _. ⌜ ((schedule : List ℕ) (q : Pair) → AcceptedBy (now (text .entry)) schedule pair q →
+    ensures { λ _. ⌜ ((schedule : List ℕ) (q : Pair) → AcceptedBy (now (text .entry)) (now (reads .entry)) schedule pair q →
         NarrowedBy q (pair .hypercycle) (now (lows .entry)) (now (highs .entry)) (now (lows .exit)) (now (highs .exit))) ⌝ }
 {
     let tables = pair.tables;
@@ -236,7 +236,7 @@ fn narrow_all(
 // Lists the moves of an accepted pair by its tables, and yields how many there are.
 fn list_moves(text: &[u8], reads: &[u16], pair: PairTables, list: &mut [u8]) -> usize
     requires { ⌜ Accepted (now text) (now reads) pair ⌝ }
-    ensures { λ r. ⌜ ((schedule : List ℕ) (q : Pair) → AcceptedBy (now (text .entry)) schedule pair q →
+    ensures { λ r. ⌜ ((schedule : List ℕ) (q : Pair) → AcceptedBy (now (text .entry)) (now (reads .entry)) schedule pair q →
         Written (allEntries (now (text .entry)) schedule q) (now (list .entry)) (now (list .exit)) r) ⌝ }
 {
     let tables = pair.tables;

@@ -11,7 +11,7 @@ use Rattle.theorems_conversion.proofs.OnText as OnText
 use Rattle.theorems_conversion.proofs.Rewritten as Rewritten
 use Rattle.theorems_conversion.proofs.Unchanged as Unchanged
 use Rattle.theorems_pairs.proofs.Exact as Pairs
-use Rattle.theorems_texts.proofs.Parses as Parses
+use Rattle.model.proofs.Texts.Parses as Parses
 
 pub request-g : RequestG
 request-g =

@@ -44,7 +44,7 @@ use Rattle.model.proofs.Basics.Left.{Parts}
 use Rattle.text_program.specs.Tables.{ProgramReads}
 use Rattle.basics.specs.declared.Judged.{Judged}
 use Rattle.basics.specs.declared.Judged.the-variants as Judged
-use Rattle.text_program.specs.declared.ProgramRead.{ProgramRead}
+use Rattle.text_program.specs.declared.Tables.{Tables}
 use Rattle.text_convert.specs.Pieces.{widthIn, newLength, bytesIn, operatorPiece, pieceOf, pieceAt}
 use Rattle.text_convert.specs.declared.Piece.{Piece}
 use Rattle.text_convert.specs.declared.Piece.the-variants as Piece
@@ -236,19 +236,19 @@ module _ (program buffer : List ℕ) where
           )
 
 -- What the reader's answer says of the text.
-module _ (o : Outcome Program) (reads : List ℕ) (r : ProgramRead) where
-  pub read-refused : (f : Fault) → ProgramReads o reads r → r .judged ≡ Judged.Refused f → o ≡ refused f
+module _ (o : Outcome Program) (reads : List ℕ) (t : Tables) where
+  pub read-refused : (f : Fault) → ProgramReads o reads t → t .judged ≡ Judged.Refused f → o ≡ refused f
   unfolding ProgramReads
   read-refused f h e = go o h
     where
-      go : (o : Outcome Program) → ProgramReads o reads r → o ≡ refused f
+      go : (o : Outcome Program) → ProgramReads o reads t → o ≡ refused f
       go (accepted p) h = let a = h .0 in let z : _≡_ {A = ℕ} 0 1 = cc in absurd (omega arith)
       go (refused g) h = let z : g ≡ f = cc in ap refused z
 
-  pub read-fine : ProgramReads o reads r → r .judged ≡ Judged.Fine → (p : Program) × (o ≡ accepted p)
+  pub read-fine : ProgramReads o reads t → t .judged ≡ Judged.Fine → (p : Program) × (o ≡ accepted p)
   unfolding ProgramReads
   read-fine h e = go o h
     where
-      go : (o : Outcome Program) → ProgramReads o reads r → (p : Program) × (o ≡ accepted p)
+      go : (o : Outcome Program) → ProgramReads o reads t → (p : Program) × (o ≡ accepted p)
       go (accepted p) h = (p, refl)
       go (refused g) h = let z : _≡_ {A = ℕ} 0 1 = cc in absurd (omega arith)

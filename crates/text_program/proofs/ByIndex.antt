@@ -1,24 +1,23 @@
 -- The reads by their index in the table. Assumes nothing.
 use Prim.Native.Nat.{ℕ, suc, _+_, _-_, _≤_, _<_}
 use mathlib.Core.List.{List}
-use mathlib.Core.Path.{_≡_, sym, ap, subst, _∙_}
+use mathlib.Core.Path.{_≡_, ap, _∙_}
 use native.Mathlib.Omega.{arith}
 use lib.ListN.{length, getD, List·getD-map}
 use Rattle.model.specs.Rules.Command.{operatorAt}
-use Rattle.model.specs.Rules.Outcome.{accepted}
-use Rattle.model.specs.Rules.Program.{Program, Read, Link, count, signalAt, bodyReads, parseProgram}
+use Rattle.model.specs.Rules.Program.{Program, Read, Link, count, signalAt, bodyReads}
 use Rattle.model.specs.Rules.Reads.{rateOf}
 use Rattle.model.specs.Rules.Schedule.{Schedule}
 use Rattle.model.specs.declared.Operator.the-variants as Operator
 use Rattle.model.specs.declared.Index.the-variants.{Fixed}
 use Rattle.model.specs.declared.Kind.the-variants.{Now}
 use Rattle.model.proofs.Basics.All.{all-at}
-use Rattle.model.proofs.Texts.Legal.{legal, signal-reads}
+use Rattle.model.proofs.Texts.Legal.{stands, signal-reads}
+use Rattle.model.specs.Says.Grammar.{LegalProgram}
 use Rattle.model.specs.Says.Stands.{SpellsRead}
-use Rattle.model.proofs.Basics.Outcomes.{accepted-same}
 use Rattle.text_command.specs.Operator.{ReadStands, ReadTaken}
 use Rattle.text_command.specs.declared.Taken.{Taken}
-use Rattle.text_program.specs.Tables.{PeriodsOf, rateAt, readsIn, ReadsOf, TablesOf, TabledAs, Indexed, SlotsOf}
+use Rattle.text_program.specs.Tables.{PeriodsOf, rateAt, readsIn, ReadsOf, TablesOf, Stands, Indexes, SlotsOf}
 use Rattle.text_program.specs.declared.Tables.{Tables}
 use Rattle.text_program.proofs.Sums.{sums-below}
 
@@ -32,12 +31,13 @@ abbrev pub readAt : Program → ℕ → ℕ → Read
 readAt p x j = getD (bodyReads (signalAt p x .body)) j noRead
 
 -- A program that is read has few signals.
-pub few-signals : (text : List ℕ) (t : Tables) (p : Program) → parseProgram text ≡ accepted p → TablesOf p t → t .signals ≤ 64
-few-signals text t p e tables = omega (arith, legal text p e .1 .fewSignals, tables .counts .signals-are)
+pub few-signals : (text : List ℕ) (t : Tables) (p : Program) → LegalProgram text p → TablesOf p t → t .signals ≤ 64
+few-signals text t p e tables = omega (arith, stands text p e .1 .fewSignals, tables .counts .signals-are)
 
 -- Its reads stand in their table.
-pub indexed : (text reads : List ℕ) (t : Tables) → TabledAs text reads t → Indexed text reads (t .firsts) (t .signals)
-indexed text reads t h = record { program = h .0; parsed = h .1; count-is = h .2 .counts .signals-are; reads-are = h .3 }
+pub indexes : {text reads : List ℕ} {t : Tables} {p : Program} → Stands text reads t p →
+    Indexes text reads (t .firsts) (t .signals) p
+indexes h = record { declares = h .declares; count-is = h .tables-are .counts .signals-are; reads-are = h .reads-are }
 
 -- The rate of a signal by the tables of periods and phases.
 pub rate-is : {p : Program} {s : Schedule} {order phases ranks : List ℕ} (periods : List ℕ) → PeriodsOf p periods →
@@ -45,51 +45,42 @@ pub rate-is : {p : Program} {s : Schedule} {order phases ranks : List ℕ} (peri
 rate-is periods table slots x lt = λ i. record { period = table x lt i; phase = slots .phases-are x lt i }
 
 -- The entries of the table.
-module _ {text reads firsts : List ℕ} {n : ℕ} (ix : Indexed text reads firsts n) (p : Program)
-    (e : parseProgram text ≡ accepted p) where
-  same-program : ix .program ≡ p
-  same-program = accepted-same (ix .program) p (sym (ix .parsed) ∙ e)
-
-  pub counted : count p ≡ n
-  counted = ap (λ (q : Program). count q) (sym same-program) ∙ ix .count-is
-
-  pub tabled : ReadsOf p reads firsts
-  tabled = subst (λ (q : Program). ReadsOf q reads firsts) same-program (ix .reads-are)
-
+module _ {text reads firsts : List ℕ} {n : ℕ} {p : Program} (ix : Indexes text reads firsts n p) where
   module _ (x i : ℕ) (lt : x < n) (low : getD firsts x 0 ≤ i) where
     -- It ends where those of the next signal start.
     pub all-seen : getD firsts (x + 1) 0 ≡ i → i - getD firsts x 0 ≡ length (bodyReads (signalAt p x .body))
     all-seen h =
-        let l : x < count p = omega (arith, counted) in
+        let l : x < count p = omega (arith, ix .count-is) in
         let z : suc x ≡ x + 1 = omega arith in
-        omega (arith, rw z at (tabled .sums .rises x l))
+        omega (arith, rw z at (ix .reads-are .sums .rises x l))
 
     module _ (high : i < getD firsts (x + 1) 0) where
       below-count : x < count p
-      below-count = omega (arith, counted)
+      below-count = omega (arith, ix .count-is)
 
       pub seen : i - getD firsts x 0 < length (bodyReads (signalAt p x .body))
-      seen = let z : suc x ≡ x + 1 = omega arith in omega (arith, rw z at (tabled .sums .rises x below-count))
+      seen = let z : suc x ≡ x + 1 = omega arith in omega (arith, rw z at (ix .reads-are .sums .rises x below-count))
 
       pub in-table : i < length reads
       in-table =
           omega (
             arith,
             seen,
-            sums-below readsIn (tabled .sums) x (count p) below-count (omega arith),
-            tabled .fits,
+            sums-below readsIn (ix .reads-are .sums) x (count p) below-count (omega arith),
+            ix .reads-are .fits,
           )
 
       pub place-is : getD reads i 0 ≡ readAt p x (i - getD firsts x 0) .place
       place-is =
           let z : getD firsts x 0 + (i - getD firsts x 0) ≡ i = omega arith in
-          (rw z at (tabled .stand x (i - getD firsts x 0) below-count seen)) ∙
+          (rw z at (ix .reads-are .stand x (i - getD firsts x 0) below-count seen)) ∙
           List·getD-map (λ (ρ : Read). ρ .place) (bodyReads (signalAt p x .body)) (i - getD firsts x 0) noRead
 
       pub spells : operatorAt text (readAt p x (i - getD firsts x 0) .place) ≡
           Operator.Read (readAt p x (i - getD firsts x 0) .kind) (readAt p x (i - getD firsts x 0) .operands)
       spells =
-          all-at (SpellsRead text) (bodyReads (signalAt p x .body)) noRead (signal-reads (legal text p e .1) x below-count)
+          all-at (SpellsRead text) (bodyReads (signalAt p x .body)) noRead
+          (signal-reads (stands text p (ix .declares) .1) x below-count)
           (i - getD firsts x 0) seen
 
       pub read-stands : ReadStands text (getD reads i 0)
@@ -104,7 +95,7 @@ module _ {text reads firsts : List ℕ} {n : ℕ} (ix : Indexed text reads first
           r ≡ record { kind = readAt p x (i - getD firsts x 0) .kind; operands = readAt p x (i - getD firsts x 0) .operands }
       taken-is r h = h .is _ _ (ap (operatorAt text) place-is ∙ spells)
 
-pub rises-at : {text reads firsts : List ℕ} {n : ℕ} (ix : Indexed text reads firsts n) (x : ℕ) → x < n →
+pub rises-at : {text reads firsts : List ℕ} {n : ℕ} {p : Program} (ix : Indexes text reads firsts n p) (x : ℕ) → x < n →
     getD firsts x 0 ≤ getD firsts (x + 1) 0
 rises-at ix x lt =
     let z : suc x ≡ x + 1 = omega arith in

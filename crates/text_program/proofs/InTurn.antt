@@ -9,8 +9,9 @@ use lib.ListN.{length, getD, drop, drop-of-length-le}
 use lib.Seq.{drop-cons}
 use borrow.Author.Tests.{lt-ltb, le-ltb, ltb-true, ltb-false}
 use Rattle.model.specs.Says.Feasible.{All}
+use Rattle.model.specs.Says.Grammar.{LegalProgram}
 use Rattle.model.specs.Rules.Outcome.{Outcome, accepted, refused, lower, lowest}
-use Rattle.model.specs.Rules.Program.{Program, Read, Link, noSignal, count, signalAt, bodyReads, parseProgram}
+use Rattle.model.specs.Rules.Program.{Program, Read, Link, noSignal, count, signalAt, bodyReads}
 use Rattle.model.specs.Rules.Search.{joinFrom}
 use Rattle.model.specs.declared.Fault.{Fault}
 use Rattle.model.proofs.Basics.All.{all-append, all-at, all-map}
@@ -163,7 +164,7 @@ module _ {A : Type 0} (place : A → ℕ) where
     singles-within xs a b r = all-within (λ x. place x ∷ []) (λ i x. G x) single-at 0 xs a b (turn-single a xs b r)
 
 -- The reads of a signal, and the LINKs of a chain.
-module _ (text : List ℕ) (p : Program) (e : parseProgram text ≡ accepted p) (x : ℕ) where
+module _ (text : List ℕ) (p : Program) (e : LegalProgram text p) (x : ℕ) where
   pub reads-in-turn : x < count p →
       (a b : ℕ) × InTurn (λ (ρ : Read). ρ .place ∷ []) a (bodyReads (signalAt p x .body)) b
   reads-in-turn lt =

@@ -4,8 +4,7 @@ use mathlib.Core.List.{List, [], _∷_, _++_, map, map-append}
 use mathlib.Core.Path.{_≡_}
 use native.Mathlib.Omega.{arith}
 use lib.ListN.{length, getD}
-use Rattle.model.specs.Says.Grammar.{Spells, SpellsLinks, DeclaresOne, Declares}
-use Rattle.model.specs.Rules.Outcome.{accepted}
+use Rattle.model.specs.Says.Grammar.{Spells, SpellsLinks, DeclaresOne, Declares, LegalProgram}
 use Rattle.model.specs.Rules.Program.{
   leastFactor,
   Expr,
@@ -15,10 +14,8 @@ use Rattle.model.specs.Rules.Program.{
   Program,
   readsOf,
   bodyReads,
-  parseProgram,
 }
 use Rattle.model.proofs.Texts.Legal.{links-end, read-width}
-use Rattle.model.proofs.Texts.Spelled.{declared}
 use Rattle.text_program.specs.Walks.{placesOf}
 use Rattle.text_program.proofs.Walks.{spans}
 
@@ -145,10 +142,5 @@ module _ {text : List ℕ} where
   rising-declares (Declares.ends e le) h = h
   rising-declares (Declares.onward d r) h = rising-declares r (rising-one d h)
 
-pub rising-program : (text : List ℕ) (p : Program) → parseProgram text ≡ accepted p → (end : ℕ) × Rises p end
-rising-program text p e =
-    let d = declared leastFactor text p e in (
-      d .0,
-      rising-declares (d .1)
-          (record { signals = omega arith; chains = omega arith }),
-    )
+pub rising-program : (text : List ℕ) (p : Program) → LegalProgram text p → (end : ℕ) × Rises p end
+rising-program text p d = (d .0, rising-declares (d .1) (record { signals = omega arith; chains = omega arith }))

@@ -10,7 +10,7 @@ use lib.ListN.{length, getD, set, length-append, length-map, length-set, List·g
 use lib.Seq.{sets, length-sets, getD-append-seam, getD-set-same, getD-set-other}
 use denote.Enum.Declared.{tagOf, declared}
 use borrow.Author.Tests.{le-ltb}
-use Rattle.model.specs.Rules.Outcome.{fault, refuse, _▷_, provided}
+use Rattle.model.specs.Rules.Outcome.{Outcome, fault, refuse, _▷_, provided}
 use Rattle.model.specs.Rules.Program.{
   Program,
   Read,
@@ -33,6 +33,7 @@ use Rattle.model.specs.Rules.Program.{
   parseWith,
 }
 use Rattle.model.specs.Rules.Table.{noRow}
+use Rattle.model.specs.declared.Fault.{Fault}
 use Rattle.text_program.specs.Steps.{AddsSignal, Adds, labelAfter, Added, Stepped}
 use Rattle.text_program.specs.Tables.{
   noChain,
@@ -43,13 +44,12 @@ use Rattle.text_program.specs.Tables.{
   TablesOf,
   Space,
   Unread,
-  judgedOf,
   ProgramReads,
 }
 use Rattle.text_program.specs.Walks.{placesOf, WalkRoom, Moves}
 use Rattle.text_program.specs.declared.Entry.{Entry}
 use Rattle.text_program.specs.declared.Entry.the-variants as Entry
-use Rattle.basics.specs.declared.Judged.{Judged}
+use Rattle.basics.specs.declared.Judged.the-variants as Judged
 use Rattle.text_program.specs.declared.Step.{Step}
 use Rattle.text_program.specs.declared.Step.the-variants as Step
 use Rattle.text_program.specs.declared.Tables.{Tables}
@@ -81,6 +81,7 @@ lookups-more (y ∷ ys) x = omega (arith, lookups-more ys x)
 abbrev pub signalAdded : Tables → ℕ → ℕ → ℕ → ℕ → ℕ → ℕ → ℕ → Tables
 signalAdded t at label period weight n to looks =
     record {
+      judged = t .judged;
       signals = t .signals + 1;
       places = set (t .places) (t .signals) at;
       periods = set (t .periods) (t .signals) period;
@@ -101,6 +102,7 @@ signalAdded t at label period weight n to looks =
 abbrev pub chainAdded : Tables → ℕ → ℕ → Tables
 chainAdded t at k =
     record {
+      judged = t .judged;
       signals = t .signals;
       places = t .places;
       periods = t .periods;
@@ -121,6 +123,7 @@ chainAdded t at k =
 abbrev pub capAdded : Tables → ℕ → Tables
 capAdded t n =
     record {
+      judged = t .judged;
       signals = t .signals;
       places = t .places;
       periods = t .periods;
@@ -141,6 +144,7 @@ capAdded t n =
 abbrev pub rowAdded : Tables → ℕ → Tables
 rowAdded t at =
     record {
+      judged = t .judged;
       signals = t .signals;
       places = t .places;
       periods = t .periods;
@@ -600,25 +604,29 @@ module _ {least : ℕ} {text reads : List ℕ} {t : Tables} {at label n to : ℕ
         small = omega (arith, room-next .small, room-next .short, b .inside);
       }
 
--- A step that adds nothing is the answer.
-abbrev stops : List ℕ
-stops = 1 ∷ 2 ∷ []
+-- A step that adds nothing is the answer: END, that the tables are the program's, where they are judged fine; a refusal, itself.
+module _ {least : ℕ} {text reads : List ℕ} {t : Tables} {at label n to : ℕ} (r : Reading least text reads t at label n to)
+    (lt : at < length text) (reads′ : List ℕ) where
+  stops-as : (o : Outcome Program) →
+      ((left : ℕ) → parseCommands least (suc left) text at label (r .program) ≡ o) → parseWith least text ≡ o
+  stops-as o s =
+      let h : 0 < r .left = omega (arith, r .bytes) in
+      r .onward ∙ ap (λ d. parseCommands least d text at label (r .program)) (one-less (r .left) h) ∙ s (r .left - 1)
 
-pub program-stops : {least : ℕ} {text reads : List ℕ} {t : Tables} {at label n to : ℕ}
-    (r : Reading least text reads t at label n to) →
-    at < length text → (reads′ : List ℕ) (step : Step) → OneOf stops (tagOf (declared enum) step) →
-    Stepped least text at label (r .program) reads n to (t .lookups) reads′ step → (j : Judged) → j ≡ judgedOf step →
-    ProgramReads (parseWith least text) reads′ (record { judged = j; tables = t })
-unfolding Stepped judgedOf ProgramReads
-program-stops r lt reads′ (Step.Adds x w) k s j q = absurd (miss stops 0 tt k)
-program-stops {least} {text} {at = at} {label = label} r lt reads′ Step.End k s j q =
-    let h : 0 < r .left = omega (arith, r .bytes) in
-    let e = r .onward ∙ ap (λ d. parseCommands least d text at label (r .program)) (one-less (r .left) h) ∙ s .0 (r .left - 1) in
-    rw e (q, r .tables, rw (s .1) (r .reads-are))
-program-stops {least} {text} {at = at} {label = label} r lt reads′ (Step.Refused f) k s j q =
-    let h : 0 < r .left = omega (arith, r .bytes) in
-    let e = r .onward ∙ ap (λ d. parseCommands least d text at label (r .program)) (one-less (r .left) h) ∙ s (r .left - 1) in
-    rw e q
+  pub program-refused : (f : Fault) →
+      Stepped least text at label (r .program) reads n to (t .lookups) reads′ (Step.Refused f) →
+      (t′ : Tables) → t′ .judged ≡ Judged.Refused f → ProgramReads (parseWith least text) reads′ t′
+  unfolding Stepped ProgramReads
+  program-refused f s t′ q = rw (stops-as _ s) q
+
+  pub program-done : (step : Step) → OneOf (1 ∷ 2 ∷ []) (tagOf (declared enum) step) →
+      OneOf (0 ∷ 1 ∷ []) (tagOf (declared enum) step) →
+      Stepped least text at label (r .program) reads n to (t .lookups) reads′ step → t .judged ≡ Judged.Fine →
+      ProgramReads (parseWith least text) reads′ t
+  unfolding Stepped ProgramReads
+  program-done (Step.Adds x w) k l s q = absurd (miss (1 ∷ 2 ∷ []) 0 tt k)
+  program-done Step.End k l s q = rw (stops-as _ (s .0)) (q, r .tables, rw (s .1) (r .reads-are))
+  program-done (Step.Refused f) k l s q = absurd (miss (0 ∷ 1 ∷ []) 2 tt l)
 
 -- So is the end of the text.
 commands-past : (least left : ℕ) (text : List ℕ) (at label : ℕ) (p : Program) → length text ≤ at →
@@ -629,15 +637,15 @@ commands-past least (suc left) text at label p h = rw (le-ltb at (length text) h
 
 pub program-ends : {least : ℕ} {text reads : List ℕ} {t : Tables} {at label n to : ℕ}
     (r : Reading least text reads t at label n to) →
-    length text ≤ at → (reads′ : List ℕ) (t′ : Tables) (j : Judged) → j ≡ judgedOf (Step.Refused (fault 2 (length text))) →
-    ProgramReads (parseWith least text) reads′ (record { judged = j; tables = t′ })
-unfolding ProgramReads judgedOf
-program-ends {least} {text} {at = at} {label = label} r h reads′ t′ j q =
+    length text ≤ at → (reads′ : List ℕ) (t′ : Tables) → t′ .judged ≡ Judged.Refused (fault 2 (length text)) →
+    ProgramReads (parseWith least text) reads′ t′
+unfolding ProgramReads
+program-ends {least} {text} {at = at} {label = label} r h reads′ t′ q =
     rw (r .onward ∙ commands-past least (r .left) text at label (r .program) h) q
 
 -- Nothing is read at first.
 pub starts-empty : (least : ℕ) (text reads : List ℕ) (t : Tables) → length text ≤ 8192 → length text ≤ 2 * length reads →
-    Unread t → Reading least text reads t 0 0 0 0
+    Unread Judged.Fine t → Reading least text reads t 0 0 0 0
 unfolding parseWith lookups
 starts-empty least text reads t short table u =
     record {

@@ -4,7 +4,7 @@ use mathlib.Core.Bool.{Bool, false, cond}
 use mathlib.Core.List.{List, []}
 use mathlib.Core.Path.{_≡_}
 use lib.ListN.{length, getD}
-use Rattle.model.specs.Rules.Outcome.{Outcome, accepted, refused, fault}
+use Rattle.model.specs.Rules.Outcome.{Outcome, accepted, refused}
 use Rattle.model.specs.Rules.Image.{signalCode}
 use Rattle.model.specs.Rules.Program.{
   Program,
@@ -18,19 +18,16 @@ use Rattle.model.specs.Rules.Program.{
   bodyReads,
   weightOf,
   lookups,
-  parseProgram,
 }
 use Rattle.model.specs.Rules.Reads.{Rate, rank}
 use Rattle.model.specs.Rules.Table.{rowAt}
 use Rattle.model.specs.Rules.Schedule.{Schedule, phaseOf}
+use Rattle.model.specs.Says.Grammar.{LegalProgram}
 use Rattle.model.specs.declared.Mode.the-variants.{Exists}
 use Rattle.text_program.specs.Steps.{Counts}
 use Rattle.text_program.specs.Walks.{placesOf}
 use Rattle.basics.specs.declared.Judged.{Judged}
 use Rattle.basics.specs.declared.Judged.the-variants as Judged
-use Rattle.text_program.specs.declared.ProgramRead.{ProgramRead}
-use Rattle.text_program.specs.declared.Step.{Step}
-use Rattle.text_program.specs.declared.Step.the-variants as Step
 use Rattle.text_program.specs.declared.Tables.{Tables}
 
 abbrev pub noChain : Chain
@@ -102,8 +99,9 @@ pub record Space (t : Tables) : Type 0 where
   pub lengths : length (t .lengths) ≡ 16
   pub offsets : length (t .offsets) ≡ 32
 
--- Nothing is read yet.
-pub record Unread (t : Tables) : Type 0 where
+-- Nothing is read, and the judgement is j.
+pub record Unread (j : Judged) (t : Tables) : Type 0 where
+  pub judged-is : t .judged ≡ j
   pub space : Space t
   pub no-signals : t .signals ≡ 0
   pub no-chains : t .chains ≡ 0
@@ -113,20 +111,24 @@ pub record Unread (t : Tables) : Type 0 where
   pub first : getD (t .firsts) 0 0 ≡ 0
   pub code : getD (t .codes) 0 0 ≡ 0
 
--- The tables, without and with that of the reads, are those of the program that the text is.
-abbrev pub ReadAs : List ℕ → Tables → Type 0
-ReadAs text tables = (p : Program) × (parseProgram text ≡ accepted p) × TablesOf p tables
+-- Text, reads and tables stand for the program p: the text declares p, and the tables are its own.
+pub record Stands (text reads : List ℕ) (t : Tables) (p : Program) : Type 0 where
+  pub declares : LegalProgram text p
+  pub tables-are : TablesOf p t
+  pub reads-are : ReadsOf p reads (t .firsts)
 
-abbrev pub TabledAs : List ℕ → List ℕ → Tables → Type 0
-TabledAs text reads tables =
-    (p : Program) × (parseProgram text ≡ accepted p) × TablesOf p tables × ReadsOf p reads (tables .firsts)
+-- They stand for some program.
+abbrev pub Standing : List ℕ → List ℕ → Tables → Type 0
+Standing text reads t = (p : Program) × Stands text reads t p
 
--- The text is a program of n signals, and the table has its reads.
-pub record Indexed (text reads firsts : List ℕ) (n : ℕ) : Type 0 where
-  pub program : Program
-  pub parsed : parseProgram text ≡ accepted program
-  pub count-is : count program ≡ n
-  pub reads-are : ReadsOf program reads firsts
+-- The text declares the program p of n signals, and the table has its reads.
+pub record Indexes (text reads firsts : List ℕ) (n : ℕ) (p : Program) : Type 0 where
+  pub declares : LegalProgram text p
+  pub count-is : count p ≡ n
+  pub reads-are : ReadsOf p reads firsts
+
+abbrev pub Indexed : List ℕ → List ℕ → List ℕ → ℕ → Type 0
+Indexed text reads firsts n = (p : Program) × Indexes text reads firsts n p
 
 -- The tables of a schedule: the signals in PUT order, and by signal the phase and the place in that order.
 pub record SlotsOf (p : Program) (s : Schedule) (order phases ranks : List ℕ) : Type 0 where
@@ -135,14 +137,7 @@ pub record SlotsOf (p : Program) (s : Schedule) (order phases ranks : List ℕ) 
   pub ranks-are : (x : ℕ) → x < count p → getD ranks x 0 ≡ rank (s .order) x
   pub all-put : length (s .order) ≡ count p
 
--- The judgement of a step that adds nothing.
-unfoldable pub judgedOf : Step → Judged
-judgedOf (Step.Adds e w) = Judged.Refused (fault 3 (w .at))
-judgedOf Step.End = Judged.Fine
-judgedOf (Step.Refused f) = Judged.Refused f
-
 -- The answer is the definition's refusal, or the tables are those of the program read.
-unfoldable pub ProgramReads : Outcome Program → List ℕ → ProgramRead → Type 0
-ProgramReads (accepted p) reads r =
-    (r .judged ≡ Judged.Fine) × TablesOf p (r .tables) × ReadsOf p reads (r .tables .firsts)
-ProgramReads (refused f) reads r = r .judged ≡ Judged.Refused f
+unfoldable pub ProgramReads : Outcome Program → List ℕ → Tables → Type 0
+ProgramReads (accepted p) reads t = (t .judged ≡ Judged.Fine) × TablesOf p t × ReadsOf p reads (t .firsts)
+ProgramReads (refused f) reads t = t .judged ≡ Judged.Refused f

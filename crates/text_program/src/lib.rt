@@ -18,7 +18,7 @@ ghost use Rattle.model.specs.declared.Fault.{Fault};
 ghost use Rattle.basics.specs.Judgement.{judgementOf};
 ghost use Rattle.text_program.specs.Results.{linksOf, chainOf, tagOf, stopOf};
 ghost use Rattle.text_program.specs.Steps.{Counts, Stepped};
-ghost use Rattle.text_program.specs.Tables.{judgedOf, Unread, ProgramReads};
+ghost use Rattle.text_program.specs.Tables.{Unread, ProgramReads};
 ghost use Rattle.text_program.specs.Walks.{deepOf, outlines, leafOf, WalkRoom, LeafRoom, Walks, WalksEquation};
 
 // Whether an operator of an expression stands at `at`: 2 and 3 come before its depth and its operands.
@@ -464,8 +464,9 @@ fn read_command(
 
 // What stands where in a program text, by signal, by chain and by row; row n stands at `offsets[n]`. The reads of signal x are
 // those from `firsts[x]` to `firsts[x + 1]` of the table of reads, its code the bytes from `codes[x]` to `codes[x + 1]` of the
-// whole code.
+// whole code. `judged` is what reading found; the rest is of use where it is fine.
 pub struct Tables {
+    pub judged: Judged,
     pub signals: usize,
     pub places: [u16; 64],
     pub periods: [u8; 64],
@@ -485,9 +486,17 @@ pub struct Tables {
 
 impl Tables {
     pub fn new() -> Self
-        ensures { λ r. ⌜ Unread r ⌝ }
+        ensures { λ r. ⌜ Unread Judged.Fine r ⌝ }
+    {
+        Self::unread(Judged::Fine)
+    }
+
+    // Nothing is read, and this is found.
+    fn unread(judged: Judged) -> Self
+        ensures { λ r. ⌜ Unread judged r ⌝ }
     {
         Self {
+            judged: judged,
             signals: 0,
             places: [0; 64],
             periods: [0; 64],
@@ -507,26 +516,9 @@ impl Tables {
     }
 }
 
-// What reading a program finds. The tables are of use where it is fine.
-pub struct ProgramRead {
-    pub judged: Judged,
-    pub tables: Tables,
-}
-
-// The judgement at a step that adds nothing. One that adds is none: no caller asks.
-fn judged_at(step: Step) -> Judged
-    ensures { λ r. ⌜ r ≡ judgedOf step ⌝ }
-{
-    match step {
-        Step::Adds(_, walk) => basics::refuse(refusals::NO_SUCH_COMMAND, walk.at),
-        Step::End => Judged::Fine,
-        Step::Refused(fault) => Judged::Refused(fault),
-    }
-}
-
 // Reads a program text whose factors go from `least` on to its END: 2 to 6, or the tables of the program that it is. Keeps the
 // offset of each read in `reads`, which has an entry for each two bytes of the text.
-pub fn read_program(least: u8, text: &[u8], reads: &mut [u16]) -> ProgramRead
+pub fn read_program(least: u8, text: &[u8], reads: &mut [u16]) -> Tables
     requires { ⌜ (length (now text) ≤ 8192) × (length (now text) ≤ 2 * length (now reads)) ⌝ }
     ensures { λ r. ⌜ ProgramReads (parseWith least (now (text .entry))) (now (reads .exit)) r ⌝ }
 {
@@ -556,10 +548,10 @@ pub fn read_program(least: u8, text: &[u8], reads: &mut [u16]) -> ProgramRead
             reads,
         );
         let Step::Adds(entry, walk) = step else {
-            return ProgramRead {
-                judged: judged_at(step),
-                tables: tables,
-            };
+            if let Step::Refused(fault) = step {
+                return Tables::unread(Judged::Refused(fault));
+            }
+            return tables;
         };
         let place = at;
         at = walk.at;
@@ -598,8 +590,5 @@ pub fn read_program(least: u8, text: &[u8], reads: &mut [u16]) -> ProgramRead
             }
         }
     }
-    ProgramRead {
-        judged: judged_at(refuse_step(refusals::PROGRAM_ENDS_EARLY, text.len())),
-        tables: Tables::new(),
-    }
+    Tables::unread(basics::refuse(refusals::PROGRAM_ENDS_EARLY, text.len()))
 }

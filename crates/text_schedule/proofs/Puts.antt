@@ -39,7 +39,6 @@ use Rattle.basics.specs.declared.Judged.{Judged}
 use Rattle.basics.specs.declared.Judged.the-variants as Judged
 use Rattle.text_program.proofs.Filled.{filled}
 use Rattle.text_schedule.specs.Slots.{signalsPut, SlotsAfter, putAdded, judgedBy, PutJudged, allRanked, ScheduledAs}
-use Rattle.text_schedule.specs.declared.Placing.{Placing}
 use Rattle.text_schedule.specs.declared.Slots.{Slots}
 use Rattle.model.proofs.Pairs.Pigeons.{order-length}
 
@@ -447,14 +446,14 @@ progress-start text p o t e h =
     record { done = []; rest = o .value; whole = refl; spelled = puts-spelled text o e; faults = refl; after = h }
 
 -- The answers.
-pub scheduled-refused : (p : Program) (o : Outcome Schedule) (r : Placing) (f : Fault) → o ≡ refused f →
-    r .judged ≡ Judged.Refused f →
-    ScheduledAs p o r
+pub scheduled-refused : (p : Program) (o : Outcome Schedule) (t : Slots) (f : Fault) → o ≡ refused f →
+    t .judged ≡ Judged.Refused f →
+    ScheduledAs p o t
 unfolding ScheduledAs
-scheduled-refused p o r f e h = rw e h
+scheduled-refused p o t f e h = rw e h
 
-pub scheduled-fine : (p : Program) (o : Outcome Schedule) (r : Placing) (s : Schedule) → o ≡ accepted s →
-    r .judged ≡ Judged.Fine →
-    (r .slots .puts ≡ length (s .order)) × SlotsOf p s (r .slots .order) (r .slots .phases) (r .slots .ranks) → ScheduledAs p o r
+pub scheduled-fine : (p : Program) (o : Outcome Schedule) (t : Slots) (s : Schedule) → o ≡ accepted s →
+    t .judged ≡ Judged.Fine →
+    (t .puts ≡ length (s .order)) × SlotsOf p s (t .order) (t .phases) (t .ranks) → ScheduledAs p o t
 unfolding ScheduledAs
-scheduled-fine p o r s e h g = rw e (h, g .0, g .1)
+scheduled-fine p o t s e h g = rw e (h, g .0, g .1)

@@ -18,7 +18,6 @@ use Rattle.basics.specs.Judgement.{Answers}
 use Rattle.basics.specs.declared.Judged.{Judged}
 use Rattle.basics.specs.declared.Judged.the-variants as Judged
 use Rattle.text_schedule.specs.declared.Ended.{Ended}
-use Rattle.text_schedule.specs.declared.Placing.{Placing}
 use Rattle.text_schedule.specs.declared.Slots.{Slots}
 
 -- The judgement at a command that is no PUT; at a PUT nobody asks.
@@ -53,6 +52,7 @@ pub record SlotsAfter (done : List Put) (t : Slots) : Type 0 where
 abbrev pub putAdded : Slots → ℕ → ℕ → Slots
 putAdded t signal phase =
     record {
+      judged = t .judged;
       puts = t .puts + 1;
       order = set (t .order) (t .puts) signal;
       phases = set (t .phases) signal phase;
@@ -71,11 +71,10 @@ pub record PutJudged (t : Slots) (periods : List ℕ) (n : ℕ) (q : Put) (r : J
   pub declared : r ≡ Judged.Fine → q .signal < n
 
 -- The answer is the definition's refusal, or the tables are those of the schedule placed.
-unfoldable pub ScheduledAs : Program → Outcome Schedule → Placing → Type 0
-ScheduledAs p (accepted s) r =
-    (r .judged ≡ Judged.Fine) × (r .slots .puts ≡ length (s .order)) ×
-    SlotsOf p s (r .slots .order) (r .slots .phases) (r .slots .ranks)
-ScheduledAs p (refused f) r = r .judged ≡ Judged.Refused f
+unfoldable pub ScheduledAs : Program → Outcome Schedule → Slots → Type 0
+ScheduledAs p (accepted s) t =
+    (t .judged ≡ Judged.Fine) × (t .puts ≡ length (s .order)) × SlotsOf p s (t .order) (t .phases) (t .ranks)
+ScheduledAs p (refused f) t = t .judged ≡ Judged.Refused f
 
-abbrev pub Scheduled : Program → Parsed (List Put) → Placing → Type 0
-Scheduled p o r = ScheduledAs p (placed p o) r
+abbrev pub Scheduled : Program → Parsed (List Put) → Slots → Type 0
+Scheduled p o t = ScheduledAs p (placed p o) t

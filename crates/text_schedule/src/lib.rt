@@ -4,14 +4,14 @@ use model::ScheduleCommand;
 use model::refusals;
 use text_program::Tables;
 ghost use mathlib.Core.Path.{_≡_};
-ghost use mathlib.Core.List.{List, []};
+ghost use mathlib.Core.List.{List};
 ghost use Prim.Native.Nat.{_≤_, _<_};
 ghost use lib.ListN.{length};
 ghost use Rattle.model.specs.Rules.Outcome.{Parsed, accepted};
 ghost use Rattle.model.specs.Rules.Program.{Program, count};
 ghost use Rattle.model.specs.Rules.Schedule.{Put, parseSchedule};
 ghost use Rattle.text_program.specs.Tables.{PeriodsOf};
-ghost use Rattle.text_schedule.specs.Slots.{endJudged, EndedAt, allRanked, SlotsAfter, PutJudged, Scheduled};
+ghost use Rattle.text_schedule.specs.Slots.{endJudged, EndedAt, allRanked, PutJudged, Scheduled};
 ghost use Rattle.text_schedule.specs.declared.Slots.{Slots};
 
 // What reading a schedule text finds: where it ends, which is of use where it is fine.
@@ -60,8 +60,10 @@ pub fn read_schedule(text: &[u8]) -> Ended
     }
 }
 
-// The tables of a schedule. The rank of a signal is its place in PUT order, and 64 while it is not put.
+// The tables of a schedule. The rank of a signal is its place in PUT order, and 64 while it is not put. `judged` is what going
+// through the PUTs found; the rest is of use where it is fine.
 pub struct Slots {
+    pub judged: Judged,
     pub puts: usize,
     pub order: [u8; 64],
     pub phases: [u8; 64],
@@ -70,14 +72,9 @@ pub struct Slots {
 
 impl Slots {
     pub fn new() -> Self
-        ensures { λ r. ⌜ SlotsAfter [] r ⌝ }
+        ensures { λ r. ⌜ r .judged ≡ Judged.Fine ⌝ }
     {
-        Self {
-            puts: 0,
-            order: [0; 64],
-            phases: [0; 64],
-            ranks: [64; 64],
-        }
+        unplaced(Judged::Fine)
     }
 }
 
@@ -129,24 +126,21 @@ fn all_put(ranks: &[u8; 64], signals: usize) -> bool
     true
 }
 
-// What going through the PUTs finds. The tables are of use where it is fine.
-pub struct Placing {
-    pub judged: Judged,
-    pub slots: Slots,
-}
-
-// A refused schedule, whose tables are of no use.
-pub fn unplaced(judged: Judged) -> Placing
+// Nothing is put, and this is found.
+pub fn unplaced(judged: Judged) -> Slots
     ensures { λ r. ⌜ r .judged ≡ judged ⌝ }
 {
-    Placing {
+    Slots {
         judged: judged,
-        slots: Slots::new(),
+        puts: 0,
+        order: [0; 64],
+        phases: [0; 64],
+        ranks: [64; 64],
     }
 }
 
 // Goes through the PUTs of a schedule text that ends at `end`, for signals of these periods: 12 and 13, missing last.
-pub fn check_schedule(text: &[u8], end: usize, signals: usize, periods: &[u8; 64]) -> Placing
+pub fn check_schedule(text: &[u8], end: usize, signals: usize, periods: &[u8; 64]) -> Slots
     requires { ⌜ (signals ≤ 64) × (end ≤ 192) ⌝ }
     ensures { λ r. ⌜ ((p : Program) (o : Parsed (List Put)) → count p ≡ signals → PeriodsOf p (now (periods .entry)) →
         parseSchedule (now (text .entry)) ≡ accepted o → o .next ≡ end → Scheduled p o r) ⌝ }
@@ -175,13 +169,11 @@ pub fn check_schedule(text: &[u8], end: usize, signals: usize, periods: &[u8; 64
     if !all_put(&ranks, signals) {
         return unplaced(basics::refuse(refusals::SIGNAL_NOT_ONCE, end));
     }
-    Placing {
+    Slots {
         judged: Judged::Fine,
-        slots: Slots {
-            puts: puts,
-            order: order,
-            phases: phases,
-            ranks: ranks,
-        },
+        puts: puts,
+        order: order,
+        phases: phases,
+        ranks: ranks,
     }
 }

@@ -35,7 +35,7 @@ use Rattle.theorems_pairs.proofs.Judged.{
 use Rattle.theorems_pairs.proofs.JudgedPuts.{PlacedFault, placed-judged}
 use Rattle.theorems_pairs.proofs.JudgedRows.{tabled-judged}
 use Rattle.theorems_pairs.proofs.JudgedRuns.{met-judged, loaded-judged, timely-judged}
-use Rattle.theorems_texts.proofs.Parses.{with-legal, schedule-legal}
+use Rattle.model.proofs.Texts.Parses.{with-legal, schedule-legal}
 use Rattle.theorems_texts.proofs.Stopped.{with-stops, schedule-stops}
 
 -- 2 to 6.

@@ -64,7 +64,7 @@ use Rattle.theorems_pairs.proofs.Faults.{
   fault-lowest,
   lowest-fault,
 }
-use Rattle.theorems_texts.proofs.Parses.{program-legal}
+use Rattle.model.proofs.Texts.Parses.{program-legal}
 
 -- An outcome is accepted exactly under C, and refused exactly with the faults of F.
 pub record Judged {A : Type 0} (C : A → Type 0) (F : Fault → Type 0) (o : Outcome A) : Type 0 where

@@ -34,7 +34,7 @@ use Rattle.model.proofs.Texts.Legal.{Legal, row-spelled, row-upright, legal}
 use Rattle.model.specs.Says.Stands.{SpellsRow}
 use Rattle.theorems_pairs.proofs.Judged.{Judged}
 use Rattle.theorems_pairs.proofs.Lookups.{has-table}
-use Rattle.theorems_texts.proofs.Parses.{program-legal}
+use Rattle.model.proofs.Texts.Parses.{program-legal}
 
 -- A legal text, and what its rows are.
 module _ (text : List ℕ) (p : Program) (l : LegalProgram text p) where

@@ -68,7 +68,7 @@ use Rattle.theorems_pairs.proofs.Faults.{among-at, among-all, all-among
 use Rattle.theorems_pairs.proofs.Judged.{read-spelled, linked-decides}
 use Rattle.theorems_pairs.proofs.JudgedRuns.{ordered, places-accepted}
 use Rattle.theorems_pairs.proofs.Latency.{last-link}
-use Rattle.theorems_texts.proofs.Parses.{with-legal}
+use Rattle.model.proofs.Texts.Parses.{with-legal}
 
 -- Exactly one read.
 no-reads : (w : ℕ) (ρs : List Read) →

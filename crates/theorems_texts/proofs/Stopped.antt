@@ -55,7 +55,7 @@ use Rattle.model.proofs.Basics.Outcomes.{
   true-provided,
   false-provided,
 }
-use Rattle.theorems_texts.proofs.Parses.{expr-step, command-step, spells-after, parse-expr, fit, parse-links, parse-onward}
+use Rattle.model.proofs.Texts.Parses.{expr-step, command-step, spells-after, parse-expr, fit, parse-links, parse-onward}
 use Rattle.model.proofs.Texts.Picks.{
   picked,
   chosen-all,

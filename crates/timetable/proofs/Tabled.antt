@@ -25,24 +25,24 @@ pub record Made (t : PairTables) (loads : List ℕ) (r : Timetable) : Type 0 whe
   pub limit : r .limit ≡ t .tables .limit
   pub loads-are : r .loads ≡ loads
 
-pub tabled : (text : List ℕ) (t : PairTables) (q : Pair) (loads : List ℕ) (r : Timetable) → Checks text t q →
+pub tabled : (text reads : List ℕ) (t : PairTables) (q : Pair) (loads : List ℕ) (r : Timetable) → Checks text reads t q →
     LoadsOf (t .tables .periods) (t .slots .phases) (t .tables .weights) (t .tables .signals) (t .hypercycle) loads →
     Made t loads r → TimetableOf r q
-tabled text t q loads r k l m =
+tabled text reads t q loads r k l m =
     let g = k .arranged in
-    let n = g .tables-are .counts .signals-are in
+    let n = g .stands .tables-are .counts .signals-are in
     record {
       signals = m .signals ∙ sym n;
       hypercycle = m .hypercycle ∙ k .hyper;
-      periods = rw (m .periods) (g .tables-are .periods);
+      periods = rw (m .periods) (g .stands .tables-are .periods);
       phases = rw (m .phases) (g .slots-are .phases-are);
-      labels = rw (m .labels) (g .tables-are .labels);
-      cap = rw (m .capped, m .limit) (g .tables-are .cap);
+      labels = rw (m .labels) (g .stands .tables-are .labels);
+      cap = rw (m .capped, m .limit) (g .stands .tables-are .cap);
       loads = λ c lt.
           rw (m .loads-are)
           (l c (subst (λ (h : ℕ). c < h) (sym (k .hyper)) lt) ∙
           ap (λ (x : ℕ). loadIn (t .tables .periods) (t .slots .phases) (t .tables .weights) x c) (sym n) ∙
-          sym (load-is _ _ _ _ _ (g .tables-are .periods) (g .tables-are .weights) (g .slots-are .phases-are) c));
+          sym (load-is _ _ _ _ _ (g .stands .tables-are .periods) (g .stands .tables-are .weights) (g .slots-are .phases-are) c));
     }
 
 -- The answer, accepted or refused.

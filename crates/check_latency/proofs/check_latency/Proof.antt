@@ -15,6 +15,7 @@ use Rattle.basics.specs.declared.Judged.{Judged}
 use Rattle.basics.specs.declared.Judged.the-variants as Judged
 use Rattle.model.proofs.Pairs.Hypercycle.{hypercycle-least}
 use Rattle.model.proofs.Pairs.Verdict.{steps-accepted}
+use Rattle.model.proofs.Texts.Legal.{stands}
 use Rattle.text_schedule.specs.Arranged.{Arranged}
 use Rattle.text_schedule.specs.declared.PairTables.{PairTables}
 use Rattle.text_schedule.proofs.Arranged.{ordered}
@@ -23,24 +24,23 @@ use Rattle.check_latency.proofs.check_latency.Statement.{statement}
 use Rattle.check_latency.proofs.check_latency.Tie as tie
 
 -- Reads that are met leave a pair whose latencies can be judged.
-timed : (text : List ℕ) (t : PairTables) (p : Program) (s : Schedule) → Arranged text t p s → met p s ≡ accepted tt →
-    Timed text (t .tables) (t .tables .periods) (t .slots .phases) (t .hypercycle) p s
-timed text t p s g m =
+timed : (text reads : List ℕ) (t : PairTables) (p : Program) (s : Schedule) → Arranged text reads t p s →
+    met p s ≡ accepted tt → Timed text reads (t .tables) (t .tables .periods) (t .slots .phases) (t .hypercycle) p s
+timed text reads t p s g m =
     let h = hypercycle-least p (t .hypercycle) .0 (g .hyper) in
     record {
       joined =
           record {
             known =
                 record {
-                  parsed = g .parsed;
-                  tables-are = g .tables-are;
-                  periods-are = g .tables-are .periods;
+                  stands = g .stands;
+                  periods-are = g .stands .tables-are .periods;
                   phases-are = g .slots-are .phases-are;
                 };
             rated = g .rated;
             links = g .links;
           };
-      accepted = steps-accepted _ p s (g .parsed) (g .rated) (ordered g) m;
+      accepted = steps-accepted p s (stands _ p (g .stands .declares) .1) (g .rated) (ordered g) m;
       multiple = h .multiple;
       hyper = h .bound;
     }
@@ -56,16 +56,16 @@ unchained p s h n e z = go (p .chains) refl
     go (c ∷ cs) q = absurd (omega (arith, e, z, ap length q))
 
 returns : tie.Need-returns
-returns c p s g m = unchained p s _ _ (g .tables-are .counts .chains-are) (c .if1 .taken)
+returns c p s g m = unchained p s _ _ (g .stands .tables-are .counts .chains-are) (c .if1 .taken)
 
 judge-chains-requires : tie.Need-judge-chains-requires
 judge-chains-requires c κs =
     let c8 = c .before .before .before .before .before .before .before .before in
-    let q = c8 .pre .0 in
-    ((q .0, q .1, timed _ _ _ _ (q .2) (q .3)), c8 .pre .1)
+    let q = c8 .pre in
+    (q .0, q .1, timed _ _ _ _ _ (q .2) (q .3))
 
 returns-2 : tie.Need-returns-2
-returns-2 c p s g m = c .judge-chains .ensures p s (timed _ _ p s g m)
+returns-2 c p s g m = c .judge-chains .ensures p s (timed _ _ _ p s g m)
 
 pub check-latency-spec : {M : Type 1} → statement M
 check-latency-spec = tie.close (tie.spec returns judge-chains-requires returns-2)

@@ -1,6 +1,6 @@
 -- `check_latency::follow` meets its contract. Assumes nothing.
 use Prim.Native.Nat.{_+_, _≤_, _<_}
-use mathlib.Core.Path.{refl}
+use mathlib.Core.Path.{refl, ap, _∙_}
 use native.Mathlib.Omega.{arith}
 use denote.Ref.{now}
 use lib.ListN.{length}
@@ -10,18 +10,20 @@ use Rattle.model.specs.Rules.Program.{Program}
 use Rattle.model.specs.Rules.Schedule.{Schedule}
 use Rattle.text_program.specs.Tables.{chainAt}
 use Rattle.check_rates.proofs.Linking.{few-chains}
+use Rattle.read_rule.specs.Reads.{rateIn}
 use Rattle.check_latency.specs.Timely.{ChainsLinked}
-use Rattle.check_latency.proofs.Following.{Following, next-link, route-of, Begun, begun}
+use Rattle.check_latency.proofs.Following.{Following, next-link, route-of, Begun, begun, chain-command}
+use Rattle.check_latency.proofs.Indices.{rate-at}
 use Rattle.check_latency.proofs.follow.Statement.{statement}
 use Rattle.check_latency.proofs.follow.Tie as tie
 
 abbrev Inv-loop : tie.InvT-loop
-Inv-loop text reads tables periods phases chain at₀ left₀ source last₀ count₀ hops₀ at left last count hops =
-    (p : Program) (s : Schedule) → ChainsLinked text tables periods phases p s →
+Inv-loop text reads tables periods phases chain start₀ at₀ left₀ source last₀ count₀ hops₀ at left last count hops =
+    (p : Program) (s : Schedule) → ChainsLinked text reads tables periods phases p s →
     Following text p s (backwards (chainAt p chain)) source at left last count hops
 
 abbrev μ-loop : tie.MeasureT-loop
-μ-loop text reads tables periods phases chain at₀ left₀ source last₀ count₀ hops₀ at left last count hops = left
+μ-loop text reads tables periods phases chain start₀ at₀ left₀ source last₀ count₀ hops₀ at left last count hops = left
 
 -- the first link lies within the text
 module _ (c : tie.After-in-program Inv-loop μ-loop) where
@@ -29,12 +31,12 @@ module _ (c : tie.After-in-program Inv-loop μ-loop) where
   start = c .before .before .before .before .before .before
 
   begins : Begun (now (start .args .text)) (start .args .tables) (start .pre .0 .0) (start .pre .0 .1) (start .args .chain)
-  begins = begun _ _ _ _ _ _ _ (start .pre .0 .2) (start .pre .1)
+  begins = begun _ _ _ _ _ _ _ _ (start .pre .0 .2) (start .pre .1)
 
 few : (c : tie.After-lengths Inv-loop μ-loop) → c .before .before .before .before .args .chain < 16
 few c =
     let s = c .before .before .before .before in
-    omega (arith, s .pre .1, few-chains _ _ (s .pre .0 .0, s .pre .0 .2 .known .parsed, s .pre .0 .2 .known .tables-are))
+    omega (arith, s .pre .1, few-chains (s .pre .0 .2 .known .stands))
 
 -- and so do the two at hand
 next : (c : tie.In-loop Inv-loop μ-loop) →
@@ -57,7 +59,7 @@ loop-holds c =
     let c3 = c .before .before .before in
     λ p s j.
     rw (c3 .in-program .ensures, c3 .before .from-entry .ensures .0, c .before .before .from-byte .ensures .0)
-    (begun _ _ _ _ p s _ j (start c3 .pre .1) .start _ refl)
+    (begun _ _ _ _ _ p s _ j (start c3 .pre .1) .start _ refl)
 
 mul-hops : tie.Need-mul-hops Inv-loop μ-loop
 mul-hops c = omega (arith, next (c .before .before .before) .1)
@@ -80,14 +82,25 @@ loop-again c =
     rw two (n .on _ ((rw two at (c .hop-at .ensures)) p s (j .known) (n .read) (n .reader) (n .once)))
 
 returns : tie.Need-returns Inv-loop μ-loop
-returns c = λ p s j. route-of _ _ _ _ _ _ _ _ _ _ (c .before .loop .inv p s j) (omega (arith, c .loop-test .left))
+returns c =
+    let z = c .before in
+    let l = z .before .before in
+    let entered = l .before .before .before .before .before .before in
+    λ p s j. (
+      (rw (entered .from-entry .ensures .0) at (c .limit-at .ensures)) _ _
+          (chain-command _ _ _ _ _ p s _ (j .known) (start (l .before .before .before .before .before) .pre .1)),
+      route-of _ _ _ _ _ _ _ _ _ _ _ _ _ (λ lt. ap rateIn (z .before .timing-at .ensures) ∙ rate-at (j .known) _ lt)
+          (λ lt. ap rateIn (z .timing-at2 .ensures) ∙ rate-at (j .known) _ lt) (l .before .loop .inv p s j)
+          (omega (arith, l .loop-test .left)),
+    )
 
 pub follow-spec : {M : Type 1} → statement M
 follow-spec =
     tie.close
     (tie.spec Inv-loop μ-loop (λ c. omega (arith, few c)) few (λ c κs. search needs) (λ c κs. search needs)
-    (λ c. omega (arith, begins c .inside, c .before .from-entry .ensures .0)) (λ c. few (c .before .before)) (λ c κs. search needs)
-    (λ c. omega (arith, begins (c .before) .inside, c .before .before .from-entry .ensures .0)) shared-slice-read-source
-    (λ c κs. search needs) loop-holds (λ c κs. search needs) (λ c. omega (arith, next (c .before) .0))
-    (λ c. omega (arith, next (c .before) .0)) (λ c. omega (arith, next (c .before .before) .0)) (λ c κs. search needs) mul-hops
-    (λ c. next (c .before .before .before) .1) add-count sub-left loop-less loop-again returns)
+    (λ c. omega (arith, begins c .inside, c .before .from-entry .ensures .0)) (λ c. few (c .before .before))
+    (λ c κs. search needs) (λ c. omega (arith, begins (c .before) .inside, c .before .before .from-entry .ensures .0))
+    shared-slice-read-source (λ c κs. search needs) loop-holds (λ c κs. search needs)
+    (λ c. omega (arith, next (c .before) .0)) (λ c. omega (arith, next (c .before) .0))
+    (λ c. omega (arith, next (c .before .before) .0)) (λ c κs. search needs) mul-hops (λ c. next (c .before .before .before) .1)
+    add-count sub-left loop-less loop-again (λ c κs. search needs) (λ c κs. search needs) (λ c κs. search needs) returns)

@@ -9,7 +9,7 @@ use Rattle.model.specs.Rules.Program.{Read, signalAt, bodyReads}
 use Rattle.model.specs.Rules.Rates.{countReads}
 use Rattle.model.specs.Rules.Reads.{rateOf, settledIndex, settled}
 use Rattle.check_rates.proofs.Counting.{found-none, one-spelled, one-stands}
-use Rattle.text_program.proofs.ByIndex.{few-signals, indexed}
+use Rattle.text_program.proofs.ByIndex.{few-signals, indexes}
 use Rattle.read_rule.specs.Reads.{rateIn}
 use Rattle.check_latency.proofs.Indices.{rate-at, read-signal}
 use Rattle.check_latency.proofs.hop_at.Statement.{statement}
@@ -18,7 +18,8 @@ use Rattle.check_latency.proofs.hop_at.Tie as tie
 one-read-requires : tie.Need-one-read-requires
 one-read-requires c κs =
     let s = c .before .before .before .before in
-    (few-signals _ _ _ (s .pre .1) (s .pre .2), indexed _ _ _ (s .pre))
+    let k = s .pre .1 in
+    (few-signals _ _ _ (k .declares) (k .tables-are), (s .pre .0, indexes k))
 
 returns : tie.Need-returns
 returns c =
@@ -26,7 +27,7 @@ returns c =
     let c8 = c3 .before .before .before .before .before in
     let a = c8 .args in
     λ p s k lw lr n.
-    let f = c3 .one-read .ensures p (k .parsed) in
+    let f = c3 .one-read .ensures p (indexes (k .stands)) in
     let z = found-none _ _ (sym f ∙ c .before .enum-told .given .1) in
     absurd (eqb-false (countReads (a .w) (bodyReads (signalAt p (a .r) .body))) 1 z n)
 
@@ -35,8 +36,8 @@ taken-at-requires c κs =
     let c3 = c .before .before .before in
     let c8 = c3 .before .before .before .before .before in
     let s = c8 in
-    let f = c3 .one-read .ensures (s .pre .0) (s .pre .1) in
-    one-stands _ _ (s .pre .1) _ _ _ (sym f ∙ c .before .found .given .1)
+    let f = c3 .one-read .ensures (s .pre .0) (indexes (s .pre .1)) in
+    one-stands _ _ (s .pre .1 .declares) _ _ _ (sym f ∙ c .before .found .given .1)
 
 returns-2 : tie.Need-returns-2
 unfolding settled
@@ -51,10 +52,10 @@ returns-2 c =
     let read = c3 .timing-at in
     let reader = c .before .before .timing-at2 in
     λ p s k lw lr n.
-    let f = c8 .one-read .ensures p (k .parsed) in
+    let f = c8 .one-read .ensures p (indexes (k .stands)) in
     let ρ : Read = readAmong (a .w) (bodyReads (signalAt p (a .r) .body)) in
     let taken : _≡_ {A = Taken} (t .result) (record { kind = ρ .kind; operands = ρ .operands }) =
-    t .ensures .is (ρ .kind) (ρ .operands) (one-spelled _ p (k .parsed) _ _ _ (sym f ∙ c6 .found .given .1)) in
+    t .ensures .is (ρ .kind) (ρ .operands) (one-spelled _ p (k .stands .declares) _ _ _ (sym f ∙ c6 .found .given .1)) in
     let w : rateIn (read .result) ≡ rateOf p s (ρ .operands .signal) =
     ap rateIn (read .ensures) ∙ rate-at k (a .w) lw ∙
     ap (rateOf p s) (sym (read-signal (a .w) (bodyReads (signalAt p (a .r) .body)) (omega (arith, n)))) in

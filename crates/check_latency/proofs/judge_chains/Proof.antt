@@ -31,25 +31,25 @@ Rest p s h x = Left chainPlaces (untimely p s h) (timely p s h) (p .chains) x
 
 abbrev Inv-loop : tie.InvT-loop
 Inv-loop text reads tables periods phases h starts chain₀ chain =
-    (p : Program) (s : Schedule) → Timed text tables periods phases h p s → Rest p s h chain
+    (p : Program) (s : Schedule) → Timed text reads tables periods phases h p s → Rest p s h chain
 
 abbrev μ-loop : tie.MeasureT-loop
 μ-loop text reads tables periods phases h starts chain₀ chain = tables .chains - chain
 
 few : (c : tie.Then1 Inv-loop μ-loop) → c .before .before .loop .chain < 16
 few c =
-    let k = c .before .before .before .before .before .before .pre .0 .2 .joined .known in
-    omega (arith, c .if1 .taken, few-chains _ _ (_, k .parsed, k .tables-are))
+    let k = c .before .before .before .before .before .before .pre .2 .joined .known in
+    omega (arith, c .if1 .taken, few-chains (k .stands))
 
 loop-holds : tie.Need-loop-holds Inv-loop μ-loop
 unfolding timely
 loop-holds c =
-    λ p s t. let h = rising-program _ p (t .joined .known .parsed) in check-starts _ _ _ _ 0 (h .0) (h .1 .chains) refl
+    λ p s t. let h = rising-program _ p (t .joined .known .stands .declares) in check-starts _ _ _ _ 0 (h .0) (h .1 .chains) refl
 
 keeps-time-requires : tie.Need-keeps-time-requires Inv-loop μ-loop
 keeps-time-requires c κs =
     let a = c .before .before .before .before .before .before in
-    (a .pre .0, c .if1 .taken, a .pre .1)
+    (a .pre, c .if1 .taken)
 
 returns : tie.Need-returns Inv-loop μ-loop
 returns c =
@@ -58,8 +58,8 @@ returns c =
     let l = b .before .before .loop in
     λ p s t.
     let k = t .joined .known in
-    let lt : l .chain < length (p .chains) = omega (arith, b .if1 .taken, k .tables-are .counts .chains-are) in
-    let r = ap (λ n. Judged.Refused (fault 16 n)) (c .from-entry .ensures .0 ∙ k .tables-are .starts (l .chain) lt) in
+    let lt : l .chain < length (p .chains) = omega (arith, b .if1 .taken, k .stands .tables-are .counts .chains-are) in
+    let r = ap (λ n. Judged.Refused (fault 16 n)) (c .from-entry .ensures .0 ∙ k .stands .tables-are .starts (l .chain) lt) in
     check-refuses _ _ _ _ (l .chain) noChain lt (l .inv p s t) _
     (r ∙ lat-judged (fault 16 (chainAt p (l .chain) .place)) _ _
     (sym (d .before .keeps-time .ensures p s t) ∙ not-true (d .before .keeps-time .result) (d .if2 .taken)))
@@ -70,7 +70,8 @@ loop-again c =
     let b = c .before .before in
     let l = b .before .before .loop in
     λ p s t.
-    let lt : l .chain < length (p .chains) = omega (arith, b .if1 .taken, t .joined .known .tables-are .counts .chains-are) in
+    let n = t .joined .known .stands .tables-are .counts .chains-are in
+    let lt : l .chain < length (p .chains) = omega (arith, b .if1 .taken, n) in
     subst (Rest p s _) (omega arith)
     (check-passes _ _ _ _ (l .chain) noChain lt (l .inv p s t) Judged.Fine
     (lat-judged (fault 16 (chainAt p (l .chain) .place)) _ _
@@ -80,7 +81,8 @@ returns-2 : tie.Need-returns-2 Inv-loop μ-loop
 returns-2 c =
     let l = c .before .before .loop in
     λ p s t.
-    check-ends _ _ _ _ (l .chain) (omega (arith, c .if1 .left, t .joined .known .tables-are .counts .chains-are)) (l .inv p s t)
+    check-ends _ _ _ _ (l .chain)
+    (omega (arith, c .if1 .left, t .joined .known .stands .tables-are .counts .chains-are)) (l .inv p s t)
 
 pub judge-chains-spec : {M : Type 1} → statement M
 judge-chains-spec =

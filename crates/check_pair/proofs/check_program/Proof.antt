@@ -3,9 +3,9 @@ use mathlib.Core.Path.{_≡_, refl, sym, ap, _∙_}
 use denote.Ref.{now}
 use borrow.Author.Needs.{needs}
 use Rattle.model.specs.Rules.Outcome.{accepted}
-use Rattle.model.specs.Rules.Program.{Program, parseProgram}
+use Rattle.model.specs.Rules.Program.{Program}
 use Rattle.model.specs.Rules.Rates.{declaredAndRated, hypercycle}
-use Rattle.text_program.specs.Tables.{TablesOf}
+use Rattle.text_program.specs.Tables.{TablesOf, Stands}
 use Rattle.text_program.proofs.ByIndex.{few-signals}
 use Rattle.check_pair.specs.Groups.{ratesOf}
 use Rattle.basics.proofs.Judgements.{
@@ -26,7 +26,8 @@ module _ (e : tie.After-enum-told) where
   abbrev start : tie.Start
   start = e .before .before .before .before .before
 
-  rated : (p : Program) → parseProgram (now (start .args .text)) ≡ accepted p → declaredAndRated p ≡ accepted tt
+  rated : (p : Program) → Stands (now (start .args .text)) (now (start .args .reads)) (start .args .tables) p →
+      declaredAndRated p ≡ accepted tt
   rated p q = judgement-fine _ _ (e .before .before .check-rates .ensures p q) (e .enum-told .given .1)
 
 -- and 9
@@ -46,44 +47,46 @@ module _ (e : tie.After-enum-told3) where
 
 returns : tie.Need-returns
 unfolding ratesOf
-returns c p e t =
+returns c p e =
     let told = c .before .enum-told2 .given in
     let d = c .before .before .before .check-rates .ensures p e in
     answers-stop _ _ _ _ _ (judgement-refused _ _ _ d (told .1)) (c .unrated .ensures ∙ told .1)
 
 check-hypercycle-requires : tie.Need-check-hypercycle-requires
-check-hypercycle-requires c κs = let known = start (c .before .before) .pre in few-signals _ _ _ (known .1) (known .2)
+check-hypercycle-requires c κs =
+    let known = start (c .before .before) .pre .1 in few-signals _ _ _ (known .declares) (known .tables-are)
 
 returns-2 : tie.Need-returns-2
 unfolding ratesOf
-returns-2 c p e t =
+returns-2 c p e =
     let told = c .before .enum-told4 .given .1 in
     let h = c .before .before .before in
     answers-then _ _ _ _ _ (rated (h .before .before .before) p e)
     (answers-stop _ _ _ _ _
-    (answers-refused _ _ _ _ (h .check-hypercycle .ensures p (t .counts .signals-are) (t .periods)) told)
+    (answers-refused _ _ _ _ (h .check-hypercycle .ensures p (e .tables-are .counts .signals-are) (e .tables-are .periods))
+    told)
     (c .unrated2 .ensures ∙ told))
 
 returns-3 : tie.Need-returns-3
 unfolding ratesOf
-returns-3 c p e t =
+returns-3 c p e =
     let told = c .before .enum-told6 .given .1 in
     let l = c .before .before .before in
     answers-then _ _ _ _ _ (rated (passed (l .before)) p e)
-    (answers-then _ _ _ _ _ (common (l .before) p t)
-    (answers-stop _ _ _ _ _ (judgement-refused _ _ _ (l .check-links .ensures p e t) told) (c .unrated3 .ensures ∙ told)))
+    (answers-then _ _ _ _ _ (common (l .before) p (e .tables-are))
+    (answers-stop _ _ _ _ _ (judgement-refused _ _ _ (l .check-links .ensures p e) told) (c .unrated3 .ensures ∙ told)))
 
 check-table-requires : tie.Need-check-table-requires
-check-table-requires c κs = let known = start (passed (c .before .before .before)) .pre in (known .0, known .1, known .2)
+check-table-requires c κs = (_, start (passed (c .before .before .before)) .pre)
 
 returns-4 : tie.Need-returns-4
 unfolding ratesOf
-returns-4 c p e t =
+returns-4 c p e =
     let l = c .before .before .before in
     answers-then _ _ _ _ _ (rated (passed (l .before)) p e)
-    (answers-then _ _ _ _ _ (common (l .before) p t)
-    (answers-then _ _ _ _ _ (judgement-fine _ _ (l .check-links .ensures p e t) (c .before .enum-told5 .given .1))
-    (answers-last _ _ _ _ (judgement-answers _ _ _ (c .check-table .ensures p e t) (λ _. refl)))))
+    (answers-then _ _ _ _ _ (common (l .before) p (e .tables-are))
+    (answers-then _ _ _ _ _ (judgement-fine _ _ (l .check-links .ensures p e) (c .before .enum-told5 .given .1))
+    (answers-last _ _ _ _ (judgement-answers _ _ _ (c .check-table .ensures p _ e) (λ _. refl)))))
 
 pub check-program-spec : {M : Type 1} → statement M
 check-program-spec =

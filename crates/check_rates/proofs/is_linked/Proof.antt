@@ -5,11 +5,10 @@ use native.Mathlib.Omega.{arith}
 use denote.Ref.{now}
 use lib.ListN.{length}
 use borrow.Author.Needs.{needs}
-use Rattle.model.specs.Rules.Outcome.{accepted}
-use Rattle.model.specs.Rules.Program.{Program, parseProgram}
-use Rattle.text_program.specs.Tables.{TablesOf, chainAt}
+use Rattle.model.specs.Rules.Program.{Program}
+use Rattle.text_program.specs.Tables.{Stands, chainAt}
 use Rattle.check_rates.proofs.Counting.{found-one, found-none}
-use Rattle.text_program.proofs.ByIndex.{few-signals, indexed}
+use Rattle.text_program.proofs.ByIndex.{few-signals, indexes}
 use Rattle.check_rates.proofs.Linking.{
   LinksLeft,
   link-inside,
@@ -25,7 +24,7 @@ use Rattle.check_rates.proofs.is_linked.Tie as tie
 
 abbrev Inv-loop : tie.InvT-loop
 Inv-loop text reads tables chain firsts at₀ left₀ at left =
-    (p : Program) → parseProgram text ≡ accepted p → TablesOf p tables → LinksLeft text p (chainAt p chain .links) at left
+    (p : Program) → Stands text reads tables p → LinksLeft text p (chainAt p chain .links) at left
 
 abbrev μ-loop : tie.MeasureT-loop
 μ-loop text reads tables chain firsts at₀ left₀ at left = left
@@ -38,25 +37,23 @@ inside : (c : tie.In-loop Inv-loop μ-loop) →
     c .before .loop .at + 4 ≤ length (now (begun (c .before .before) .args .text))
 inside c =
     let r = begun (c .before .before) .pre .0 in
-    link-inside _ _ _ _ _ (c .before .loop .inv (r .0) (r .1) (r .2)) (c .loop-test .taken)
+    link-inside _ _ _ _ _ (c .before .loop .inv (r .0) (r .1)) (c .loop-test .taken)
 
 few : (c : tie.After-lengths Inv-loop μ-loop) → c .before .before .before .before .before .args .chain < 16
 few c =
     let s = c .before .before .before .before .before in
-    let r = s .pre .0 in
-    omega (arith, s .pre .1, few-chains _ _ (r .0, r .1, r .2))
+    omega (arith, s .pre .1, few-chains (s .pre .0 .1))
 
 add-at : tie.Need-add-at Inv-loop μ-loop
 add-at c =
     let s = c .before .before .before .before .before .before .before in
-    let r = s .pre .0 in
-    omega (arith, c .before .from-entry .ensures .0, chain-inside _ _ _ (s .pre .1) (r .0, r .1, r .2))
+    omega (arith, c .before .from-entry .ensures .0, chain-inside (s .pre .0 .1) _ (s .pre .1))
 
 loop-holds : tie.Need-loop-holds Inv-loop μ-loop
 loop-holds c =
-    λ p q t.
+    λ p q.
     rw (c .before .in-program .ensures, c .before .before .from-entry .ensures .0, c .from-byte .ensures .0)
-    (chain-begins _ _ _ (begun c .pre .1) p q t)
+    (chain-begins q _ (begun c .pre .1))
 
 shared-slice-read-signal : tie.Need-shared-slice-read-signal Inv-loop μ-loop
 shared-slice-read-signal c = omega (arith, inside (c .before .before .before))
@@ -65,7 +62,8 @@ one-read-requires : tie.Need-one-read-requires Inv-loop μ-loop
 one-read-requires c κs =
     let c6 = c .before .before .before .before .before .before in
     let s = begun c6 in
-    (few-signals _ _ _ (s .pre .0 .1) (s .pre .0 .2), indexed _ _ _ (s .pre .0))
+    let k = s .pre .0 .1 in
+    (few-signals _ _ _ (k .declares) (k .tables-are), (s .pre .0 .0, indexes k))
 
 returns : tie.Need-returns Inv-loop μ-loop
 returns c =
@@ -73,9 +71,9 @@ returns c =
     let c7 = c6 .before in
     let b = c7 in
     let two = c6 .in-program2 .ensures in
-    λ p q t.
-    let r = rw two at (c .before .before .one-read .ensures p q) in
-    sym (link-broken _ _ _ _ _ (b .before .loop .inv p q t) (b .loop-test .taken)
+    λ p q.
+    let r = rw two at (c .before .before .one-read .ensures p (indexes q)) in
+    sym (link-broken _ _ _ _ _ (b .before .loop .inv p q) (b .loop-test .taken)
     (found-none _ _ (sym r ∙ c .enum-told2 .given .1)))
 
 sub-left : tie.Need-sub-left Inv-loop μ-loop
@@ -90,13 +88,13 @@ loop-again c =
     let c7 = c6 .before in
     let b = c7 in
     let two = c6 .in-program2 .ensures in
-    λ p q t.
-    let r = rw two at (c .before .before .one-read .ensures p q) in
+    λ p q.
+    let r = rw two at (c .before .before .one-read .ensures p (indexes q)) in
     rw two
-    (link-on _ _ _ _ _ (b .before .loop .inv p q t) (b .loop-test .taken) (found-one _ _ _ (sym r ∙ c .enum-told .given .1) .0))
+    (link-on _ _ _ _ _ (b .before .loop .inv p q) (b .loop-test .taken) (found-one _ _ _ (sym r ∙ c .enum-told .given .1) .0))
 
 returns-2 : tie.Need-returns-2 Inv-loop μ-loop
-returns-2 c = λ p q t. sym (link-over _ _ _ _ _ (c .before .loop .inv p q t) (omega (arith, c .loop-test .left)))
+returns-2 c = λ p q. sym (link-over _ _ _ _ _ (c .before .loop .inv p q) (omega (arith, c .loop-test .left)))
 
 pub is-linked-spec : {M : Type 1} → statement M
 is-linked-spec =

@@ -1,15 +1,15 @@
 -- `check_rates::judge_chain` meets its contract. Assumes nothing.
 use Prim.Native.Nat.{ℕ, _+_, _*_, _-_, _≤_, _<_}
-use mathlib.Core.List.{[], _∷_}
+use mathlib.Core.List.{List, [], _∷_}
 use mathlib.Core.Path.{_≡_, refl, ap, subst}
 use native.Mathlib.Omega.{arith}
 use denote.Ref.{now}
 use lib.ListN.{length, getD}
 use borrow.Author.Needs.{needs}
-use Rattle.model.specs.Rules.Outcome.{accepted, lowest}
-use Rattle.model.specs.Rules.Program.{Program, Link, parseProgram}
+use Rattle.model.specs.Rules.Outcome.{lowest}
+use Rattle.model.specs.Rules.Program.{Program, Link}
 use Rattle.model.specs.Rules.Rates.{linkFaults}
-use Rattle.text_program.specs.Tables.{chainAt, ReadAs}
+use Rattle.text_program.specs.Tables.{chainAt, Stands}
 use Rattle.text_program.specs.declared.Tables.{Tables}
 use Rattle.text_program.proofs.ByIndex.{noLink}
 use Rattle.text_program.proofs.InTurn.{Left, check-starts, check-passes, check-refuses, check-ends, links-in-turn}
@@ -26,7 +26,7 @@ Rest p x j =
 
 abbrev Inv-loop : tie.InvT-loop
 Inv-loop text tables chain first links i₀ i =
-    (i ≤ links) × ((p : Program) → parseProgram text ≡ accepted p → Rest p chain i)
+    (i ≤ links) × ((p : Program) (reads : List ℕ) → Stands text reads tables p → Rest p chain i)
 
 abbrev μ-loop : tie.MeasureT-loop
 μ-loop text tables chain first links i₀ i = links - i
@@ -38,14 +38,14 @@ module _ (a : tie.Start Inv-loop μ-loop) where
   abbrev x : ℕ
   x = a .args .chain
 
-  abbrev read : ReadAs (now (a .args .text)) t
-  read = a .pre .0
+  abbrev known : Stands (now (a .args .text)) (a .pre .0 .0) t (a .pre .0 .1 .0)
+  known = a .pre .0 .1 .1
 
   below : x < 16
-  below = omega (arith, a .pre .1, few-chains _ t read)
+  below = omega (arith, a .pre .1, few-chains known)
 
   inside : getD (t .starts) x 0 + 4 ≤ length (now (a .args .text))
-  inside = chain-inside _ t x (a .pre .1) read
+  inside = chain-inside known x (a .pre .1)
 
 -- where a LINK stands
 module _ (c : tie.After-in-program2 Inv-loop μ-loop) where
@@ -75,7 +75,7 @@ module _ (c : tie.After-in-program2 Inv-loop μ-loop) where
   -- in the text
   ends : (place + 2 ≤ length (now (start .args .text))) × (length (now (start .args .text)) ≤ 18446744073709551615)
   ends = (
-    link-inside _ (t start) (read start) (read start .0) (read start .1) (x start) (start .pre .1) i within,
+    link-inside (known start) (x start) (start .pre .1) i within,
     omega (arith, start .good .0 .1),
   )
 
@@ -88,8 +88,8 @@ loop-holds : tie.Need-loop-holds Inv-loop μ-loop
 loop-holds c =
     let a = c .before .before .before .before .before .before in (
       omega arith,
-      λ p e.
-          let r = links-in-turn _ p e (x a) (omega (arith, a .pre .1, chains-are _ (t a) (read a) p e)) in
+      λ p reads e.
+          let r = links-in-turn _ p (e .declares) (x a) (omega (arith, a .pre .1, chains-are e)) in
           check-starts _ _ _ _ (r .0) (r .1) (r .2) refl,
     )
 
@@ -102,10 +102,10 @@ returns c =
     let s = j .before .before .before .before in
     let a = start s in
     let lt = within s in
-    λ p e.
-    check-refuses _ _ _ _ (i s) noLink (link-seen _ (t a) (read a) p e (x a) (a .pre .1) (i s) lt)
-    (s .before .before .loop .inv .1 p e)
-    _ (one-link _ (t a) (read a) p e (x a) (a .pre .1) (i s) lt _ _ _ (stands s) (j .before .before .from-byte2 .ensures .0)
+    λ p reads e.
+    check-refuses _ _ _ _ (i s) noLink (link-seen e (x a) (a .pre .1) (i s) lt)
+    (s .before .before .loop .inv .1 p reads e)
+    _ (one-link e (x a) (a .pre .1) (i s) lt _ _ _ (stands s) (j .before .before .from-byte2 .ensures .0)
     (j .judge-rate .ensures)) (link-at-place p) _ (c .enum-told2 .given .1)
 
 add-i : tie.Need-add-i Inv-loop μ-loop
@@ -121,10 +121,10 @@ loop-again c =
     let a = start s in
     let lt = within s in (
       omega (arith, s .before .loop-test .taken),
-      λ p e.
+      λ p reads e.
           subst (Rest p (x a)) (omega arith)
-          (check-passes _ _ _ _ (i s) noLink (link-seen _ (t a) (read a) p e (x a) (a .pre .1) (i s) lt)
-          (s .before .before .loop .inv .1 p e) _ (one-link _ (t a) (read a) p e (x a) (a .pre .1) (i s) lt _ _ _ (stands s)
+          (check-passes _ _ _ _ (i s) noLink (link-seen e (x a) (a .pre .1) (i s) lt)
+          (s .before .before .loop .inv .1 p reads e) _ (one-link e (x a) (a .pre .1) (i s) lt _ _ _ (stands s)
           (j .before .before .from-byte2 .ensures .0) (j .judge-rate .ensures)) (c .enum-told .given .1)),
     )
 
@@ -133,10 +133,10 @@ returns-2 c =
     let l = c .before .loop in
     let n = c .before .before in
     let a = n .before .before .before .before .before .before in
-    λ p e.
+    λ p reads e.
     check-ends _ _ _ _ (l .i)
-    (omega (arith, length-is _ (t a) (read a) p e (x a) (a .pre .1), n .from-byte .ensures .0, c .loop-test .left))
-    (l .inv .1 p e)
+    (omega (arith, length-is e (x a) (a .pre .1), n .from-byte .ensures .0, c .loop-test .left))
+    (l .inv .1 p reads e)
 
 pub judge-chain-spec : {M : Type 1} → statement M
 judge-chain-spec =

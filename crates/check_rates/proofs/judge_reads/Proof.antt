@@ -3,10 +3,9 @@ use Prim.Native.Nat.{ℕ, _-_, _≤_}
 use mathlib.Core.Path.{_≡_, refl, subst}
 use native.Mathlib.Omega.{arith}
 use borrow.Author.Needs.{needs}
-use Rattle.model.specs.Rules.Outcome.{accepted, lowest}
-use Rattle.model.specs.Rules.Program.{Program, noSignal, parseProgram}
-use Rattle.text_program.specs.Tables.{PeriodsOf}
-use Rattle.text_program.proofs.ByIndex.{counted}
+use Rattle.model.specs.Rules.Outcome.{lowest}
+use Rattle.model.specs.Rules.Program.{Program, noSignal}
+use Rattle.text_program.specs.Tables.{PeriodsOf, Indexes}
 use Rattle.text_program.proofs.InTurn.{Left, check-starts, check-passes, check-refuses, check-ends}
 use Rattle.text_program.proofs.Rising.{signalPlaces, rising-program}
 use Rattle.check_rates.specs.Rates.{signalRates, readRates}
@@ -20,14 +19,14 @@ Rest p x = Left signalPlaces (λ s σ. signalRates p σ) (lowest (readRates p)) 
 
 abbrev Inv-loop : tie.InvT-loop
 Inv-loop text reads firsts count periods reader₀ reader =
-    (reader ≤ count) × ((p : Program) → parseProgram text ≡ accepted p → PeriodsOf p periods → Rest p reader)
+    (reader ≤ count) × ((p : Program) → Indexes text reads firsts count p → PeriodsOf p periods → Rest p reader)
 
 abbrev μ-loop : tie.MeasureT-loop
 μ-loop text reads firsts count periods reader₀ reader = count - reader
 
 loop-holds : tie.Need-loop-holds Inv-loop μ-loop
 loop-holds c =
-    (omega arith, λ p e t. let h = rising-program _ p e in check-starts _ _ _ _ 0 (h .0) (h .1 .signals) refl)
+    (omega arith, λ p e t. let h = rising-program _ p (e .declares) in check-starts _ _ _ _ 0 (h .0) (h .1 .signals) refl)
 
 judge-signal-requires : tie.Need-judge-signal-requires Inv-loop μ-loop
 judge-signal-requires c κs =
@@ -39,7 +38,7 @@ returns c =
     let l = s .before .before .loop in
     let a = s .before .before .before .before .before in
     λ p e t.
-    check-refuses _ _ _ _ (l .reader) noSignal (omega (arith, s .before .loop-test .taken, counted (a .pre .1) p e))
+    check-refuses _ _ _ _ (l .reader) noSignal (omega (arith, s .before .loop-test .taken, e .count-is))
     (l .inv .1 p e t) _ (s .judge-signal .ensures p e t) (signal-at p) _ (c .enum-told2 .given .1)
 
 add-reader : tie.Need-add-reader Inv-loop μ-loop
@@ -57,7 +56,7 @@ loop-again c =
       omega (arith, s .before .loop-test .taken),
       λ p e t.
           subst (Rest p) (omega arith)
-          (check-passes _ _ _ _ (l .reader) noSignal (omega (arith, s .before .loop-test .taken, counted (a .pre .1) p e))
+          (check-passes _ _ _ _ (l .reader) noSignal (omega (arith, s .before .loop-test .taken, e .count-is))
           (l .inv .1 p e t) _ (s .judge-signal .ensures p e t) (c .enum-told .given .1)),
     )
 
@@ -66,7 +65,7 @@ returns-2 c =
     let l = c .before .loop in
     λ p e t.
     check-ends _ _ _ _ (l .reader)
-    (omega (arith, counted (c .before .before .before .before .pre .1) p e, c .loop-test .left)) (l .inv .1 p e t)
+    (omega (arith, e .count-is, c .loop-test .left)) (l .inv .1 p e t)
 
 pub judge-reads-spec : {M : Type 1} → statement M
 judge-reads-spec =

@@ -7,12 +7,11 @@ use native.Mathlib.Omega.{arith}
 use denote.Ref.{now}
 use lib.ListN.{length, getD}
 use borrow.Author.Needs.{needs}
-use Rattle.model.specs.Rules.Outcome.{accepted}
-use Rattle.model.specs.Rules.Program.{Program, signalAt, bodyReads, parseProgram}
+use Rattle.model.specs.Rules.Program.{Program, signalAt, bodyReads}
 use Rattle.model.specs.declared.Found.the-variants.{At, Nowhere}
 use Rattle.text_command.specs.Operator.{ReadStands}
-use Rattle.text_program.specs.Tables.{Indexed}
-use Rattle.text_program.proofs.ByIndex.{counted, in-table, read-stands, rises-at}
+use Rattle.text_program.specs.Tables.{Indexes, Indexed}
+use Rattle.text_program.proofs.ByIndex.{in-table, read-stands, rises-at}
 use Rattle.check_rates.specs.Rates.{oneRead}
 use Rattle.check_rates.proofs.Counting.{
   Searched,
@@ -32,7 +31,8 @@ use Rattle.check_rates.proofs.one_read.Tie as tie
 abbrev Inv-loop : tie.InvT-loop
 Inv-loop text reads firsts count before signal index first end i₀ many₀ found₀ i many found =
     (first ≤ i) × (i ≤ end) × (many ≤ i) ×
-    ((p : Program) → parseProgram text ≡ accepted p → Searched before (bodyReads (signalAt p index .body)) (i - first) many found)
+    ((p : Program) → Indexes text reads firsts count p →
+    Searched before (bodyReads (signalAt p index .body)) (i - first) many found)
 
 abbrev μ-loop : tie.MeasureT-loop
 μ-loop text reads firsts count before signal index first end i₀ many₀ found₀ i many found = end - i
@@ -81,18 +81,19 @@ module _ (b : tie.In-loop Inv-loop μ-loop) where
   high = omega (arith, b .loop-test .taken, b .before .before .from-entry2 .ensures .0)
 
   here : i < length (reads a)
-  here = in-table (ix a) (ix a .program) (ix a .parsed) (x a) i (lt a) low high
+  here = in-table (ix a .1) (x a) i (lt a) low high
 
   stands : ReadStands (text a) (getD (reads a) i 0)
-  stands = read-stands (ix a) (ix a .program) (ix a .parsed) (x a) i (lt a) low high
+  stands = read-stands (ix a .1) (x a) i (lt a) low high
 
 -- where it was seen
 module _ (c : tie.Joined2 Inv-loop μ-loop) where
   abbrev b : tie.In-loop Inv-loop μ-loop
   b = c .before .before .before .before
 
-  go-on : (p : Program) → parseProgram (text (a b)) ≡ accepted p →
-      Searched (w (a b)) (bodyReads (signalAt p (x (a b)) .body)) (i b + 1 - b .before .before .before .before .from-entry .result)
+  go-on : (p : Program) → Indexes (text (a b)) (reads (a b)) (firsts (a b)) (n (a b)) p →
+      Searched (w (a b)) (bodyReads (signalAt p (x (a b)) .body))
+      (i b + 1 - b .before .before .before .before .from-entry .result)
       (c .if2 .many) (c .if2 .found)
   go-on p e =
       let f = b .before .before .before .before .from-entry .ensures .0 in
@@ -101,9 +102,9 @@ module _ (c : tie.Joined2 Inv-loop μ-loop) where
       let v = b .before .loop .inv .3 p e in
       ⊎-elim
       (λ h. same-search _ _ (h .1) (h .2)
-      (one-hit (ix (a b)) p e (w (a b)) (x (a b)) (i b) (lt (a b)) _ f l (high b) _ z v (h .0 .taken)))
+      (one-hit e (w (a b)) (x (a b)) (i b) (lt (a b)) _ f l (high b) _ z v (h .0 .taken)))
       (λ h. same-search _ _ (h .1) (h .2)
-      (one-missed (ix (a b)) p e (w (a b)) (x (a b)) (i b) (lt (a b)) _ f l (high b) _ z v (h .0 .left)))
+      (one-missed e (w (a b)) (x (a b)) (i b) (lt (a b)) _ f l (high b) _ z v (h .0 .left)))
       (c .if2 .came)
 
 -- where all are seen
@@ -111,26 +112,25 @@ module _ (d : tie.After-loop Inv-loop μ-loop) where
   abbrev o : tie.Else1 Inv-loop μ-loop
   o = d .before .before .before .before .before .before
 
-  all-seen : (p : Program) → parseProgram (text o) ≡ accepted p →
+  all-seen : (p : Program) → Indexes (text o) (reads o) (firsts o) (n o) p →
       d .before .loop .i - d .before .before .before .before .from-entry .result ≡ length (bodyReads (signalAt p (x o) .body))
   all-seen p e =
       let v = d .before .loop .inv in
       let h : getD (firsts o) (x o + 1) 0 ≡ d .before .loop .i =
       omega (arith, v .1, d .loop-test .left, d .before .before .from-entry2 .ensures .0) in
-      over (ix o) p e (w o) (x o) (d .before .loop .i) (lt o) _ (d .before .before .before .before .from-entry .ensures .0) (v .0) h
+      over e (w o) (x o) (d .before .loop .i) (lt o) _ (d .before .before .before .before .from-entry .ensures .0) (v .0) h
 
 returns : tie.Need-returns Inv-loop μ-loop
 returns c =
-    let s = c .before .before .before .before in
     let v = c .before .from-byte .ensures .0 in
-    λ p e. none-far p _ _ (omega (arith, counted (s .pre .1) p e, v, c .if1 .taken))
+    λ p e. none-far p _ _ (omega (arith, e .count-is, v, c .if1 .taken))
 
 loop-holds : tie.Need-loop-holds Inv-loop μ-loop
 loop-holds c =
     let a = c .before .before .before .before in
     let f = c .before .before .from-entry in (
       omega arith,
-      omega (arith, f .ensures .0, c .from-entry2 .ensures .0, rises-at (ix a) (x a) (lt a)),
+      omega (arith, f .ensures .0, c .from-entry2 .ensures .0, rises-at (ix a .1) (x a) (lt a)),
       omega arith,
       λ p e. search-starts _ _ _ (omega arith),
     )

@@ -5,13 +5,12 @@ use mathlib.Core.Path.{_≡_, refl, subst}
 use native.Mathlib.Omega.{arith}
 use borrow.Author.Needs.{needs}
 use Rattle.model.specs.Rules.Outcome.{accepted}
-use Rattle.model.specs.Rules.Program.{Program, noSignal, bodyReads, parseProgram}
+use Rattle.model.specs.Rules.Program.{Program, noSignal, bodyReads}
 use Rattle.model.specs.Rules.Rates.{declaredAndRated}
 use Rattle.model.specs.Rules.Reads.{met}
 use Rattle.model.specs.Rules.Schedule.{Schedule}
 use Rattle.model.specs.Rules.Search.{joinFrom}
-use Rattle.text_program.specs.Tables.{PeriodsOf, SlotsOf}
-use Rattle.text_program.proofs.ByIndex.{counted}
+use Rattle.text_program.specs.Tables.{PeriodsOf, SlotsOf, Indexes}
 use Rattle.text_program.proofs.InTurn.{Left, check-starts, check-passes, check-refuses, check-ends}
 use Rattle.text_program.proofs.Rising.{signalPlaces, rising-program}
 use Rattle.check_reads.proofs.Judging.{readFault, signal-at}
@@ -25,7 +24,7 @@ Rest p s x = Left signalPlaces (λ r σ. joinFrom 0 (λ i ρ. readFault p s r ρ
 abbrev Inv-loop : tie.InvT-loop
 Inv-loop text reads firsts signals periods phases ranks reader₀ reader =
     (reader ≤ signals) ×
-    ((p : Program) → parseProgram text ≡ accepted p → (s : Schedule) (order : List ℕ) → declaredAndRated p ≡ accepted tt →
+    ((p : Program) → Indexes text reads firsts signals p → (s : Schedule) (order : List ℕ) → declaredAndRated p ≡ accepted tt →
     PeriodsOf p periods → SlotsOf p s order phases ranks → Rest p s reader)
 
 abbrev μ-loop : tie.MeasureT-loop
@@ -33,8 +32,10 @@ abbrev μ-loop : tie.MeasureT-loop
 
 loop-holds : tie.Need-loop-holds Inv-loop μ-loop
 unfolding met
-loop-holds c =
-    (omega arith, λ p e s order q t o. let h = rising-program _ p e in check-starts _ _ _ _ 0 (h .0) (h .1 .signals) refl)
+loop-holds c = (
+  omega arith,
+  λ p e s order q t o. let h = rising-program _ p (e .declares) in check-starts _ _ _ _ 0 (h .0) (h .1 .signals) refl,
+)
 
 signal-met-requires : tie.Need-signal-met-requires Inv-loop μ-loop
 signal-met-requires c κs =
@@ -44,9 +45,8 @@ returns : tie.Need-returns Inv-loop μ-loop
 returns c =
     let k = c .before .before in
     let l = k .before .before .loop in
-    let a = k .before .before .before .before .before in
     λ p e s order q t o.
-    check-refuses _ _ _ _ (l .reader) noSignal (omega (arith, k .before .loop-test .taken, counted (a .pre .2) p e))
+    check-refuses _ _ _ _ (l .reader) noSignal (omega (arith, k .before .loop-test .taken, e .count-is))
     (l .inv .1 p e s order q t o) _ (k .signal-met .ensures p e s order q t o) (signal-at p s) _ (c .enum-told2 .given .1)
 
 add-reader : tie.Need-add-reader Inv-loop μ-loop
@@ -59,12 +59,11 @@ loop-less c = omega (arith, c .before .before .before .loop-test .taken)
 loop-again : tie.Need-loop-again Inv-loop μ-loop
 loop-again c =
     let k = c .before .before in
-    let l = k .before .before .loop in
-    let a = k .before .before .before .before .before in (
+    let l = k .before .before .loop in (
       omega (arith, k .before .loop-test .taken),
       λ p e s order q t o.
           subst (Rest p s) (omega arith)
-          (check-passes _ _ _ _ (l .reader) noSignal (omega (arith, k .before .loop-test .taken, counted (a .pre .2) p e))
+          (check-passes _ _ _ _ (l .reader) noSignal (omega (arith, k .before .loop-test .taken, e .count-is))
           (l .inv .1 p e s order q t o) _ (k .signal-met .ensures p e s order q t o) (c .enum-told .given .1)),
     )
 
@@ -73,7 +72,7 @@ returns-2 c =
     let l = c .before .loop in
     λ p e s order q t o.
     check-ends _ _ _ _ (l .reader)
-    (omega (arith, counted (c .before .before .before .before .pre .2) p e, c .loop-test .left)) (l .inv .1 p e s order q t o)
+    (omega (arith, e .count-is, c .loop-test .left)) (l .inv .1 p e s order q t o)
 
 pub reads-met-spec : {M : Type 1} → statement M
 reads-met-spec =

@@ -7,13 +7,13 @@ use denote.Ref.{now}
 use lib.ListN.{length, getD}
 use borrow.Author.Needs.{needs}
 use Rattle.model.specs.Rules.Outcome.{accepted, lowest}
-use Rattle.model.specs.Rules.Program.{Program, Read, signalAt, bodyReads, parseProgram}
+use Rattle.model.specs.Rules.Program.{Program, Read, signalAt, bodyReads}
 use Rattle.model.specs.Rules.Rates.{declaredAndRated}
 use Rattle.model.specs.Rules.Schedule.{Schedule}
 use Rattle.basics.specs.Judgement.{judgementOf}
 use Rattle.text_command.specs.Operator.{ReadStands}
-use Rattle.text_program.specs.Tables.{PeriodsOf, SlotsOf, Indexed}
-use Rattle.text_program.proofs.ByIndex.{noRead, readAt, counted, all-seen, seen, in-table, read-stands, rises-at}
+use Rattle.text_program.specs.Tables.{PeriodsOf, SlotsOf, Indexes, Indexed}
+use Rattle.text_program.proofs.ByIndex.{noRead, readAt, all-seen, seen, in-table, read-stands, rises-at}
 use Rattle.text_program.proofs.InTurn.{Left, check-starts, check-passes, check-refuses, check-ends, reads-in-turn}
 use Rattle.check_reads.specs.Met.{unmet}
 use Rattle.check_reads.proofs.Judging.{readFault, read-at, one-read}
@@ -21,9 +21,9 @@ use Rattle.check_reads.proofs.signal_met.Statement.{statement}
 use Rattle.check_reads.proofs.signal_met.Tie as tie
 
 -- What holds of every pair that the text and the tables are of.
-abbrev Claim : List ℕ → List ℕ → List ℕ → List ℕ → (Program → Schedule → Type 0) → Type 0
-Claim text periods phases ranks C =
-    (p : Program) → parseProgram text ≡ accepted p → (s : Schedule) (order : List ℕ) → declaredAndRated p ≡ accepted tt →
+abbrev Claim : (Program → Type 0) → List ℕ → List ℕ → List ℕ → (Program → Schedule → Type 0) → Type 0
+Claim Known periods phases ranks C =
+    (p : Program) → Known p → (s : Schedule) (order : List ℕ) → declaredAndRated p ≡ accepted tt →
     PeriodsOf p periods → SlotsOf p s order phases ranks → C p s
 
 -- What is left of the reads of signal x from read j on.
@@ -33,7 +33,8 @@ Rest p s x j =
 
 abbrev Inv-loop : tie.InvT-loop
 Inv-loop text reads firsts signals periods phases ranks reader i₀ end i =
-    (getD firsts reader 0 ≤ i) × (i ≤ end) × Claim text periods phases ranks (λ p s. Rest p s reader (i - getD firsts reader 0))
+    (getD firsts reader 0 ≤ i) × (i ≤ end) ×
+    Claim (Indexes text reads firsts signals) periods phases ranks (λ p s. Rest p s reader (i - getD firsts reader 0))
 
 abbrev μ-loop : tie.MeasureT-loop
 μ-loop text reads firsts signals periods phases ranks reader i₀ end i = end - i
@@ -81,9 +82,9 @@ loop-holds c =
     let a = c .before .before .before .before .before .before in
     let f = c .before .before .from-entry .ensures .0 in (
       omega (arith, f),
-      omega (arith, f, c .from-entry2 .ensures .0, rises-at (a .pre .3) (a .args .reader) (a .pre .0)),
+      omega (arith, f, c .from-entry2 .ensures .0, rises-at (a .pre .3 .1) (a .args .reader) (a .pre .0)),
       λ p e s order q t o.
-          let r = reads-in-turn _ p e (a .args .reader) (omega (arith, a .pre .0, counted (a .pre .3) p e)) in
+          let r = reads-in-turn _ p (e .declares) (a .args .reader) (omega (arith, a .pre .0, e .count-is)) in
           subst (Rest p s (a .args .reader)) (omega (arith, f)) (check-starts _ _ _ _ (r .0) (r .1) (r .2) refl),
     )
 
@@ -92,28 +93,28 @@ mul-from-entry-3 c = omega (arith, c .loop-test .taken, c .before .before .from-
 
 shared-slice-read-from-entry : tie.Need-shared-slice-read-from-entry Inv-loop μ-loop
 shared-slice-read-from-entry c =
-    let b = c .before in in-table (ix b) (ix b .program) (ix b .parsed) (x b) (i b) (start b .pre .0) (low b) (high b)
+    let b = c .before in in-table (ix b .1) (x b) (i b) (start b .pre .0) (low b) (high b)
 
 taken-at-requires : tie.Need-taken-at-requires Inv-loop μ-loop
 taken-at-requires c κs =
     let b = c .before .before in
     subst (ReadStands _) (sym (c .from-entry3 .ensures .0))
-    (read-stands (ix b) (ix b .program) (ix b .parsed) (x b) (i b) (start b .pre .0) (low b) (high b))
+    (read-stands (ix b .1) (x b) (i b) (start b .pre .0) (low b) (high b))
 
 -- The read is judged as the definition does.
 module _ (j : tie.After-read-met Inv-loop μ-loop) (p : Program) where
   abbrev b : tie.In-loop Inv-loop μ-loop
   b = j .before .before .before .before .before
 
-  module _ (e : parseProgram (now (start b .args .text)) ≡ accepted p) where
+  module _ (e : Indexes (now (start b .args .text)) (now (start b .args .reads)) (firsts b) (start b .args .signals) p) where
     left : i b - getD (firsts b) (x b) 0 < length (bodyReads (signalAt p (x b) .body))
-    left = seen (ix b) p e (x b) (i b) (start b .pre .0) (low b) (high b)
+    left = seen e (x b) (i b) (start b .pre .0) (low b) (high b)
 
     judged : (s : Schedule) (order : List ℕ) → declaredAndRated p ≡ accepted tt → PeriodsOf p (now (start b .args .periods)) →
         SlotsOf p s order (now (start b .args .phases)) (now (start b .args .ranks)) →
         j .read-met .result ≡ judgementOf (lowest (readFault p s (x b) (readAt p (x b) (i b - getD (firsts b) (x b) 0))))
     judged s order q t o =
-        one-read (ix b) p e s order _ _ _ q t o (start b .pre .2) (x b) (i b) (start b .pre .0) (low b) (high b) _ _ _
+        one-read e s order _ _ _ q t o (start b .pre .2) (x b) (i b) (start b .pre .0) (low b) (high b) _ _ _
         (j .before .before .before .from-entry3 .ensures .0) (j .before .before .taken-at .ensures) (j .read-met .ensures)
 
 returns : tie.Need-returns Inv-loop μ-loop
@@ -151,11 +152,12 @@ returns-2 c =
     omega (arith, l .inv .1, c .loop-test .left, c .before .before .from-entry2 .ensures .0) in
     λ p e s order q t o.
     check-ends _ _ _ _ _
-    (omega (arith, all-seen (a .pre .3) p e (a .args .reader) (l .i) (a .pre .0) (l .inv .0) f)) (l .inv .2 p e s order q t o)
+    (omega (arith, all-seen e (a .args .reader) (l .i) (a .pre .0) (l .inv .0) f)) (l .inv .2 p e s order q t o)
 
 pub signal-met-spec : {M : Type 1} → statement M
 signal-met-spec =
     tie.close
     (tie.spec Inv-loop μ-loop mul-from-entry element-copy-out-from-entry (λ c κs. search needs) add-from-entry mul-from-entry-2
-    element-copy-out-from-entry-2 (λ c κs. search needs) loop-holds mul-from-entry-3 shared-slice-read-from-entry (λ c κs. search needs)
+    element-copy-out-from-entry-2 (λ c κs. search needs) loop-holds mul-from-entry-3 shared-slice-read-from-entry
+    (λ c κs. search needs)
     taken-at-requires (λ c κs. search needs) (λ c. search needs) (λ c. search needs) returns add-i loop-less loop-again returns-2)

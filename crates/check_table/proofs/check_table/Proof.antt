@@ -11,19 +11,18 @@ use Rattle.check_table.proofs.check_table.Tie as tie
 
 returns : tie.Need-returns
 unfolding judgementOf
-returns c p e t =
-    sym (ap judgementOf (tabled-by _ p _ e t false (sym (c .before .is-some .ensures) ∙ not-true _ (c .if1 .taken))))
+returns c p reads e =
+    sym (ap judgementOf (tabled-by e false (sym (c .before .is-some .ensures) ∙ not-true _ (c .if1 .taken))))
 
 check-rows-requires : tie.Need-check-rows-requires
 check-rows-requires c κs =
-    let known = c .before .before .before .before .before .pre in
-    rows-placed _ (known .0) _ (known .1) (known .2)
+    rows-placed (c .before .before .before .before .before .pre .1 .1)
 
 returns-2 : tie.Need-returns-2
-returns-2 c p e t =
+returns-2 c p reads e =
     let d = c .before .before .before in
-    c .check-rows .ensures ∙ ap (λ rows. judgementOf (covering rows)) (rows-are _ p _ e t) ∙
-    sym (ap judgementOf (tabled-by _ p _ e t true (sym (d .before .is-some .ensures) ∙ not-false _ (d .if1 .left))))
+    c .check-rows .ensures ∙ ap (λ rows. judgementOf (covering rows)) (rows-are e) ∙
+    sym (ap judgementOf (tabled-by e true (sym (d .before .is-some .ensures) ∙ not-false _ (d .if1 .left))))
 
 pub check-table-spec : {M : Type 1} → statement M
 check-table-spec = tie.close (tie.spec (λ c κs. search needs) returns check-rows-requires returns-2)

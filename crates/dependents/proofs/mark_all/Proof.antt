@@ -3,9 +3,8 @@ use Prim.Native.Nat.{_-_, _≤_}
 use mathlib.Core.Path.{_≡_}
 use native.Mathlib.Omega.{arith}
 use Rattle.model.specs.Rules.Dependents.{marksAfter}
-use Rattle.model.specs.Rules.Outcome.{accepted}
-use Rattle.model.specs.Rules.Program.{Program, parseProgram}
-use Rattle.text_program.proofs.ByIndex.{counted}
+use Rattle.model.specs.Rules.Program.{Program}
+use Rattle.text_program.specs.Tables.{Indexes}
 use Rattle.dependents.specs.Marks.{MarksBy}
 use Rattle.dependents.proofs.Marks.{no-marks, after-round, all-marks}
 use Rattle.dependents.proofs.mark_all.Statement.{statement}
@@ -13,7 +12,7 @@ use Rattle.dependents.proofs.mark_all.Tie as tie
 
 abbrev Inv-loop : tie.InvT-loop
 Inv-loop text reads firsts signals input marks₀ round₀ marks round =
-    (round ≤ signals) × ((p : Program) → parseProgram text ≡ accepted p → MarksBy (marksAfter p input round) marks)
+    (round ≤ signals) × ((p : Program) → Indexes text reads firsts signals p → MarksBy (marksAfter p input round) marks)
 
 abbrev μ-loop : tie.MeasureT-loop
 μ-loop text reads firsts signals input marks₀ round₀ marks round = signals - round
@@ -31,8 +30,7 @@ loop-again c =
 returns : tie.Need-returns Inv-loop μ-loop
 returns c =
     let l = c .before .loop in
-    let a = c .before .before .before .before in
-    λ p e. all-marks p _ (l .round) (omega (arith, counted (a .pre .indexed) p e, l .inv .0, c .loop-test .left)) (l .inv .1 p e)
+    λ p e. all-marks p _ (l .round) (omega (arith, e .count-is, l .inv .0, c .loop-test .left)) (l .inv .1 p e)
 
 pub mark-all-spec : {M : Type 1} → statement M
 mark-all-spec =

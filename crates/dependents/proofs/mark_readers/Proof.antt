@@ -6,9 +6,8 @@ use native.Mathlib.Omega.{arith}
 use denote.Ref.{now}
 use lib.ListN.{length, getD, length-set}
 use Rattle.model.specs.Rules.Dependents.{anyRead, markByte}
-use Rattle.model.specs.Rules.Outcome.{accepted}
-use Rattle.model.specs.Rules.Program.{Program, signalAt, bodyReads, parseProgram}
-use Rattle.text_program.proofs.ByIndex.{counted}
+use Rattle.model.specs.Rules.Program.{Program, signalAt, bodyReads}
+use Rattle.text_program.specs.Tables.{Indexes}
 use Rattle.dependents.specs.Marks.{isMarked}
 use Rattle.dependents.proofs.Marks.{unmarked, round-marks, put-past, put-here}
 use Rattle.dependents.proofs.mark_readers.Statement.{statement}
@@ -21,7 +20,7 @@ next old i p y = markByte (anyRead (isMarked old i) (bodyReads (signalAt p y .bo
 abbrev Inv-loop : tie.InvT-loop
 Inv-loop text reads firsts signals old input marks₀ reader₀ marks reader =
     (reader ≤ signals) × (length marks ≡ 64) × ((y : ℕ) → reader ≤ y → getD marks y 0 ≡ 0) ×
-    ((p : Program) → parseProgram text ≡ accepted p → (y : ℕ) → y < reader → getD marks y 0 ≡ next old input p y)
+    ((p : Program) → Indexes text reads firsts signals p → (y : ℕ) → y < reader → getD marks y 0 ≡ next old input p y)
 
 abbrev μ-loop : tie.MeasureT-loop
 μ-loop text reads firsts signals old input marks₀ reader₀ marks reader = signals - reader
@@ -46,7 +45,7 @@ loop-again c =
       put-past (l .marks) (l .reader) v (l .inv .1) (small c) (l .inv .2),
       λ p e.
           put-here (l .marks) (l .reader) v (l .inv .1) (small c) (next (now (start c .args .old)) (start c .args .input) p)
-          (c .mark-of .ensures p e) (l .inv .3 p e),
+          (c .mark-of .ensures p _ e (c .before .loop-test .taken)) (l .inv .3 p e),
     )
 
 returns : tie.Need-returns Inv-loop μ-loop
@@ -54,7 +53,7 @@ returns c =
     let l = c .before .loop in
     let a = c .before .before .before .before in
     λ p e bs m.
-    let n = counted (a .pre .indexed) p e in
+    let n = e .count-is in
     round-marks p (a .args .input) m (l .inv .1) (λ y le. l .inv .2 y (omega (arith, n, l .inv .0)))
     (λ y lt. l .inv .3 p e y (omega (arith, n, c .loop-test .left)))
 

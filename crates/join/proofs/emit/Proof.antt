@@ -5,7 +5,7 @@ use native.Mathlib.Omega.{arith}
 use lib.ListN.{drop}
 use lib.Seq.{sets}
 use Rattle.model.specs.Rules.Image.{lengthOf, imageOf}
-use Rattle.image_write.specs.Prepared.{LaidOut}
+use Rattle.image_write.specs.Layout.{LaidOut}
 use Rattle.image_write.proofs.Written.{image-first, tail-room, all-written}
 use Rattle.join.proofs.Joining.{join-left}
 use Rattle.join.proofs.Wires.{wires-inside}

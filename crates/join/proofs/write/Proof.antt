@@ -1,7 +1,7 @@
 -- `join::write` meets its contract. Assumes nothing.
 use mathlib.Core.Path.{refl}
 use native.Mathlib.Omega.{arith}
-use Rattle.image_write.specs.Prepared.{LaidOut}
+use Rattle.image_write.specs.Layout.{LaidOut}
 use Rattle.join_rows.proofs.Stand.{few-rows}
 use Rattle.join.proofs.Joining.{join-short, join-answer}
 use Rattle.join.proofs.Written.{joinedProgram, joinedSchedule, times, rows-ready, laid-out}

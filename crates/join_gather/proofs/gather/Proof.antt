@@ -92,7 +92,7 @@ returns c =
     let done = l .inv .3 in
     let g = l .inv .4 in
     let told = c .enum-told2 .given .1 in
-    let e = answers-refused _ _ _ _ (t .check-part .ensures) told in
+    let e = answers-refused _ _ _ _ (t .check-part .ensures .1) told in
     λ rates.
     rw (onward-refused (texts t) (numbers t) done (l .k) (l .joint) g (inside t) _ e) (
       told,
@@ -107,8 +107,8 @@ checked d = d .before .before
 pair : (d : tie.After-enum-told Inv-loop μ-loop) →
     let t = checked d in
     (q : Pair) × (partPair (texts t) (textsAt (numbers t) (k t)) ≡ accepted q) ×
-    Checks (programText (texts t) (textsAt (numbers t) (k t))) (t .check-part .result .pair) q
-pair d = answers-fine _ _ _ (checked d .check-part .ensures) (d .enum-told .given .1)
+    Checks (programText (texts t) (textsAt (numbers t) (k t))) (t .check-part .ensures .0) (t .check-part .result .pair) q
+pair d = answers-fine _ _ _ (checked d .check-part .ensures .1) (d .enum-told .given .1)
 
 keep-rates-requires : tie.Need-keep-rates-requires Inv-loop μ-loop
 unfolding partPair
@@ -116,7 +116,7 @@ keep-rates-requires c κs =
     let d = c .before .before .before .before in
     let p = pair d in
     let t = checked d in
-    (inside t, turn t .before .loop .inv .0, (asPart (p .0), part-rates _ _ (p .0) (p .1) _ (p .2)))
+    (inside t, turn t .before .loop .inv .0, (asPart (p .0), part-rates _ _ (p .0) (p .1) _ _ (p .2)))
 
 add-part-requires : tie.Need-add-part-requires Inv-loop μ-loop
 unfolding partPair
@@ -125,7 +125,7 @@ add-part-requires c κs =
     let p = pair d in
     let t = checked d in
     let g = turn t .before .loop .inv .4 in
-    let small = part-small _ _ (p .0) (p .1) _ (p .2) in (
+    let small = part-small _ _ (p .0) (p .1) _ _ (p .2) in (
       g .joint-of .space,
       omega (arith, g .joint-of .counted, g .count-is, few t, inside t),
       omega (arith, g .signals, few t, inside t),
@@ -160,12 +160,12 @@ loop-again c =
     let g = l .inv .4 in
     let lt = inside t in
     let keeps = kept (texts t) (numbers t) (l .inv .0) in
-    let tables = part-tables _ _ (p .0) (p .1) _ (p .2) in
-    let small = part-small _ _ (p .0) (p .1) _ (p .2) in
-    let within = part-within _ _ (p .0) (p .1) _ (p .2) in
+    let tables = part-tables _ _ (p .0) (p .1) _ _ (p .2) in
+    let small = part-small _ _ (p .0) (p .1) _ _ (p .2) in
+    let within = part-within _ _ (p .0) (p .1) _ _ (p .2) in
     let j =
     c .before .add-part .ensures done (asPart (p .0)) (sum (table (l .k) (λ j. textsAt (numbers t) j .programLength)))
-    (textsAt (numbers t) (l .k) .programLength) (g .joint-of) tables (part-ordered _ _ (p .0) (p .1) _ (p .2))
+    (textsAt (numbers t) (l .k) .programLength) (g .joint-of) tables (part-ordered _ _ (p .0) (p .1) _ _ (p .2))
     (omega (arith, within, text-length (texts t) (numbers t) (l .k) keeps lt))
     (within-total (texts t) (numbers t) (l .k) keeps lt) in
     let counts = counts-next done (asPart (p .0)) _ _ (l .joint) _ _ _ (g .joint-of) j tables in (
@@ -176,7 +176,7 @@ loop-again c =
       gather-next (texts t) (numbers t) done (l .k) (l .joint) g lt (p .0) (p .1) _ j
           (omega (arith, counts .0, g .signals, small .0)) (omega (arith, counts .1, g .chains, small .1)),
       (λ rates.
-          c .before .before .keep-rates .ensures done (asPart (p .0)) (part-rates _ _ (p .0) (p .1) _ (p .2)) (g .count-is)
+          c .before .before .keep-rates .ensures done (asPart (p .0)) (part-rates _ _ (p .0) (p .1) _ _ (p .2)) (g .count-is)
           (l .inv .5 rates)),
       c .add-table .ensures done (asPart (p .0)) (g .count-is) (tables .tables-are) (l .inv .6),
     )

@@ -2,7 +2,7 @@
 use native.Mathlib.Omega.{arith}
 use Rattle.model.specs.Rules.Join.{textsAt, programText}
 use Rattle.model.specs.Rules.Program.{signalAt}
-use Rattle.model.proofs.Texts.Legal.{legal, signal-spelled}
+use Rattle.model.proofs.Texts.Legal.{stands, signal-spelled}
 use Rattle.join_gather.proofs.Rated.{place-inside}
 use Rattle.model.proofs.Joining.Lent.{number-inside}
 use Rattle.join_gather.proofs.Lent.{kept}
@@ -60,7 +60,7 @@ add-rates-requires : tie.Need-add-rates-requires
 add-rates-requires c κs =
     let s = c .before .before .before .before .before .before .before in
     let r = s .pre .2 .1 in
-    let l = legal _ (s .pre .2 .0 .program) (r .parsed) .1 in
+    let l = stands _ (s .pre .2 .0 .program) (r .declares) .1 in
     let all = r .tables-are .counts .signals-are in (
       omega (arith, kept (s .args .texts .now) (s .args .numbers .now) (s .pre .1) .few, s .pre .0),
       omega (arith, l .fewSignals, all),

@@ -11,7 +11,7 @@ use Rattle.model.specs.Rules.Parts.{joinedParts}
 use Rattle.model.proofs.Joining.Lent.{number-inside}
 use Rattle.join_gather.proofs.Lent.{kept}
 use Rattle.join_rows.specs.Rows.{rowsBy}
-use Rattle.join_rows.proofs.Stand.{Stands, part-inside, part-stands, none-stand, bytes-are, bytes-long}
+use Rattle.join_rows.proofs.Stand.{RowsStand, part-inside, part-stands, none-stand, bytes-are, bytes-long}
 use borrow.Author.Needs.{needs}
 use Rattle.join_rows.proofs.emit_rows.Statement.{statement}
 use Rattle.join_rows.proofs.emit_rows.Tie as tie
@@ -28,7 +28,7 @@ module _ (s : tie.Start) where
   own = textsAt numbers (s .args .table .part)
 
   abbrev RowsIn : List ℕ → ℕ → Type 0
-  RowsIn text count = Stands text (s .args .table .offsets) count (joinedParts (s .pre .0 .parts) .program .rows)
+  RowsIn text count = RowsStand text (s .args .table .offsets) count (joinedParts (s .pre .0 .parts) .program .rows)
 
   none : s .args .table .rows ≡ 0 → (text : List ℕ) → RowsIn text 0
   none = none-stand texts numbers (s .args .table) (s .pre .0)

@@ -1,78 +1,70 @@
 -- `latency_rule::all_in_time` meets its contract. Assumes nothing.
-use Prim.Native.Nat.{ℕ, _+_, _-_, _≤_, _<_}
-use mathlib.Core.Bool.{true, not}
+use Prim.Native.Nat.{ℕ, _+_, _-_, _≤_}
+use mathlib.Core.Bool.{Bool, true, not}
 use mathlib.Core.Path.{_≡_, refl, sym, ap, subst, _∙_}
 use native.Mathlib.Omega.{arith}
 use borrow.Author.Needs.{needs}
 use Rattle.model.specs.Rules.Search.{allBelow}
 use Rattle.model.proofs.Pairs.Decide.{all-more, all-fails}
-use Rattle.read_rule.specs.Reads.{rateIn}
-use Rattle.latency_rule.specs.Back.{Sound, Small, lateBy, runLatencyBy}
+use Rattle.latency_rule.specs.Back.{lateBy, runLatencyBy}
+use Rattle.latency_rule.specs.declared.Route.{Route}
+use Rattle.latency_rule.proofs.Hops.{one-run}
 use Rattle.latency_rule.proofs.all_in_time.Statement.{statement}
 use Rattle.latency_rule.proofs.all_in_time.Tie as tie
 
+-- Whether run i of the window is within the bound.
+abbrev kept : ℕ → Route → ℕ → ℕ → Bool
+kept bound route from i = not (lateBy bound (runLatencyBy route (from + i)))
+
 abbrev Inv-loop : tie.InvT-loop
-Inv-loop bound hops count last source from window i₀ i =
-    (count ≤ 15) × Sound hops count × ((i : ℕ) → i < window → Small hops count (from + i)) × (from + window ≤ 1000000) ×
-    (i ≤ window) × (allBelow i (λ i. not (lateBy bound (runLatencyBy hops count (rateIn last) (rateIn source) (from + i)))) ≡
-    true)
+Inv-loop bound route from window i₀ i = (i ≤ window) × (allBelow i (kept bound route from) ≡ true)
 
 abbrev μ-loop : tie.MeasureT-loop
-μ-loop bound hops count last source from window i₀ i = window - i
+μ-loop bound route from window i₀ i = window - i
+
+module _ (c : tie.In-loop Inv-loop μ-loop) where
+  abbrev i : ℕ
+  i = c .before .loop .i
+
+  abbrev start : tie.Start Inv-loop μ-loop
+  start = c .before .before
+
+  abbrev test : ℕ → Bool
+  test = kept (start .args .bound) (start .args .route) (start .args .from)
 
 loop-holds : tie.Need-loop-holds Inv-loop μ-loop
 unfolding allBelow
-loop-holds c =
-    (c .pre .0, c .pre .1, c .pre .2, c .pre .3, omega arith, refl)
+loop-holds c = (omega arith, refl)
 
 run-latency-requires : tie.Need-run-latency-requires Inv-loop μ-loop
-run-latency-requires c κs = let l = c .before .loop in
-    (l .inv .0, l .inv .1, l .inv .2 _ (c .loop-test .taken), omega (arith, l .inv .3))
+run-latency-requires c κs = one-run (start c .pre) _ (c .loop-test .taken)
+
+-- What the test of a run has answered.
+tested : (c : tie.After-is-late Inv-loop μ-loop) → test (c .before .before) (i (c .before .before)) ≡ not (c .is-late .result)
+tested c = ap not (ap (lateBy _) (sym (c .before .run-latency .ensures)) ∙ sym (c .is-late .ensures))
 
 returns : tie.Need-returns Inv-loop μ-loop
 returns c =
-    let c3 = c .before .before .before in
-    let c4 = c3 .before in
-    let c5 = c4 .before in
-    let l = c4 .loop in
-    let a = c5 .args in
-    sym (all-fails (a .window)
-    (λ i. not (lateBy (a .bound) (runLatencyBy (a .hops) (a .count) (rateIn (a .last)) (rateIn (a .source)) (a .from + i))))
-    (l .i) (c3 .loop-test .taken)
-    (ap not (ap (lateBy (a .bound)) (sym (c .before .before .run-latency .ensures)) ∙ sym (c .before .is-late .ensures) ∙
-    c .if1 .taken)))
+    let l = c .before .before .before in
+    sym (all-fails _ (test l) (i l) (l .loop-test .taken) (tested (c .before) ∙ ap not (c .if1 .taken)))
 
 add-i : tie.Need-add-i Inv-loop μ-loop
-add-i c = omega (arith, c .before .before .before .before .loop .inv .3)
+add-i c = let l = c .before .before .before in omega (arith, l .loop-test .taken, start l .pre .within)
 
 loop-again : tie.Need-loop-again Inv-loop μ-loop
 loop-again c =
-    let c4 = c .before .before .before .before in
-    let c5 = c4 .before in
-    let l = c4 .loop in
-    let a = c5 .args in (
-      l .inv .0,
-      l .inv .1,
-      l .inv .2,
-      l .inv .3,
-      omega arith,
-      all-more (l .i) (λ i. not (lateBy (a .bound)
-          (runLatencyBy (a .hops) (a .count) (rateIn (a .last)) (rateIn (a .source)) (a .from + i)))) (l .inv .5)
-          (ap not (ap (lateBy (a .bound)) (sym (c .before .before .run-latency .ensures)) ∙ sym (c .before .is-late .ensures) ∙
-          c .if1 .left)),
-    )
+    let l = c .before .before .before in
+    (omega arith, all-more (i l) (test l) (l .before .loop .inv .1) (tested (c .before) ∙ ap not (c .if1 .left)))
 
 returns-2 : tie.Need-returns-2 Inv-loop μ-loop
 returns-2 c =
     let l = c .before .loop in
     let a = c .before .before .args in
-    let e : l .i ≡ a .window = omega (arith, l .inv .4) in
-    sym (subst (λ n. allBelow n (λ i.
-    not (lateBy (a .bound) (runLatencyBy (a .hops) (a .count) (rateIn (a .last)) (rateIn (a .source)) (a .from + i)))) ≡ true)
-    e (l .inv .5))
+    let e : l .i ≡ a .window = omega (arith, l .inv .0) in
+    sym (subst (λ n. allBelow n (kept (a .bound) (a .route) (a .from)) ≡ true) e (l .inv .1))
 
 pub all-in-time-spec : {M : Type 1} → statement M
 all-in-time-spec =
     tie.close
-    (tie.spec Inv-loop μ-loop loop-holds (λ c. omega (arith, c .before .loop .inv .3)) run-latency-requires
-    (λ c κs. search needs) returns add-i (λ c. omega arith) loop-again returns-2)
+    (tie.spec Inv-loop μ-loop loop-holds (λ c. omega (arith, start c .pre .within)) run-latency-requires (λ c κs. search needs)
+    returns add-i (λ c. omega arith) loop-again returns-2)

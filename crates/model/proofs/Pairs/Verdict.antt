@@ -199,9 +199,9 @@ lists-length p s h =
     rw (table-at h (runList p s) i [] l) (chosen-length _ (s .order)))))
 
 -- A program and its schedule that have passed 1 to 14.
-pub steps-accepted : (text : List ℕ) (p : Program) (s : Schedule) → parseProgram text ≡ accepted p →
+pub steps-accepted : {text : List ℕ} {end : ℕ} (p : Program) (s : Schedule) → Legal text end p →
     declaredAndRated p ≡ accepted tt → Ordered p s → met p s ≡ accepted tt → Feasible p s
-steps-accepted text p s parses rated ordered meets =
+steps-accepted {text} p s lawful rated ordered meets =
     record { ordered = ordered; met = all-met }
   where
     all-met : (x : ℕ) → x < count p → All (Met p s x) (bodyReads (signalAt p x .body))
@@ -211,7 +211,7 @@ steps-accepted text p s parses rated ordered meets =
         met-true p s x ρ (h .1 .0 .0) (ordered .put _ (h .1 .0 .0)) (ordered .put x lt)
         (read-sound text ρ (h .0) .range) (h .1 .0 .1) (h .1 .1)) ρs
         (all-both (SpellsRead text) (λ ρ. Rated p x ρ × (isMet p s x ρ ≡ true)) ρs
-        (signal-reads (legal text p parses .1) x lt)
+        (signal-reads lawful x lt)
         (all-both (Rated p x) (λ ρ. isMet p s x ρ ≡ true) ρs (reads-rated p rated x lt) (reads-met p s meets x lt)))
 
 -- What passed 29 and 30: rows cover, and where a TABLE stands there are rows.
@@ -243,7 +243,7 @@ module _ (program schedule : List ℕ) (q : Pair) (e : pairOf program schedule �
 
   pub pair-accepted : Feasible (q .program) (q .schedule)
   pair-accepted =
-      steps-accepted program (q .program) (q .schedule) (passed .parses) (passed .rated) (ordered .0) (passed .meets)
+      steps-accepted (q .program) (q .schedule) (lawful .1) (passed .rated) (ordered .0) (passed .meets)
 
   pub pair-bounded : AreBytes program → Bounded (q .program) (q .schedule) (q .hypercycle)
   unfolding shortEnough lengthOf codesAt rowsAt

@@ -7,6 +7,7 @@ use lib.ListN.{length, getD, length-append}
 use mir.Syntax.{w32}
 use mir.Val.{SFits}
 use Rattle.model.specs.Says.Feasible.{All}
+use Rattle.model.specs.Says.Grammar.{LegalProgram}
 use Rattle.model.specs.Says.Rows.{Upright}
 use Rattle.model.specs.Says.Stands.{SpellsBody, SpellsSignal, SpellsChain, SpellsRead, SpellsRow}
 use Rattle.model.specs.Says.Words.{IsWord}
@@ -203,13 +204,14 @@ module _ {text : List ℕ} where
         code = omega arith;
       }
 
--- An accepted text is legal up to its END, its last byte.
+-- A text that declares p has what p says up to its END, its last byte.
+pub stands : (text : List ℕ) (p : Program) → LegalProgram text p → (end : ℕ) × Legal text end p × (length text ≡ end + 1)
+stands text p d = let l = declares-legal (d .1) none in (d .0, l .0, l .1)
+
+-- An accepted text is such a text.
 pub legal : (text : List ℕ) (p : Program) → parseProgram text ≡ accepted p →
     (end : ℕ) × Legal text end p × (length text ≡ end + 1)
-legal text p e =
-    let d = declared leastFactor text p e in
-    let l = declares-legal (d .1) none in
-    (d .0, l .0, l .1)
+legal text p e = stands text p (declared leastFactor text p e)
 
 -- Labels are numbers of two bytes.
 abbrev Labelled : Signal → Type 0

@@ -8,7 +8,7 @@ use Rattle.model.specs.Rules.Latency.{timely}
 use Rattle.model.specs.Rules.Outcome.{accepted}
 use Rattle.model.specs.Rules.Program.{Program, count}
 use Rattle.model.specs.Rules.Schedule.{Schedule}
-use Rattle.model.proofs.Texts.Legal.{legal, signal-period}
+use Rattle.model.proofs.Texts.Legal.{stands, signal-period}
 use Rattle.check_rates.proofs.Linking.{few-chains}
 use Rattle.text_program.specs.Tables.{chainAt}
 use Rattle.check_latency.specs.Timely.{Timed, LeewayOf}
@@ -22,7 +22,7 @@ use Rattle.move_rule.proofs.narrow_by_chains.Tie as tie
 abbrev Inv-loop : tie.InvT-loop
 Inv-loop lows₀ highs₀ text reads tables periods phases h chain₀ lows highs chain =
     (chain ≤ tables .chains) × Long lows highs ×
-    ((p : Program) (s : Schedule) → Timed text tables periods phases h p s → timely p s h ≡ accepted tt →
+    ((p : Program) (s : Schedule) → Timed text reads tables periods phases h p s → timely p s h ≡ accepted tt →
     Narrowed p (λ x f. (j : ℕ) → j < chain → ChainStays p s h x f (chainAt p j)) lows₀ highs₀ lows highs)
 
 abbrev μ-loop : tie.MeasureT-loop
@@ -36,7 +36,7 @@ loop-holds c =
 leeway-of-requires : tie.Need-leeway-of-requires Inv-loop μ-loop
 leeway-of-requires c κs =
     let a = c .before .before .before .before .before in
-    ((a .pre .2 .0, a .pre .2 .1, a .pre .2 .2), c .if1 .taken, a .pre .1)
+    ((a .pre .1 .0, a .pre .1 .1, a .pre .1 .2), c .if1 .taken)
 
 -- The leeway of the chain.
 module _ (l : tie.After-leeway-of Inv-loop μ-loop) where
@@ -47,8 +47,8 @@ module _ (l : tie.After-leeway-of Inv-loop μ-loop) where
   chain = l .before .before .before .loop .chain
 
   module _ (p : Program) (s : Schedule)
-      (t : Timed (now (start .args .text)) (start .args .tables) (now (start .args .periods)) (now (start .args .phases))
-      (start .args .h) p s) where
+      (t : Timed (now (start .args .text)) (now (start .args .reads)) (start .args .tables) (now (start .args .periods))
+      (now (start .args .phases)) (start .args .h) p s) where
     leeway : LeewayOf p s (start .args .h) (chainAt p chain) (l .leeway-of .result)
     leeway = l .leeway-of .ensures p s t
 
@@ -57,7 +57,7 @@ module _ (l : tie.After-leeway-of Inv-loop μ-loop) where
       links = leeway-links t e chain (l .before .if1 .taken) (l .leeway-of .result) leeway
 
       few : count p ≤ 64
-      few = legal _ p (t .joined .known .parsed) .1 .fewSignals
+      few = stands _ p (t .joined .known .stands .declares) .1 .fewSignals
 
       slack : Slack (l .leeway-of .result)
       slack =
@@ -76,27 +76,27 @@ module _ (l : tie.After-leeway-of Inv-loop μ-loop) where
             last-byte = omega (
               arith,
               t .accepted .ordered .phases _ (links .last-is),
-              signal-period (legal _ p (t .joined .known .parsed) .1) _ (links .last-is) .1,
+              signal-period (stands _ p (t .joined .known .stands .declares) .1) _ (links .last-is) .1,
             );
             source-byte = omega (
               arith,
               t .accepted .ordered .phases _ (links .source-is),
-              signal-period (legal _ p (t .joined .known .parsed) .1) _ (links .source-is) .1,
+              signal-period (stands _ p (t .joined .known .stands .declares) .1) _ (links .source-is) .1,
             );
-            short = λ x lt. signal-period (legal _ p (t .joined .known .parsed) .1) x lt .1;
+            short = λ x lt. signal-period (stands _ p (t .joined .known .stands .declares) .1) x lt .1;
           }
 
 narrow-by-chain-requires : tie.Need-narrow-by-chain-requires Inv-loop μ-loop
 narrow-by-chain-requires c κs =
     let l = c .before .before in
     let a = start l in
-    (slack l (a .pre .2 .0) (a .pre .2 .1) (a .pre .2 .2) (a .pre .2 .3), l .before .before .before .loop .inv .1)
+    (slack l (a .pre .1 .0) (a .pre .1 .1) (a .pre .1 .2) (a .pre .1 .3), l .before .before .before .loop .inv .1)
 
 loop-again : tie.Need-loop-again Inv-loop μ-loop
 loop-again c =
     let l = c .before .before .before in
     let a = start l in
-    let k = a .pre .2 in (
+    let k = a .pre .1 in (
       omega (arith, l .before .if1 .taken),
       c .narrow-by-chain .ensures (k .0) (k .1) (a .args .h) (chainAt (k .0) (chain l)) (placed l (k .0) (k .1) (k .2) (k .3))
           (leeway l (k .0) (k .1) (k .2)) .long,
@@ -112,7 +112,7 @@ returns c =
       l .inv .1,
       λ p s t e.
           let n : length (p .chains) ≡ l .chain =
-          omega (arith, t .joined .known .tables-are .counts .chains-are, c .if1 .left, l .inv .0) in
+          omega (arith, t .joined .known .stands .tables-are .counts .chains-are, c .if1 .left, l .inv .0) in
           narrowed-as (l .inv .2 p s t e)
           (λ x f lt below. (λ h j lj. h j (omega (arith, n)), λ h j lj. h j (omega (arith, n)))),
     )
@@ -123,7 +123,7 @@ narrow-by-chains-spec =
     (tie.spec Inv-loop μ-loop loop-holds leeway-of-requires narrow-by-chain-requires
     (λ c.
     let l = c .before .before .before in
-    let k = start l .pre .2 in
+    let k = start l .pre .1 in
     let t = k .2 .joined .known in
-    omega (arith, l .before .if1 .taken, few-chains _ _ (_, t .parsed, t .tables-are)))
+    omega (arith, l .before .if1 .taken, few-chains (t .stands)))
     (λ c. omega (arith, c .before .before .before .before .if1 .taken)) loop-again returns)

@@ -19,16 +19,17 @@ start k = k .before .before .before .before .before .before
 -- the pair that the checks have accepted
 pair : (e : tie.After-enum-told) → let k = checked e in
     (q : Pair) × (pairOf (now (start k .args .program)) (now (start k .args .schedule)) ≡ accepted q) ×
-    AcceptedBy (now (start k .args .program)) (now (start k .args .schedule)) (k .check-with .result .pair) q
+    AcceptedBy (now (start k .args .program)) (k .check-with .last .1 .1 .0) (now (start k .args .schedule))
+    (k .check-with .result .pair) q
 pair e =
-    let a = answers-fine _ _ _ (checked e .check-with .ensures .0) (e .enum-told .given .1) in
+    let a = answers-fine _ _ _ (checked e .check-with .ensures) (e .enum-told .given .1) in
     (a .0, a .1, record { pair-is = a .1; arranged = a .2 .arranged; hyper = a .2 .hyper })
 
 returns : tie.Need-returns
 returns c =
     let told = c .before .enum-told2 .given .1 in
     let k = c .before .before .before .before .before in
-    let g = moves-refused _ _ _ _ (answers-refused _ _ _ _ (k .check-with .ensures .0) told) in
+    let g = moves-refused _ _ _ _ (answers-refused _ _ _ _ (k .check-with .ensures) told) in
     (ap yieldedOf (c .refused .ensures _ told) ∙ g .0, g .1)
 
 list-moves-requires : tie.Need-list-moves-requires
@@ -36,7 +37,6 @@ list-moves-requires c κs =
     let e = c .before .before .before in
     let k = checked e in
     record {
-      tabled = k .check-with .ensures .1 (e .enum-told .given .1);
       schedule = now (start k .args .schedule);
       pair = pair e .0;
       known = pair e .2;

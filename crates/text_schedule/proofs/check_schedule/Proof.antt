@@ -34,7 +34,7 @@ use Rattle.text_schedule.proofs.check_schedule.Statement.{statement}
 use Rattle.text_schedule.proofs.check_schedule.Tie as tie
 
 abbrev slotsOf : List ℕ → List ℕ → List ℕ → ℕ → Slots
-slotsOf order phases ranks puts = record { puts = puts; order = order; phases = phases; ranks = ranks }
+slotsOf order phases ranks puts = record { judged = Judged.Fine; puts = puts; order = order; phases = phases; ranks = ranks }
 
 abbrev Inv-loop : tie.InvT-loop
 Inv-loop text end signals periods order₀ phases₀ ranks₀ puts₀ at₀ order phases ranks puts at =

@@ -15,13 +15,14 @@ use Rattle.timetable.proofs.of_pair.Tie as tie
 -- the pair that the checks have accepted
 pair : (e : tie.After-enum-told) → let k = e .before .before in
     (q : Pair) × (pairOf (now (k .before .before .before .args .program)) (now (k .before .before .before .args .schedule)) ≡
-    accepted q) × Checks (now (k .before .before .before .args .program)) (k .check-pair .result .pair) q
-pair e = answers-fine _ _ _ (e .before .before .check-pair .ensures) (e .enum-told .given .1)
+    accepted q) ×
+    Checks (now (k .before .before .before .args .program)) (k .check-pair .ensures .0) (k .check-pair .result .pair) q
+pair e = answers-fine _ _ _ (e .before .before .check-pair .ensures .1) (e .enum-told .given .1)
 
 returns : tie.Need-returns
 returns c =
     let told = c .before .enum-told2 .given .1 in
-    let refuses = answers-refused _ _ _ _ (c .before .before .before .check-pair .ensures) told in
+    let refuses = answers-refused _ _ _ _ (c .before .before .before .check-pair .ensures .1) told in
     answers-not _ _ _ _ refuses (c .refused .ensures ∙ told)
 
 abbrev checked : tie.After-weights2 → tie.After-enum-told
@@ -32,12 +33,12 @@ checked w =
 loads-of-requires : tie.Need-loads-of-requires
 loads-of-requires c κs =
     let g = pair (checked c) .2 .arranged in
-    (few-signals _ _ _ (g .parsed) (g .tables-are), short-hypercycle g, phases-below g)
+    (few-signals _ _ _ (g .stands .declares) (g .stands .tables-are), short-hypercycle g, phases-below g)
 
 returns-2 : tie.Need-returns-2
 returns-2 c =
     let k = pair (checked (c .before)) in
-    answers-made _ _ (k .0) _ (k .1) refl (tabled _ _ (k .0) _ _ (k .2) (c .loads-of .ensures) (
+    answers-made _ _ (k .0) _ (k .1) refl (tabled _ _ _ (k .0) _ _ (k .2) (c .loads-of .ensures) (
     record {
       signals = refl;
       hypercycle = refl;

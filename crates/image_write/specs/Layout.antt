@@ -1,4 +1,4 @@
--- What the emitter is given: an accepted pair by its tables, and the layout of its image.
+-- The layout of an image and its tail.
 use Prim.Native.Nat.{ℕ, _+_, _*_, _≤_}
 use mathlib.Core.List.{List}
 use mathlib.Core.Path.{_≡_}
@@ -6,8 +6,8 @@ use lib.ListN.{length}
 use Rattle.model.specs.Rules.Image.{joined, listsAt, codesAt, lengthOf, withTail, writtenLength}
 use Rattle.model.specs.Rules.Program.{Program, count}
 use Rattle.model.specs.Rules.Schedule.{Schedule}
-use Rattle.text_program.specs.Prepared.{Prepared}
-use Rattle.text_program.specs.declared.Tables.{Tables}
+use Rattle.text_schedule.specs.Arranged.{Arrangement}
+use Rattle.text_schedule.specs.declared.PairTables.{PairTables}
 use Rattle.image_write.specs.Lists.{listsBy}
 use Rattle.image_write.specs.declared.Layout.{Layout}
 
@@ -25,19 +25,9 @@ pub record LaidOutBy (periods order phases : List ℕ) (n h size rows : ℕ) (r 
   pub ends : r .end ≡ r .code + size
   pub tail-ends : r .written ≡ withTail (r .end) n
 
--- There is such a pair, and the hypercycle is short enough.
-pub record Ready (text : List ℕ) (t : Tables) (periods order phases : List ℕ) (h : ℕ) : Type 0 where
-  pub program : Program
-  pub schedule : Schedule
-  pub prepared : Prepared text t periods order phases program schedule
-  pub hyper : h ≤ 240
-
--- There is a text of which the tables are.
-abbrev pub Tabled : Tables → List ℕ → List ℕ → List ℕ → ℕ → Type 0
-Tabled t periods order phases h = (text : List ℕ) × Ready text t periods order phases h
-
--- And the layout is that of its image, for which n bytes have space.
-pub record Fits (text : List ℕ) (t : Tables) (periods order phases : List ℕ) (h : ℕ) (r : Layout) (n : ℕ) : Type 0 where
-  pub ready : Ready text t periods order phases h
-  pub laid-out : LaidOut (ready .program) (ready .schedule) h r
-  pub room : r .end ≤ n
+-- The tables are those of an arranged pair, the layout is that of its image and tail, and n bytes have space for both.
+pub record Fits (text : List ℕ) (t : PairTables) (r : Layout) (n : ℕ) : Type 0 where
+  pub reads : List ℕ
+  pub arrangement : Arrangement text reads t
+  pub laid-out : LaidOut (arrangement .0) (arrangement .1) (t .hypercycle) r
+  pub room : r .written ≤ n
