@@ -140,7 +140,7 @@ pub fn hop_at(
         countReads w (bodyReads (signalAt p r .body)) ≡ 1 → h ≡ hopOf p s r (readAmong w (bodyReads (signalAt p r .body)))) ⌝ }
 {
     let firsts = tables.firsts;
-    let found = check_rates::one_read(text, reads, &firsts, tables.signals, w, r);
+    let found = check_links::one_read(text, reads, &firsts, tables.signals, w, r);
     let Found::At(at) = found else {
         return no_hop();
     };

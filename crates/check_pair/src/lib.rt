@@ -1,6 +1,6 @@
 // The checks of a pair in the stated order.
 use basics::Judged;
-use check_rates::Cycles;
+use check_hypercycle::Cycles;
 use model::refusals;
 use text_program::Tables;
 use text_schedule::PairTables;
@@ -11,7 +11,7 @@ ghost use lib.ListN.{length};
 ghost use Rattle.model.specs.Rules.Compile.{shortEnough, pairOf};
 ghost use Rattle.model.specs.Rules.Program.{Program, count};
 ghost use Rattle.basics.specs.Judgement.{judgementOf};
-ghost use Rattle.check_rates.specs.Rates.{CyclesAs};
+ghost use Rattle.check_hypercycle.specs.Hypercycle.{CyclesAs};
 ghost use Rattle.text_program.specs.Tables.{PeriodsOf, Stands, Standing};
 ghost use Rattle.text_schedule.specs.Arranged.{pairTables};
 ghost use Rattle.text_schedule.specs.Slots.{ScheduledAs};
@@ -53,12 +53,12 @@ fn check_program(text: &[u8], reads: &[u16], tables: Tables) -> Cycles
         return unrated(rates);
     };
     let periods = tables.periods;
-    let cycles = check_rates::check_hypercycle(tables.signals, &periods); // 9
+    let cycles = check_hypercycle::check_hypercycle(tables.signals, &periods); // 9
     let common = cycles.judged;
     let Judged::Fine = common else {
         return unrated(common);
     };
-    let links = check_rates::check_links(text, reads, tables); // 10
+    let links = check_links::check_links(text, reads, tables); // 10
     let Judged::Fine = links else {
         return unrated(links);
     };

@@ -1,29 +1,19 @@
--- What the answers of the checks stand for.
+-- What the answers of the check stand for.
 use Prim.Native.Nat.{ℕ}
 use mathlib.Core.Bool.{Bool, true, false, cond}
 use mathlib.Core.List.{List}
-use mathlib.Core.Path.{_≡_}
-use lib.Dec.{ltb, eqb}
+use lib.Dec.{ltb}
 use lib.ListN.{getD}
-use Rattle.model.specs.Rules.Outcome.{Outcome, fault}
-use Rattle.model.specs.Rules.Latency.{readAmong}
-use Rattle.model.specs.Rules.Program.{Program, Signal, Chain, Read, bodyReads}
-use Rattle.model.specs.Rules.Rates.{periodRule, readFaults, linkFaults, countReads}
+use Rattle.model.specs.Rules.Outcome.{fault}
+use Rattle.model.specs.Rules.Program.{Program, Signal, Chain, bodyReads}
+use Rattle.model.specs.Rules.Rates.{periodRule, readFaults, linkFaults}
 use Rattle.model.specs.Rules.Search.{joinFrom}
 use Rattle.model.specs.declared.Fault.{Fault}
-use Rattle.model.specs.declared.Found.{Found}
-use Rattle.model.specs.declared.Found.the-variants.{At, Nowhere}
 use Rattle.model.specs.declared.Kind.{Kind}
 use Rattle.model.specs.declared.Kind.the-variants.{Now, Last, When, LastWhen, Current}
 use Rattle.model.specs.declared.Sampled.{Sampled}
-use Rattle.check_rates.specs.declared.Cycles.{Cycles}
-use Rattle.basics.specs.Judgement.{Answers}
 use Rattle.basics.specs.declared.Judged.{Judged}
 use Rattle.basics.specs.declared.Judged.the-variants as Judged
-
--- The answer has the hypercycle, or is its refusal.
-abbrev pub CyclesAs : Outcome ℕ → Cycles → Type 0
-CyclesAs o r = Answers (λ h. r .hypercycle ≡ h) o (r .judged)
 
 -- 7 at a read or LINK of a signal that is not declared, then 8 at a read that breaks its period rule.
 unfoldable pub rateJudged : Bool → Bool → ℕ → Judged
@@ -68,7 +58,3 @@ unfoldable pub lowerOf : Judged → Judged → Judged
 lowerOf Judged.Fine b = b
 lowerOf (Judged.Refused f) Judged.Fine = Judged.Refused f
 lowerOf (Judged.Refused f) (Judged.Refused g) = Judged.Refused (cond (ltb (g .place) (f .place)) g f)
-
--- Where the one read of w among these reads stands.
-unfoldable pub oneRead : ℕ → List Read → Found
-oneRead w ρs = cond (eqb (countReads w ρs) 1) (At (readAmong w ρs .place)) Nowhere

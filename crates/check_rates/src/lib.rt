@@ -1,21 +1,17 @@
-// The checks of rates and links: refusals 7 to 10.
+// The checks of declarations and rates: refusals 7 and 8.
 use basics::Judged;
-use model::Found;
 use model::Kind;
 use model::Sampled;
 use model::refusals;
 use text_program::Tables;
 ghost use mathlib.Core.List.{List};
 ghost use mathlib.Core.Path.{_≡_};
-ghost use Prim.Native.Nat.{ℕ, _%_, _≤_, _<_};
-ghost use lib.Dec.{eqb};
-ghost use lib.ListN.{length};
+ghost use Prim.Native.Nat.{ℕ, _≤_, _<_};
 ghost use Rattle.model.specs.Rules.Outcome.{lowest};
-ghost use Rattle.model.specs.Rules.Program.{Program, signalAt, bodyReads};
-ghost use Rattle.model.specs.Rules.Rates.{periodRule, declaredAndRated, isMultiple, hypercycle, isLinked, linked};
+ghost use Rattle.model.specs.Rules.Program.{Program, signalAt};
+ghost use Rattle.model.specs.Rules.Rates.{periodRule, declaredAndRated};
 ghost use Rattle.text_program.specs.Tables.{PeriodsOf, Stands, Standing, Indexes, Indexed, chainAt};
 ghost use Rattle.check_rates.specs.Rates.{
-  CyclesAs,
   periodAt,
   factorOf,
   rateJudged,
@@ -25,7 +21,6 @@ ghost use Rattle.check_rates.specs.Rates.{
   chainRates,
   linkRates,
   lowerOf,
-  oneRead,
 };
 ghost use Rattle.basics.specs.Judgement.{judgementOf};
 
@@ -213,145 +208,4 @@ pub fn check_rates(text: &[u8], reads: &[u16], tables: Tables) -> Judged
     let of_reads = judge_reads(text, reads, &firsts, tables.signals, &periods);
     let of_links = judge_links(text, tables);
     lower(of_reads, of_links)
-}
-
-// Whether a period divides h.
-fn divides(period: u8, h: usize) -> bool
-    ensures { λ r. ⌜ r ≡ eqb (h % period) 0 ⌝ }
-{
-    let d = basics::from_byte(period);
-    if d == 0 {
-        return h == 0;
-    }
-    h % d == 0
-}
-
-// Whether every period divides h.
-fn is_multiple(count: usize, periods: &[u8; 64], h: usize) -> bool
-    requires { ⌜ count ≤ 64 ⌝ }
-    ensures { λ r. ⌜ ((p : Program) → length (p .signals) ≡ count → PeriodsOf p (now (periods .entry)) →
-        r ≡ isMultiple (p .signals) h) ⌝ }
-{
-    let mut s: usize = 0;
-    while s < count {
-        if !divides(periods[s], h) {
-            return false;
-        }
-        s = s + 1;
-    }
-    true
-}
-
-// What the search for the hypercycle finds. The hypercycle is of use where it is fine.
-pub struct Cycles {
-    pub judged: Judged,
-    pub hypercycle: usize,
-}
-
-// The hypercycle: the least number from 1 to 240 that every period divides, else 9. (Signals × hypercycle.)
-pub fn check_hypercycle(count: usize, periods: &[u8; 64]) -> Cycles
-    requires { ⌜ count ≤ 64 ⌝ }
-    ensures { λ r. ⌜ ((p : Program) → length (p .signals) ≡ count → PeriodsOf p (now (periods .entry)) →
-        CyclesAs (hypercycle p) r) ⌝ }
-{
-    let mut h: usize = 0;
-    while h < 240 {
-        let next = h + 1;
-        if is_multiple(count, periods, next) {
-            return Cycles {
-                judged: Judged::Fine,
-                hypercycle: next,
-            };
-        }
-        h = next;
-    }
-    Cycles {
-        judged: basics::refuse(refusals::HYPERCYCLE_TOO_LONG, 0),
-        hypercycle: 0,
-    }
-}
-
-// The offset of the one read of `before` in the equation of `signal`, over its reads by their index in the table; nowhere if
-// there is none, or more than one. 10 and 16 ask it.
-pub fn one_read(
-    text: &[u8],
-    reads: &[u16],
-    firsts: &[u16; 65],
-    count: usize,
-    before: u8,
-    signal: u8,
-) -> Found
-    requires { ⌜ (count ≤ 64) × Indexed (now text) (now reads) (now firsts) count ⌝ }
-    ensures { λ r. ⌜ ((p : Program) → Indexes (now (text .entry)) (now (reads .entry)) (now (firsts .entry)) count p →
-        r ≡ oneRead before (bodyReads (signalAt p signal .body))) ⌝ }
-{
-    let index = basics::from_byte(signal);
-    if count <= index {
-        return Found::Nowhere;
-    }
-    let first = basics::from_entry(firsts[index]);
-    let end = basics::from_entry(firsts[index + 1]);
-    let mut i = first;
-    let mut many: usize = 0;
-    let mut found: usize = 0;
-    while i < end {
-        let at = basics::from_entry(reads[i]);
-        if text[at + 1] == before {
-            many = many + 1;
-            found = at;
-        }
-        i = i + 1;
-    }
-    if many != 1 {
-        return Found::Nowhere;
-    }
-    Found::At(found)
-}
-
-// Whether the equation of each link of a chain after the first has exactly one read of the link before.
-fn is_linked(text: &[u8], reads: &[u16], tables: Tables, chain: usize) -> bool
-    requires { ⌜ Standing (now text) (now reads) tables × (chain < tables .chains) ⌝ }
-    ensures { λ r. ⌜ ((p : Program) → Stands (now (text .entry)) (now (reads .entry)) tables p →
-        r ≡ isLinked p (chainAt p chain .links)) ⌝ }
-{
-    let firsts = tables.firsts;
-    let starts = tables.starts;
-    let lengths = tables.lengths;
-    let mut at = basics::from_entry(starts[chain]) + width::in_program(0x12);
-    let mut left = basics::from_byte(lengths[chain]);
-    while 1 < left {
-        let second = at + width::in_program(0x13);
-        let before = text[at + 1];
-        let signal = text[second + 1];
-        let read = one_read(text, reads, &firsts, tables.signals, before, signal);
-        let Found::At(_) = read else {
-            return false;
-        };
-        at = second;
-        left = left - 1;
-    }
-    true
-}
-
-// 10 at the lowest LAT whose links are not linked. (Links × the reads of their equations.)
-pub fn check_links(text: &[u8], reads: &[u16], tables: Tables) -> Judged
-    requires { ⌜ Standing (now text) (now reads) tables ⌝ }
-    ensures { λ r. ⌜ ((p : Program) → Stands (now (text .entry)) (now (reads .entry)) tables p →
-        r ≡ judgementOf (linked p)) ⌝ }
-{
-    if tables.chains == 0 {
-        return Judged::Fine;
-    }
-    let starts = tables.starts;
-    let mut chain: usize = 0;
-    while chain < tables.chains {
-        if !is_linked(text, reads, tables, chain) {
-            return basics::refuse(
-                refusals::LINK_NOT_READ_ONCE,
-                basics::from_entry(starts[chain]),
-            );
-        }
-        chain = chain + 1;
-    }
-    Judged::Fine
 }

@@ -41,7 +41,7 @@ pub fn check_joint(links: &[u8], joint: Joint) -> Whole
     let phases = joint.phases;
     let ranks = joint.ranks;
     let weights = joint.weights;
-    let cycles = check_rates::check_hypercycle(joint.signals, &periods);
+    let cycles = check_hypercycle::check_hypercycle(joint.signals, &periods);
     let common = cycles.judged;
     let Judged::Fine = common else {
         return refused(common);

@@ -12,12 +12,23 @@ use Rattle.model.specs.declared.Operator.the-variants as Operator
 use Rattle.model.specs.declared.Index.the-variants.{Fixed}
 use Rattle.model.specs.declared.Kind.the-variants.{Now}
 use Rattle.model.proofs.Basics.All.{all-at}
+use Rattle.model.proofs.Texts.Commands.{declaration-sound}
 use Rattle.model.proofs.Texts.Legal.{stands, signal-reads}
 use Rattle.model.specs.Says.Grammar.{LegalProgram}
-use Rattle.model.specs.Says.Stands.{SpellsRead}
+use Rattle.model.specs.Says.Stands.{SpellsRead, SpellsChain}
 use Rattle.text_command.specs.Operator.{ReadStands, ReadTaken}
 use Rattle.text_command.specs.declared.Taken.{Taken}
-use Rattle.text_program.specs.Tables.{PeriodsOf, rateAt, readsIn, ReadsOf, TablesOf, Stands, Indexes, SlotsOf}
+use Rattle.text_program.specs.Tables.{
+  noChain,
+  chainAt,
+  PeriodsOf,
+  rateAt,
+  readsIn,
+  TablesOf,
+  Stands,
+  Indexes,
+  SlotsOf,
+}
 use Rattle.text_program.specs.declared.Tables.{Tables}
 use Rattle.text_program.proofs.Sums.{sums-below}
 
@@ -33,6 +44,19 @@ readAt p x j = getD (bodyReads (signalAt p x .body)) j noRead
 -- A program that is read has few signals.
 pub few-signals : (text : List ℕ) (t : Tables) (p : Program) → LegalProgram text p → TablesOf p t → t .signals ≤ 64
 few-signals text t p e tables = omega (arith, stands text p e .1 .fewSignals, tables .counts .signals-are)
+
+-- It has few chains, and each LAT lies within the text.
+module _ {text reads : List ℕ} {t : Tables} {p : Program} (h : Stands text reads t p) where
+  pub few-chains : t .chains ≤ 16
+  few-chains = omega (arith, h .tables-are .counts .chains-are, stands text p (h .declares) .1 .fewChains)
+
+  pub chain-inside : (x : ℕ) → x < t .chains → getD (t .starts) x 0 + 4 ≤ length text
+  chain-inside x lt =
+      let l : x < length (p .chains) = omega (arith, h .tables-are .counts .chains-are) in
+      let c : SpellsChain text (chainAt p x) =
+      all-at (SpellsChain text) (p .chains) noChain (stands text p (h .declares) .1 .chains) x l in
+      let inside : chainAt p x .place + 4 ≤ length text = declaration-sound text _ _ (c .command) in
+      omega (arith, h .tables-are .starts x l, inside)
 
 -- Its reads stand in their table.
 pub indexes : {text reads : List ℕ} {t : Tables} {p : Program} → Stands text reads t p →

@@ -9,7 +9,7 @@ use Rattle.model.specs.Rules.Latency.{backwards}
 use Rattle.model.specs.Rules.Program.{Program}
 use Rattle.model.specs.Rules.Schedule.{Schedule}
 use Rattle.text_program.specs.Tables.{chainAt}
-use Rattle.check_rates.proofs.Linking.{few-chains}
+use Rattle.text_program.proofs.ByIndex.{few-chains}
 use Rattle.read_rule.specs.Reads.{rateIn}
 use Rattle.check_latency.specs.Timely.{ChainsLinked}
 use Rattle.check_latency.proofs.Following.{Following, next-link, route-of, Begun, begun, chain-command}

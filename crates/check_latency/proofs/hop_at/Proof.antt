@@ -8,7 +8,7 @@ use Rattle.model.specs.Rules.Latency.{readAmong}
 use Rattle.model.specs.Rules.Program.{Read, signalAt, bodyReads}
 use Rattle.model.specs.Rules.Rates.{countReads}
 use Rattle.model.specs.Rules.Reads.{rateOf, settledIndex, settled}
-use Rattle.check_rates.proofs.Counting.{found-none, one-spelled, one-stands}
+use Rattle.check_links.proofs.Counting.{found-none, one-spelled, one-stands}
 use Rattle.text_program.proofs.ByIndex.{few-signals, indexes}
 use Rattle.read_rule.specs.Reads.{rateIn}
 use Rattle.check_latency.proofs.Indices.{rate-at, read-signal}

@@ -13,9 +13,10 @@ use Rattle.model.specs.Rules.Program.{Program, Chain}
 use Rattle.model.specs.Rules.Schedule.{Schedule}
 use Rattle.model.specs.declared.Fault.{Fault}
 use Rattle.text_program.specs.Tables.{noChain, chainAt}
+use Rattle.text_program.proofs.ByIndex.{few-chains}
 use Rattle.text_program.proofs.InTurn.{Left, check-starts, check-passes, check-refuses, check-ends}
 use Rattle.text_program.proofs.Rising.{chainPlaces, rising-program}
-use Rattle.check_rates.proofs.Linking.{few-chains, lat-at, lat-judged}
+use Rattle.check_links.proofs.Linking.{lat-at, lat-judged}
 use Rattle.basics.specs.declared.Judged.the-variants as Judged
 use Rattle.check_latency.specs.Timely.{Timed}
 use Rattle.check_latency.proofs.judge_chains.Statement.{statement}

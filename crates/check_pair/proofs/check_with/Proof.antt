@@ -21,7 +21,7 @@ use Rattle.text_schedule.specs.Arranged.{Arranged}
 use Rattle.text_schedule.specs.Slots.{ScheduledAs}
 use Rattle.text_schedule.specs.declared.PairTables.{PairTables}
 use Rattle.text_program.proofs.ByIndex.{few-signals}
-use Rattle.check_rates.specs.Rates.{CyclesAs}
+use Rattle.check_hypercycle.specs.Hypercycle.{CyclesAs}
 use Rattle.check_pair.specs.Groups.{ratesOf, scheduleFor, stepsOf}
 use Rattle.basics.proofs.Judgements.{
   judgement-fine,

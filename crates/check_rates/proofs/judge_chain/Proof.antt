@@ -11,11 +11,10 @@ use Rattle.model.specs.Rules.Program.{Program, Link}
 use Rattle.model.specs.Rules.Rates.{linkFaults}
 use Rattle.text_program.specs.Tables.{chainAt, Stands}
 use Rattle.text_program.specs.declared.Tables.{Tables}
-use Rattle.text_program.proofs.ByIndex.{noLink}
+use Rattle.text_program.proofs.ByIndex.{noLink, few-chains, chain-inside}
 use Rattle.text_program.proofs.InTurn.{Left, check-starts, check-passes, check-refuses, check-ends, links-in-turn}
 use Rattle.check_rates.specs.Rates.{chainRates}
 use Rattle.check_rates.proofs.Judging.{link-at-place, chains-are, length-is, link-seen, link-inside, one-link}
-use Rattle.check_rates.proofs.Linking.{few-chains, chain-inside}
 use Rattle.check_rates.proofs.judge_chain.Statement.{statement}
 use Rattle.check_rates.proofs.judge_chain.Tie as tie
 

@@ -7,11 +7,11 @@ use borrow.Author.Needs.{needs}
 use Rattle.model.specs.Rules.Outcome.{lowest}
 use Rattle.model.specs.Rules.Program.{Program}
 use Rattle.text_program.specs.Tables.{noChain, Stands}
+use Rattle.text_program.proofs.ByIndex.{few-chains}
 use Rattle.text_program.proofs.InTurn.{Left, check-starts, check-passes, check-refuses, check-ends}
 use Rattle.text_program.proofs.Rising.{chainPlaces, rising-program}
 use Rattle.check_rates.specs.Rates.{chainRates, linkRates}
 use Rattle.check_rates.proofs.Judging.{chain-at, chains-are}
-use Rattle.check_rates.proofs.Linking.{few-chains}
 use Rattle.check_rates.proofs.judge_links.Statement.{statement}
 use Rattle.check_rates.proofs.judge_links.Tie as tie
 

@@ -9,7 +9,7 @@ use Rattle.model.specs.Rules.Outcome.{accepted}
 use Rattle.model.specs.Rules.Program.{Program, count}
 use Rattle.model.specs.Rules.Schedule.{Schedule}
 use Rattle.model.proofs.Texts.Legal.{stands, signal-period}
-use Rattle.check_rates.proofs.Linking.{few-chains}
+use Rattle.text_program.proofs.ByIndex.{few-chains}
 use Rattle.text_program.specs.Tables.{chainAt}
 use Rattle.check_latency.specs.Timely.{Timed, LeewayOf}
 use Rattle.move_rule.specs.Ranges.{ChainStays}

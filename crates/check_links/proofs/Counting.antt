@@ -25,7 +25,7 @@ use Rattle.model.proofs.Pairs.Links.{read-of}
 use Rattle.text_command.specs.Operator.{ReadStands}
 use Rattle.text_command.proofs.Shape.{Shape, read-shape}
 use Rattle.text_program.specs.Tables.{Indexes}
-use Rattle.check_rates.specs.Rates.{oneRead}
+use Rattle.check_links.specs.Links.{oneRead}
 use Rattle.text_program.proofs.ByIndex.{noRead, readAt, all-seen, seen, place-is, spells}
 
 -- The signal of a read stands in its second byte.

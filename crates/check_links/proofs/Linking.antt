@@ -12,7 +12,6 @@ use Rattle.model.specs.Rules.Rates.{countReads, isLinked}
 use Rattle.model.specs.Rules.Word.{byteAt}
 use Rattle.model.specs.declared.Fault.{Fault}
 use Rattle.model.proofs.Basics.All.{all-at}
-use Rattle.model.proofs.Texts.Commands.{declaration-sound}
 use Rattle.model.proofs.Texts.Legal.{stands}
 use Rattle.model.specs.Says.Stands.{SpellsChain}
 use Rattle.model.specs.Says.Grammar.{SpellsLinks, LegalProgram}
@@ -89,33 +88,24 @@ module _ (text : List ℕ) (p : Program) where
     link-over le = h .judged ∙ one (h .links) (omega (arith, h .many))
 
 -- Where a chain's links start.
-pub chain-start : (text : List ℕ) (p : Program) → LegalProgram text p → (j : ℕ) → j < length (p .chains) →
-    (chainAt p j .place + 4 ≤ length text) ×
+chain-start : (text : List ℕ) (p : Program) → LegalProgram text p → (j : ℕ) → j < length (p .chains) →
     LinksLeft text p (chainAt p j .links) (chainAt p j .place + 4) (length (chainAt p j .links))
 chain-start text p q j lt =
-    let c = all-at (SpellsChain text) (p .chains) noChain (stands text p q .1 .chains) j lt in (
-      declaration-sound text _ _ (c .command),
-      record { links = chainAt p j .links; end = c .end; spelled = c .links; many = refl; judged = refl },
-    )
+    let c = all-at (SpellsChain text) (p .chains) noChain (stands text p q .1 .chains) j lt in
+    record { links = chainAt p j .links; end = c .end; spelled = c .links; many = refl; judged = refl }
 
--- What the tables say of a chain: that it has a place in them, and where its links start.
-module _ {text reads : List ℕ} {tables : Tables} {p : Program} (h : Stands text reads tables p) where
+-- The same by the tables.
+module _ {text reads : List ℕ} {tables : Tables} {p : Program} (h : Stands text reads tables p)
+    (chain : ℕ) (lt : chain < tables .chains) where
   abbrev t : TablesOf p tables
   t = h .tables-are
 
-  pub few-chains : tables .chains ≤ 16
-  few-chains = omega (arith, t .counts .chains-are, stands text p (h .declares) .1 .fewChains)
+  l : chain < length (p .chains)
+  l = omega (arith, t .counts .chains-are)
 
-  module _ (chain : ℕ) (lt : chain < tables .chains) where
-    l : chain < length (p .chains)
-    l = omega (arith, t .counts .chains-are)
-
-    pub chain-begins :
-        LinksLeft text p (chainAt p chain .links) (getD (tables .starts) chain 0 + 4) (getD (tables .lengths) chain 0)
-    chain-begins = rw (t .starts chain l, t .lengths chain l) (chain-start text p (h .declares) chain l .1)
-
-    pub chain-inside : getD (tables .starts) chain 0 + 4 ≤ length text
-    chain-inside = omega (arith, t .starts chain l, chain-start text p (h .declares) chain l .0)
+  pub chain-begins :
+      LinksLeft text p (chainAt p chain .links) (getD (tables .starts) chain 0 + 4) (getD (tables .lengths) chain 0)
+  chain-begins = rw (t .starts chain l, t .lengths chain l) (chain-start text p (h .declares) chain l)
 
 -- The fault of a LAT that fails a test stands at its place.
 pub lat-at : (number : ℕ) (test : Chain → Bool) → AtPlaces chainPlaces (λ j c. cond (test c) [] (fault number (c .place) ∷ []))

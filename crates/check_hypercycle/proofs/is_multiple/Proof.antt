@@ -1,4 +1,4 @@
--- `check_rates::is_multiple` meets its contract. Assumes nothing.
+-- `check_hypercycle::is_multiple` meets its contract. Assumes nothing.
 use Prim.Native.Nat.{_+_, _-_, _%_, _≤_, _<_}
 use mathlib.Core.Bool.{_&&_}
 use mathlib.Core.Path.{_≡_, refl, sym, ap, _∙_}
@@ -11,9 +11,9 @@ use borrow.Author.Tests.{not-true, not-false}
 use Rattle.model.specs.Rules.Program.{Program, signalAt}
 use Rattle.model.specs.Rules.Rates.{isMultiple}
 use Rattle.text_program.specs.Tables.{PeriodsOf}
-use Rattle.check_rates.proofs.Multiples.{multiple-here, multiple-over}
-use Rattle.check_rates.proofs.is_multiple.Statement.{statement}
-use Rattle.check_rates.proofs.is_multiple.Tie as tie
+use Rattle.check_hypercycle.proofs.Multiples.{multiple-here, multiple-over}
+use Rattle.check_hypercycle.proofs.is_multiple.Statement.{statement}
+use Rattle.check_hypercycle.proofs.is_multiple.Tie as tie
 
 abbrev Inv-loop : tie.InvT-loop
 Inv-loop count periods h s₀ s =

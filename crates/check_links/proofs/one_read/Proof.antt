@@ -1,4 +1,4 @@
--- `check_rates::one_read` meets its contract. Assumes nothing.
+-- `check_links::one_read` meets its contract. Assumes nothing.
 use Prim.Native.Nat.{ℕ, _+_, _-_, _≤_, _<_}
 use mathlib.Core.List.{List}
 use mathlib.Core.Logic.{⊎-elim}
@@ -12,8 +12,8 @@ use Rattle.model.specs.declared.Found.the-variants.{At, Nowhere}
 use Rattle.text_command.specs.Operator.{ReadStands}
 use Rattle.text_program.specs.Tables.{Indexes, Indexed}
 use Rattle.text_program.proofs.ByIndex.{in-table, read-stands, rises-at}
-use Rattle.check_rates.specs.Rates.{oneRead}
-use Rattle.check_rates.proofs.Counting.{
+use Rattle.check_links.specs.Links.{oneRead}
+use Rattle.check_links.proofs.Counting.{
   Searched,
   same-search,
   search-starts,
@@ -25,8 +25,8 @@ use Rattle.check_rates.proofs.Counting.{
   none-far,
   stands-inside,
 }
-use Rattle.check_rates.proofs.one_read.Statement.{statement}
-use Rattle.check_rates.proofs.one_read.Tie as tie
+use Rattle.check_links.proofs.one_read.Statement.{statement}
+use Rattle.check_links.proofs.one_read.Tie as tie
 
 abbrev Inv-loop : tie.InvT-loop
 Inv-loop text reads firsts count before signal index first end i₀ many₀ found₀ i many found =

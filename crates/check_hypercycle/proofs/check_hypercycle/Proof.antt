@@ -1,4 +1,4 @@
--- `check_rates::check_hypercycle` meets its contract. Assumes nothing.
+-- `check_hypercycle::check_hypercycle` meets its contract. Assumes nothing.
 use Prim.Native.Nat.{_-_, _≤_, _<_}
 use mathlib.Core.Path.{_≡_, refl, sym, ap, _∙_}
 use native.Mathlib.Omega.{arith}
@@ -8,9 +8,9 @@ use Rattle.model.specs.Rules.Program.{Program}
 use Rattle.model.specs.Rules.Rates.{hypercycleOf, hypercycle}
 use Rattle.text_program.specs.Tables.{PeriodsOf}
 use Rattle.basics.specs.Judgement.{Answers}
-use Rattle.check_rates.proofs.Multiples.{leftFrom, cycle-start, cycle-here, cycle-later, cycle-over}
-use Rattle.check_rates.proofs.check_hypercycle.Statement.{statement}
-use Rattle.check_rates.proofs.check_hypercycle.Tie as tie
+use Rattle.check_hypercycle.proofs.Multiples.{leftFrom, cycle-start, cycle-here, cycle-later, cycle-over}
+use Rattle.check_hypercycle.proofs.check_hypercycle.Statement.{statement}
+use Rattle.check_hypercycle.proofs.check_hypercycle.Tie as tie
 
 abbrev Inv-loop : tie.InvT-loop
 Inv-loop count periods h₀ h =

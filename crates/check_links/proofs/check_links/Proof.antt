@@ -1,4 +1,4 @@
--- `check_rates::check_links` meets its contract. Assumes nothing.
+-- `check_links::check_links` meets its contract. Assumes nothing.
 use Prim.Native.Nat.{ℕ, _-_, _<_}
 use mathlib.Core.Bool.{cond}
 use mathlib.Core.List.{List, [], _∷_}
@@ -15,12 +15,13 @@ use Rattle.model.specs.declared.Fault.{Fault}
 use Rattle.basics.specs.Judgement.{judgementOf}
 use Rattle.basics.specs.declared.Judged.{Judged}
 use Rattle.text_program.specs.Tables.{noChain, chainAt, Stands}
+use Rattle.text_program.proofs.ByIndex.{few-chains}
 use Rattle.text_program.proofs.InTurn.{Left, check-starts, check-passes, check-refuses, check-ends}
 use Rattle.text_program.proofs.Rising.{chainPlaces, rising-program}
 use Rattle.basics.specs.declared.Judged.the-variants as Judged
-use Rattle.check_rates.proofs.Linking.{few-chains, lat-at, lat-judged}
-use Rattle.check_rates.proofs.check_links.Statement.{statement}
-use Rattle.check_rates.proofs.check_links.Tie as tie
+use Rattle.check_links.proofs.Linking.{lat-at, lat-judged}
+use Rattle.check_links.proofs.check_links.Statement.{statement}
+use Rattle.check_links.proofs.check_links.Tie as tie
 
 -- The fault of a chain, if it has one.
 abbrev unlinked : Program → ℕ → Chain → List Fault

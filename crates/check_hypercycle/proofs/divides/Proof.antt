@@ -1,11 +1,11 @@
--- `check_rates::divides` meets its contract. Assumes nothing.
+-- `check_hypercycle::divides` meets its contract. Assumes nothing.
 use Prim.Native.Nat.{_%_}
 use mathlib.Core.Path.{_≡_, sym, ap, _∙_}
 use native.Mathlib.Nat.{mod-zero}
 use lib.Dec.{eqb}
 use borrow.Author.Needs.{needs}
-use Rattle.check_rates.proofs.divides.Statement.{statement}
-use Rattle.check_rates.proofs.divides.Tie as tie
+use Rattle.check_hypercycle.proofs.divides.Statement.{statement}
+use Rattle.check_hypercycle.proofs.divides.Tie as tie
 
 returns : tie.Need-returns
 returns c =

@@ -1,26 +1,24 @@
--- `check_rates::is_linked` meets its contract. Assumes nothing.
+-- `check_links::is_linked` meets its contract. Assumes nothing.
 use Prim.Native.Nat.{_+_, _≤_, _<_}
-use mathlib.Core.Path.{_≡_, sym, _∙_}
+use mathlib.Core.Path.{sym, _∙_}
 use native.Mathlib.Omega.{arith}
 use denote.Ref.{now}
 use lib.ListN.{length}
 use borrow.Author.Needs.{needs}
 use Rattle.model.specs.Rules.Program.{Program}
 use Rattle.text_program.specs.Tables.{Stands, chainAt}
-use Rattle.check_rates.proofs.Counting.{found-one, found-none}
-use Rattle.text_program.proofs.ByIndex.{few-signals, indexes}
-use Rattle.check_rates.proofs.Linking.{
+use Rattle.check_links.proofs.Counting.{found-one, found-none}
+use Rattle.text_program.proofs.ByIndex.{few-signals, few-chains, chain-inside, indexes}
+use Rattle.check_links.proofs.Linking.{
   LinksLeft,
   link-inside,
   link-broken,
   link-on,
   link-over,
-  few-chains,
   chain-begins,
-  chain-inside,
 }
-use Rattle.check_rates.proofs.is_linked.Statement.{statement}
-use Rattle.check_rates.proofs.is_linked.Tie as tie
+use Rattle.check_links.proofs.is_linked.Statement.{statement}
+use Rattle.check_links.proofs.is_linked.Tie as tie
 
 abbrev Inv-loop : tie.InvT-loop
 Inv-loop text reads tables chain firsts at₀ left₀ at left =

@@ -1,0 +1,2 @@
+-- What the search for the hypercycle stands on.
+pub mod Hypercycle

@@ -1,0 +1,2 @@
+-- What the check of links stands on.
+pub mod Links
