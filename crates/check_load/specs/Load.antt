@@ -1,11 +1,11 @@
 -- The load of a cycle, by the tables of periods, phases and weights.
-use Prim.Native.Nat.{ℕ, _+_, _≤_, _<_}
+use Prim.Native.Nat.{ℕ, _<_}
 use mathlib.Core.Bool.{cond}
 use mathlib.Core.List.{List}
 use mathlib.Core.Path.{_≡_}
-use lib.ListN.{length, getD}
+use lib.ListN.{getD}
 use Rattle.model.specs.Rules.Program.{Program, count}
-use Rattle.model.specs.Rules.Reads.{Rate, due}
+use Rattle.model.specs.Rules.Reads.{due}
 use Rattle.model.specs.Rules.Schedule.{Schedule, phaseOf}
 use Rattle.model.specs.Rules.Search.{sum, table}
 

@@ -12,37 +12,23 @@ use Rattle.model.specs.Rules.Dependents.{markBytes, dependentsOf}
 use Rattle.model.specs.Rules.Outcome.{accepted, refused, fault, _▷_, provided}
 use Rattle.model.specs.Rules.Program.{
   Program,
-  Signal,
-  Body,
-  input,
-  equation,
   Read,
   count,
   signalAt,
   bodyReads,
+  isInput,
 }
-use Rattle.model.specs.Rules.Script.{isInputBody, isInputOf}
+use Rattle.model.specs.Rules.Script.{isInputOf}
 use Rattle.model.specs.Rules.Word.{byteAt}
 use Rattle.model.specs.declared.Fault.{Fault}
-use Rattle.model.proofs.Texts.Commands.{declaration-sound, written-byte}
-use Rattle.model.proofs.Texts.Written.{as-written}
-use Rattle.model.proofs.Texts.Legal.{stands, signal-spelled}
-use Rattle.model.specs.Says.Stands.{SpellsBody}
-use Rattle.model.specs.Says.Feasible.{All, Met}
+use Rattle.model.proofs.Texts.Legal.{stands, signal-spelled, input-byte, place-inside}
+use Rattle.model.specs.Says.Feasible.{Met}
 use Rattle.model.proofs.Basics.All.{all-map}
 use Rattle.model.proofs.Pairs.Verdict.{pair-accepted}
 use Rattle.text_program.specs.Tables.{TablesOf, Stands}
 use Rattle.text_program.specs.declared.Tables.{Tables}
 use Rattle.text_program.proofs.ByIndex.{few-signals, indexes}
 use Rattle.dependents.specs.Marks.{ReadsDeclared}
-
-input-byte : (text : List ℕ) (σ : Signal) (b : Body) → SpellsBody text σ b → isInputBody b ≡ eqb (byteAt text (σ .place)) 0x10
-input-byte text σ input g = sym (ap (λ (n : ℕ). eqb n 0x10) (written-byte text (σ .place) (as-written _ tt g)))
-input-byte text σ (equation w x) g = sym (ap (λ (n : ℕ). eqb n 0x10) (written-byte text (σ .place) (as-written _ tt (g .0))))
-
-place-inside : (text : List ℕ) (σ : Signal) (b : Body) → SpellsBody text σ b → σ .place < length text
-place-inside text σ input g = omega (arith, declaration-sound text _ _ g .3)
-place-inside text σ (equation w x) g = omega (arith, declaration-sound text _ _ (g .0) .3)
 
 -- A signal of a program that is read.
 module _ {text reads : List ℕ} {t : Tables} {p : Program} (known : Stands text reads t p) (x : ℕ) where
@@ -52,7 +38,7 @@ module _ {text reads : List ℕ} {t : Tables} {p : Program} (known : Stands text
   pub no-signal : t .signals ≤ x → isInputOf p x ≡ false
   unfolding isInputOf
   no-signal le =
-      ap (λ b. cond b (isInputBody (signalAt p x .body)) false)
+      ap (λ b. cond b (isInput (signalAt p x .body)) false)
       (le-ltb x (count p) (omega (arith, tables .counts .signals-are)))
 
   module _ (lt : x < t .signals) where
@@ -72,7 +58,7 @@ module _ {text reads : List ℕ} {t : Tables} {p : Program} (known : Stands text
     by-byte =
         ap (λ (n : ℕ). eqb (byteAt text n) 0x10) (tables .places x below) ∙
         sym (input-byte text (signalAt p x) (signalAt p x .body) (signal-spelled (stands text p (known .declares) .1) x below)) ∙
-        sym (ap (λ b. cond b (isInputBody (signalAt p x .body)) false) (lt-ltb x (count p) below))
+        sym (ap (λ b. cond b (isInput (signalAt p x .body)) false) (lt-ltb x (count p) below))
 
 -- The reads of an accepted pair are of its signals.
 pub reads-declared : (text schedule reads : List ℕ) (t : Tables) (q : Pair) → pairOf text schedule ≡ accepted q →

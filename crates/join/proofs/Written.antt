@@ -1,8 +1,8 @@
 -- The image by the tables of an accepted join is that of its pair. Assumes nothing.
-use Prim.Native.Nat.{ℕ, _+_, _*_, _≤_, _<_}
-use mathlib.Core.Bool.{true, _&&_, and-eq-true-iff}
+use Prim.Native.Nat.{ℕ, _+_, _*_, _≤_}
+use mathlib.Core.Bool.{_&&_, and-eq-true-iff}
 use mathlib.Core.List.{List, _∷_, _++_, map, append-assoc}
-use mathlib.Core.Path.{_≡_, refl, sym, ap, ap₂, subst, _∙_}
+use mathlib.Core.Path.{_≡_, sym, ap, ap₂, subst, _∙_}
 use native.Mathlib.Omega.{arith}
 use borrow.Author.Tests.{leb-true}
 use lib.Dec.{leb}
@@ -19,7 +19,7 @@ use Rattle.model.specs.Rules.Join.{
   joinedPairOf,
 }
 use Rattle.model.specs.Rules.Load.{loaded}
-use Rattle.model.specs.Rules.Outcome.{accepted, _▷_, provided}
+use Rattle.model.specs.Rules.Outcome.{accepted, provided}
 use Rattle.model.specs.Rules.Parts.{Part, tabledParts, PartLink, Wire, wireOf, wiredWith, joinedPair}
 use Rattle.model.specs.Rules.Program.{Program, count}
 use Rattle.model.specs.Rules.Rates.{hypercycle}
@@ -47,16 +47,7 @@ use Rattle.join_whole.proofs.Wired.{
 }
 use Rattle.join_rows.specs.Rows.{RowsReady, rowsBy}
 use Rattle.join_rows.proofs.Stand.{rows-by, bytes-long}
-use Rattle.join_emit.specs.Image.{
-  JointTimed,
-  jointLists,
-  jointRuns,
-  jointCodes,
-  jointCodesAt,
-  jointRecords,
-  jointImage,
-  JointFits,
-}
+use Rattle.join_emit.specs.Image.{JointTimed, jointLists, jointCodes, jointCodesAt, jointRecords, jointImage, JointFits}
 use Rattle.join_emit.specs.Sources.{wiresBy, SourcesBy}
 use Rattle.join_emit.proofs.Declares.{parts-declared, sums-kept, code-size, codes-are, records-are}
 use Rattle.join_verdict.specs.declared.Verdict.{Verdict}

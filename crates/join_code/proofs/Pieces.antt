@@ -1,11 +1,9 @@
 -- The commands of an expression: they are its code, and with a base added the code of the renumbered one. Assumes nothing.
-use Prim.Native.Nat.{ℕ, zero, suc, _+_, _%_, _≤_, _<_}
-use mathlib.Core.Bool.{true, false, cond}
+use Prim.Native.Nat.{ℕ, _+_, _<_}
 use mathlib.Core.List.{List, [], _∷_, _++_, map, map-append, append-assoc}
 use mathlib.Core.Path.{_≡_, refl, sym, ap, ap₂, _∙_}
 use native.Mathlib.Nat.{mod-eq-of-lt}
 use native.Mathlib.Omega.{arith}
-use lib.ListN.{length}
 use Rattle.model.specs.Rules.Image.{binaryByte, unaryByte, exprCode, joined}
 use Rattle.model.specs.Rules.Parts.{renumberExpr}
 use Rattle.model.specs.Rules.Program.{Expr, constant, read, binary, unary, choose, Read, readsOf}

@@ -1,5 +1,5 @@
 -- The parts declare what the joined tables say; their code and records are those of the joined program. Assumes nothing.
-use Prim.Native.Nat.{ℕ, zero, suc, _+_, _-_, _≤_, _<_}
+use Prim.Native.Nat.{ℕ, suc, _+_, _-_, _≤_, _<_}
 use mathlib.Core.Bool.{Bool, true, false, cond, false≢true}
 use mathlib.Core.List.{List, [], _∷_, _++_, append-assoc}
 use mathlib.Core.Path.{_≡_, refl, sym, ap, ap₂, subst, _∙_}
@@ -9,7 +9,7 @@ use lib.Dec.{eqb}
 use lib.IntN.{ℤ}
 use lib.ListN.{length, getD}
 use Rattle.model.specs.Rules.Image.{exprCode, signalCode, joined, codes, offsets, records}
-use Rattle.model.specs.Rules.Join.{isInput, partsIn, textsAt, programText, partsFrom, lent}
+use Rattle.model.specs.Rules.Join.{partsIn, textsAt, programText, partsFrom, lent}
 use Rattle.model.specs.Rules.Outcome.{accepted}
 use Rattle.model.specs.Rules.Parts.{
   Part,
@@ -21,10 +21,9 @@ use Rattle.model.specs.Rules.Parts.{
   Wire,
   wireRead,
   wiredBody,
-  wiredSignal,
   wiredWith,
 }
-use Rattle.model.specs.Rules.Program.{Program, Signal, Body, input, equation, read, noSignal, count, signalAt}
+use Rattle.model.specs.Rules.Program.{Program, Signal, Body, input, equation, read, noSignal, count, signalAt, isInput}
 use Rattle.model.specs.Rules.Search.{table, tableFrom, joinFrom}
 use Rattle.model.specs.Rules.Word.{twoBytes, wordBytes}
 use Rattle.model.specs.Says.Feasible.{All}
@@ -54,7 +53,6 @@ use Rattle.join_emit.specs.Parts.{
   recordAs,
   partRecords,
   recordsOf,
-  PartDeclared,
   PartsDeclared,
 }
 use Rattle.join_emit.specs.Sources.{sourceOf, SourcesBy}

@@ -3,7 +3,7 @@ use Prim.Native.Nat.{ℕ, _+_, _≤_, _<_}
 use mathlib.Core.List.{List}
 use mathlib.Core.Path.{_≡_, sym, ap, subst, _∙_}
 use native.Mathlib.Omega.{arith}
-use lib.ListN.{length, getD}
+use lib.ListN.{getD}
 use Rattle.model.specs.Rules.Join.{textsAt, programText}
 use Rattle.model.specs.Rules.Parts.{Part, partAt}
 use Rattle.model.specs.Rules.Program.{Signal, Read, noSignal, bodyReads, count, signalAt}

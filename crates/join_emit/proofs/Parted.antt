@@ -1,16 +1,15 @@
 -- The code and the records of a part, signal by signal. Assumes nothing.
 use Prim.Native.Nat.{ℕ, _+_, _-_, _≤_, _<_}
-use mathlib.Core.List.{List, [], _++_}
+use mathlib.Core.List.{List, _++_}
 use mathlib.Core.Path.{_≡_, refl, sym, ap, _∙_}
 use native.Mathlib.Omega.{arith}
 use lib.ListN.{length, getD}
 use Rattle.model.specs.Rules.Program.{Signal}
 use Rattle.model.specs.Rules.Word.{twoBytes, fourBytes, wordAt, wordBytes}
 use Rattle.model.specs.Rules.Writing.{Wrote}
-use Rattle.model.proofs.Basics.Left.{Left, Parts, room}
 use Rattle.image_write.proofs.Coded.{initial-word}
 use Rattle.image_write.proofs.Joined.{joinedFrom}
-use Rattle.join_emit.specs.Code.{joinedCode, JoinedRoom, JoinedHere, EmitsJoined}
+use Rattle.join_emit.specs.Code.{JoinedRoom, EmitsJoined}
 use Rattle.join_emit.specs.Parts.{declaredAs, codeAs, partCodes, recordAs, partRecords, PartDeclared}
 
 pub codes-left : (text : List ℕ) (base last : ℕ) (sources : List ℕ) →

@@ -1,8 +1,8 @@
 -- The code and the records of joined signals, part by part.
-use Prim.Native.Nat.{ℕ, suc, _+_, _-_, _*_, _≤_, _<_}
+use Prim.Native.Nat.{ℕ, _+_, _-_, _≤_, _<_}
 use mathlib.Core.List.{List, _++_}
 use mathlib.Core.Path.{_≡_}
-use lib.ListN.{length, getD}
+use lib.ListN.{getD}
 use Rattle.model.specs.Rules.Image.{joined}
 use Rattle.model.specs.Rules.Join.{partsIn, textsAt, lent, programText}
 use Rattle.model.specs.Rules.Outcome.{accepted}

@@ -6,7 +6,7 @@ use native.Mathlib.Omega.{arith}
 use lib.ListN.{length}
 use Rattle.model.specs.Rules.Compile.{Pair, pairOf}
 use Rattle.model.specs.Rules.Join.{partsIn, textsAt, programText, scheduleText, partPair, partsFrom}
-use Rattle.model.specs.Rules.Outcome.{accepted, _▷_}
+use Rattle.model.specs.Rules.Outcome.{accepted}
 use Rattle.model.specs.Rules.Parts.{Part, partAt}
 use Rattle.model.proofs.Basics.Outcomes.{then-accepted, accepted-same}
 use Rattle.join_gather.proofs.Gathers.{asPart}

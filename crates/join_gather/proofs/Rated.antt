@@ -9,27 +9,14 @@ use borrow.Author.Tests.{ltb-true, lt-ltb, le-ltb}
 use lib.Dec.{ltb, eqb}
 use lib.ListN.{length, getD, length-append, List·getD-append}
 use lib.Seq.{getD-at}
-use Rattle.model.specs.Rules.Join.{isInput, isDeclared}
+use Rattle.model.specs.Rules.Join.{isDeclared}
 use Rattle.model.specs.Rules.Parts.{Part, noPart, partAt}
-use Rattle.model.specs.Rules.Program.{Signal, Body, input, equation, count, signalAt}
+use Rattle.model.specs.Rules.Program.{Signal, count, signalAt, isInput}
 use Rattle.model.specs.Rules.Word.{byteAt}
-use Rattle.model.proofs.Texts.Commands.{declaration-sound, written-byte}
-use Rattle.model.proofs.Texts.Written.{as-written}
-use Rattle.model.proofs.Texts.Legal.{stands, signal-spelled, signal-period}
-use Rattle.model.specs.Says.Stands.{SpellsBody}
+use Rattle.model.proofs.Texts.Legal.{stands, signal-spelled, signal-period, input-byte}
 use Rattle.text_program.specs.declared.Tables.{Tables}
 use Rattle.join_links.specs.ByPart.{signalIn, valueIn}
 use Rattle.join_gather.specs.Rates.{Filled, RatesOf, RatesBy}
-
--- Whether a signal is an input is seen from its first byte.
-input-byte : (text : List ℕ) (σ : Signal) (b : Body) → SpellsBody text σ b → isInput b ≡ eqb (byteAt text (σ .place)) 0x10
-input-byte text σ input g = sym (ap (λ (n : ℕ). eqb n 0x10) (written-byte text (σ .place) (as-written _ tt g)))
-input-byte text σ (equation w x) g = sym (ap (λ (n : ℕ). eqb n 0x10) (written-byte text (σ .place) (as-written _ tt (g .0))))
-
--- Its declaration starts in the text.
-pub place-inside : (text : List ℕ) (σ : Signal) (b : Body) → SpellsBody text σ b → σ .place < length text
-place-inside text σ input g = omega (arith, declaration-sound text _ _ g .3)
-place-inside text σ (equation w x) g = omega (arith, declaration-sound text _ _ (g .0) .3)
 
 module _ (parts : List Part) (a : Part) where
   longer : length (parts ++ (a ∷ [])) ≡ length parts + 1

@@ -9,9 +9,9 @@ use borrow.Author.Tests.{le-leb, lt-leb, ltb-true, eqb-true, eq-eqb, not-true}
 use lib.Dec.{leb, ltb, eqb}
 use lib.ListN.{length, getD, set, length-set}
 use lib.Seq.{getD-set-same, getD-set-other}
-use Rattle.model.specs.Rules.Join.{isInput, linkAt, linksIn, sameInput, isDeclared, isNamed, isRight}
+use Rattle.model.specs.Rules.Join.{linkAt, linksIn, sameInput, isDeclared, isNamed, isRight}
 use Rattle.model.specs.Rules.Parts.{Part, PartLink, partAt}
-use Rattle.model.specs.Rules.Program.{count}
+use Rattle.model.specs.Rules.Program.{count, isInput}
 use Rattle.model.specs.Rules.Search.{allBelow}
 use Rattle.model.specs.Rules.Word.{byteAt}
 use Rattle.model.proofs.Basics.Outcomes.{not-true-false}

@@ -5,9 +5,9 @@ use mathlib.Core.List.{List}
 use mathlib.Core.Path.{_≡_}
 use lib.Dec.{eqb}
 use lib.ListN.{length, getD}
-use Rattle.model.specs.Rules.Join.{isInput, linkAt, linksIn, isDeclared, isRight}
+use Rattle.model.specs.Rules.Join.{linkAt, linksIn, isDeclared, isRight}
 use Rattle.model.specs.Rules.Parts.{Part, partAt}
-use Rattle.model.specs.Rules.Program.{Signal, count, signalAt}
+use Rattle.model.specs.Rules.Program.{Signal, count, signalAt, isInput}
 use Rattle.model.specs.Rules.Search.{firstBelow, allBelow}
 use Rattle.model.specs.declared.Found.{Found}
 use Rattle.model.specs.declared.Found.the-variants.{At, Nowhere}

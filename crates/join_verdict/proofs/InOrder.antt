@@ -15,7 +15,6 @@ use Rattle.model.specs.Rules.Join.{
   partPair,
   partsFrom,
   isRefused,
-  isInput,
   linksIn,
   isDeclared,
   isRight,
@@ -26,7 +25,7 @@ use Rattle.model.specs.Rules.Join.{
 }
 use Rattle.model.specs.Rules.Outcome.{Outcome, accepted, refused}
 use Rattle.model.specs.Rules.Parts.{Part, partAt}
-use Rattle.model.specs.Rules.Program.{count}
+use Rattle.model.specs.Rules.Program.{count, isInput}
 use Rattle.model.specs.Rules.Search.{firstBelow, allBelow, sum, table}
 use Rattle.model.specs.declared.Fault.{Fault}
 use Rattle.model.specs.declared.Found.{Found}

@@ -7,9 +7,9 @@ use native.Mathlib.Omega.{arith}
 use borrow.Author.Tests.{ltb-true, leb-true}
 use lib.Dec.{leb, ltb}
 use lib.ListN.{length, getD}
-use Rattle.model.specs.Rules.Join.{isInput, linkAt, linksIn, linksOf, isNamed, isRight}
+use Rattle.model.specs.Rules.Join.{linkAt, linksIn, linksOf, isNamed, isRight}
 use Rattle.model.specs.Rules.Parts.{Part, joinedParts, base, partAt, PartLink, Wire, wireOf, wiredSignal, wiredWith, joinedPair}
-use Rattle.model.specs.Rules.Program.{Signal, input, count, signalAt, weightOf}
+use Rattle.model.specs.Rules.Program.{Signal, count, signalAt, weightOf, isInput}
 use Rattle.model.specs.Rules.Schedule.{phaseOf}
 use Rattle.model.specs.Says.Feasible.{All, Ordered}
 use Rattle.model.proofs.Basics.All.{at-all, all-of-map}

@@ -1,20 +1,20 @@
 -- The table of an image as a stretch of it: the same rows. Assumes nothing.
 use Prim.Native.Nat.{ℕ, _+_, _-_, _*_, _≤_, _<_}
-use mathlib.Core.Bool.{true, _&&_, _||_}
+use mathlib.Core.Bool.{true}
 use mathlib.Core.List.{List}
-use mathlib.Core.Path.{_≡_, refl, sym, ap, ap₂, _∙_}
+use mathlib.Core.Path.{_≡_, refl, sym, ap, _∙_}
 use native.Mathlib.Omega.{arith}
 use borrow.Author.Tests.{le-leb}
-use lib.Dec.{leb, eqb}
+use lib.Dec.{leb}
 use lib.ListN.{length}
 use lib.Seq.{ext-getD}
-use Rattle.model.specs.Rules.Cover.{chained, areaOk}
-use Rattle.model.specs.Rules.Machine.{stretch, tableOffset, rowCount, rowsIn, codeOffset, wellFormed}
-use Rattle.model.specs.Rules.Table.{Row, noRow, rowAt, rowFrom, rowsFrom, areaRows}
+use Rattle.model.specs.Rules.Cover.{areaOk}
+use Rattle.model.specs.Rules.Machine.{stretch, tableOffset, rowCount, rowsIn, wellFormed}
+use Rattle.model.specs.Rules.Table.{noRow, rowFrom, rowsFrom, areaRows}
 use Rattle.model.specs.Rules.Word.{byteAt, fourAt, wordAt}
 use Rattle.model.proofs.Basics.Tests.{both}
 use Rattle.model.proofs.Rows.Area.{rows-length, rows-at}
-use Rattle.image_valid.proofs.Parts.{AreaPart, area, TablePart, table, formed, stretch-length, stretch-at}
+use Rattle.image_valid.proofs.Parts.{AreaPart, area, table, formed, stretch-length, stretch-at}
 use Rattle.machine.specs.Runnable.{tableIn}
 
 module _ (image : List ℕ) (at : ℕ) (good : areaOk image at ≡ true) where

@@ -8,7 +8,7 @@ use native.Mathlib.Omega.{arith}
 use borrow.Author.Tests.{eqb-true, eqb-false, leb-true, le-leb}
 use lib.Dec.{eqb}
 use lib.ListN.{length}
-use Rattle.model.specs.Rules.Latency.{readsBack, source, keeps, timely}
+use Rattle.model.specs.Rules.Latency.{readsBack, keeps, timely}
 use Rattle.model.specs.Rules.Outcome.{accepted, fault}
 use Rattle.model.specs.Rules.Program.{Program, Chain, count}
 use Rattle.model.specs.Rules.Rates.{isLinked}

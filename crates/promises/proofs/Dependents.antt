@@ -1,50 +1,32 @@
 -- What `dependents` marks, and when it is refused. Assumes nothing.
 use Prim.Native.Nat.{ℕ, _<_}
-use mathlib.Core.Bool.{Bool, true, false, cond, false≢true}
+use mathlib.Core.Bool.{Bool, true, false, false≢true}
 use mathlib.Core.List.{List}
 use mathlib.Core.Logic.{_↔_}
 use mathlib.Core.Path.{_≡_, refl, sym, ap, ap₂, _∙_}
 use native.Mathlib.Decide.{decLt}
 use native.Mathlib.Omega.{arith}
-use borrow.Author.Tests.{lt-ltb, ltb-true}
-use lib.Dec.{ltb}
 use lib.ListN.{length, getD, List·getD-eq-default}
 use lib.Seq.{ext-getD}
 use Rattle.model.specs.Rules.Compile.{Pair, pairOf}
 use Rattle.model.specs.Rules.Dependents.{dependents, markByte, markBytes, dependentsJob}
 use Rattle.model.specs.Rules.Machine.{Job}
 use Rattle.model.specs.Rules.Outcome.{accepted, refused, fault, provided}
-use Rattle.model.specs.Rules.Program.{Body, input, equation, Program, count, signalAt}
-use Rattle.model.specs.Rules.Script.{isInputBody, isInputOf}
+use Rattle.model.specs.Rules.Program.{Program, count}
+use Rattle.model.specs.Rules.Script.{isInputOf}
 use Rattle.model.specs.declared.Fault.{Fault}
-use Rattle.promises.specs.Dependents.{InputOf, Reached, MarksDependents, DependentsRefusedAt}
+use Rattle.promises.specs.Dependents.{Reached, MarksDependents, DependentsRefusedAt}
 use Rattle.theorems_pairs.specs.Conditions.{LegalPair}
 use Rattle.theorems_streams.specs.Dependence.{DependsOn}
-use Rattle.theorems_streams.specs.Held.{IsInput}
+use Rattle.theorems_streams.specs.Held.{InputOf}
 use Rattle.model.proofs.Basics.Outcomes.{accepted-then, refused-then, table-length, table-at}
 use Rattle.model.proofs.Pairs.Verdict.{pair-passed, pair-accepted}
 use Rattle.model.proofs.Texts.Legal.{legal}
 use Rattle.theorems_calls.proofs.CallsExact.{Does}
 use Rattle.theorems_pairs.proofs.Exact.{accepted-exactly, pair-judged}
 use Rattle.theorems_pairs.proofs.Judged.{Answers, answers-then, Only, provided-judged, Judged}
+use Rattle.theorems_streams.proofs.Inputs.{input-exactly}
 use Rattle.theorems_streams.proofs.Dependents.{marks-length, dependents-exactly}
-
--- The test of an input.
-body-input : (b : Body) → (isInputBody b ≡ true) ↔ IsInput b
-body-input input = (λ e. tt, λ h. refl)
-body-input (equation weight e) = (λ q. absurd (false≢true q), λ h. absurd h)
-
-input-exactly : (p : Program) (i : ℕ) → (isInputOf p i ≡ true) ↔ InputOf p i
-unfolding isInputOf
-input-exactly p i = (
-  go (ltb i (count p)) refl,
-  λ h. ap (λ b. cond b (isInputBody (signalAt p i .body)) false)
-      (lt-ltb i (count p) (h .0)) ∙ body-input (signalAt p i .body) .1 (h .1),
-)
-  where
-    go : (b : Bool) → ltb i (count p) ≡ b → cond b (isInputBody (signalAt p i .body)) false ≡ true → InputOf p i
-    go true e h = (ltb-true i (count p) e, body-input (signalAt p i .body) .0 h)
-    go false e h = absurd (false≢true h)
 
 module _ (program schedule : List ℕ) (i : ℕ) where
   -- The marks of a legal pair.

@@ -5,16 +5,12 @@ use mathlib.Core.Path.{_≡_}
 use lib.ListN.{length, getD}
 use Rattle.model.specs.Rules.Compile.{Pair}
 use Rattle.model.specs.Rules.Outcome.{fault}
-use Rattle.model.specs.Rules.Program.{Program, count, signalAt}
+use Rattle.model.specs.Rules.Program.{Program, count}
 use Rattle.model.specs.declared.Fault.{Fault}
 use Rattle.theorems_pairs.specs.Conditions.{LegalPair}
 use Rattle.theorems_pairs.specs.Refusals.{RefusedAt}
 use Rattle.theorems_streams.specs.Dependence.{DependsOn}
-use Rattle.theorems_streams.specs.Held.{IsInput}
-
--- i is an input of the program.
-abbrev pub InputOf : Program → ℕ → Type 0
-InputOf p i = (i < count p) × IsInput (signalAt p i .body)
+use Rattle.theorems_streams.specs.Held.{InputOf}
 
 -- Signal y is one of the program's, and reads i, by itself or through other signals.
 abbrev pub Reached : Program → ℕ → ℕ → Type 0

@@ -3,11 +3,10 @@ use mathlib.Core.Path.{_≡_, refl, sym, ap, ap₂, _∙_}
 use mathlib.Core.Bool.{Bool, true, true≢false, and-eq-true-iff}
 use mathlib.Core.List.{List, [], _∷_, _++_, append-assoc, append-nil}
 use Prim.Native.Nat.{ℕ, suc, _+_, _*_, _%_, _≤_, _<_}
-use native.Mathlib.Nat.{add-zero}
 use native.Mathlib.Numerals.{add-one}
 use native.Mathlib.Omega.{arith}
 use lib.IntN.{ℤ}
-use lib.ListN.{length, take, set, length-append}
+use lib.ListN.{length, take, set}
 use lib.Seq.{sets, take-suc, take-length, length-take-le}
 use lib.Signed.{leZ}
 use Rattle.model.specs.Rules.Search.{foundOr, joinFrom, allBelow}
@@ -19,7 +18,7 @@ use Rattle.model.specs.Rules.Cover.{startingAt, edge, chained}
 use Rattle.model.specs.Rules.Table.{Row, contains, rowAt, rowFrom, byLow, rowBytes, tableBytes}
 use Rattle.model.specs.Says.Rows.{Upright, AllUpright, Covers}
 use Rattle.model.proofs.Images.Stretches.{sets-append}
-use Rattle.model.proofs.Rows.Area.{follows, rowsBytes, row-length, bytes-length}
+use Rattle.model.proofs.Rows.Area.{follows, rowsBytes, bytes-length}
 use Rattle.model.proofs.Rows.Levels.{eqZ-true, true-eqZ, level-contains, contains-lies, upright-level}
 use Rattle.model.proofs.Rows.Rule.{sorted, found-in}
 use Rattle.model.proofs.Rows.Decided.{covers-disjoint}

@@ -1,16 +1,16 @@
 -- What the proofs of several functions cite: words in a wider type, and the rows of bytes. Assumes nothing.
 use mathlib.Core.Path.{_≡_, refl, sym, ap, _∙_}
-use mathlib.Core.Bool.{Bool, true, false, _&&_, true≢false, false≢true}
+use mathlib.Core.Bool.{Bool, true, false}
 use mathlib.Core.List.{List}
-use Prim.Native.Nat.{ℕ, zero, suc, _+_, _*_, _^_, _≤_, _<_}
+use Prim.Native.Nat.{ℕ, zero, suc, _+_, _≤_, _<_}
 use native.Mathlib.Numerals.{add-one}
 use native.Mathlib.Omega.{arith}
 use borrow.Author.Needs.{sfits-of}
-use borrow.Author.Tests.{ltb-true, ltb-false, le-leb, lt-leb, eqb-true, eqb-false}
+use borrow.Author.Tests.{eqb-true, eqb-false}
 use lib.Dec.{eqb}
 use lib.IntN.{ℤ, pos, negsuc, sucℤ, _+ℤ_, +ℤ-one}
 use lib.ListN.{length}
-use lib.Signed.{mag, leZ, ltZ}
+use lib.Signed.{mag, leZ}
 use mir.Facts.{toZ-ofZ, sfits-widen}
 use mir.Syntax.{w32, w64}
 use mir.Val.{toZ, ofZ, SFits}
@@ -21,10 +21,10 @@ use Rattle.model.proofs.Pairs.Decide.{all-fails}
 use Rattle.model.proofs.Basics.Outcomes.{table-length, table-at}
 use Rattle.model.proofs.Rows.Area.{follows}
 use Rattle.model.specs.Rules.Cover.{edge, chained, greatestWord}
-use Rattle.model.specs.Rules.Table.{Row, rowAt, rowFrom, rowsFrom}
+use Rattle.model.specs.Rules.Table.{Row, rowAt}
 use Rattle.word.proofs.Locals.{eqZ-other}
 use Rattle.rows.specs.Rows.{textRow, textRows}
-use Rattle.model.proofs.Rows.Levels.{eqZ-true, true-eqZ}
+use Rattle.model.proofs.Rows.Levels.{true-eqZ}
 
 -- A word in a wider type.
 pub long : {z : ℤ} → SFits w32 z → SFits w64 z

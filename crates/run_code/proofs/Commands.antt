@@ -26,6 +26,8 @@ use Rattle.model.specs.Rules.Machine.{
 }
 use Rattle.model.specs.Rules.Table.{Row, unaryWord}
 use Rattle.model.specs.Rules.Word.{byteAt, wordAt, binaryWord, ifWord}
+use Rattle.word.specs.OfByte.{binaryOf}
+use Rattle.word.proofs.OfByte.{each-operator}
 use Rattle.run_code.specs.Leaf.{leafWord, leafOk, leafLength}
 use Rattle.model.specs.declared.Binary.{Binary}
 use Rattle.model.specs.declared.Code.{Code}
@@ -95,6 +97,11 @@ is-unknown b not-negate not-if not-table o =
       ne-eqb _ _ not-if,
       ne-eqb _ _ not-table,
     )
+
+-- .. and each of these bytes is its operator's
+pub operator-code : (b : ℕ) → 0x30 ≤ b → b ≤ 0x36 → operatorCode b ≡ Code.Binary (binaryOf b)
+unfolding operatorCode binaryOf
+operator-code = each-operator (λ c. operatorCode c ≡ Code.Binary (binaryOf c)) refl refl refl refl refl refl refl
 
 -- The code from `at` on, with so many words on the stack and so many commands at most: how it is judged, and what it stores.
 module _ (tabled : Bool) (rows : List Row) (code : List ℕ) (n own : ℕ) (state samples : List ℤ) where

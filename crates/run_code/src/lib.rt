@@ -1,6 +1,4 @@
 // Runs the code of one signal. The code is known to be well formed, so nothing is checked again here.
-use model::Binary;
-use model::Code;
 use run_stack::Stack;
 ghost use mathlib.Core.Path.{_≡_};
 ghost use mathlib.Core.Bool.{true};
@@ -9,25 +7,9 @@ ghost use lib.Dec.{ltb};
 ghost use lib.ListN.{length};
 ghost use Rattle.model.specs.Rules.Cover.{areaOk};
 ghost use Rattle.model.specs.Rules.Table.{areaRows};
-ghost use Rattle.model.specs.Rules.Machine.{operatorCode, codeAt, codeOk, runCode, countCode};
+ghost use Rattle.model.specs.Rules.Machine.{codeAt, codeOk, runCode, countCode};
 ghost use Rattle.model.specs.Rules.Word.{byteAt};
 ghost use Rattle.run_code.specs.Leaf.{leafWord, leafOk, leafLength};
-
-// The operator with two operands that a byte commands.
-fn operator(byte: u8) -> Binary
-    requires { ⌜ (0x30 ≤ byte) × (byte ≤ 0x36) ⌝ }
-    ensures { λ r. ⌜ operatorCode byte ≡ Code.Binary r ⌝ }
-{
-    match byte {
-        0x30 => Binary::Add,
-        0x31 => Binary::Sub,
-        0x32 => Binary::Mul,
-        0x33 => Binary::Less,
-        0x34 => Binary::Same,
-        0x35 => Binary::Min,
-        _ => Binary::Max,
-    }
-}
 
 // The word that the leaf at `at` pushes: its operand, a signal's word or a sample. These two are both read, and one is chosen:
 // which of them it is would be guessed.
@@ -90,7 +72,7 @@ pub fn run_code(code: &[u8], table: &[u8], n: u8, own: u8, state: &[i32], sample
                     return Run { word, count };
                 }
                 if next < 0x37 {
-                    stack = stack.binary_with(operator(next), word);
+                    stack = stack.binary_with(word::binary_of(next), word);
                     at = at + operator_width;
                     count = count + 1;
                 } else if stack.height < run_stack::NEAR {
@@ -107,7 +89,7 @@ pub fn run_code(code: &[u8], table: &[u8], n: u8, own: u8, state: &[i32], sample
             0x38 => stack = stack.negate(),
             0x3A => stack = stack.choose(),
             0x3B => stack = stack.look_up(table),
-            _ => stack = stack.binary(operator(byte)),
+            _ => stack = stack.binary(word::binary_of(byte)),
         }
     }
     Run { word: 0, count: 0 }

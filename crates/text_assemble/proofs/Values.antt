@@ -1,27 +1,15 @@
 -- Numbers in their range, and the value of an operand by its cases. Assumes nothing.
-use Prim.Native.Nat.{ℕ, zero, suc, _+_, _-_, _*_, _^_, _≤_, _<_, min}
-use mathlib.Core.Bool.{Bool, true, false, cond, _&&_}
-use mathlib.Core.List.{List, [], _∷_, _++_}
+use Prim.Native.Nat.{ℕ, _+_, _-_, _^_, _≤_, _<_, min}
+use mathlib.Core.Bool.{Bool, true, false, _&&_}
+use mathlib.Core.List.{List, [], _∷_}
 use mathlib.Core.Path.{_≡_, refl, sym, ap, _∙_}
 use native.Mathlib.Decide.{decLt}
 use native.Mathlib.Omega.{arith}
 use borrow.Author.Tests.{lt-ltb, le-ltb, le-leb, lt-leb, eq-eqb, ne-eqb}
-use lib.Dec.{leb, ltb, eqb}
-use lib.ListN.{length, getD, drop, List·getD-eq-default}
-use Rattle.model.specs.Rules.Outcome.{Outcome, accepted, refused, refuse, _▷_, provided}
-use Rattle.model.specs.Rules.TextForm.{
-  Token,
-  token,
-  names,
-  keywordAt,
-  spelled,
-  isSigned,
-  size,
-  numberOf,
-  ranged,
-  signedOf,
-  operandOf,
-}
+use lib.Dec.{leb}
+use lib.ListN.{length, drop}
+use Rattle.model.specs.Rules.Outcome.{accepted, refuse, _▷_, provided}
+use Rattle.model.specs.Rules.TextForm.{token, names, keywordAt, spelled, size, numberOf, ranged, signedOf, operandOf}
 use Rattle.model.specs.Rules.Word.{byteAt}
 use Rattle.model.specs.declared.Found.{Found}
 use Rattle.model.specs.declared.Found.the-variants.{At, Nowhere}

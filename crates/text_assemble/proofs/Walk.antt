@@ -1,10 +1,9 @@
 -- Token after token: what is assembled so far, and what the rest is assembled to. Assumes nothing.
 use Prim.Native.Nat.{ℕ, zero, suc, _+_, _-_, _*_, _%_, _/_, _≤_, _<_}
-use mathlib.Core.Bool.{Bool, true, false}
 use mathlib.Core.List.{List, [], _∷_, _++_, append-assoc, append-nil}
 use mathlib.Core.Path.{_≡_, refl, sym, ap, _∙_}
 use native.Mathlib.Omega.{arith}
-use lib.ListN.{length, getD, take, drop, drop-of-length-le, length-append}
+use lib.ListN.{length, take, drop, drop-of-length-le, length-append}
 use Rattle.model.specs.Rules.Outcome.{Outcome, accepted, refused, refuse, _▷_}
 use Rattle.model.specs.Rules.TextForm.{
   Token,
@@ -20,7 +19,6 @@ use Rattle.model.specs.Rules.TextForm.{
   lowBytes,
   size,
   Assembled,
-  assembledKeyword,
   assembledOf,
   operandOf,
   assembleFrom,

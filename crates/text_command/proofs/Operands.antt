@@ -1,7 +1,7 @@
 -- The commands of an expression by ranges of their bytes. Assumes nothing.
 use Prim.Native.Nat.{ℕ, _≤_, _<_}
 use mathlib.Core.List.{List}
-use mathlib.Core.Path.{_≡_}
+use mathlib.Core.Path.{_≡_, refl}
 use native.Mathlib.Decide.{decLt}
 use native.Mathlib.Omega.{arith}
 use borrow.Author.Tests.{ne-eqb, lt-ltb}
@@ -9,7 +9,9 @@ use lib.ListN.{length}
 use Rattle.model.specs.Rules.Command.{plainRead, sampledRead, operatorOf, operatorAt}
 use Rattle.model.specs.Rules.Word.{byteAt}
 use Rattle.model.specs.declared.Operator.the-variants as Operator
-use Rattle.text_command.specs.Operator.{kindOf, binaryOf, ifOrTable}
+use Rattle.word.specs.OfByte.{binaryOf}
+use Rattle.word.proofs.OfByte.{each-operator}
+use Rattle.text_command.specs.Operator.{kindOf, ifOrTable}
 
 -- At a byte that is there it is the operator of that byte.
 pub at-byte : (text : List ℕ) (at : ℕ) → at < length text → operatorAt text at ≡ operatorOf (byteAt text at) text at
@@ -36,17 +38,8 @@ module _ (text : List ℕ) (at b : ℕ) where
 
   pub binary-is : 0x30 ≤ b → b ≤ 0x36 → operatorOf b text at ≡ Operator.Binary (binaryOf b)
   unfolding operatorOf binaryOf
-  binary-is l h = go (decLt b 0x31) (decLt b 0x32) (decLt b 0x33) (decLt b 0x34) (decLt b 0x35) (decLt b 0x36)
-    where
-      go : Dec (b < 0x31) → Dec (b < 0x32) → Dec (b < 0x33) → Dec (b < 0x34) → Dec (b < 0x35) → Dec (b < 0x36) →
-          operatorOf b text at ≡ Operator.Binary (binaryOf b)
-      go (yes p) q r s t u = let e : b ≡ 0x30 = omega arith in rw e
-      go (no p) (yes q) r s t u = let e : b ≡ 0x31 = omega arith in rw e
-      go (no p) (no q) (yes r) s t u = let e : b ≡ 0x32 = omega arith in rw e
-      go (no p) (no q) (no r) (yes s) t u = let e : b ≡ 0x33 = omega arith in rw e
-      go (no p) (no q) (no r) (no s) (yes t) u = let e : b ≡ 0x34 = omega arith in rw e
-      go (no p) (no q) (no r) (no s) (no t) (yes u) = let e : b ≡ 0x35 = omega arith in rw e
-      go (no p) (no q) (no r) (no s) (no t) (no u) = let e : b ≡ 0x36 = omega arith in rw e
+  binary-is l h =
+      each-operator (λ c. operatorOf c text at ≡ Operator.Binary (binaryOf c)) refl refl refl refl refl refl refl b l h
 
   -- A byte that is none of them.
   pub if-or-table-is : 0x3A ≤ b → b ≤ 0x3B → operatorOf b text at ≡ ifOrTable b

@@ -7,8 +7,6 @@ use lib.Dec.{eqb, leb}
 use Rattle.model.specs.Rules.Command.{operatorAt}
 use Rattle.model.specs.Rules.Program.{isAllowed, unaryLookups}
 use Rattle.model.specs.Says.Written.{OperatorWritten}
-use Rattle.model.specs.declared.Binary.{Binary}
-use Rattle.model.specs.declared.Binary.the-variants as Binary
 use Rattle.model.specs.declared.Kind.{Kind}
 use Rattle.model.specs.declared.Kind.the-variants.{Now, Last, When, LastWhen, Current}
 use Rattle.model.specs.declared.Operator.{Operator}
@@ -20,15 +18,6 @@ use Rattle.text_command.specs.declared.Taken.{Taken}
 -- The read of a byte from 21 to 25.
 unfoldable pub kindOf : ℕ → Kind
 kindOf b = cond (eqb b 0x21) Now (cond (eqb b 0x22) Last (cond (eqb b 0x23) When (cond (eqb b 0x24) LastWhen Current)))
-
--- The operator of a byte from 30 to 36.
-unfoldable pub binaryOf : ℕ → Binary
-binaryOf b =
-    cond (eqb b 0x30) Binary.Add
-    (cond (eqb b 0x31) Binary.Sub
-    (cond (eqb b 0x32) Binary.Mul
-    (cond (eqb b 0x33) Binary.Less
-    (cond (eqb b 0x34) Binary.Same (cond (eqb b 0x35) Binary.Min Binary.Max)))))
 
 -- IF or TABLE, the operators of 3A and 3B.
 unfoldable pub ifOrTable : ℕ → Operator

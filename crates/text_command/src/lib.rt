@@ -1,5 +1,4 @@
 // One decoded command of a program text (a declaration or an operator of an expression) or of a schedule text.
-use model::Binary;
 use model::Declaration;
 use model::Index;
 use model::Kind;
@@ -19,7 +18,6 @@ ghost use Rattle.model.specs.Rules.Program.{unaryLookups};
 ghost use Rattle.model.specs.Rules.Schedule.{scheduleCommandAt};
 ghost use Rattle.text_command.specs.Operator.{
   kindOf,
-  binaryOf,
   ifOrTable,
   HasFactor,
   restricted,
@@ -267,21 +265,6 @@ fn kind_of(byte: u8) -> Kind
     }
 }
 
-// The operator of a byte from 30 to 36.
-fn binary_of(byte: u8) -> Binary
-    ensures { λ r. ⌜ r ≡ binaryOf byte ⌝ }
-{
-    match byte {
-        0x30 => Binary::Add,
-        0x31 => Binary::Sub,
-        0x32 => Binary::Mul,
-        0x33 => Binary::Less,
-        0x34 => Binary::Same,
-        0x35 => Binary::Min,
-        _ => Binary::Max,
-    }
-}
-
 // IF or TABLE, by its byte: one arm of the decoders, which with one more would be too large for their callers to take in.
 fn if_or_table(byte: u8) -> Operator
     ensures { λ r. ⌜ r ≡ ifOrTable byte ⌝ }
@@ -305,7 +288,7 @@ pub fn operator_from(least: u8, text: &[u8], at: usize) -> Operator
         0x20 => constant_at(text, at),
         0x21 | 0x22 => plain_read(kind_of(byte), text, at),
         0x23 | 0x24 | 0x25 => sampled_read(least, kind_of(byte), text, at),
-        0x30 | 0x31 | 0x32 | 0x33 | 0x34 | 0x35 | 0x36 => Operator::Binary(binary_of(byte)),
+        0x30 | 0x31 | 0x32 | 0x33 | 0x34 | 0x35 | 0x36 => Operator::Binary(word::binary_of(byte)),
         0x38 => Operator::Unary(Unary::Negate),
         0x3A | 0x3B => if_or_table(byte),
         _ => Operator::Unknown,
@@ -390,7 +373,7 @@ pub fn operator_at(text: &[u8], at: usize) -> Operator
         0x21 | 0x22 | 0x23 | 0x24 | 0x25 => standing_read(text, at),
         0x38 => Operator::Unary(Unary::Negate),
         0x3A | 0x3B => if_or_table(byte),
-        _ => Operator::Binary(binary_of(byte)),
+        _ => Operator::Binary(word::binary_of(byte)),
     }
 }
 

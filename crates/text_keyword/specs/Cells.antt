@@ -1,11 +1,10 @@
 -- The table of keywords in bytes, a row of 15 each: 9 letters with zeros after the last, whether it starts a line, its byte, its
 -- operands by their numbers with zeros after the last.
-use Prim.Native.Nat.{ℕ, _+_, _*_, _≤_}
-use mathlib.Core.Bool.{Bool, cond}
+use Prim.Native.Nat.{ℕ, _+_, _*_}
+use mathlib.Core.Bool.{cond}
 use mathlib.Core.List.{List, [], _∷_, _++_, map}
-use mathlib.Core.Path.{_≡_}
 use lib.Dec.{eqb}
-use lib.ListN.{length, take, drop, replicate}
+use lib.ListN.{take, drop, replicate}
 use Rattle.model.specs.Rules.Search.{joinFrom}
 use Rattle.model.specs.Rules.TextForm.{Keyword, keywords, names}
 use Rattle.model.specs.Rules.Word.{byteAt}

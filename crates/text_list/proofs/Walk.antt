@@ -1,6 +1,6 @@
 -- Token after token: what is listed so far, and what the rest is listed as. Assumes nothing.
 use Prim.Native.Nat.{ℕ, zero, suc, _+_, _-_, _*_, _^_, _≤_, _<_}
-use mathlib.Core.Bool.{Bool, true, false, cond, _&&_}
+use mathlib.Core.Bool.{Bool, true, false, cond}
 use mathlib.Core.List.{List, [], _∷_, _++_, append-assoc, append-nil}
 use mathlib.Core.Path.{_≡_, refl, sym, ap, subst, _∙_}
 use native.Mathlib.Omega.{arith}
@@ -11,7 +11,7 @@ use lib.ListN.{length, length-append}
 use lib.Signed.{mag}
 use mir.Val.{sel}
 use Rattle.model.specs.Rules.Decimal.{natural, decimal}
-use Rattle.model.specs.Rules.Outcome.{Outcome, accepted, refused, refuse, _▷_, provided}
+use Rattle.model.specs.Rules.Outcome.{Outcome, accepted, refused, _▷_}
 use Rattle.model.specs.Rules.Search.{allBelow, tableFrom, table}
 use Rattle.model.specs.Rules.TextForm.{
   Keyword,
@@ -34,7 +34,6 @@ use Rattle.model.specs.Rules.TextForm.{
   listing,
 }
 use Rattle.model.specs.Rules.Word.{wordOf, byteAt, AreBytes}
-use Rattle.model.specs.Rules.Writing.{Wrote}
 use Rattle.model.specs.declared.Yielded.{Yielded}
 use Rattle.model.specs.declared.Yielded.the-variants as Yielded
 use Rattle.model.specs.declared.Fault.{Fault}
@@ -50,9 +49,8 @@ use Rattle.model.proofs.Basics.Outcomes.{
   refused-then,
   then-then,
   then-same,
-  provided-true,
 }
-use Rattle.model.proofs.Basics.Left.{Left, Parts, starts, room, turn, done, wrote-size}
+use Rattle.model.proofs.Basics.Left.{Left, Parts, starts, room, turn, wrote-size}
 use Rattle.model.proofs.Bench.Decimals.{natural-length, decimal-length}
 use Rattle.model.proofs.Pairs.Decide.{is-first, all-true}
 use Rattle.basics.specs.declared.Judged.{Judged}

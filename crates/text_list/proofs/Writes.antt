@@ -1,14 +1,13 @@
 -- What is written for one token. Assumes nothing.
 use Prim.Native.Nat.{ℕ, zero, suc, _+_, _-_, _*_, _^_, _≤_, _<_}
-use mathlib.Core.Bool.{Bool, true, false, cond, not}
+use mathlib.Core.Bool.{Bool, true, false, cond}
 use mathlib.Core.List.{List, [], _∷_, _++_}
-use mathlib.Core.Path.{_≡_, refl, sym, ap, subst, _∙_}
+use mathlib.Core.Path.{_≡_, refl, sym, _∙_}
 use native.Mathlib.Decide.{decLt}
 use native.Mathlib.Omega.{arith}
-use borrow.Author.Tests.{eq-eqb, ne-eqb, le-leb, lt-leb, eqb-true}
-use lib.Dec.{eqb, leb}
-use lib.ListN.{length, getD, drop, length-append, List·getD-eq-default}
-use Rattle.model.specs.Rules.Outcome.{Outcome, accepted, refused, refuse, _▷_, provided}
+use borrow.Author.Tests.{eq-eqb, ne-eqb, le-leb, lt-leb}
+use lib.ListN.{length, drop, length-append, List·getD-eq-default}
+use Rattle.model.specs.Rules.Outcome.{Outcome, accepted, refused, refuse}
 use Rattle.model.specs.Rules.Search.{firstBelow}
 use Rattle.model.specs.Rules.TextForm.{
   names,
@@ -18,11 +17,9 @@ use Rattle.model.specs.Rules.TextForm.{
   size,
   lowAt,
   lead,
-  nameOr,
   numberToken,
   operandToken,
   Listed,
-  listedKeyword,
   listedAt,
 }
 use Rattle.model.specs.Rules.Word.{byteAt, AreBytes}
@@ -33,12 +30,12 @@ use Rattle.model.specs.declared.Found.the-variants.{At, Nowhere}
 use Rattle.model.specs.declared.Operand.{Operand}
 use Rattle.model.specs.declared.Operand.the-variants.{One, Two, Four, Signed, Index, Mode}
 use Rattle.model.proofs.Basics.Outcomes.{accepted-then, refused-then, true-provided, false-provided}
-use Rattle.model.proofs.Basics.Left.{Parts, after, wrote-size}
+use Rattle.model.proofs.Basics.Left.{Parts, wrote-size}
 use Rattle.model.proofs.Pairs.Decide.{is-first}
 use Rattle.basics.specs.declared.Judged.the-variants as Judged
 use Rattle.decimal.specs.PutBytes.{PutBytes}
-use Rattle.text_keyword.specs.Cells.{cells, lettersOf, byteOf, pendingAt}
-use Rattle.text_keyword.proofs.Finding.{letters-end, letters-more}
+use Rattle.text_keyword.specs.Cells.{lettersOf}
+use Rattle.text_keyword.proofs.Finding.{letters-more}
 use Rattle.text_list.specs.declared.TokenPut.{TokenPut}
 use Rattle.text_list.specs.Puts.{leadBy, putOf, Room, PutToken, PutsToken}
 

@@ -1,7 +1,6 @@
 -- The reads and the LINKs of an accepted text stand at rising offsets. Assumes nothing.
 use Prim.Native.Nat.{ℕ, zero, suc, _+_, _≤_, _<_}
 use mathlib.Core.List.{List, [], _∷_, _++_, map, map-append}
-use mathlib.Core.Path.{_≡_}
 use native.Mathlib.Omega.{arith}
 use lib.ListN.{length, getD}
 use Rattle.model.specs.Says.Grammar.{Spells, SpellsLinks, DeclaresOne, Declares, LegalProgram}

@@ -1,11 +1,11 @@
 -- Classes of bytes, and the tokens of a text byte by byte. Assumes nothing.
-use Prim.Native.Nat.{ℕ, zero, suc, _+_, _-_, _*_, _^_, _≤_, _<_, min}
+use Prim.Native.Nat.{ℕ, suc, _+_, _-_, _*_, _^_, _≤_, _<_, min}
 use mathlib.Core.Bool.{Bool, true, false, cond, not, _&&_, _||_}
 use mathlib.Core.List.{List, [], _∷_, _++_}
 use mathlib.Core.Path.{_≡_, refl, sym, ap, _∙_}
 use native.Mathlib.Numerals.{add-one}
 use native.Mathlib.Omega.{arith}
-use borrow.Author.Tests.{eqb-true, eqb-false, eq-eqb, ne-eqb, leb-true, le-leb, lt-leb}
+use borrow.Author.Tests.{eqb-true, ne-eqb, le-leb, lt-leb}
 use lib.Dec.{eqb, leb, leb·suc-suc}
 use lib.ListN.{length, getD, take, drop, drop-of-length-le, length-drop}
 use lib.Seq.{drop-cons, take-suc, getD-drop}
@@ -23,7 +23,6 @@ use Rattle.model.specs.Rules.TextForm.{
   scanned,
   finished,
   finishedBy,
-  Token,
   token,
   tokensFrom,
   numberFrom,
@@ -31,19 +30,8 @@ use Rattle.model.specs.Rules.TextForm.{
 }
 use Rattle.model.specs.Rules.Width.{within}
 use Rattle.model.specs.Rules.Word.{byteAt}
-use Rattle.model.specs.declared.Found.{Found}
 use Rattle.model.specs.declared.Found.the-variants.{At, Nowhere}
-use Rattle.text_token.specs.Scanning.{
-  isOther,
-  startsToken,
-  scanAt,
-  commentAfter,
-  tokensAt,
-  StartsAt,
-  EndsAt,
-  heldNumber,
-  hasZero,
-}
+use Rattle.text_token.specs.Scanning.{isOther, startsToken, scanAt, commentAfter, tokensAt, heldNumber, hasZero}
 
 -- A comment goes on up to a newline, and starts with a semicolon.
 pub comment-in : (b : ℕ) → not (eqb b 10) ≡ commentAfter true (classOf b)

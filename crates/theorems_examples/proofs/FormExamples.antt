@@ -1,5 +1,4 @@
 -- The text form by examples, which the definitions answer by computation. Assumes nothing.
-use Prim.Native.Nat.{ℕ}
 use mathlib.Core.Path.{refl}
 use Rattle.model.specs.Rules.Decimal.{digitsUpTo, natural, decimal}
 use Rattle.model.specs.Rules.Outcome.{_▷_, provided}

@@ -1,5 +1,5 @@
 -- Every accepted program text, schedule text and script is listed: each is a sequence of whole commands. Assumes nothing.
-use Prim.Native.Nat.{ℕ, zero, suc, _+_, _≤_, _<_}
+use Prim.Native.Nat.{ℕ, _+_, _≤_, _<_}
 use mathlib.Core.List.{List, [], _∷_, _++_}
 use mathlib.Core.Path.{_≡_, refl, sym, ap, subst, _∙_}
 use native.Mathlib.Omega.{arith}
@@ -9,14 +9,13 @@ use Rattle.model.specs.Rules.Image.{binaryByte, unaryByte}
 use Rattle.model.specs.Rules.Program.{Expr, Link, Program}
 use Rattle.model.specs.Rules.Schedule.{Put}
 use Rattle.model.specs.Rules.Script.{Action}
-use Rattle.model.specs.Rules.TextForm.{Keyword, keywords, keywordAt, size, lowAt, lowBytes, operandToken, listing}
-use Rattle.model.specs.Rules.Width.{inProgram, inExpression, readWidth}
+use Rattle.model.specs.Rules.TextForm.{keywords, keywordAt, size, lowAt, operandToken, listing}
+use Rattle.model.specs.Rules.Width.{readWidth}
 use Rattle.model.specs.Rules.Word.{byteAt, AreBytes}
-use Rattle.model.specs.Says.Grammar.{Spells, SpellsLinks, DeclaresOne, Declares, LegalProgram, SpellsPuts, LegalSchedule}
+use Rattle.model.specs.Says.Grammar.{Spells, SpellsLinks, DeclaresOne, Declares, SpellsPuts}
 use Rattle.model.specs.Says.Written.{DeclarationWritten, OperatorWritten, PutWritten, readByte}
 use Rattle.model.specs.declared.Binary.{Binary}
 use Rattle.model.specs.declared.Binary.the-variants.{Add, Sub, Mul, Less, Same, Min, Max}
-use Rattle.model.specs.declared.Declaration.{Declaration}
 use Rattle.model.specs.declared.Kind.{Kind}
 use Rattle.model.specs.declared.Kind.the-variants.{Now, Last, When, LastWhen, Current}
 use Rattle.model.specs.declared.Operand.{Operand}

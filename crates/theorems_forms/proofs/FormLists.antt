@@ -8,7 +8,6 @@ use borrow.Author.Tests.{leb-true, leb-false, le-leb, lt-leb, ltb-true, ltb-fals
 use lib.Dec.{leb, ltb, eqb}
 use lib.IntN.{ℤ}
 use lib.ListN.{length, drop, length-append}
-use lib.Signed.{mag}
 use Rattle.model.specs.Says.Feasible.{All}
 use Rattle.model.specs.Rules.Decimal.{natural, decimal}
 use Rattle.model.specs.Rules.Outcome.{Outcome, accepted, refused, fault, refuse, _▷_, provided}

@@ -6,7 +6,7 @@ use mathlib.Core.Path.{_≡_}
 use lib.IntN.{ℤ}
 use lib.ListN.{length}
 use lib.Signed.{mag}
-use Rattle.model.specs.Rules.TextForm.{Keyword, keywords, names, keywordAt, isSigned, size, lowBytes}
+use Rattle.model.specs.Rules.TextForm.{keywords, names, keywordAt, isSigned, size, lowBytes}
 use Rattle.model.specs.Rules.Word.{bitsOf}
 use Rattle.model.specs.Says.Feasible.{All}
 use Rattle.model.specs.declared.Operand.{Operand}

@@ -23,12 +23,11 @@ use Rattle.model.specs.Rules.Parts.{
   wiredWith,
   joinedPair,
 }
-use Rattle.model.specs.Rules.Program.{Program, Signal, Body, Read, bodyReads, count, signalAt}
+use Rattle.model.specs.Rules.Program.{Program, Read, bodyReads, count, signalAt}
 use Rattle.model.specs.Rules.Reads.{settled}
 use Rattle.model.specs.Rules.Schedule.{Schedule}
 use Rattle.model.specs.Rules.Word.{AreBytes}
-use Rattle.model.specs.Says.Feasible.{All, Met, Feasible, Multiple, Least}
-use Rattle.model.specs.declared.Index.{Index}
+use Rattle.model.specs.Says.Feasible.{All, Met, Feasible, Least}
 use Rattle.model.specs.declared.Index.the-variants.{Fixed, Open}
 use Rattle.theorems_joins.specs.Join.{FeasiblePart, LinkNames, LinkedSatisfies, JoinLegal}
 use Rattle.theorems_streams.specs.Lists.{SettleAlike, SameWords}
@@ -39,7 +38,7 @@ use Rattle.model.proofs.Joining.Numbers.{number-signal, wired-count, wired-sign
 use Rattle.model.proofs.Joining.Parts.{by-signals}
 use Rattle.theorems_joins.proofs.Demand as Demand
 use Rattle.theorems_joins.proofs.Exact.{all-named, parts-legal-feasible}
-use Rattle.theorems_joins.proofs.Parts.{part-embeds, wired-reads, renumber-body-reads, settled-kept}
+use Rattle.theorems_joins.proofs.Parts.{wired-reads, renumber-body-reads, settled-kept}
 use Rattle.theorems_joins.proofs.Timely.{pair-embeds}
 use Rattle.theorems_streams.specs.Streams.{Satisfies}
 use Rattle.theorems_streams.proofs.Alike.{open-alike, alike-satisfy}

@@ -1,8 +1,7 @@
 -- The join of one part without links is the compile of that part. Assumes nothing.
-use Prim.Native.Nat.{ℕ, zero, suc, _+_, _≤_, _<_}
-use mathlib.Core.Bool.{Bool, true, false}
-use mathlib.Core.List.{List, [], _∷_, _++_, map, append-nil}
-use mathlib.Core.Path.{_≡_, refl, sym, ap, ap₂, subst, _∙_}
+use Prim.Native.Nat.{ℕ, _+_, _≤_}
+use mathlib.Core.List.{List, [], _∷_, _++_, append-nil}
+use mathlib.Core.Path.{_≡_, refl, sym, ap, _∙_}
 use native.Mathlib.Nat.{zero-add}
 use native.Mathlib.Omega.{arith}
 use lib.Dec.{leb}
@@ -13,7 +12,6 @@ use Rattle.model.specs.Rules.Join.{
   PartTexts,
   partsIn,
   textsAt,
-  lent,
   programText,
   scheduleText,
   partPair,
@@ -25,13 +23,13 @@ use Rattle.model.specs.Rules.Join.{
   joinedPairOf,
   joinOf,
 }
-use Rattle.model.specs.Rules.Machine.{Effect, Job, effect}
+use Rattle.model.specs.Rules.Machine.{effect}
 use Rattle.model.specs.Rules.Outcome.{Outcome, accepted, refused, _▷_, provided}
-use Rattle.model.specs.Rules.Parts.{Part, smaller, _⊕_, joinedParts, partAt, wiredBody, wiredWith, joinedPair}
+use Rattle.model.specs.Rules.Parts.{Part, smaller, _⊕_, joinedParts, wiredBody, wiredWith, joinedPair}
 use Rattle.model.specs.Rules.Program.{Program, Signal, Limit, unlimited, limit, noSignal, count, signalAt}
 use Rattle.model.specs.Rules.Search.{firstFrom, firstBelow, tableFrom, table}
 use Rattle.theorems_pairs.specs.Conditions.{LegalPair}
-use Rattle.theorems_joins.specs.Join.{FeasiblePart, OneTable, TextsLent, JoinedLegal}
+use Rattle.theorems_joins.specs.Join.{OneTable, TextsLent, JoinedLegal}
 use Rattle.model.proofs.Basics.Outcomes.{accepted-then}
 use Rattle.model.proofs.Rows.Spelled.{table-from}
 use Rattle.model.proofs.Texts.Legal.{legal}

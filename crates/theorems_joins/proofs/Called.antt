@@ -2,10 +2,9 @@
 -- Assumes nothing.
 use Prim.Native.Nat.{ℕ}
 use mathlib.Core.List.{List}
-use mathlib.Core.Logic.{_↔_}
-use mathlib.Core.Path.{_≡_, sym, subst, _∙_}
+use mathlib.Core.Path.{_≡_, sym, subst}
 use Rattle.model.specs.Rules.Join.{joinedPairOf, partNamed, joinOf}
-use Rattle.model.specs.Rules.Outcome.{fault, refused}
+use Rattle.model.specs.Rules.Outcome.{fault}
 use Rattle.model.specs.declared.Fault.{Fault}
 use Rattle.model.specs.declared.Found.{Found}
 use Rattle.theorems_calls.specs.Exactness.{Exactly, sizeOf, WriteRefusedAt}

@@ -9,7 +9,7 @@ use native.Mathlib.Omega.{arith}
 use borrow.Author.Tests.{eq-eqb, ne-eqb}
 use lib.ListN.{length, getD, drop, length-append, length-map, List·getD-append}
 use lib.Seq.{getD-append-add}
-use Rattle.model.specs.Rules.Join.{isInput, linkAt, linksIn, linksOf}
+use Rattle.model.specs.Rules.Join.{linkAt, linksIn, linksOf}
 use Rattle.model.specs.Rules.Load.{load}
 use Rattle.model.specs.Rules.Parts.{
   Part,
@@ -33,7 +33,6 @@ use Rattle.model.specs.Rules.Program.{
   Program,
   Signal,
   Body,
-  input,
   equation,
   read,
   Link,
@@ -43,6 +42,7 @@ use Rattle.model.specs.Rules.Program.{
   count,
   signalAt,
   weightOf,
+  isInput,
 }
 use Rattle.model.specs.Rules.Reads.{Rate, rateOf, due}
 use Rattle.model.specs.Rules.Schedule.{Schedule}
@@ -65,6 +65,7 @@ use Rattle.model.proofs.Basics.All.{all-map}
 use Rattle.model.proofs.Joining.Numbers.{base-zero, base-next, base-all, number-signal, wired-count, wired-signal, wired-weight}
 use Rattle.model.proofs.Joining.Parts.{join-count, first-signal, second-signal}
 use Rattle.model.proofs.Joining.Renumbered.{weight-kept}
+use Rattle.theorems_streams.proofs.Inputs.{input-decides}
 use Rattle.theorems_joins.proofs.Parts.{
   first-embeds,
   second-embeds,
@@ -72,7 +73,6 @@ use Rattle.theorems_joins.proofs.Parts.{
   part-embeds,
   part-input,
   numbers-apart,
-  input-decides,
   wires-inputs,
   wired-embeds,
 }

@@ -24,7 +24,6 @@ use Rattle.model.specs.Rules.Join.{
   partPair,
   partsFrom,
   isRefused,
-  isInput,
   linkAt,
   linksIn,
   linksOf,
@@ -41,7 +40,7 @@ use Rattle.model.specs.Rules.Join.{
 }
 use Rattle.model.specs.Rules.Outcome.{Outcome, accepted, refused, fault, _▷_, provided}
 use Rattle.model.specs.Rules.Parts.{Part, tabledParts, partAt, PartLink}
-use Rattle.model.specs.Rules.Program.{input, count}
+use Rattle.model.specs.Rules.Program.{input, isInput}
 use Rattle.model.specs.Rules.Search.{firstBelow, allBelow}
 use Rattle.model.specs.Says.Feasible.{All}
 use Rattle.model.specs.declared.Fault.{Fault}
@@ -71,7 +70,7 @@ use Rattle.theorems_joins.specs.Join.{
 }
 use Rattle.theorems_pairs.specs.Refusals.{LowestFault, RefusedAt}
 use Rattle.theorems_joins.proofs.Bounds.{pair-feasible}
-use Rattle.theorems_joins.proofs.Parts.{input-decides}
+use Rattle.theorems_streams.proofs.Inputs.{input-decides}
 use Rattle.theorems_joins.proofs.Rows.{one-table}
 use Rattle.theorems_joins.proofs.Verdict.{joined-judged}
 use Rattle.theorems_pairs.proofs.Exact.{pair-judged, accepted-exactly}

@@ -1,7 +1,7 @@
 -- Joined parts: the reads of a part stay met and keep their index, and the equations of the joined pair are those of its parts
 -- with their links. Assumes noPart.
 use Prim.Native.Nat.{ℕ, zero, suc, _+_, _%_, _≤_, _<_}
-use mathlib.Core.Bool.{Bool, true, false, cond, _&&_, false≢true}
+use mathlib.Core.Bool.{Bool, true, false, cond, _&&_}
 use mathlib.Core.List.{List, [], _∷_, _++_, map, map-append}
 use mathlib.Core.Logic.{_↔_, inl, inr}
 use mathlib.Core.Path.{_≡_, refl, sym, ap, ap₂, subst, fun-ext, _∙_}
@@ -14,7 +14,6 @@ use lib.IntN.{ℤ}
 use lib.ListN.{length}
 use Rattle.model.specs.Says.Feasible.{All, PeriodRule, PutBefore, PutFor, Met, Feasible}
 use Rattle.theorems_streams.specs.Held.{IsInput}
-use Rattle.model.specs.Rules.Join.{isInput}
 use Rattle.model.specs.Rules.Parts.{
   Part,
   renumberRead,
@@ -557,11 +556,6 @@ part-embeds (a ∷ rest) ok (suc k) lt =
     (partAt rest k .schedule) (joinedParts rest .schedule) ((a ⊕ joinedParts rest) .schedule) (λ x. base rest k + x)
     (λ x. count (a .program) + x) (part-embeds rest (ok .1) k (omega arith))
     (second-embeds a (joinedParts rest) (ok .0) (parts-feasible rest (ok .1))))
-
--- Whether a signal is an input.
-pub input-decides : (b : Body) → (isInput b ≡ true) ↔ IsInput b
-input-decides input = ((λ e. tt), (λ i. refl))
-input-decides (equation weight e) = ((λ q. false≢true q), (λ i. absurd i))
 
 -- An input stays one.
 input-kept : (f : ℕ → ℕ) (b : Body) → IsInput b → IsInput (renumberBody f b)

@@ -1,5 +1,5 @@
 -- The joined checks accept exactly under their conditions, and what they accept runs as the equations say. Assumes nothing.
-use Prim.Native.Nat.{ℕ, suc, _+_, _≤_, _<_}
+use Prim.Native.Nat.{ℕ, _+_, _≤_, _<_}
 use mathlib.Core.Bool.{Bool, true, false, cond, _&&_, and-eq-true-iff, false≢true}
 use mathlib.Core.List.{List, [], _∷_, map}
 use mathlib.Core.Logic.{_↔_}
@@ -15,7 +15,7 @@ use Rattle.model.specs.Rules.Join.{linksMet, joinedVerdict}
 use Rattle.model.specs.Rules.Parts.{Part, joinedParts, base, partAt, PartLink, wireOf, wireRead, joinedPair}
 use Rattle.theorems_joins.specs.Join.{FeasiblePart, LinkNames, LinkMet, FewJoined, JoinedLegal, LinkFault, JoinedRefused}
 use Rattle.model.specs.Rules.Load.{loaded}
-use Rattle.model.specs.Rules.Outcome.{accepted, refused, fault, _▷_, provided, lowest}
+use Rattle.model.specs.Rules.Outcome.{accepted, refused, fault, provided, lowest}
 use Rattle.model.specs.Rules.Program.{Program, count, signalAt}
 use Rattle.model.specs.Rules.Rates.{hypercycle}
 use Rattle.model.specs.Rules.Reads.{Rate, rank, isMet}

@@ -17,7 +17,6 @@ use Rattle.model.specs.Rules.Program.{
   binary,
   unary,
   choose,
-  count,
   noSignal,
   signalAt,
   exprLookups,

@@ -1,18 +1,13 @@
 -- Two schedules of one program that settle alike store the same words, lent their images with a tail or without. Assumes nothing.
-use Prim.Native.Nat.{ℕ, suc, _<_}
+use Prim.Native.Nat.{ℕ}
 use mathlib.Core.List.{List}
-use mathlib.Core.Path.{_≡_, subst, subst₂}
-use lib.IntN.{ℤ, pos}
-use lib.ListN.{length, getD}
-use Rattle.model.specs.Says.Calls.{Call}
+use mathlib.Core.Path.{subst, subst₂}
+use lib.IntN.{ℤ}
+use lib.ListN.{length}
 use Rattle.model.specs.Says.Feasible.{Feasible, Multiple}
 use Rattle.model.specs.Rules.Image.{imageOf}
-use Rattle.model.specs.Rules.Machine.{resetOf}
-use Rattle.model.specs.Rules.Outcome.{accepted}
-use Rattle.model.specs.Rules.Program.{Program, count}
+use Rattle.model.specs.Rules.Program.{Program}
 use Rattle.model.specs.Rules.Schedule.{Schedule}
-use Rattle.model.specs.Rules.Tail.{Bears}
-use Rattle.theorems_streams.specs.Held.{stateBy, logBy}
 use Rattle.theorems_streams.specs.Lists.{SettleAlike, Agree, EndsWith, SameWords}
 use Rattle.model.proofs.Images.Bounds.{Bounded}
 use Rattle.theorems_streams.proofs.Alike.{open-alike}

@@ -16,5 +16,6 @@ pub mod Demand
 pub mod Alike
 pub mod AlikeBytes
 pub mod AlikeLent
+pub mod Inputs
 pub mod Dependence
 pub mod Dependents

@@ -1,10 +1,10 @@
 -- The rows in the image of an accepted pair are the program's; what TABLE yields on it is what it yields in the program, for any
 -- number. Assumes nothing.
-use Prim.Native.Nat.{ℕ, zero, suc, _≤_, _<_}
-use mathlib.Core.Bool.{Bool, true, false, false≢true, and-eq-true-iff}
+use Prim.Native.Nat.{ℕ, suc, _≤_, _<_}
+use mathlib.Core.Bool.{true, false, false≢true, and-eq-true-iff}
 use mathlib.Core.List.{List}
 use mathlib.Core.Logic.{_⊎_, inl, inr}
-use mathlib.Core.Path.{_≡_, refl, sym, ap, subst, _∙_}
+use mathlib.Core.Path.{_≡_, refl, sym, subst, _∙_}
 use native.Mathlib.Decide.{decLt}
 use native.Mathlib.Omega.{arith}
 use borrow.Author.Needs.{sfits-of}
@@ -14,12 +14,12 @@ use lib.ListN.{length}
 use lib.Signed.{leZ}
 use mir.Syntax.{w32}
 use Rattle.model.specs.Rules.Image.{imageOf, rowsAt}
-use Rattle.model.specs.Rules.Machine.{tableOffset, rowsIn}
+use Rattle.model.specs.Rules.Machine.{rowsIn}
 use Rattle.model.specs.Rules.Program.{Program}
 use Rattle.model.specs.Rules.Schedule.{Schedule}
-use Rattle.model.specs.Rules.Table.{Row, contains, tableWord, unaryWord, rowAt, byLow, areaRows}
+use Rattle.model.specs.Rules.Table.{Row, contains, tableWord, unaryWord, rowAt, byLow}
 use Rattle.model.specs.Says.Feasible.{Feasible, Multiple}
-use Rattle.model.specs.Says.Rows.{Upright, AllUpright, Lies, Covers, Rising, Alike}
+use Rattle.model.specs.Says.Rows.{Upright, AllUpright, Covers, Rising, Alike}
 use Rattle.model.specs.Says.Words.{IsWord}
 use Rattle.model.specs.declared.Unary.{Unary}
 use Rattle.model.specs.declared.Unary.the-variants.{Negate, Table}

@@ -50,6 +50,10 @@ abbrev pub IsInput : Body → Type 0
 IsInput input = Unit {0}
 IsInput (equation weight e) = ⊥
 
+-- x is an input of the program.
+abbrev pub InputOf : Program → ℕ → Type 0
+InputOf p x = (x < count p) × IsInput (signalAt p x .body)
+
 module _ (p : Program) (s : Schedule) where
   -- Element k of input x is word x of the samples lent to the cycle that found c = kP + p. Elements not so supplied may be
   -- anything.

@@ -2,7 +2,6 @@
 use Prim.Native.Nat.{ℕ, zero, suc, _+_, _≤_, _<_}
 use mathlib.Core.Bool.{Bool, true, false, cond, false≢true}
 use mathlib.Core.List.{List, [], _∷_}
-use mathlib.Core.Logic.{_↔_}
 use mathlib.Core.Path.{_≡_, refl, sym, ap, subst, _∙_}
 use native.Mathlib.Omega.{arith}
 use borrow.Author.Tests.{ltb-true, ltb-false, leb-true, leb-false, lt-ltb, le-leb, lt-leb, eqb-true, eqb-false, ne-eqb}
@@ -10,7 +9,7 @@ use lib.Dec.{leb, ltb, eqb}
 use lib.IntN.{ℤ}
 use lib.ListN.{length}
 use Rattle.model.specs.Rules.Outcome.{Outcome, accepted, refused, refuse, _▷_, provided}
-use Rattle.model.specs.Rules.Program.{Program, Body, input, equation, count, signalAt}
+use Rattle.model.specs.Rules.Program.{Program}
 use Rattle.model.specs.Rules.Script.{
   scriptCommandAt,
   Action,
@@ -23,12 +22,12 @@ use Rattle.model.specs.Rules.Script.{
   scriptFrom,
   scriptAt,
   scriptOf,
-  isInputBody,
   isInputOf,
   inputsOnly,
 }
 use Rattle.model.specs.Rules.Word.{byteAt, wordAt}
-use Rattle.theorems_streams.specs.Held.{IsInput}
+use Rattle.theorems_streams.specs.Held.{InputOf}
+use Rattle.theorems_streams.proofs.Inputs.{input-exactly}
 use Rattle.theorems_pairs.specs.Conditions.{_among_}
 use Rattle.theorems_trials.specs.TrialRefusals.{
   SetAt,
@@ -37,7 +36,6 @@ use Rattle.theorems_trials.specs.TrialRefusals.{
   SpellsScript,
   NoCommand,
   StopsScript,
-  InputOf,
   WrongSet,
 }
 use Rattle.model.specs.declared.ScriptCommand.{ScriptCommand}
@@ -47,14 +45,14 @@ use Rattle.theorems_pairs.proofs.Judged.{Judged, Only, provided-judged}
 
 module _ (text : List ℕ) where
   -- What stands where a command is decoded.
-  abbrev pub Stands : ℕ → ScriptCommand → Type 0
-  Stands at ScriptCommand.EndsEarly = StopsScript text at (length text)
-  Stands at ScriptCommand.Unknown = StopsScript text at at
-  Stands at ScriptCommand.End = EndAt text at
-  Stands at (ScriptCommand.Set x w) = SetAt text at × (byteAt text (at + 1) ≡ x) × (wordAt text (at + 2) ≡ w)
-  Stands at (ScriptCommand.Run n) = RunAt text at × (byteAt text (at + 1) ≡ n)
+  abbrev pub CommandStands : ℕ → ScriptCommand → Type 0
+  CommandStands at ScriptCommand.EndsEarly = StopsScript text at (length text)
+  CommandStands at ScriptCommand.Unknown = StopsScript text at at
+  CommandStands at ScriptCommand.End = EndAt text at
+  CommandStands at (ScriptCommand.Set x w) = SetAt text at × (byteAt text (at + 1) ≡ x) × (wordAt text (at + 2) ≡ w)
+  CommandStands at (ScriptCommand.Run n) = RunAt text at × (byteAt text (at + 1) ≡ n)
 
-  pub stands : (at : ℕ) → Stands at (scriptCommandAt text at)
+  pub stands : (at : ℕ) → CommandStands at (scriptCommandAt text at)
   unfolding scriptCommandAt
   stands at =
       go (ltb at (length text)) (eqb (byteAt text at) 0x00) (eqb (byteAt text at) 0x70) (eqb (byteAt text at) 0x71)
@@ -62,7 +60,7 @@ module _ (text : List ℕ) where
     where
       go : (i a b c d f : Bool) → ltb at (length text) ≡ i → eqb (byteAt text at) 0x00 ≡ a → eqb (byteAt text at) 0x70 ≡ b →
           eqb (byteAt text at) 0x71 ≡ c → leb (at + 6) (length text) ≡ d → leb (at + 2) (length text) ≡ f →
-          Stands at (cond i (cond a ScriptCommand.End
+          CommandStands at (cond i (cond a ScriptCommand.End
           (cond b (cond d (ScriptCommand.Set (byteAt text (at + 1)) (wordAt text (at + 2))) ScriptCommand.EndsEarly)
           (cond c (cond f (ScriptCommand.Run (byteAt text (at + 1))) ScriptCommand.EndsEarly) ScriptCommand.Unknown)))
           ScriptCommand.EndsEarly)
@@ -156,7 +154,7 @@ module _ (text : List ℕ) where
       end-on true e h = SpellsScript.ends h (leb-true _ _ e)
       end-on false e h = (refl, StopsScript.trailing h (leb-false _ _ e))
 
-      go : (c : ScriptCommand) → Stands at c →
+      go : (c : ScriptCommand) → CommandStands at c →
           Ends (at + 6) (scriptFrom left text (at + 6)) (scriptFrom left text (at + 6) .ending) →
           Ends (at + 2) (scriptFrom left text (at + 2)) (scriptFrom left text (at + 2) .ending) →
           Ends at (scriptCommand (λ n. scriptFrom left text n) text at c)
@@ -190,21 +188,8 @@ module _ (text : List ℕ) where
 
 -- 25.
 module _ (p : Program) where
-  is-input : (b : Body) → (isInputBody b ≡ true) ↔ IsInput b
-  is-input input = (λ e. tt, λ h. refl)
-  is-input (equation weight e) = (λ e. absurd (false≢true e), λ h. absurd h)
-
-  input-of : (x : ℕ) → (isInputOf p x ≡ true) ↔ InputOf p x
-  unfolding isInputOf
-  input-of x = go (ltb x (count p)) refl
-    where
-      go : (b : Bool) → ltb x (count p) ≡ b → (cond b (isInputBody (signalAt p x .body)) false ≡ true) ↔ InputOf p x
-      go true e =
-          (λ i. (ltb-true x (count p) e, is-input (signalAt p x .body) .0 i), λ h. is-input (signalAt p x .body) .1 (h .1))
-      go false e = (λ i. absurd (false≢true i), λ h. absurd (omega (arith, h .0, ltb-false x (count p) e)))
-
   no-input : (x : ℕ) → isInputOf p x ≡ false → ¬ InputOf p x
-  no-input x e h = false≢true (sym e ∙ input-of x .1 h)
+  no-input x e h = false≢true (sym e ∙ input-exactly p x .1 h)
 
   abbrev Inputs : List Action → Type 0
   Inputs actions = (at x : ℕ) (w : ℤ) → alter at x w among actions → InputOf p x
@@ -232,7 +217,7 @@ module _ (p : Program) where
 
       go : (b : Bool) → isInputOf p x ≡ b → Sets actions (inputsOnly (isInputOf p) actions) →
           Sets (alter at x w ∷ actions) (provided b 25 at ▷ λ _. inputsOnly (isInputOf p) actions)
-      go true e s = on (input-of x .0 e) (inputsOnly (isInputOf p) actions) s
+      go true e s = on (input-exactly p x .0 e) (inputsOnly (isInputOf p) actions) s
       go false e s = (refl, WrongSet.here (no-input x e))
   sets (run n ∷ actions) = on (inputsOnly (isInputOf p) actions) (sets actions)
     where
@@ -245,20 +230,20 @@ module _ (p : Program) where
   unfolding inputsOnly _▷_ provided
   inputs-back [] h = refl
   inputs-back (alter at x w ∷ actions) h =
-      rw (input-of x .1 (h at x w (_among_.here refl))) (inputs-back actions (λ a y v m. h a y v (_among_.later m)))
+      rw (input-exactly p x .1 (h at x w (_among_.here refl))) (inputs-back actions (λ a y v m. h a y v (_among_.later m)))
   inputs-back (run n ∷ actions) h = inputs-back actions (λ a y v m. h a y v (_among_.later m))
 
   not-input : (x : ℕ) → ¬ InputOf p x → isInputOf p x ≡ false
   not-input x u = go (isInputOf p x) refl
     where
       go : (b : Bool) → isInputOf p x ≡ b → b ≡ false
-      go true e = absurd (u (input-of x .0 e))
+      go true e = absurd (u (input-exactly p x .0 e))
       go false e = refl
 
   wrong-back : {actions : List Action} {place : ℕ} → WrongSet p actions place → inputsOnly (isInputOf p) actions ≡ refuse 25 place
   unfolding inputsOnly _▷_ provided
   wrong-back (WrongSet.here {x = x} u) = rw (not-input x u)
-  wrong-back (WrongSet.afterSet {x = x} h s) = rw (input-of x .1 h) (wrong-back s)
+  wrong-back (WrongSet.afterSet {x = x} h s) = rw (input-exactly p x .1 h) (wrong-back s)
   wrong-back (WrongSet.afterRun s) = wrong-back s
 
   pub sets-judged : (actions : List Action) →

@@ -12,7 +12,8 @@ use Rattle.model.specs.Rules.Program.{Program}
 use Rattle.model.specs.Rules.Script.{Action, alter, scriptOf, isInputOf, inputsOnly, checkOf, callsOf}
 use Rattle.model.specs.Rules.Trial.{linesFrom, startOf, trialOf}
 use Rattle.theorems_pairs.specs.Conditions.{_among_, LegalPair}
-use Rattle.theorems_trials.specs.TrialRefusals.{SpellsScript, StopsScript, InputOf, WrongSet, LegalScript, TrialRefusedAt}
+use Rattle.theorems_streams.specs.Held.{InputOf}
+use Rattle.theorems_trials.specs.TrialRefusals.{SpellsScript, StopsScript, WrongSet, LegalScript, TrialRefusedAt}
 use Rattle.model.specs.declared.Fault.{Fault}
 use Rattle.model.proofs.Basics.Outcomes.{accepted-then, refused-then}
 use Rattle.theorems_pairs.proofs.Exact.{pair-judged}

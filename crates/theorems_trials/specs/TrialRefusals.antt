@@ -5,11 +5,11 @@ use mathlib.Core.List.{List, [], _∷_}
 use mathlib.Core.Path.{_≡_}
 use lib.IntN.{ℤ}
 use lib.ListN.{length}
-use Rattle.theorems_streams.specs.Held.{IsInput}
+use Rattle.theorems_streams.specs.Held.{InputOf}
 use Rattle.model.specs.Rules.Compile.{Pair}
 use Rattle.theorems_pairs.specs.Conditions.{_among_, LegalPair}
 use Rattle.model.specs.Rules.Outcome.{fault}
-use Rattle.model.specs.Rules.Program.{Program, count, signalAt}
+use Rattle.model.specs.Rules.Program.{Program}
 use Rattle.theorems_pairs.specs.Refusals.{RefusedAt}
 use Rattle.model.specs.Rules.Script.{Action, alter, run}
 use Rattle.model.specs.Rules.Word.{byteAt, wordAt}
@@ -46,10 +46,6 @@ pub data StopsScript (text : List ℕ) : ℕ → ℕ → Type 0 where
   cutRun : {at : ℕ} → at < length text → byteAt text at ≡ 0x71 → length text < at + 2 → StopsScript text at (length text)
   unknown : {at : ℕ} → at < length text → NoCommand (byteAt text at) → StopsScript text at at
   trailing : {at : ℕ} → EndAt text at → at + 1 < length text → StopsScript text at (at + 1)
-
--- A declared signal that is an input.
-abbrev pub InputOf : Program → ℕ → Type 0
-InputOf p x = (x < count p) × IsInput (signalAt p x .body)
 
 -- A SET at an offset, of no input, with only SETs of inputs before it.
 pub data WrongSet (p : Program) : List Action → ℕ → Type 0 where

@@ -23,12 +23,13 @@ use Rattle.model.specs.Rules.Program.{
   choose,
   count,
   signalAt,
+  isInput,
 }
 use Rattle.model.specs.Rules.Schedule.{Schedule}
 use Rattle.model.specs.Rules.Word.{byteAt}
 use Rattle.model.proofs.Images.Bounds.{Bounded}
 use Rattle.model.proofs.Images.Stretches.{image-count, code-stretch}
-use Rattle.model.specs.Rules.Script.{isInputBody, isInputOf}
+use Rattle.model.specs.Rules.Script.{isInputOf}
 use Rattle.trial_script.specs.Inputs.{fetches, markOf, marked}
 
 -- The code of an expression starts with PUSH or LOAD.
@@ -40,7 +41,7 @@ no-fetch (binary o x y) rest = rw append-assoc (no-fetch x _)
 no-fetch (unary operator x) rest = rw append-assoc (no-fetch x _)
 no-fetch (choose x y z) rest = rw append-assoc (no-fetch x _)
 
-first-byte : (x : ℕ) (b : Body) → eqb (byteAt (signalCode x b) 0) 0x52 ≡ isInputBody b
+first-byte : (x : ℕ) (b : Body) → eqb (byteAt (signalCode x b) 0) 0x52 ≡ isInput b
 first-byte x input = refl
 first-byte x (equation weight e) = no-fetch e (0x5F ∷ x ∷ [])
 
@@ -72,7 +73,7 @@ module _ (p : Program) (s : Schedule) (h : ℕ) (bounded : Bounded p s h) where
     where
       go : (b : Bool) → ltb x (count p) ≡ b →
           cond b (eqb (byteAt (imageOf p s h) (codeOffset (imageOf p s h) x)) 0x52) false ≡
-          cond b (isInputBody (signalAt p x .body)) false
+          cond b (isInput (signalAt p x .body)) false
       go true e = ap (λ (c : ℕ). eqb c 0x52) (code-first x (ltb-true x (count p) e)) ∙ first-byte x (signalAt p x .body)
       go false e = refl
 

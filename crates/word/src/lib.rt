@@ -18,6 +18,7 @@ ghost use Rattle.model.specs.Rules.Word.{
   binaryWord,
 };
 ghost use Rattle.model.specs.Rules.Word.{twoAt, fourAt, wordAt, twoBytes, wordBytes};
+ghost use Rattle.word.specs.OfByte.{binaryOf};
 
 // The bits of a word, as a number.
 pub fn bits(w: i32) -> u32
@@ -109,6 +110,21 @@ pub fn choose(c: i32, a: i32, b: i32) -> i32
     ensures { λ r. ⌜ r ≡ ifWord c a b ⌝ }
 {
     if c == 0 { b } else { a }
+}
+
+// The operator of a byte from 30 to 36, in a text and in code.
+pub fn binary_of(byte: u8) -> Binary
+    ensures { λ r. ⌜ r ≡ binaryOf byte ⌝ }
+{
+    match byte {
+        0x30 => Binary::Add,
+        0x31 => Binary::Sub,
+        0x32 => Binary::Mul,
+        0x33 => Binary::Less,
+        0x34 => Binary::Same,
+        0x35 => Binary::Min,
+        _ => Binary::Max,
+    }
 }
 
 // What an operator with two operands gives.

@@ -1,6 +1,5 @@
 -- `dependents::mark_all` meets its contract. Assumes nothing.
 use Prim.Native.Nat.{_-_, _≤_}
-use mathlib.Core.Path.{_≡_}
 use native.Mathlib.Omega.{arith}
 use Rattle.model.specs.Rules.Dependents.{marksAfter}
 use Rattle.model.specs.Rules.Program.{Program}

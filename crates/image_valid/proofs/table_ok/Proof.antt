@@ -2,14 +2,14 @@
 use Prim.Native.Nat.{ℕ, _+_, _*_}
 use mathlib.Core.Bool.{Bool, true, false, _&&_}
 use mathlib.Core.List.{List}
-use mathlib.Core.Path.{_≡_, refl, sym, ap, ap₂, _∙_}
+use mathlib.Core.Path.{_≡_, sym, ap, ap₂, _∙_}
 use native.Mathlib.Omega.{arith}
 use borrow.Author.Needs.{needs}
 use borrow.Author.Tests.{not-true, not-false}
 use lib.Dec.{eqb}
-use lib.ListN.{length, getD}
+use lib.ListN.{getD}
 use Rattle.model.specs.Rules.Cover.{areaOk}
-use Rattle.model.specs.Rules.Machine.{tableOffset, rowCount, codeOffset, tableOk}
+use Rattle.model.specs.Rules.Machine.{tableOffset, codeOffset, tableOk}
 use Rattle.image_valid.proofs.Parts.{AreaPart, area}
 use Rattle.image_valid.proofs.table_ok.Statement.{statement}
 use Rattle.image_valid.proofs.table_ok.Tie as tie

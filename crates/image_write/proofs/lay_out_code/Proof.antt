@@ -1,9 +1,7 @@
 -- `image_write::lay_out_code` meets its contract. Assumes nothing.
-use Prim.Native.Nat.{ℕ, _+_, _≤_, _<_}
-use mathlib.Core.Path.{_≡_, refl, sym, ap, _∙_}
+use Prim.Native.Nat.{_+_, _≤_, _<_}
+use mathlib.Core.Path.{refl}
 use native.Mathlib.Omega.{arith}
-use borrow.Author.Needs.{needs}
-use Rattle.model.specs.Rules.Image.{listsAt}
 use Rattle.image_write.proofs.Joined.{lists-most}
 use Rattle.image_write.proofs.lay_out_code.Statement.{statement}
 use Rattle.image_write.proofs.lay_out_code.Tie as tie

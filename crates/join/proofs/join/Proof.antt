@@ -1,5 +1,5 @@
 -- `join::join` meets its contract. Assumes nothing.
-use mathlib.Core.Path.{_≡_, sym, _∙_}
+use mathlib.Core.Path.{sym, _∙_}
 use denote.Ref.{now}
 use Rattle.basics.proofs.Judgements.{answers-fine, answers-refused}
 use Rattle.join_verdict.proofs.InOrder.{none-parts}

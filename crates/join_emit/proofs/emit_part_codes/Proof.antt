@@ -1,9 +1,7 @@
 -- `join_emit::emit_part_codes` meets its contract. Assumes nothing.
-use Prim.Native.Nat.{ℕ, _-_, _≤_}
-use mathlib.Core.Path.{_≡_, sym}
+use Prim.Native.Nat.{_-_, _≤_}
 use native.Mathlib.Omega.{arith}
 use borrow.Author.Needs.{needs}
-use lib.ListN.{getD}
 use Rattle.model.proofs.Basics.Left.{Left, starts, room, turn, done}
 use Rattle.image_write.proofs.Joined.{joinedFrom, joined-step, joined-ends}
 use Rattle.join_emit.specs.Parts.{declaredAs, codeAs, partCodes}

@@ -1,12 +1,10 @@
 -- `join_emit::emit_part_records` meets its contract. Assumes nothing.
-use Prim.Native.Nat.{ℕ, _+_, _-_, _≤_}
-use mathlib.Core.Path.{_≡_, sym, ap}
+use Prim.Native.Nat.{_-_, _≤_}
 use native.Mathlib.Omega.{arith}
 use borrow.Author.Needs.{needs}
-use lib.ListN.{getD}
 use Rattle.model.proofs.Basics.Left.{Left, starts, room, turn, done}
 use Rattle.image_write.proofs.Joined.{joinedFrom, joined-step, joined-ends}
-use Rattle.join_emit.specs.Parts.{declaredAs, recordAs, partRecords}
+use Rattle.join_emit.specs.Parts.{recordAs, partRecords}
 use Rattle.join_emit.proofs.Parted.{records-left, record-here, record-is, record-length}
 use Rattle.join_emit.proofs.emit_part_records.Statement.{statement}
 use Rattle.join_emit.proofs.emit_part_records.Tie as tie

@@ -1,10 +1,8 @@
 -- `join_emit::emit_records` meets its contract. Assumes nothing.
-use Prim.Native.Nat.{ℕ, _-_, _≤_, _<_}
+use Prim.Native.Nat.{ℕ, _-_, _≤_}
 use mathlib.Core.List.{List}
 use native.Mathlib.Omega.{arith}
-use borrow.Author.Needs.{needs}
 use Rattle.model.specs.Rules.Image.{joined}
-use Rattle.model.specs.Rules.Join.{partsIn}
 use Rattle.model.specs.Rules.Search.{table}
 use Rattle.model.proofs.Basics.Left.{Left, starts, room, turn, done}
 use Rattle.image_write.proofs.Joined.{joinedFrom, joined-starts, joined-step, joined-ends}

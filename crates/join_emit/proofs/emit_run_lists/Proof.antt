@@ -7,7 +7,6 @@ use Rattle.model.proofs.Basics.Left.{Left, starts, room, turn, done}
 use Rattle.image_write.specs.Lists.{pairs}
 use Rattle.image_write.proofs.Timed.{both, last}
 use Rattle.join_emit.specs.Image.{jointLists, jointRuns}
-use borrow.Author.Needs.{needs}
 use Rattle.join_emit.proofs.emit_run_lists.Statement.{statement}
 use Rattle.join_emit.proofs.emit_run_lists.Tie as tie
 

@@ -1,6 +1,4 @@
 -- `join_gather::add_part` meets its contract. Assumes nothing.
-use Prim.Native.Nat.{_+_, _≤_, _<_}
-use native.Mathlib.Omega.{arith}
 use borrow.Author.Needs.{needs}
 use Rattle.join_gather.proofs.Tabled.{joint-next}
 use Rattle.join_gather.proofs.add_part.Statement.{statement}

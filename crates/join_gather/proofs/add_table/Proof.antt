@@ -1,5 +1,4 @@
 -- `join_gather::add_table` meets its contract. Assumes nothing.
-use Prim.Native.Nat.{_+_, _≤_, _<_}
 use native.Mathlib.Omega.{arith}
 use borrow.Author.Needs.{needs}
 use Rattle.join_gather.proofs.Rows.{table-kept, table-next}

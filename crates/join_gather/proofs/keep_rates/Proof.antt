@@ -2,8 +2,7 @@
 use native.Mathlib.Omega.{arith}
 use Rattle.model.specs.Rules.Join.{textsAt, programText}
 use Rattle.model.specs.Rules.Program.{signalAt}
-use Rattle.model.proofs.Texts.Legal.{stands, signal-spelled}
-use Rattle.join_gather.proofs.Rated.{place-inside}
+use Rattle.model.proofs.Texts.Legal.{stands, signal-spelled, place-inside}
 use Rattle.model.proofs.Joining.Lent.{number-inside}
 use Rattle.join_gather.proofs.Lent.{kept}
 use borrow.Author.Needs.{needs}

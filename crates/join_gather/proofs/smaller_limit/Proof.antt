@@ -1,11 +1,11 @@
 -- `join_gather::smaller_limit` meets its contract. Assumes nothing.
 use Prim.Native.Nat.{ℕ, _≤_, _<_, min}
 use mathlib.Core.Bool.{Bool, true, false, _||_}
-use mathlib.Core.Path.{_≡_, refl, sym, ap, _∙_}
+use mathlib.Core.Path.{_≡_, refl, ap}
 use native.Mathlib.Omega.{arith}
 use borrow.Author.Tests.{not-true, not-false}
 use Rattle.model.specs.Rules.Parts.{smaller}
-use Rattle.model.specs.Rules.Program.{Limit, limit}
+use Rattle.model.specs.Rules.Program.{limit}
 use Rattle.text_program.specs.Tables.{capOf}
 use Rattle.join_gather.proofs.smaller_limit.Statement.{statement}
 use Rattle.join_gather.proofs.smaller_limit.Tie as tie

@@ -6,7 +6,7 @@ use native.Mathlib.Omega.{arith}
 use borrow.Author.Needs.{needs}
 use borrow.Author.Tests.{eq-eqb, ne-eqb}
 use lib.ListN.{getD}
-use Rattle.model.specs.Rules.Join.{isInput}
+use Rattle.model.specs.Rules.Program.{isInput}
 use Rattle.join_links.specs.ByPart.{signalIn, isFree}
 use Rattle.join_links.proofs.Right.{
   none-period,

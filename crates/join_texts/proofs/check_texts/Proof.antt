@@ -1,13 +1,8 @@
 -- `join_texts::check_texts` meets its contract. Assumes nothing.
-use Prim.Native.Nat.{ℕ, _/_, _<_}
-use mathlib.Core.Bool.{true, false}
-use mathlib.Core.Path.{_≡_, sym, ap, _∙_}
-use native.Mathlib.Omega.{arith}
+use mathlib.Core.Path.{sym, _∙_}
 use borrow.Author.Needs.{needs}
 use borrow.Author.Tests.{le-leb, lt-leb, not-true, not-false}
-use lib.Dec.{leb}
-use lib.ListN.{length}
-use Rattle.model.specs.Rules.Join.{partsIn, programTotal, lent}
+use Rattle.model.specs.Rules.Join.{partsIn, lent}
 use Rattle.model.specs.Rules.Outcome.{_▷_, provided}
 use Rattle.basics.specs.Judgement.{judgementOf}
 use Rattle.join_texts.proofs.check_texts.Statement.{statement}

@@ -8,7 +8,6 @@ use native.Mathlib.Omega.{arith}
 use borrow.Author.Tests.{eqb-true}
 use lib.Dec.{eqb}
 use lib.ListN.{length}
-use Rattle.model.specs.Rules.Join.{isInput}
 use Rattle.model.specs.Rules.Parts.{
   Part,
   renumberSignal,
@@ -21,7 +20,7 @@ use Rattle.model.specs.Rules.Parts.{
   wiredSignal,
   wiredWith,
 }
-use Rattle.model.specs.Rules.Program.{Program, Body, input, equation, read, noSignal, count, signalAt, weightOf}
+use Rattle.model.specs.Rules.Program.{Program, Body, input, equation, read, noSignal, count, signalAt, weightOf, isInput}
 use Rattle.model.specs.Says.Feasible.{All}
 use Rattle.model.proofs.Basics.Outcomes.{table-length, table-at}
 use Rattle.model.proofs.Joining.Parts.{join-count, first-signal, second-signal}

@@ -4,7 +4,6 @@ use mathlib.Core.List.{List, [], _∷_, map}
 use mathlib.Core.Path.{_≡_, refl, ap, ap₂}
 use lib.ListN.{length, length-append}
 use Rattle.model.specs.Rules.Image.{exprCode, signalCode}
-use Rattle.model.specs.Rules.Join.{isInput}
 use Rattle.model.specs.Rules.Parts.{renumberExpr, renumberBody, renumberSignal, renumberLink, renumberChain}
 use Rattle.model.specs.Rules.Program.{
   Signal,
@@ -20,6 +19,7 @@ use Rattle.model.specs.Rules.Program.{
   Link,
   Chain,
   weightOf,
+  isInput,
 }
 
 -- Numbers that stay are no renumbering.

@@ -10,7 +10,7 @@ use lib.Dec.{leb, ltb}
 use lib.ListN.{length, getD}
 use Rattle.model.specs.Says.Feasible.{All, PeriodRule, Met, Feasible, Multiple, Ordered}
 use Rattle.model.specs.Rules.Compile.{shortEnough, Pair, pairOf}
-use Rattle.model.specs.Rules.Cover.{meetsEarlier, meetingOf, noGap, covering, hasTable, tabled}
+use Rattle.model.specs.Rules.Cover.{covering, tabled}
 use Rattle.model.specs.Rules.Image.{runList, runLists, joined, rowsAt, codesAt, lengthOf}
 use Rattle.model.specs.Rules.Latency.{timely}
 use Rattle.model.specs.Rules.Load.{loaded}

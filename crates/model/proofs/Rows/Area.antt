@@ -25,12 +25,12 @@ use Rattle.model.specs.Rules.Table.{
   rowBytes,
   tableBytes,
 }
-use Rattle.model.specs.Rules.Word.{byteAt, wordBytes, fourBytes, eqZ, AreBytes}
+use Rattle.model.specs.Rules.Word.{byteAt, wordBytes, fourBytes, eqZ}
 use Rattle.model.specs.Says.Rows.{AllUpright, Covers, SameWords, Alike}
 use Rattle.model.specs.Says.Words.{IsWord}
 use Rattle.model.proofs.Basics.Outcomes.{table-length, table-at}
 use Rattle.model.proofs.Images.Stretches.{Stands, front, behind, inside, byte-here, word-at}
-use Rattle.model.proofs.Rows.Rule.{sorted, found-in, length-same, sorted-rule}
+use Rattle.model.proofs.Rows.Rule.{sorted, found-in, length-same}
 use Rattle.model.proofs.Rows.Sorted.{InOrder, chained-true, true-chained, sorted-chained}
 use Rattle.model.proofs.Texts.Commands.{word-fits}
 

@@ -1,5 +1,5 @@
 -- The tests on the rows' ends decide the statements over all words. Assumes nothing.
-use mathlib.Core.Path.{_≡_, refl, sym, ap, ap₂, _∙_}
+use mathlib.Core.Path.{_≡_, refl, sym, ap, _∙_}
 use mathlib.Core.Bool.{Bool, true, false, not, _&&_, _||_, false≢true, true≢false, and-eq-true-iff}
 use mathlib.Core.List.{List, [], _∷_}
 use mathlib.Core.Logic.{_⊎_, inl, inr, ⊎-elim}
@@ -11,7 +11,6 @@ use lib.ListN.{length}
 use lib.Signed.{ltZ}
 use Rattle.model.specs.Rules.Search.{firstBelow, firstFrom, isFound, allBelow}
 use Rattle.model.specs.Rules.Word.{eqZ}
-use Rattle.model.specs.declared.Fault.{Fault}
 use Rattle.model.specs.declared.Found.{Found}
 use Rattle.model.specs.declared.Found.the-variants.{At, Nowhere}
 use Rattle.model.proofs.Basics.Outcomes.{accepted≢refused}
@@ -27,7 +26,7 @@ use Rattle.model.specs.Rules.Cover.{
   leastWord,
   greatestWord,
 }
-use Rattle.model.specs.Rules.Outcome.{Outcome, accepted, refused, _▷_, provided}
+use Rattle.model.specs.Rules.Outcome.{accepted, refused, _▷_, provided}
 use Rattle.model.specs.Rules.Table.{Row, contains, rowAt}
 use Rattle.model.specs.Says.Words.{IsWord}
 use Rattle.model.specs.Says.Rows.{Lies, Disjoint, Covers, Meet, FirstMeets, Gap, Upright, AllUpright}

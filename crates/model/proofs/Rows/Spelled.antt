@@ -1,15 +1,13 @@
 -- The rows of an accepted text, by the offsets of their commands. Assumes nothing.
 use Prim.Native.Nat.{ℕ, suc, _+_, _≤_, _<_}
 use mathlib.Core.List.{List, [], _∷_}
-use mathlib.Core.Path.{_≡_, refl, sym, ap, ap₂, _∙_}
+use mathlib.Core.Path.{_≡_, refl, ap, ap₂, _∙_}
 use native.Mathlib.Omega.{arith}
-use lib.IntN.{ℤ}
 use lib.ListN.{length, getD}
 use Rattle.model.specs.Rules.Program.{Program}
 use Rattle.model.specs.Rules.Search.{tableFrom, table}
-use Rattle.model.specs.Rules.Table.{Row, noRow, rowAt, rowFrom}
+use Rattle.model.specs.Rules.Table.{noRow, rowAt, rowFrom}
 use Rattle.model.specs.Rules.Width.{inProgram}
-use Rattle.model.specs.Rules.Word.{wordAt}
 use Rattle.model.proofs.Texts.Commands.{declaration-sound}
 use Rattle.model.proofs.Texts.Legal.{Legal, row-spelled}
 

@@ -1,8 +1,9 @@
 -- What an accepted program text gives: where its signals and chains stand, and the bounds that they keep. Assumes nothing.
 use Prim.Native.Nat.{ℕ, zero, suc, _+_, _*_, _≤_, _<_}
 use mathlib.Core.List.{List, [], _∷_, _++_, append-nil}
-use mathlib.Core.Path.{_≡_}
+use mathlib.Core.Path.{_≡_, sym, ap}
 use native.Mathlib.Omega.{arith}
+use lib.Dec.{eqb}
 use lib.ListN.{length, getD, length-append}
 use mir.Syntax.{w32}
 use mir.Val.{SFits}
@@ -11,7 +12,7 @@ use Rattle.model.specs.Says.Grammar.{LegalProgram}
 use Rattle.model.specs.Says.Rows.{Upright}
 use Rattle.model.specs.Says.Stands.{SpellsBody, SpellsSignal, SpellsChain, SpellsRead, SpellsRow}
 use Rattle.model.specs.Says.Words.{IsWord}
-use Rattle.model.specs.Rules.Command.{declarationAt, operatorAt}
+use Rattle.model.specs.Rules.Command.{declarationAt}
 use Rattle.model.specs.Rules.Image.{exprCode, signalCode, codes, joined}
 use Rattle.model.specs.Rules.Outcome.{accepted}
 use Rattle.model.specs.Rules.Program.{
@@ -21,6 +22,7 @@ use Rattle.model.specs.Rules.Program.{
   Body,
   input,
   equation,
+  isInput,
   Signal,
   Link,
   Chain,
@@ -39,18 +41,26 @@ use Rattle.model.specs.Rules.Program.{
 }
 use Rattle.model.specs.Rules.Search.{joinFrom}
 use Rattle.model.specs.Rules.Table.{Row, noRow, rowAt}
-use Rattle.model.specs.Rules.Width.{inProgram, readWidth}
-use Rattle.model.specs.Rules.Word.{wordBytes, fourBytes, AreBytes}
+use Rattle.model.specs.Rules.Width.{readWidth}
+use Rattle.model.specs.Rules.Word.{byteAt, wordBytes, fourBytes, AreBytes}
 use Rattle.model.specs.declared.Declaration.the-variants as Declaration
 use Rattle.model.specs.declared.Operator.the-variants as Operator
 use Rattle.model.specs.declared.Kind.{Kind}
 use Rattle.model.specs.declared.Kind.the-variants.{Now, Last, When, LastWhen, Current}
 use Rattle.model.proofs.Basics.All.{all-append, all-at}
-use Rattle.model.proofs.Images.Bounds.{depth, bodyDepth, Words, BodyWords}
-use Rattle.model.proofs.Texts.Commands.{word-fits, two-fits, ReadSound, declaration-sound, operator-sound, link-decoded}
+use Rattle.model.proofs.Images.Bounds.{bodyDepth, Words, BodyWords}
+use Rattle.model.proofs.Texts.Commands.{
+  word-fits,
+  two-fits,
+  ReadSound,
+  declaration-sound,
+  operator-sound,
+  link-decoded,
+  written-byte,
+}
 use Rattle.model.proofs.Basics.Outcomes.{joinFrom-append}
 use Rattle.model.proofs.Texts.Spelled.{Spells, SpellsLinks, DeclaresOne, Declares, declared}
-use Rattle.model.proofs.Texts.Written.{decoded, operator-decoded}
+use Rattle.model.proofs.Texts.Written.{decoded, operator-decoded, as-written}
 
 -- What the text up to `at` has declared. Its code and its rows take no more bytes than the text.
 pub record Legal (text : List ℕ) (at : ℕ) (p : Program) : Type 0 where
@@ -212,6 +222,15 @@ stands text p d = let l = declares-legal (d .1) none in (d .0, l .0, l .1)
 pub legal : (text : List ℕ) (p : Program) → parseProgram text ≡ accepted p →
     (end : ℕ) × Legal text end p × (length text ≡ end + 1)
 legal text p e = stands text p (declared leastFactor text p e)
+
+-- A signal's first byte, which tells an input, stands in the text.
+pub input-byte : (text : List ℕ) (σ : Signal) (b : Body) → SpellsBody text σ b → isInput b ≡ eqb (byteAt text (σ .place)) 0x10
+input-byte text σ input g = sym (ap (λ (n : ℕ). eqb n 0x10) (written-byte text (σ .place) (as-written _ tt g)))
+input-byte text σ (equation w x) g = sym (ap (λ (n : ℕ). eqb n 0x10) (written-byte text (σ .place) (as-written _ tt (g .0))))
+
+pub place-inside : (text : List ℕ) (σ : Signal) (b : Body) → SpellsBody text σ b → σ .place < length text
+place-inside text σ input g = omega (arith, declaration-sound text _ _ g .3)
+place-inside text σ (equation w x) g = omega (arith, declaration-sound text _ _ (g .0) .3)
 
 -- Labels are numbers of two bytes.
 abbrev Labelled : Signal → Type 0

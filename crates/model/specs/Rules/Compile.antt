@@ -9,7 +9,7 @@ use Rattle.model.specs.Rules.Image.{writtenOf}
 use Rattle.model.specs.Rules.Latency.{timely}
 use Rattle.model.specs.Rules.Load.{loaded}
 use Rattle.model.specs.Rules.Machine.{Effect, Job, effect}
-use Rattle.model.specs.Rules.Outcome.{Outcome, accepted, refused, _▷_, provided}
+use Rattle.model.specs.Rules.Outcome.{Outcome, accepted, _▷_, provided}
 use Rattle.model.specs.Rules.Program.{Program, parseProgram}
 use Rattle.model.specs.Rules.Rates.{declaredAndRated, hypercycle, linked}
 use Rattle.model.specs.Rules.Reads.{met}

@@ -1,7 +1,7 @@
 -- Join: parts that are compiled alone, in one lent buffer, and links between them, to one image.
 use Prim.Native.Nat.{ℕ, zero, suc, _+_, _*_, _/_}
 use mathlib.Core.Bool.{Bool, true, false, cond, not, _&&_}
-use mathlib.Core.List.{List, [], _∷_, _++_, map}
+use mathlib.Core.List.{List, [], _∷_, _++_}
 use lib.Dec.{leb, ltb, eqb}
 use lib.ListN.{length, drop, getD}
 use Rattle.model.specs.Rules.Compile.{Pair, pairOf}
@@ -10,10 +10,10 @@ use Rattle.model.specs.Rules.Load.{loaded}
 use Rattle.model.specs.Rules.Machine.{Effect, Job, effect, stretch}
 use Rattle.model.specs.Rules.Outcome.{Outcome, accepted, refused, refuse, fault, _▷_, provided, lowest}
 use Rattle.model.specs.Rules.Parts.{Part, PartLink, partAt, tabledParts, wireOf, wireRead, joinedPair}
-use Rattle.model.specs.Rules.Program.{Body, input, equation, count, signalAt}
+use Rattle.model.specs.Rules.Program.{isInput, count, signalAt}
 use Rattle.model.specs.Rules.Rates.{hypercycle}
 use Rattle.model.specs.Rules.Reads.{isMet}
-use Rattle.model.specs.Rules.Search.{firstBelow, isFound, allBelow, table, joinFrom, sum}
+use Rattle.model.specs.Rules.Search.{firstBelow, allBelow, table, joinFrom, sum}
 use Rattle.model.specs.Rules.Word.{byteAt}
 use Rattle.model.specs.declared.Joined.{Joined}
 use Rattle.model.specs.declared.Joined.the-variants as Joined
@@ -80,10 +80,6 @@ module _ (buffer : List ℕ) where
 abbrev pub isRefused : {A : Type 0} → Outcome A → Bool
 isRefused (accepted a) = false
 isRefused (refused f) = true
-
-abbrev pub isInput : Body → Bool
-isInput input = true
-isInput (equation weight e) = false
 
 -- Link i of a list of links, four bytes each: part, IN, part, signal.
 abbrev pub linkAt : List ℕ → ℕ → PartLink

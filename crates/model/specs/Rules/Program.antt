@@ -40,6 +40,11 @@ pub data Body : Type 0 where
   input : Body
   equation : ℕ → Expr → Body
 
+-- Whether it is an input.
+abbrev pub isInput : Body → Bool
+isInput input = true
+isInput (equation weight e) = false
+
 -- A signal, with the offset of its IN or EQ, and its label: that of the TAG before it, or 0.
 pub record Signal : Type 0 where
   pub place : ℕ

@@ -1,13 +1,13 @@
 -- Script text of a bench trial (24, 25), and the calls that a script makes (request e).
 use Prim.Native.Nat.{ℕ, zero, suc, _+_}
-use mathlib.Core.Bool.{Bool, true, false, cond}
+use mathlib.Core.Bool.{Bool, false, cond}
 use mathlib.Core.List.{List, [], _∷_, _++_}
 use lib.Dec.{leb, ltb, eqb}
 use lib.IntN.{ℤ, pos}
 use lib.ListN.{length, set, replicate}
 use Rattle.model.specs.Says.Calls.{Call, cycle}
 use Rattle.model.specs.Rules.Outcome.{Outcome, accepted, refuse, _▷_, provided}
-use Rattle.model.specs.Rules.Program.{Program, Body, input, equation, count, signalAt}
+use Rattle.model.specs.Rules.Program.{Program, isInput, count, signalAt}
 use Rattle.model.specs.Rules.Width.{inScript}
 use Rattle.model.specs.Rules.Word.{byteAt, wordAt}
 use Rattle.model.specs.declared.ScriptCommand.{ScriptCommand}
@@ -65,25 +65,21 @@ abbrev pub scriptOf : List ℕ → Script
 scriptOf text = scriptAt text 0
 
 -- Whether a signal is declared and an input.
-abbrev pub isInputBody : Body → Bool
-isInputBody input = true
-isInputBody (equation weight e) = false
-
 unfoldable pub isInputOf : Program → ℕ → Bool
-isInputOf p x = cond (ltb x (count p)) (isInputBody (signalAt p x .body)) false
+isInputOf p x = cond (ltb x (count p)) (isInput (signalAt p x .body)) false
 
 -- 25 at the first SET of a signal that is no input.
 unfoldable pub inputsOnly : (ℕ → Bool) → List Action → Outcome (Unit {0})
-inputsOnly isInput [] = accepted tt
-inputsOnly isInput (alter at signal word ∷ actions) = provided (isInput signal) 25 at ▷ λ _. inputsOnly isInput actions
-inputsOnly isInput (run n ∷ actions) = inputsOnly isInput actions
+inputsOnly settable [] = accepted tt
+inputsOnly settable (alter at signal word ∷ actions) = provided (settable signal) 25 at ▷ λ _. inputsOnly settable actions
+inputsOnly settable (run n ∷ actions) = inputsOnly settable actions
 
 -- The checks of a script in their order.
 unfoldable pub checkOf : (ℕ → Bool) → List ℕ → Outcome (Unit {0})
-checkOf isInput text =
+checkOf settable text =
     provided (leb (length text) 2048) 24 0 ▷ λ _.  -- 24, over length
     scriptOf text .ending ▷ λ _.  -- 24, cut, unknown or after END
-    inputsOnly isInput (scriptOf text .actions)  -- 25
+    inputsOnly settable (scriptOf text .actions)  -- 25
 
 -- The calls that commands make: a SET alters the sample of its signal until its next SET, a RUN makes that many cycles.
 unfoldable pub callsFrom : List ℤ → List Action → List Call

@@ -15,15 +15,7 @@ use Rattle.model.specs.Rules.Word.{eqZ}
 use Rattle.model.specs.Rules.Cover.{edge, greatestWord}
 use Rattle.model.specs.Rules.Table.{Row, rowAt, rowsFrom}
 use Rattle.word.proofs.Locals.{kept, eqZ-other}
-use Rattle.rows.proofs.Loops.{
-  long,
-  same-long,
-  same-test,
-  edge-next,
-  low-wrong,
-  high-wrong,
-  last-edge,
-}
+use Rattle.rows.proofs.Loops.{same-long, same-test, edge-next, low-wrong, high-wrong, last-edge}
 use Rattle.model.proofs.Pairs.Decide.{all-none, all-more}
 use Rattle.model.proofs.Rows.Area.{follows, rows-length, rows-at}
 use Rattle.model.proofs.Basics.Order.{below-not, below-fails}

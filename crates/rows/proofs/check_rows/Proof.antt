@@ -11,7 +11,6 @@ use Rattle.model.specs.declared.Found.{Found}
 use Rattle.model.specs.declared.Found.the-variants.{At, Nowhere}
 use Rattle.model.proofs.Pairs.Decide.{is-first}
 use Rattle.basics.specs.Judgement.{judgementOf}
-use Rattle.basics.specs.declared.Judged.{Judged}
 use Rattle.basics.specs.declared.Judged.the-variants.{Fine, Refused}
 use Rattle.model.specs.Rules.Cover.{meetsEarlier, meetingOf, noGap, covering}
 use Rattle.model.specs.Rules.Outcome.{_▷_, provided}

@@ -39,6 +39,7 @@ use Rattle.run_code.proofs.Commands.{
   negated,
   chosen,
   combined,
+  operator-code,
 }
 use Rattle.run_code.proofs.run_code.Statement.{statement}
 use Rattle.run_code.proofs.run_code.Tie as tie
@@ -108,9 +109,10 @@ at-binary j =
     (other j 0x52 (omega arith) (omega arith)) (r .0 .0 .0 .1) (r .0 .0 .1) (r .0 .1) (r .1)
 
 -- the operator is the one that the byte commands
-at-operator : (o : tie.After-operator2 Inv-loop μ-loop) →
-    Here (o .before .before .before .before .before) (Code.Binary (o .operator2 .result))
-at-operator o = rw (o .operator2 .ensures) at (at-binary (o .before) .2)
+at-operator : (o : tie.After-binary-of2 Inv-loop μ-loop) →
+    Here (o .before .before .before .before .before) (Code.Binary (o .binary-of2 .result))
+at-operator o =
+    let h = at-binary (o .before) in rw (operator-code _ (h .0) (h .1), ← o .binary-of2 .ensures) at (h .2)
 
 -- a leaf
 abbrev turn : tie.Then2 Inv-loop μ-loop → tie.At-loop Inv-loop μ-loop
@@ -164,9 +166,10 @@ then-binary t =
     (λ e. omega (arith, t .if4 .taken)) (λ e. omega (arith, t .if4 .taken)) (λ e. omega (arith, t .if4 .taken))
     (λ e. omega (arith, t .if4 .taken))
 
-then-operator : (o : tie.After-operator Inv-loop μ-loop) →
-    Follows (o .before .before .before .before) (Code.Binary (o .operator .result))
-then-operator o = rw (o .operator .ensures) at (then-binary (o .before) .2)
+then-operator : (o : tie.After-binary-of Inv-loop μ-loop) →
+    Follows (o .before .before .before .before) (Code.Binary (o .binary-of .result))
+then-operator o =
+    let h = then-binary (o .before) in rw (operator-code _ (h .0) (h .1), ← o .binary-of .ensures) at (h .2)
 
 -- no more commands have run than the code has bytes
 few : (l : tie.At-loop Inv-loop μ-loop) → l .loop .count ≤ 65535
@@ -277,7 +280,7 @@ loop-again-4 c =
     let w = o .before in
     rw (one (turn (leaf-of o)))
     (moved _ _ _ _ _ _ _ (c .binary-with .ensures .0 ∙
-    ap (λ (z : ℤ). onTwo (binaryWord (p .operator .result)) (z ∷ view (turn (leaf-of o) .loop .stack)))
+    ap (λ (z : ℤ). onTwo (binaryWord (p .binary-of .result)) (z ∷ view (turn (leaf-of o) .loop .stack)))
     (kept _ (w .leaf-word .ok)))
     (omega (arith, c .binary-with .ensures .1)) (combined _ _ _ _ _ _ _ (then-operator p) .1))
 
@@ -316,6 +319,6 @@ run-code-spec =
     (λ c. omega (arith, few (c .before .before))) pop-requires returns negate-requires (λ c. omega arith) loop-again
     choose-requires (λ c. omega arith) loop-again-2 look-up-requires (λ c. omega arith) loop-again-3 leaf-word-requires
     (λ c κs. tt) (λ c. omega (arith, inside c))
-    (λ c. inside (c .before)) add-count-2 returns-2 (λ c κs. (then-binary c .0, then-binary c .1)) binary-with-requires add-at-3
+    (λ c. inside (c .before)) add-count-2 returns-2 (λ c κs. search needs) binary-with-requires add-at-3
     add-count-3 (λ c κs. c .if5 .taken) push-far-requires loop-less-4 loop-again-4 loop-less-5 loop-again-5 loop-less-6
-    loop-again-6 (λ c κs. (at-binary c .0, at-binary c .1)) binary-requires (λ c. omega arith) loop-again-7 returns-3)
+    loop-again-6 (λ c κs. search needs) binary-requires (λ c. omega arith) loop-again-7 returns-3)

@@ -1,9 +1,5 @@
 -- `text_assemble::limit` meets its contract. Assumes nothing.
-use mathlib.Core.Path.{_≡_, ap, sym}
-use Prim.Native.Nat.{_^_}
 use borrow.Author.Needs.{needs}
-use Rattle.model.specs.Rules.TextForm.{size}
-use Rattle.model.specs.declared.Operand.{Operand}
 use Rattle.text_assemble.proofs.limit.Statement.{statement}
 use Rattle.text_assemble.proofs.limit.Tie as tie
 

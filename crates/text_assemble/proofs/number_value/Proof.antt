@@ -1,10 +1,8 @@
 -- `text_assemble::number_value` meets its contract. Assumes nothing.
 use Prim.Native.Nat.{ℕ}
-use mathlib.Core.Path.{_≡_, sym, ap, _∙_}
-use native.Mathlib.Omega.{arith}
+use mathlib.Core.Path.{sym, ap, _∙_}
 use borrow.Author.Needs.{needs}
 use Rattle.model.specs.Rules.TextForm.{ranged}
-use Rattle.model.specs.declared.Found.{Found}
 use Rattle.text_assemble.proofs.Values.{ranged-held, limit-small}
 use Rattle.text_assemble.proofs.number_value.Statement.{statement}
 use Rattle.text_assemble.proofs.number_value.Tie as tie

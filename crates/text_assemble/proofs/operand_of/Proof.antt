@@ -1,15 +1,12 @@
 -- `text_assemble::operand_of` meets its contract. Assumes nothing.
-use Prim.Native.Nat.{ℕ, _+_, _*_, _≤_, _<_}
-use mathlib.Core.List.{List}
+use Prim.Native.Nat.{_+_, _≤_}
 use mathlib.Core.Path.{_≡_, sym, ap, _∙_}
 use native.Mathlib.Omega.{arith}
 use borrow.Author.Needs.{needs}
 use lib.ListN.{length}
-use Rattle.model.specs.Rules.Outcome.{Outcome, accepted}
+use Rattle.model.specs.Rules.Outcome.{accepted}
 use Rattle.model.specs.Rules.TextForm.{names, spelled}
-use Rattle.model.specs.declared.Found.{Found}
-use Rattle.model.specs.declared.Found.the-variants.{At, Nowhere}
-use Rattle.text_keyword.specs.Cells.{allRows, cells, namesFrom, namesCount, byteOf}
+use Rattle.text_keyword.specs.Cells.{allRows}
 use Rattle.text_keyword.proofs.Rows.{cells-length, names-inside, name-row, name-search, name-byte, name-found}
 use Rattle.text_assemble.proofs.Values.{operand-named, operand-number}
 use Rattle.text_assemble.proofs.operand_of.Statement.{statement}

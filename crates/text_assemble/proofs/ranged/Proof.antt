@@ -1,6 +1,5 @@
 -- `text_assemble::ranged` meets its contract. Assumes nothing.
-use mathlib.Core.Path.{_≡_, ap, _∙_}
-use native.Mathlib.Omega.{arith}
+use mathlib.Core.Path.{ap, _∙_}
 use borrow.Author.Needs.{needs}
 use Rattle.model.specs.Rules.Outcome.{yieldedOf}
 use Rattle.text_assemble.proofs.Values.{ranged-low, ranged-high, ranged-in, ranged-none}

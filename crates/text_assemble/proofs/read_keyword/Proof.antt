@@ -5,8 +5,8 @@ use mathlib.Core.Path.{_≡_, refl, sym, ap, _∙_}
 use native.Mathlib.Omega.{arith}
 use borrow.Author.Needs.{needs}
 use lib.ListN.{length}
-use Rattle.model.specs.Rules.Outcome.{accepted, refused}
-use Rattle.model.specs.Rules.TextForm.{Assembled, keywords, keywordAt, spelled, lowBytes}
+use Rattle.model.specs.Rules.Outcome.{accepted}
+use Rattle.model.specs.Rules.TextForm.{keywords, keywordAt, spelled}
 use Rattle.text_keyword.specs.Cells.{commandRows, cells, byteOf, pendingAt}
 use Rattle.text_keyword.proofs.Rows.{cells-length, keyword-row, keyword-search, keyword-found}
 use Rattle.text_assemble.specs.Assembled.{readOf}

@@ -1,9 +1,9 @@
 -- `text_assemble::read_operand` meets its contract. Assumes nothing.
 use Prim.Native.Nat.{ℕ}
-use mathlib.Core.Path.{_≡_, refl, sym, ap, _∙_}
+use mathlib.Core.Path.{sym, ap, _∙_}
 use native.Mathlib.Omega.{arith}
 use borrow.Author.Needs.{needs}
-use Rattle.model.specs.Rules.Outcome.{accepted, refused}
+use Rattle.model.specs.Rules.Outcome.{accepted}
 use Rattle.model.specs.Rules.TextForm.{token, lowBytes}
 use Rattle.text_keyword.specs.Cells.{pendingAt}
 use Rattle.model.specs.Rules.Outcome.{yieldedOf}

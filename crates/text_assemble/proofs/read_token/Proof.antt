@@ -1,14 +1,12 @@
 -- `text_assemble::read_token` meets its contract. Assumes nothing.
 use Prim.Native.Nat.{ℕ, _+_, _<_}
 use mathlib.Core.List.{List, _∷_}
-use mathlib.Core.Path.{_≡_, refl, sym, ap, subst, _∙_}
+use mathlib.Core.Path.{_≡_, sym, ap, _∙_}
 use native.Mathlib.Omega.{arith}
 use borrow.Author.Needs.{needs}
 use Rattle.model.specs.Rules.Word.{byteAt}
-use Rattle.model.specs.declared.Operand.{Operand}
 use Rattle.text_keyword.specs.Cells.{allCells, cells, operandBy, pendingAt}
 use Rattle.text_keyword.proofs.Rows.{pending-none, pending-more}
-use Rattle.text_assemble.specs.Assembled.{ReadsAs}
 use Rattle.text_assemble.proofs.read_token.Statement.{statement}
 use Rattle.text_assemble.proofs.read_token.Tie as tie
 

@@ -1,13 +1,12 @@
 -- `text_assemble::signed_of` meets its contract. Assumes nothing.
 use Prim.Native.Nat.{ℕ, _-_, _+_, _^_, _≤_}
 use mathlib.Core.List.{List}
-use mathlib.Core.Path.{_≡_, sym, ap, _∙_}
+use mathlib.Core.Path.{sym, ap, _∙_}
 use lib.ListN.{length}
 use native.Mathlib.Omega.{arith}
 use borrow.Author.Needs.{needs}
 use Rattle.model.specs.Rules.Outcome.{Outcome, accepted, _▷_}
 use Rattle.model.specs.Rules.TextForm.{ranged, numberOf}
-use Rattle.model.specs.declared.Found.{Found}
 use Rattle.text_keyword.proofs.Finding.{part-rest}
 use Rattle.text_token.specs.Scanning.{heldNumber}
 use Rattle.text_assemble.proofs.Values.{ranged-held, signed-minus, signed-plus, some-byte}

@@ -1,13 +1,10 @@
 -- `text_keyword::ended_length` meets its contract. Assumes nothing.
 use Prim.Native.Nat.{ℕ}
 use mathlib.Core.List.{List}
-use mathlib.Core.Path.{_≡_, refl, sym, ap, _∙_}
+use mathlib.Core.Path.{refl, sym, ap, _∙_}
 use borrow.Author.Needs.{needs}
-use Rattle.model.specs.Rules.TextForm.{ended}
 use Rattle.model.specs.Rules.Word.{byteAt}
-use Rattle.model.specs.declared.Operand.{Operand}
 use Rattle.text_keyword.proofs.Rows.{pending-none, pending-more}
-use Rattle.text_keyword.specs.Written.{endedAnswer}
 use Rattle.text_keyword.proofs.ended_length.Statement.{statement}
 use Rattle.text_keyword.proofs.ended_length.Tie as tie
 

@@ -1,5 +1,5 @@
 -- `text_list::list` meets its contract. Assumes nothing.
-use mathlib.Core.Path.{_≡_, ap, _∙_}
+use mathlib.Core.Path.{ap, _∙_}
 use borrow.Author.Needs.{needs}
 use Rattle.model.specs.Rules.Outcome.{yieldedOf}
 use Rattle.model.specs.Rules.TextForm.{listing, listingOf}

@@ -9,7 +9,7 @@ use Rattle.model.specs.Rules.Outcome.{accepted}
 use Rattle.model.specs.Rules.TextForm.{keywords, keywordAt, coded, lead, listedAt}
 use Rattle.model.specs.Rules.Word.{byteAt}
 use Rattle.model.proofs.Basics.Left.{after}
-use Rattle.text_keyword.specs.Cells.{commandRows, cells, lettersOf}
+use Rattle.text_keyword.specs.Cells.{commandRows, lettersOf}
 use Rattle.text_keyword.proofs.Finding.{part-rest}
 use Rattle.text_keyword.proofs.Rows.{cells-length, row-of, KeywordRow, keyword-code, keyword-coded}
 use Rattle.text_list.specs.Puts.{leadBy, putOf}

@@ -1,14 +1,13 @@
 -- `text_list::list_operand` meets its contract. Assumes nothing.
-use Prim.Native.Nat.{ℕ, _+_, _-_, _*_, _≤_, _<_}
+use Prim.Native.Nat.{ℕ, _+_, _-_, _≤_}
 use mathlib.Core.Bool.{false}
-use mathlib.Core.List.{List, _∷_}
-use mathlib.Core.Path.{_≡_, refl, sym, ap, subst, _∙_}
+use mathlib.Core.List.{_∷_}
+use mathlib.Core.Path.{_≡_, refl, ap, _∙_}
 use native.Mathlib.Omega.{arith}
 use borrow.Author.Needs.{needs}
 use lib.ListN.{length}
 use Rattle.model.specs.Rules.Outcome.{accepted}
 use Rattle.model.specs.Rules.TextForm.{size, lowAt, lead, listedAt, operandToken}
-use Rattle.model.specs.Rules.Writing.{Wrote}
 use Rattle.model.proofs.Basics.Left.{after}
 use Rattle.text_keyword.specs.Cells.{pendingAt}
 use Rattle.text_list.specs.Puts.{putOf}

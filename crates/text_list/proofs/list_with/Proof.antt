@@ -1,14 +1,12 @@
 -- `text_list::list_with` meets its contract. Assumes nothing.
-use Prim.Native.Nat.{ℕ, _≤_}
+use Prim.Native.Nat.{ℕ}
 use mathlib.Core.List.{List}
-use mathlib.Core.Path.{_≡_, sym, ap, subst, _∙_}
+use mathlib.Core.Path.{_≡_, sym, ap, _∙_}
 use native.Mathlib.Omega.{arith}
 use borrow.Author.Needs.{needs}
 use lib.ListN.{length}
 use Rattle.model.specs.Rules.Outcome.{yieldedOf, accepted}
 use Rattle.model.specs.Rules.TextForm.{listing, listingOf}
-use Rattle.model.specs.Rules.Writing.{Wrote}
-use Rattle.text_keyword.specs.Written.{bytesWritten}
 use Rattle.text_keyword.proofs.Answered.{length-refused, length-done, answered-refused, answered-short, answered-done}
 use Rattle.text_list.proofs.list_with.Statement.{statement}
 use Rattle.text_list.proofs.list_with.Tie as tie

@@ -1,9 +1,6 @@
 -- `text_list::put_number` meets its contract. Assumes nothing.
-use mathlib.Core.Path.{_≡_, refl, sym, ap, _∙_}
+use mathlib.Core.Path.{sym, _∙_}
 use borrow.Author.Needs.{needs}
-use lib.ListN.{length}
-use Rattle.model.specs.Rules.Decimal.{natural, decimal}
-use Rattle.model.specs.Rules.TextForm.{numberToken}
 use Rattle.word.proofs.Locals.{kept}
 use Rattle.text_list.proofs.Writes.{wrote-put}
 use Rattle.text_list.proofs.put_number.Statement.{statement}

@@ -1,12 +1,12 @@
 -- `text_list::put_operand` meets its contract. Assumes nothing.
 use Prim.Native.Nat.{ℕ, _+_, _-_, _*_, _≤_}
 use mathlib.Core.List.{List}
-use mathlib.Core.Path.{_≡_, refl, sym, ap, _∙_}
+use mathlib.Core.Path.{_≡_, sym, ap, _∙_}
 use native.Mathlib.Omega.{arith}
 use borrow.Author.Needs.{needs}
 use lib.ListN.{length, take, drop}
 use Rattle.model.specs.Rules.TextForm.{names, coded, operandToken}
-use Rattle.text_keyword.specs.Cells.{allRows, cells, lettersOf, namesFrom}
+use Rattle.text_keyword.specs.Cells.{allRows, cells, lettersOf}
 use Rattle.text_keyword.proofs.Finding.{part-rest}
 use Rattle.text_keyword.proofs.Rows.{cells-length, names-inside, name-row, name-code, name-coded}
 use Rattle.text_list.proofs.Writes.{token-named, token-number}

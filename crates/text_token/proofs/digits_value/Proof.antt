@@ -6,7 +6,6 @@ use borrow.Author.Needs.{needs}
 use lib.ListN.{length, drop}
 use Rattle.model.specs.Rules.TextForm.{numberFrom}
 use Rattle.model.specs.Rules.Word.{byteAt}
-use Rattle.model.specs.declared.Found.the-variants.{At, Nowhere}
 use Rattle.text_token.specs.Scanning.{heldNumber}
 use Rattle.text_token.proofs.Scans.{digits-next, digits-low, digits-high, digits-end}
 use Rattle.text_token.proofs.digits_value.Statement.{statement}

@@ -1,6 +1,4 @@
 -- `text_token::has_zero` meets its contract. Assumes nothing.
-use mathlib.Core.Bool.{Bool}
-use mathlib.Core.Path.{sym, ap, _∙_}
 use native.Mathlib.Omega.{arith}
 use borrow.Author.Needs.{needs}
 use Rattle.text_token.proofs.Scans.{zero-short, zero-long}

@@ -6,7 +6,7 @@ use native.Mathlib.Omega.{arith}
 use borrow.Author.Needs.{needs}
 use lib.ListN.{length}
 use Rattle.model.specs.Rules.TextForm.{between}
-use Rattle.text_token.specs.Scanning.{scanAt, tokensAt, StartsAt}
+use Rattle.text_token.specs.Scanning.{scanAt, tokensAt}
 use Rattle.text_token.proofs.Scans.{scan-on, scan-none, starts-other}
 use Rattle.text_token.proofs.token_start.Statement.{statement}
 use Rattle.text_token.proofs.token_start.Tie as tie

@@ -3,7 +3,7 @@ use Prim.Native.Nat.{ℕ}
 use mathlib.Core.Bool.{Bool}
 use mathlib.Core.Path.{_≡_, refl, sym, ap, fun-ext, _∙_}
 use borrow.Author.Needs.{needs}
-use Rattle.model.specs.Rules.Outcome.{accepted, refused}
+use Rattle.model.specs.Rules.Outcome.{accepted}
 use Rattle.model.specs.Rules.Script.{checkOf}
 use Rattle.trial_script.specs.Inputs.{fetches}
 use Rattle.trial_script.specs.Script.{ruledOf}

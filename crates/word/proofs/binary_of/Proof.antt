@@ -1,8 +1,8 @@
--- `text_command::binary_of` meets its contract. Assumes nothing.
+-- `word::binary_of` meets its contract. Assumes nothing.
 use borrow.Author.Tests.{ne-eqb}
-use Rattle.text_command.specs.Operator.{binaryOf}
-use Rattle.text_command.proofs.binary_of.Statement.{statement}
-use Rattle.text_command.proofs.binary_of.Tie as tie
+use Rattle.word.specs.OfByte.{binaryOf}
+use Rattle.word.proofs.binary_of.Statement.{statement}
+use Rattle.word.proofs.binary_of.Tie as tie
 
 returns : tie.Need-returns
 unfolding binaryOf

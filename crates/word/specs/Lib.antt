@@ -1,0 +1,2 @@
+-- The operator of a byte.
+pub mod OfByte
