@@ -35,7 +35,7 @@ use Rattle.model.specs.Rules.Program.{
   parse_program,
 }
 use Rattle.model.specs.Rules.Schedule.{Put, parse_schedule}
-use Rattle.model.specs.Rules.Width.{read_width}
+use Rattle.model.specs.Rules.Width.{in_program, read_width}
 use Rattle.model.specs.Rules.Word.{byte_at}
 use Rattle.model.specs.Says.Grammar.{HasRoom}
 use Rattle.model.specs.Says.Written.{DeclarationWritten}
@@ -131,11 +131,11 @@ module _ {text : List ℕ} where
   parse-links zero links (SpellsLinks.ends e) le = rw (e, parse_links, append-nil links)
   parse-links (suc room) links (SpellsLinks.ends e) le = rw (e, parse_links, append-nil links)
   parse-links zero links (SpellsLinks.link e l r) le = absurd (omega arith)
-  parse-links (suc room) links (SpellsLinks.link {at = at} {ls = ls} e l r) le =
+  parse-links {at = at} (suc room) links (SpellsLinks.link {ls = ls} e l r) le =
       let here : Link = record { place = at; signal = byte_at text (at + 1) } in
       rw (eq-eqb (byte_at text at) 0x13 e, parse_links)
       (accepted-then _ _ tt (true-provided _ 2 (length text) (le-leb (at + 2) (length text) l)) ∙
-      parse-links room (links ++ (here ∷ [])) r (omega arith) ∙
+      parse-links {at = at + in_program 0x13} room (links ++ (here ∷ [])) r (omega arith) ∙
       rw (append_assoc links (here ∷ []) ls))
 
 module _ {least : ℕ} {text : List ℕ} where

@@ -349,16 +349,23 @@ module _ (text : List ℕ) (at : ℕ) where
 
   declaration-is : {c : Declaration} → DeclarationWhole c → D c → DeclarationWritten text at c
   declaration-is w (DeclarationDecodes.written h) = h
+  declaration-is w (early _) = elim w [ ]
+  declaration-is w (cut _) = elim w [ ]
+  declaration-is w (outside _) = elim w [ ]
+  declaration-is w (unknown _ _ _) = elim w [ ]
 
   declaration-early : D Declaration.EndsEarly → (length text ≤ at) ⊎ DeclarationCut text at
   declaration-early (DeclarationDecodes.early le) = inl le
   declaration-early (DeclarationDecodes.cut c) = inr c
+  declaration-early (written x'') = elim x'' [ ]
 
   declaration-out : D Declaration.OutOfRange → DeclarationOutside text at
   declaration-out (DeclarationDecodes.outside o) = o
+  declaration-out (written x'') = elim x'' [ ]
 
   declaration-none : D Declaration.Unknown → (at < length text) × ¬ DeclarationByte byte × ¬ (byte ≡ 0x13)
   declaration-none (DeclarationDecodes.unknown lt u k) = (lt, u, k)
+  declaration-none (written x'') = elim x'' [ ]
 
   -- A whole declaration is decoded exactly where its bytes are written.
   pub declaration-written : (c : Declaration) → ((declaration_at text at ≡ c) × DeclarationWhole c) ↔ DeclarationWritten text at c
@@ -540,16 +547,23 @@ module _ (text : List ℕ) (at : ℕ) where
 
   operator-is : {c : Operator} → OperatorWhole c → O c → OperatorWritten text at c
   operator-is w (OperatorDecodes.written h) = h
+  operator-is w (early _) = elim w [ ]
+  operator-is w (cut _) = elim w [ ]
+  operator-is w (outside _) = elim w [ ]
+  operator-is w (unknown _ _) = elim w [ ]
 
   operator-early : O Operator.EndsEarly → (length text ≤ at) ⊎ OperatorCut text at
   operator-early (OperatorDecodes.early le) = inl le
   operator-early (OperatorDecodes.cut c) = inr c
+  operator-early (written x'') = elim x'' [ ]
 
   operator-out : O Operator.OutOfRange → OperatorOutside text at
   operator-out (OperatorDecodes.outside o) = o
+  operator-out (written x'') = elim x'' [ ]
 
   operator-none : O Operator.Unknown → (at < length text) × ¬ OperatorByte (byte_at text at)
   operator-none (OperatorDecodes.unknown lt u) = (lt, u)
+  operator-none (written x'') = elim x'' [ ]
 
   -- The same four of an operator.
   pub operator-written : (c : Operator) → ((operator_at text at ≡ c) × OperatorWhole c) ↔ OperatorWritten text at c
@@ -615,6 +629,9 @@ module _ (text : List ℕ) (at : ℕ) where
 
   whole-put : {c : ScheduleCommand} → PutWhole c → PutDecodes text at c → PutWritten text at c
   whole-put w (PutDecodes.written h) = h
+  whole-put w (early _) = elim w [ ]
+  whole-put w (cut _) = elim w [ ]
+  whole-put w (unknown _ _) = elim w [ ]
 
   pub put_written : (c : ScheduleCommand) → ((schedule_command_at text at ≡ c) × PutWhole c) ↔ PutWritten text at c
   put_written c = (
@@ -625,9 +642,11 @@ module _ (text : List ℕ) (at : ℕ) where
   cut-put : PutDecodes text at ScheduleCommand.EndsEarly → (length text ≤ at) ⊎ PutCut text at
   cut-put (PutDecodes.early le) = inl le
   cut-put (PutDecodes.cut h) = inr h
+  cut-put (written x'') = elim x'' [ ]
 
   unknown-put : PutDecodes text at ScheduleCommand.Unknown → (at < length text) × NoPutByte (byte_at text at)
   unknown-put (PutDecodes.unknown lt u) = (lt, u)
+  unknown-put (written x'') = elim x'' [ ]
 
   pub put-cut : (schedule_command_at text at ≡ ScheduleCommand.EndsEarly) ↔ ((length text ≤ at) ⊎ PutCut text at)
   put-cut = (λ e. cut-put (subst (PutDecodes text at) e put-decodes), back)
