@@ -1,4 +1,5 @@
 // The checks of a pair in the stated order.
+#![tactic(auto)]
 ghost use Rattle.std.specs.Prelude.{◌≡◌, ◌≤◌, length};
 ghost use Rattle.model.specs.Rules.Compile.{short_enough, pair_of};
 ghost use Rattle.model.specs.Rules.Program.{Program, count};

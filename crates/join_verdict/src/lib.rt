@@ -1,4 +1,5 @@
 // All checks of a join, in the stated order.
+#![tactic(auto)]
 ghost use Rattle.std.specs.Prelude.{List, ◌≡◌};
 ghost use Rattle.model.specs.Rules.Join.{one_table};
 ghost use Rattle.model.specs.Rules.Parts.{Part};
