@@ -6,7 +6,7 @@ ghost use Rattle.model.specs.declared.Fault.{Fault};
 use model::{Fault, Yielded};
 
 // What a check answers.
-#[derive(Drop)]
+#[derive(Clone, Copy)]
 pub enum Judged {
     Fine,
     Refused(Fault),

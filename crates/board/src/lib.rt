@@ -36,7 +36,7 @@ const SAMPLES: usize = 256;
 const COUNT_MAX: u32 = 4294967295;
 
 // What a turn answers: that nothing is due, the place that it took and what its run answers, or its refusal.
-#[derive(Drop)]
+#[derive(Clone, Copy)]
 pub enum Turned {
     Idle,
     Took(u8, Cycled),

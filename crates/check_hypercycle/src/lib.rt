@@ -37,7 +37,7 @@ fn is_multiple(count: usize, periods: &[u8; 64], h: usize) -> bool
 }
 
 // What the search for the hypercycle finds. The hypercycle is of use where it is fine.
-#[derive(Drop)]
+#[derive(Clone, Copy)]
 pub struct Cycles {
     pub judged: Judged,
     pub hypercycle: usize,

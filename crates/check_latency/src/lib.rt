@@ -74,7 +74,7 @@ fn timing_at(periods: &[u8; 64], phases: &[u8; 64], x: u8) -> Timing
 }
 
 // The limit of a chain: which runs are to keep the bound, and the bound.
-#[derive(Drop)]
+#[derive(Clone, Copy)]
 pub struct Limit {
     pub mode: Mode,
     pub bound: u16,
@@ -99,7 +99,7 @@ fn limit_at(text: &[u8], at: usize) -> Limit
 }
 
 // A chain as its commands give it: its limit, its route, and the signals of its first and its last link.
-#[derive(Drop)]
+#[derive(Clone, Copy)]
 pub struct Followed {
     pub limit: Limit,
     pub route: Route,
@@ -271,7 +271,7 @@ pub fn check_latency(
 }
 
 // A chain's first and last link, its bound, and the least bound with which it would keep its limit.
-#[derive(Drop)]
+#[derive(Clone, Copy)]
 pub struct Leeway {
     pub source: u8,
     pub last: u8,

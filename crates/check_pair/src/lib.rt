@@ -82,7 +82,7 @@ fn check_puts(schedule: &[u8], signals: usize, periods: &[u8; 64]) -> Slots
 }
 
 // What the checks of a pair find. The tables are of use where it is fine.
-#[derive(Drop)]
+#[derive(Clone, Copy)]
 pub struct Checked {
     pub pair: PairTables,
     pub judged: Judged,

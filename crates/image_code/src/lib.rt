@@ -9,7 +9,7 @@ ghost use Rattle.image_code.specs.Code.{Puts, SignalRoom, EmitsSignal, Rooms, Em
 use model::Operator;
 
 // Where the text goes on, and where the code ends.
-#[derive(Drop)]
+#[derive(Clone, Copy)]
 pub struct Emitted {
     pub next: usize,
     pub end: usize,

@@ -145,7 +145,7 @@ fn entries_ok(image: &[u8], n: u8, h: usize, end: usize) -> bool
 }
 
 // Where a check of codes one after another stands: at a command of signal `own`, and the words on the stack there.
-#[derive(Drop)]
+#[derive(Clone, Copy)]
 struct Cursor {
     at: usize,
     height: usize,
@@ -360,7 +360,7 @@ pub fn tail<'a>(lent: &'a [u8]) -> &'a [u8]
 
 // The tail of an image: the stretch of what is lent, empty for an image without one and where it is refused; and its length, or
 // the refusal.
-#[derive(Drop)]
+#[derive(Clone, Copy)]
 pub struct TailRead<'a> {
     pub stretch: &'a [u8],
     pub length: Yielded,

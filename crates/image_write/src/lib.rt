@@ -260,7 +260,7 @@ pub fn put_head(h: usize, n: usize, size: usize, out: &mut [u8]) -> usize
 }
 
 // Where the run lists and the code, after the table, start, where the image ends, L, and where its tail does: L + 4N.
-#[derive(Drop)]
+#[derive(Clone, Copy)]
 pub struct Layout {
     pub lists: usize,
     pub code: usize,

@@ -20,7 +20,7 @@ use text_schedule::{PairTables, Slots};
 
 // What the image of the joined parts is made of, by joined number; `bases` has where the signals of each part start, and last
 // where they end. The tables have the first 64 signals; `signals` and `chains` count all.
-#[derive(Drop)]
+#[derive(Clone, Copy)]
 pub struct Joint {
     pub parts: usize,
     pub bases: [usize; 9],
@@ -161,7 +161,7 @@ fn add_part(joint: Joint, pair: PairTables) -> Joint
 }
 
 // The rows of the parts: how many parts have some, and of the last of these its number and the count and offsets of its rows.
-#[derive(Drop)]
+#[derive(Clone, Copy)]
 pub struct Table {
     pub parts: usize,
     pub part: usize,
@@ -271,7 +271,7 @@ fn keep_rates(
 }
 
 // What the checks of all parts find: the part that is refused, or what is joined of them.
-#[derive(Drop)]
+#[derive(Clone, Copy)]
 pub struct Gathered {
     pub judged: Judged,
     pub part: usize,

@@ -12,7 +12,7 @@ use join_gather::{Joint, Table};
 use model::refusals;
 
 // What the checks of a join find: whether a refusal names a part, and which; what is joined is of use where it is fine.
-#[derive(Drop)]
+#[derive(Clone, Copy)]
 pub struct Verdict {
     pub judged: Judged,
     pub named: bool,

@@ -10,7 +10,7 @@ use join_gather::Joint;
 use model::refusals;
 
 // What the joined checks find. The hypercycle is of use where it is fine.
-#[derive(Drop)]
+#[derive(Clone, Copy)]
 pub struct Whole {
     pub judged: Judged,
     pub hypercycle: usize,

@@ -24,7 +24,7 @@ fn say_use() {
 }
 
 // What a pair of files is read for.
-#[derive(Drop)]
+#[derive(Clone, Copy)]
 enum Task {
     Compile,
     Report,
@@ -286,7 +286,7 @@ fn with_image(line: &[u8], labels: bool) {
 const TEXTS: usize = 18;
 
 // The next text of a join: where it ends in the buffer, or that its file failed.
-#[derive(Drop)]
+#[derive(Clone, Copy)]
 enum Next {
     At(usize),
     Failed,

@@ -27,7 +27,7 @@ use model::{Found, Kind, Mode};
 use read_rule::Timing;
 
 // One read on the way back: its kind, its factor and its settled index.
-#[derive(Drop)]
+#[derive(Clone, Copy)]
 pub struct Hop {
     pub kind: Kind,
     pub factor: u8,
@@ -35,7 +35,7 @@ pub struct Hop {
 }
 
 // The way back over a chain: its reads in the order of the links, and the rates of its first and last link.
-#[derive(Drop)]
+#[derive(Clone, Copy)]
 pub struct Route {
     pub hops: [Hop; 15],
     pub count: usize,
@@ -44,7 +44,7 @@ pub struct Route {
 }
 
 // So many runs of the last link, from one on.
-#[derive(Drop)]
+#[derive(Clone, Copy)]
 pub struct Runs {
     pub from: usize,
     pub count: usize,

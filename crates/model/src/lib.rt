@@ -3,14 +3,14 @@
 pub mod refusals;
 
 // The index of a read: one of its n, or left open for the schedule to settle (255 in the text).
-#[derive(Drop)]
+#[derive(Clone, Copy)]
 pub enum Index {
     Fixed(u8),
     Open,
 }
 
 // The operands of a read. NOW and LAST have neither factor nor index in the text; theirs are 1 and 0.
-#[derive(Drop)]
+#[derive(Clone, Copy)]
 pub struct Sampled {
     pub signal: u8,
     pub factor: u8,
@@ -18,7 +18,7 @@ pub struct Sampled {
 }
 
 // The five reads.
-#[derive(Drop)]
+#[derive(Clone, Copy)]
 pub enum Kind {
     Now,
     Last,
@@ -28,7 +28,7 @@ pub enum Kind {
 }
 
 // The operators with two operands.
-#[derive(Drop)]
+#[derive(Clone, Copy)]
 pub enum Binary {
     Add,
     Sub,
@@ -40,7 +40,7 @@ pub enum Binary {
 }
 
 // The operators with one operand.
-#[derive(Drop)]
+#[derive(Clone, Copy)]
 pub enum Unary {
     Negate,
     // the result of the row that contains the operand
@@ -48,7 +48,7 @@ pub enum Unary {
 }
 
 // The mode of a latency constraint.
-#[derive(Drop)]
+#[derive(Clone, Copy)]
 pub enum Mode {
     Exists,
     Backward,
@@ -56,7 +56,7 @@ pub enum Mode {
 
 // A command of the program text that is none of an expression, with its operands; the expression of an EQ and the LINKs of a
 // LAT are commands of their own.
-#[derive(Drop)]
+#[derive(Clone, Copy)]
 pub enum Declaration {
     // no byte is left, or an operand is cut off by the end of the text
     EndsEarly,
@@ -82,7 +82,7 @@ pub enum Declaration {
 }
 
 // A command of an expression with its operands; the expressions that it is applied to are commands of their own.
-#[derive(Drop)]
+#[derive(Clone, Copy)]
 pub enum Operator {
     // no byte is left, or an operand is cut off by the end of the text
     EndsEarly,
@@ -98,7 +98,7 @@ pub enum Operator {
 }
 
 // A command of the schedule text.
-#[derive(Drop)]
+#[derive(Clone, Copy)]
 pub enum ScheduleCommand {
     // no byte is left, or an operand is cut off by the end of the text
     EndsEarly,
@@ -110,7 +110,7 @@ pub enum ScheduleCommand {
 }
 
 // A command of a bench trial's script.
-#[derive(Drop)]
+#[derive(Clone, Copy)]
 pub enum ScriptCommand {
     // no byte is left, or an operand is cut off by the end of the text
     EndsEarly,
@@ -124,7 +124,7 @@ pub enum ScriptCommand {
 }
 
 // A command of an image's code.
-#[derive(Drop)]
+#[derive(Clone, Copy)]
 pub enum Code {
     // no byte is left, or an operand is cut off by the end of the code
     EndsEarly,
@@ -140,14 +140,14 @@ pub enum Code {
 }
 
 // How many bytes a command takes, its own and its operands; a byte that is not listed for its kind of text has none.
-#[derive(Drop)]
+#[derive(Clone, Copy)]
 pub enum Width {
     Bytes(usize),
     Unlisted,
 }
 
 // An operand of a command: an unsigned number of 1, 2 or 4 bytes, a word, the index of a read, the mode of a LAT.
-#[derive(Drop)]
+#[derive(Clone, Copy)]
 pub enum Operand {
     One,
     Two,
@@ -158,28 +158,28 @@ pub enum Operand {
 }
 
 // What a search for an index finds.
-#[derive(Drop)]
+#[derive(Clone, Copy)]
 pub enum Found {
     At(usize),
     Nowhere,
 }
 
 // A refusal: its number and its place.
-#[derive(Drop)]
+#[derive(Clone, Copy)]
 pub struct Fault {
     pub number: u8,
     pub place: usize,
 }
 
 // What a call or a step yields: a number, or the refusal.
-#[derive(Drop)]
+#[derive(Clone, Copy)]
 pub enum Yielded {
     Number(usize),
     Refused(Fault),
 }
 
 // What `join` answers: the length of the image with its tail, or the refusal, with its part where it is one inside a part.
-#[derive(Drop)]
+#[derive(Clone, Copy)]
 pub enum Joined {
     Length(usize),
     Refused(Fault),
@@ -187,21 +187,21 @@ pub enum Joined {
 }
 
 // What `reset` answers.
-#[derive(Drop)]
+#[derive(Clone, Copy)]
 pub enum Ran {
     Done,
     Refused(Fault),
 }
 
 // What `cycle` answers: how many commands it ran, or the refusal.
-#[derive(Drop)]
+#[derive(Clone, Copy)]
 pub enum Cycled {
     Commands(u32),
     Refused(Fault),
 }
 
 // What an accepted pair needs: the image's length, that with its tail, and the highest stack use of any signal.
-#[derive(Drop)]
+#[derive(Clone, Copy)]
 pub struct Sizes {
     pub length: usize,
     pub written: usize,
@@ -209,7 +209,7 @@ pub struct Sizes {
 }
 
 // What `report` answers.
-#[derive(Drop)]
+#[derive(Clone, Copy)]
 pub enum Reported {
     Sizes(Sizes),
     Refused(Fault),

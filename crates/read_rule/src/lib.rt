@@ -19,7 +19,7 @@ ghost use Rattle.read_rule.specs.Reads.{rate_in, index_found, met_by, MetIn};
 use model::{Found, Index, Kind, Sampled};
 
 // A signal's period and phase.
-#[derive(Drop)]
+#[derive(Clone, Copy)]
 pub struct Timing {
     pub period: u8,
     pub phase: u8,
@@ -87,7 +87,7 @@ fn wants_first(kind: Kind) -> bool
 // i * stride is one of the `step` from `cycle` on. For LAST, LASTWHEN and CURRENT these numbers are cycles of runs, for NOW and
 // WHEN the cycles just before the next run, `ahead` after the run. Every index of NOW and LAST has the same number, and a step
 // that is over any phase.
-#[derive(Drop)]
+#[derive(Clone, Copy)]
 struct Line {
     origin: usize,
     stride: usize,
@@ -167,7 +167,7 @@ fn lowest_index(line: Line) -> usize
 }
 
 // The candidates for the index of a read: those from `from` on that are below `to`.
-#[derive(Drop)]
+#[derive(Clone, Copy)]
 struct Candidates {
     from: usize,
     to: usize,
@@ -236,7 +236,7 @@ pub fn is_met(kind: Kind, sampled: Sampled, w: Timing, r: Timing, before: bool) 
 }
 
 // The phases that one signal of a read may take: from `low` up to `high`, which is none of them.
-#[derive(Drop)]
+#[derive(Clone, Copy)]
 pub struct Phases {
     pub low: usize,
     pub high: usize,

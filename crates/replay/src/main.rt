@@ -10,7 +10,7 @@ use libc::{STDIN_FILENO, STDOUT_FILENO};
 use model::Width;
 
 // How many bytes of the image and words of the state are lent, and whether the stream goes on.
-#[derive(Drop)]
+#[derive(Clone, Copy)]
 struct Lent {
     image: usize,
     state: usize,

@@ -38,7 +38,7 @@ fn leaf_length(byte: u8) -> usize
 }
 
 // What a run of a code yields: the word that it stores, and how many commands it ran.
-#[derive(Drop)]
+#[derive(Clone, Copy)]
 pub struct Run {
     pub word: i32,
     pub count: u32,

@@ -14,7 +14,7 @@ pub const NEAR: usize = 8;
 
 // The top word apart, the words under it in two arrays, the near ones first; word 0 is not used. A push copies the array that it
 // writes to, and few stacks reach the far one.
-#[derive(Drop)]
+#[derive(Clone, Copy)]
 pub struct Stack {
     pub top: i32,
     pub near: [i32; 8],
@@ -23,7 +23,7 @@ pub struct Stack {
 }
 
 // The word taken off, and the stack without it.
-#[derive(Drop)]
+#[derive(Clone, Copy)]
 pub struct Popped {
     pub word: i32,
     pub rest: Stack,

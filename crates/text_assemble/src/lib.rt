@@ -15,7 +15,7 @@ use model::{Found, Operand, Yielded, refusals};
 use text_keyword::COMMANDS;
 
 // What a token stands for: so many bytes with this value, low byte first; and where in the table the operands to follow stand.
-#[derive(Drop)]
+#[derive(Clone, Copy)]
 struct TokenRead {
     judged: Judged,
     size: usize,

@@ -308,7 +308,7 @@ pub fn schedule_command_at(text: &[u8], at: usize) -> ScheduleCommand
 }
 
 // A read without its place: its kind and its operands.
-#[derive(Drop)]
+#[derive(Clone, Copy)]
 pub struct Taken {
     pub kind: Kind,
     pub operands: Sampled,

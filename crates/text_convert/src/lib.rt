@@ -13,7 +13,7 @@ use basics::Judged;
 use model::{Declaration, Kind, Operator, Width, Yielded, refusals};
 
 // What a command becomes: its bytes as they are, so many; or, for so many bytes, a byte and a signal.
-#[derive(Drop)]
+#[derive(Clone, Copy)]
 enum Piece {
     Keep(usize),
     Short(usize, u8, u8),

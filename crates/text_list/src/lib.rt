@@ -16,7 +16,7 @@ use text_keyword::COMMANDS;
 
 // What was written for what stands at an offset: where it ends in the text, how many bytes it takes; where in the table the
 // operands to follow stand.
-#[derive(Drop)]
+#[derive(Clone, Copy)]
 struct TokenPut {
     judged: Judged,
     end: usize,

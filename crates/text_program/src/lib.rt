@@ -31,7 +31,7 @@ fn operator_here(text: &[u8], at: usize) -> Judged
 
 // Where the reading of an expression stands: the offset in the text, how many reads the program has so far, how many bytes of
 // code, and how many TABLEs.
-#[derive(Drop)]
+#[derive(Clone, Copy)]
 pub struct Walk {
     pub at: usize,
     pub reads: usize,
@@ -40,7 +40,7 @@ pub struct Walk {
 }
 
 // Where the reading of an expression goes on, or the refusal.
-#[derive(Drop)]
+#[derive(Clone, Copy)]
 pub enum Walked {
     Next(Walk),
     Refused(Fault),
@@ -164,7 +164,7 @@ pub fn read_expressions(
 }
 
 // What reading the LINKs of a chain finds: how many there are and where they end, or the refusal.
-#[derive(Drop)]
+#[derive(Clone, Copy)]
 pub enum LinksRead {
     Links(u8, usize),
     Refused(Fault),
@@ -204,7 +204,7 @@ pub fn read_links(text: &[u8], at: usize) -> LinksRead
 
 // What a command adds to a program: a signal of a period and a weight, a chain of so many LINKs, a CAP, a label for the signal
 // after it, a row.
-#[derive(Drop)]
+#[derive(Clone, Copy)]
 pub enum Entry {
     Signal(u8, u16),
     Chain(u8),
@@ -214,7 +214,7 @@ pub enum Entry {
 }
 
 // What one command of the program text is: an entry with where the reading stands after it, END, or the refusal.
-#[derive(Drop)]
+#[derive(Clone, Copy)]
 pub enum Step {
     Adds(Entry, Walk),
     End,
@@ -465,7 +465,7 @@ fn read_command(
 // those from `firsts[x]` to `firsts[x + 1]` of the table of reads, its code the bytes from `codes[x]` to `codes[x + 1]` of the
 // whole code. `judged` is what reading found; the rest is of use where it is fine. Fields go from wide to narrow, without gaps,
 // and `judged` comes last: so all that is 0 at first is one stretch, which is cleared in place and not copied there.
-#[derive(Drop)]
+#[derive(Clone, Copy)]
 pub struct Tables {
     pub signals: usize,
     pub chains: usize,

@@ -13,7 +13,7 @@ use model::{ScheduleCommand, refusals};
 use text_program::Tables;
 
 // What reading a schedule text finds: where it ends, which is of use where it is fine.
-#[derive(Drop)]
+#[derive(Clone, Copy)]
 pub struct Ended {
     pub judged: Judged,
     pub at: usize,
@@ -61,7 +61,7 @@ pub fn read_schedule(text: &[u8]) -> Ended
 
 // The tables of a schedule. The rank of a signal is its place in PUT order, and 64 while it is not put. `judged` is what going
 // through the PUTs found; the rest is of use where it is fine.
-#[derive(Drop)]
+#[derive(Clone, Copy)]
 pub struct Slots {
     pub puts: usize,
     pub order: [u8; 64],
@@ -79,7 +79,7 @@ impl Slots {
 }
 
 // The tables of a pair: its program's, its schedule's, and its hypercycle.
-#[derive(Drop)]
+#[derive(Clone, Copy)]
 pub struct PairTables {
     pub tables: Tables,
     pub slots: Slots,

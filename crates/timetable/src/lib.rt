@@ -8,7 +8,7 @@ ghost use Rattle.std.specs.Prelude.{◌≡◌};
 use basics::Judged;
 
 // Where the pair is refused only the judgement is of use.
-#[derive(Drop)]
+#[derive(Clone, Copy)]
 pub struct Timetable {
     pub judged: Judged,
     pub signals: usize,

@@ -8,7 +8,7 @@ use basics::Judged;
 use model::{Fault, Yielded};
 
 // The samples and the state before the first line, how many lines there will be, or the refusal.
-#[derive(Drop)]
+#[derive(Clone, Copy)]
 pub struct Prepared {
     pub judged: Judged,
     pub lines: usize,
@@ -17,7 +17,7 @@ pub struct Prepared {
 }
 
 // The same, and the image with its length L. The array has space for every image and its tail.
-#[derive(Drop)]
+#[derive(Clone, Copy)]
 pub struct Start {
     pub ready: Prepared,
     pub image: [u8; 65792],

@@ -21,7 +21,7 @@ ghost use Rattle.trial_step.specs.Underway.{
 use model::ScriptCommand;
 
 // How far a trial has come: where the script goes on, the cycles left of the present RUN, and the number of the next line.
-#[derive(Drop)]
+#[derive(Clone, Copy)]
 pub struct Progress {
     pub at: usize,
     pub left: u8,
@@ -29,21 +29,21 @@ pub struct Progress {
 }
 
 // Where the script goes on after the RUN that makes the next cycle, and how many more that RUN makes; or no cycle is left.
-#[derive(Drop)]
+#[derive(Clone, Copy)]
 pub enum Sought {
     Cycle(usize, u8),
     Nothing,
 }
 
 // The length of the line written and the progress after it, or the end of the script.
-#[derive(Drop)]
+#[derive(Clone, Copy)]
 pub enum Next {
     Line(usize, Progress),
     Ended,
 }
 
 // How many bytes of a block are lines, the progress after them, and whether the script has ended.
-#[derive(Drop)]
+#[derive(Clone, Copy)]
 pub struct Block {
     pub size: usize,
     pub progress: Progress,

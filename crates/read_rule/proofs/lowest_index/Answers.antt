@@ -6,15 +6,14 @@ use borrow.Author.Rules.{rules}
 use borrow.Author.Tests.{lt-leb}
 use Rattle.model.specs.Rules.Reads.{between}
 use Rattle.read_rule.specs.Lines.{number_at, meets_at}
-use Rattle.read_rule.proofs.lowest_index.Statement.{statement}
-use Rattle.read_rule.proofs.lowest_index.Tie as tie
+use Rattle.read_rule.proofs.lowest_index.Goals as goal
 
-returns-2 : tie.Need-returns-2
+pub returns : goal.returns
 unfolding meets_at between
-returns-2 c =
-    let e = c.before.before.before.before in
-    let s = e.before.before in
-    let m = c.before.minus in
+returns c =
+    let e = c in
+    let s = e in
+    let m = c.minus in
     let line = s.args.line in
     λ k l.
     let h : suc k ≤ m.result / line.step = omega arith in
@@ -25,11 +24,8 @@ returns-2 c =
       div-mul-le_self m.result line.step,
       mul-le-mul_left k s.requires.within,
       m.ensures,
-      e.if1.false,
+      e.if-line-eq0.false,
     )))
 
-pub lowest-index-spec : {M : Type 1} → statement M
-lowest-index-spec =
-    tie.close
-    (tie.spec (λ c. λ k l. absurd (omega arith)) (λ c. search rules) (λ c. search rules) (λ c κs. search rules)
-    (λ c. search rules) returns-2)
+pub returns-then-line-eq0 : goal.returns-then-line-eq0
+returns-then-line-eq0 c = λ k l. absurd (omega arith)
