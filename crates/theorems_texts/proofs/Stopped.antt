@@ -222,7 +222,7 @@ module _ (least : ℕ) (text : List ℕ) where
       accepted-then _ _ tt (true-provided _ 2 (length text) (lt-ltb _ _ lt)) ∙
       false-provided _ 3 at (not-true-false (is_operator (byte_at text at)) (λ t. u ((operator-byte (byte_at text at)).0 t)))
 
-  operand-refused : {arity k next : ℕ} {c : Operator} (d at : ℕ) (f : Fault) → HasOperands c arity → k < arity →
+  operand-refused : {arity k : ℕ} {c : Operator} (d at : ℕ) {next : ℕ} (f : Fault) → HasOperands c arity → k < arity →
       SpellsOperands least text d (at + 1) k next → parse_expr least d text next ≡ refused f →
       node least (λ n. parse_expr least d text n) text at c ≡ refused f
   unfolding node
