@@ -29,7 +29,7 @@ returns-then-period-eq0 c =
       inside = (λ e. absurd (false≢true e));
       value = (λ parts i e t f.
           sym (right-not parts s.args.links.now i s.args.at e (λ q.
-          true≢false (sym q.reader ∙ none-period parts _ t _ _ (sym (p.ensures.1 parts t) ∙ c.if-period-eq0.true)))));
+          true≢false (sym q.reader ∙ none-period parts _ t _ _ (sym (p.ensures.value parts t) ∙ c.if-period-eq0.true)))));
     }
 
 -- both are of one part

@@ -1,30 +1,24 @@
 -- `text_command::operands_of` meets its contract. Assumes nothing.
-use Prim.Native.Nat.{ℕ}
-use mathlib.Core.List.{List, [], ◌∷◌}
 use mathlib.Core.Path.{◌≡◌, refl}
-use types.Run.{OneOf, miss}
-use denote.Enum.Declared.{tag_of, declared}
 use Rattle.model.specs.declared.Operator.{Operator}
-use Rattle.model.specs.contracts.Operator.{enum}
 use Rattle.model.specs.declared.Operator.TheVariants as Operator
+use Rattle.model.specs.declared.Binary.{Binary}
+use Rattle.model.specs.declared.Unary.{Unary}
 use Rattle.text_command.specs.Operator.{operands_of}
 use borrow.Author.Rules.{rules}
 use Rattle.text_command.proofs.operands_of.Goals as goal
 
--- those with no operands
-abbrev leaves : List ℕ
-leaves = 0 ∷ 1 ∷ 2 ∷ 3 ∷ 4 ∷ []
-
-none : (o : Operator) → OneOf leaves (tag_of (declared enum) o) → 0 ≡ operands_of o
+none : (o : Operator) → ((x : Binary) → o ≡ Operator.Binary x → ⊥) → ((x : Unary) → o ≡ Operator.Unary x → ⊥) →
+    (o ≡ Operator.If → ⊥) → 0 ≡ operands_of o
 unfolding operands_of
-none Operator.EndsEarly h = refl
-none Operator.Unknown h = refl
-none Operator.OutOfRange h = refl
-none (Operator.Constant w) h = refl
-none (Operator.Read kind x) h = refl
-none (Operator.Binary operator) h = absurd (miss leaves 5 tt h)
-none (Operator.Unary operator) h = absurd (miss leaves 6 tt h)
-none Operator.If h = absurd (miss leaves 7 tt h)
+none Operator.EndsEarly b u i = refl
+none Operator.Unknown b u i = refl
+none Operator.OutOfRange b u i = refl
+none (Operator.Constant w) b u i = refl
+none (Operator.Read kind x) b u i = refl
+none (Operator.Binary operator) b u i = absurd (b operator refl)
+none (Operator.Unary operator) b u i = absurd (u operator refl)
+none Operator.If b u i = absurd (i refl)
 
 pub returns-in-Binary : goal.returns-in-Binary
 unfolding operands_of
@@ -39,4 +33,4 @@ unfolding operands_of
 returns-in-If c = rw c.in-If.is
 
 pub returns-in_default : goal.returns-in_default
-returns-in_default c = none _ c.in_default.in_default-own.keys4
+returns-in_default c = none _ c.in_default.not-Binary c.in_default.not-Unary c.in_default.not-If

@@ -93,8 +93,8 @@ returns-then-left-in_program c =
     ends (text (goal.at.returns-then-left-in_program w).After-in_program) (at (goal.at.returns-then-left-in_program w).After-in_program) _ (start (goal.at.returns-then-left-in_program w).After-in_program).requires.1 (two (goal.at.returns-then-left-in_program w).After-in_program) (ranged (goal.at.returns-then-left-in_program w).After-in_program) (omega (arith, w.in_program.ensures))
 
 -- and where all its bytes are there
-whole : (c : Else-left-in_program) → let w = c.before in standing (text w) (at w) (start w).args.byte ≡
-    declaration_of (start w).args.byte (text w) (at w)
+whole : (c : Else-left-in_program) → let w = c in standing (text (goal.at.Else-left-in_program w).After-in_program) (at (goal.at.Else-left-in_program w).After-in_program) (start (goal.at.Else-left-in_program w).After-in_program).args.byte ≡
+    declaration_of (start (goal.at.Else-left-in_program w).After-in_program).args.byte (text (goal.at.Else-left-in_program w).After-in_program) (at (goal.at.Else-left-in_program w).After-in_program)
 whole c =
     let w = c in
     stands (text (goal.at.Else-left-in_program w).After-in_program) (at (goal.at.Else-left-in_program w).After-in_program) _ (start (goal.at.Else-left-in_program w).After-in_program).requires.1 (two (goal.at.Else-left-in_program w).After-in_program) (ranged (goal.at.Else-left-in_program w).After-in_program) (omega (arith, w.in_program.ensures))
@@ -107,7 +107,7 @@ returns-then-byte-eq16 c =
     let e = c in
     let w = c in
     rw (kept _ c.word_at-initial.type_inv, c.word_at-initial.ensures)
-    (rw (eq-eqb (start (goal.at.returns-then-byte-eq16 w).After-in_program).args.byte 0x10 c.if-byte-eq16.true) at (goal.at.returns-then-byte-eq16 e).After-in_program)
+    (rw (eq-eqb (start (goal.at.returns-then-byte-eq16 w).After-in_program).args.byte 0x10 c.if-byte-eq16.true) at (whole (goal.at.returns-then-byte-eq16 e).Else-left-in_program))
 
 pub two_at-weight-requires : goal.two_at-weight-requires
 two_at-weight-requires c =
@@ -120,4 +120,4 @@ returns c =
     let e = c in
     let w = c in
     rw (kept _ t.word_at-initial.type_inv, t.word_at-initial.ensures, c.two_at-weight.ensures)
-    (rw (ne_eqb (start (goal.at.returns w).After-in_program).args.byte 0x10 t.if-byte-eq16.false) at (goal.at.returns e).After-in_program)
+    (rw (ne_eqb (start (goal.at.returns w).After-in_program).args.byte 0x10 t.if-byte-eq16.false) at (whole (goal.at.returns e).Else-left-in_program))
