@@ -46,13 +46,10 @@ put_natural-requires c =
     let s = c in
     simp length-set (omega (arith, s.requires, ap length (negative (goal.at.put_natural-requires t).Then-w-lt0)))
 
-pub shape_of-out-then-w-lt0 : goal.shape_of-out-then-w-lt0
-shape_of-out-then-w-lt0 c = let p = c.put_natural.ensures in put-length p ∙ simp length-set
-
 pub returns-then-w-lt0 : goal.returns-then-w-lt0
 returns-then-w-lt0 c =
     let t = c in
-    put_is (sym (negative (goal.at.returns-then-w-lt0 t).Then-w-lt0)) (put_then (put_one _ _ _ (slice-write-out t)) c.put_natural.ensures)
+    put_is (sym (negative (goal.at.returns-then-w-lt0 t).Then-w-lt0)) (put_then (put_one _ _ _ (bounds-out-at (goal.at.returns-then-w-lt0 t).Then-w-lt0)) c.put_natural.ensures)
 
 pub put_natural-requires-2 : goal.put_natural-requires-2
 put_natural-requires-2 c =

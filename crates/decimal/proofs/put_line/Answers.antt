@@ -13,15 +13,15 @@ use Prim.Native.Nat.{◌+◌, ◌-◌, ◌≤◌}
 use borrow.Author.Rules.{rules}
 use native.Mathlib.Omega.{arith}
 use Rattle.decimal.proofs.put_line.Goals as goal
-use Rattle.decimal.proofs.put_line.Goals.{After-loop-i, At-loop-i, Start}
+use Rattle.decimal.proofs.put_line.Goals.{After-loop-i, After-w-1, At-loop-i, Start}
 
 abbrev start : At-loop-i → Start
 start l = (goal.at.At-loop-i l).Start
 
 first : (l : At-loop-i) →
-    let s = start l in
-    let n = l.put-natural in
-    PutBytes s.args.out.now 0 (natural s.args.number) n.new.0 n.result
+    let s = l in
+    let n = l.put_natural-at in
+    PutBytes s.args.out.now 0 (natural s.args.number) n.new.out n.result
 first l = l.put_natural-at.ensures
 
 size : (l : At-loop-i) → 1024 ≤ length l.loop-i.out
@@ -74,12 +74,12 @@ loop-i-preserved c =
     let c5 = c in
     let t = c in
     let l = c in
-    let w = kept _ m in
+    let w = kept _ c4.w-1.given in
     let p = put_is (ap decimal w) c.put_decimal-at.ensures in (
       put_is (sym (spaced-more (start (goal.at.loop-i-preserved l).At-loop-i).args.words.now l.loop-i.i t.loop-i-test.true))
-          (put_then l.loop-i.invariant.0 (put_then (put_one _ _ _ (slice-write-out c4)) p)),
+          (put_then l.loop-i.invariant.0 (put_then (put_one _ _ _ (bounds-out-at (goal.at.loop-i-preserved c4).After-w-1)) p)),
       omega arith,
-      omega (arith, p.ends, l.loop-i.invariant.2, decimal-length (get_or (start (goal.at.loop-i-preserved l).At-loop-i).args.words.now l.loop-i.i (pos 0)) m),
+      omega (arith, p.ends, l.loop-i.invariant.2, decimal-length (get_or (start (goal.at.loop-i-preserved l).At-loop-i).args.words.now l.loop-i.i (pos 0)) c4.w-1.given),
     )
 
 pub bounds-out-at-2 : goal.bounds-out-at-2
@@ -88,10 +88,7 @@ bounds-out-at-2 c = let l = c in omega (arith, size (goal.at.bounds-out-at-2 l).
 pub overflow_add-result : goal.overflow_add-result
 overflow_add-result c = let l = c in omega (arith, l.loop-i.invariant.2, (start (goal.at.overflow_add-result l).At-loop-i).requires.0, l.loop-i.invariant.1)
 
-pub shape_of-out : goal.shape_of-out
-shape_of-out c = let l = c in simp length-set (put-length l.loop-i.invariant.0 ∙ put-length (first (goal.at.shape_of-out l).At-loop-i))
-
 pub returns : goal.returns
 returns c = let l = c in
     put_is (sym (line-is (start (goal.at.returns l).At-loop-i).args.number (start (goal.at.returns l).At-loop-i).args.words.now))
-    (put_then (first (goal.at.returns l).At-loop-i) (put_then (put_is (ended c) l.loop-i.invariant.0) (put_one _ _ _ (slice-write-out-2 c))))
+    (put_then (first (goal.at.returns l).At-loop-i) (put_then (put_is (ended c) l.loop-i.invariant.0) (put_one _ _ _ (bounds-out-at-2 c))))

@@ -49,10 +49,10 @@ returns-in-58 c =
 pub returns-in_default : goal.returns-in_default
 returns-in_default c =
     let s = c in
-    let no = c.in_default.in_default-own.rest in
+    let no = c.in_default-1.rest in
     let byte = byte_at s.args.text.now s.args.at in
-    let rest = left byte c.if-byte-lt32.branch (λ t. omega (arith, t.taken))
-    (λ p. (omega (arith, p.1.left), omega (arith, p.2.taken))) (λ p. omega (arith, p.3.left)) in
+    let rest = left byte c.in_default.branch-raw (λ t. omega (arith, t.if-byte-lt32-1.true))
+    (λ p. (omega (arith, p.if-byte-lt38-1.false), omega (arith, p.if-byte-lt58-1.true))) (λ p. omega (arith, p.if-byte-lt60-1.false)) in
     let r = stands-binary s.requires no.0.1 rest.0 no.1 rest.1 rest.2 in
     ap Operator.Binary c.binary_of.ensures ∙ sym (binary-is _ _ byte r.0 r.1) ∙ here (goal.at.returns-in_default s).Start
 
