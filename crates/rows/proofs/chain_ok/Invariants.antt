@@ -25,8 +25,7 @@ use Rattle.rows.proofs.chain_ok.Given as goal
 abbrev pub invariant-loop-i : goal.invariant-loop-i
 invariant-loop-i l =
     (l.i ≤ l.count) × (all_below l.i (follows (rows_from l.image l.start l.count)) ≡ true) ×
-    (l.edge ≡ of_z w64 (edge (rows_from l.image l.start l.count) l.i)) ×
-    SFits w64 (edge (rows_from l.image l.start l.count) l.i)
+    (l.edge ≡ edge (rows_from l.image l.start l.count) l.i)
 
 abbrev pub decreases-loop-i : goal.decreases-loop-i
 decreases-loop-i l = l.count - l.i

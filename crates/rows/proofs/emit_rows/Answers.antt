@@ -26,46 +26,36 @@ use Rattle.rows.proofs.emit_rows.Goals.{After-start_index-n, At-loop-i, Start}
 order-length : (text offsets : List ℕ) (count : ℕ) → length (in_order text offsets count) ≡ count
 order-length text offsets count = sym (length-same (sorted (text_rows text offsets count))) ∙ text-length text offsets count
 
-abbrev start : At-loop-i → Start
-start l = (goal.at.At-loop-i l).Start
-
 abbrev rows : Start → List Row
 rows s = text_rows s.args.text.now s.args.offsets.now s.args.count
 
 -- the length of the output stays
-same : (l : At-loop-i) → length l.loop-i.out ≡ length (start l).args.out.now
+same : (l : At-loop-i) → length l.loop-i.out ≡ length l.args.out.now
 same l = ap length l.loop-i.invariant.1 ∙ simp (length-sets, length-set)
 
 -- the row found is the next one
-found : (a : After-start_index-n) → let l = a.before.before in
-    (a.start_index-n.result < length (rows (start l))) × (row_at (rows (start l)) a.start_index-n.result ≡ row_at
-    (by_low (rows (start l))) l.loop-i.i)
+found : (a : After-start_index-n) → let r = rows (goal.at.After-start_index-n a).Start in
+    (a.start_index-n.result < length r) × (row_at r a.start_index-n.result ≡ row_at (by_low r) a.loop-i.i)
 found a =
-    let l = a in
-    let s = a in
+    let r = rows (goal.at.After-start_index-n a).Start in
     let t = a.loop-i-test.true in
-    let k = order-length s.args.text.now s.args.offsets.now s.args.count in
-    next_row (rows (goal.at.After-start_index-n s).Start) s.requires.1 (s.requires.2 (omega arith)) l.loop-i.i (omega arith) a.start_index-n.result
-    (a.start_index-n.ensures ∙ ap (λ (z : ℤ). found_or 0 (starting_at (rows (goal.at.After-start_index-n s).Start) z))
-    (ap (to_z w64) l.loop-i.invariant.2 ∙ to_z-of_z l.loop-i.invariant.3))
+    let k = order-length a.args.text.now a.args.offsets.now a.args.count in
+    next_row r a.requires.1 (a.requires.2 (omega arith)) a.loop-i.i (omega arith) a.start_index-n.result
+    (a.start_index-n.ensures ∙ ap (λ (z : ℤ). found_or 0 (starting_at r z)) a.loop-i.invariant.2)
 
-below : (a : After-start_index-n) → a.start_index-n.result < (start (goal.at.After-start_index-n a).At-loop-i).args.count
+below : (a : After-start_index-n) → a.start_index-n.result < a.args.count
 below a =
-    let s = a in
     let f = (found a).0 in
-    omega (arith, text-length s.args.text.now s.args.offsets.now s.args.count)
+    omega (arith, text-length a.args.text.now a.args.offsets.now a.args.count)
 
-row-is : (a : After-start_index-n) → let l = a.before.before in
-    text_row (start l).args.text.now (start l).args.offsets.now a.start_index-n.result ≡ row_at (by_low (rows (start l)))
-    l.loop-i.i
-row-is a =
-    let s = a in
-    sym (text_at s.args.text.now s.args.offsets.now s.args.count a.start_index-n.result (below a)) ∙ (found a).1
+row-is : (a : After-start_index-n) →
+    text_row a.args.text.now a.args.offsets.now a.start_index-n.result ≡
+    row_at (by_low (rows (goal.at.After-start_index-n a).Start)) a.loop-i.i
+row-is a = sym (text_at a.args.text.now a.args.offsets.now a.args.count a.start_index-n.result (below a)) ∙ (found a).1
 
-placed : (a : After-start_index-n) → let s = start (goal.at.After-start_index-n a).At-loop-i in
-    (a.start_index-n.result < 32) × (get_or s.args.offsets.now a.start_index-n.result 0 + 13 ≤ length s.args.text.now)
-placed a =
-    let s = a in (omega (arith, below a, s.requires.0.0), s.requires.0.1 a.start_index-n.result (below a))
+placed : (a : After-start_index-n) →
+    (a.start_index-n.result < 32) × (get_or a.args.offsets.now a.start_index-n.result 0 + 13 ≤ length a.args.text.now)
+placed a = (omega (arith, below a, a.requires.0.0), a.requires.0.1 a.start_index-n.result (below a))
 
 pub overflow_cast-out : goal.overflow_cast-out
 overflow_cast-out c = search rules
@@ -75,33 +65,31 @@ bounds-out-to c = omega (arith, c.requires.3)
 
 pub loop-i-init : goal.loop-i-init
 unfolding join_from
-loop-i-init c = (omega arith, refl, refl, sfits_of {w = w64} (omega arith))
+loop-i-init c = (omega arith, refl, refl)
 
 pub start_index-n-requires : goal.start_index-n-requires
-start_index-n-requires c = (start (goal.at.start_index-n-requires c).At-loop-i).requires.0
+start_index-n-requires c = c.requires.0
 
 pub offset_of-requires : goal.offset_of-requires
-offset_of-requires c = (placed c).0
+offset_of-requires c = (placed (goal.at.offset_of-requires c).After-start_index-n).0
 
 pub overflow_add-offset_of : goal.overflow_add-offset_of
 overflow_add-offset_of c = omega (arith, (placed (goal.at.overflow_add-offset_of c).After-start_index-n).1, c.offset_of.ensures)
 
 pub overflow_add-to : goal.overflow_add-to
-overflow_add-to c = omega (arith, (start (goal.at.overflow_add-to c).At-loop-i).requires.3)
+overflow_add-to c = omega (arith, c.requires.3)
 
 pub overflow_mul-i : goal.overflow_mul-i
-overflow_mul-i c = omega (arith, (start (goal.at.overflow_mul-i c).At-loop-i).requires.3, c.loop-i-test.true)
+overflow_mul-i c = omega (arith, c.requires.3, c.loop-i-test.true)
 
 pub overflow_add-to-in-loop-i : goal.overflow_add-to-in-loop-i
-overflow_add-to-in-loop-i c = omega (arith, (start (goal.at.overflow_add-to-in-loop-i c).At-loop-i).requires.3, c.loop-i-test.true)
+overflow_add-to-in-loop-i c = omega (arith, c.requires.3, c.loop-i-test.true)
 
 pub put_row-requires : goal.put_row-requires
 put_row-requires c =
-    let o = c in
-    let a = c in
-    let l = c in
-    let t = a.loop-i-test.true in
-    (omega (arith, (placed (goal.at.put_row-requires a).After-start_index-n).1, o.offset_of.ensures), omega (arith, (start (goal.at.put_row-requires l).At-loop-i).requires.3, same (goal.at.put_row-requires l).At-loop-i))
+    let p = goal.at.put_row-requires c in
+    let t = c.loop-i-test.true in
+    (omega (arith, (placed p.After-start_index-n).1, c.offset_of.ensures), omega (arith, c.requires.3, same p.At-loop-i))
 
 pub high_of-requires : goal.high_of-requires
 high_of-requires c = placed (goal.at.high_of-requires c).After-start_index-n
@@ -117,27 +105,21 @@ loop-i-smaller c = omega (arith, c.loop-i-test.true)
 
 pub loop-i-preserved : goal.loop-i-preserved
 loop-i-preserved c =
-    let h = c in
-    let p = c in
-    let o = c in
-    let a = c in
-    let l = c in
-    let s = c in
-    let t = a.loop-i-test.true in
-    let i = l.loop-i.i in
-    let order = by_low (rows (goal.at.loop-i-preserved s).Start) in
-    let k = order-length s.args.text.now s.args.offsets.now s.args.count in
-    let bytes : row_bytes (row_from s.args.text.now 0 (o.offset_of.result + 1)) ≡ row_bytes (row_at order i) =
-    ap (λ (n : ℕ). row_bytes (row_from s.args.text.now 0 (n + 1))) o.offset_of.ensures ∙ row-bytes _ _ _ ∙ ap row_bytes
-    (row-is (goal.at.loop-i-preserved a).After-start_index-n) in
+    let p = goal.at.loop-i-preserved c in
+    let t = c.loop-i-test.true in
+    let i = c.loop-i.i in
+    let order = by_low (rows p.Start) in
+    let k = order-length c.args.text.now c.args.offsets.now c.args.count in
+    let is = row-is p.After-start_index-n in
+    let bytes : row_bytes (row_from c.args.text.now 0 (c.offset_of.result + 1)) ≡ row_bytes (row_at order i) =
+    ap (λ (n : ℕ). row_bytes (row_from c.args.text.now 0 (n + 1))) c.offset_of.ensures ∙ row-bytes _ _ _ ∙ ap row_bytes is in
     let next : c.after-edge.result ≡ edge order (i + 1) =
-    c.after-edge.ensures ∙ ap suc_ℤ (kept _ h.high_of.type_inv ∙ h.high_of.ensures ∙ ap (λ (r : Row). r.high) (row-is (goal.at.loop-i-preserved a).After-start_index-n)) ∙ sym
+    c.after-edge.ensures ∙ ap suc_ℤ (kept _ c.high_of.type_inv ∙ c.high_of.ensures ∙ ap (λ (r : Row). r.high) is) ∙ sym
     (edge-next order i) in (
       omega arith,
-      p.put_row.ensures ∙ ap (sets l.loop-i.out (s.args.to + 1 + 12 * i)) bytes
-          ∙ one_more _ l.loop-i.out (s.args.to + 1) i order (omega arith) l.loop-i.invariant.1,
-      ap (of_z w64) next,
-      rw (← next) (sfits_of {w = w64} c.after-edge.type_inv),
+      c.put_row.ensures ∙ ap (sets c.loop-i.out (c.args.to + 1 + 12 * i)) bytes
+          ∙ one_more _ c.loop-i.out (c.args.to + 1) i order (omega arith) c.loop-i.invariant.1,
+      to_z-of_z (sfits_of {w = w64} c.after-edge.type_inv) ∙ next,
     )
 
 pub shape_of-out : goal.shape_of-out
@@ -145,12 +127,10 @@ shape_of-out c = same (goal.at.shape_of-out c).At-loop-i
 
 pub returns : goal.returns
 returns c =
-    let l = c in
-    let s = c in
+    let order = by_low (rows (goal.at.returns c).Start) in
     let t = c.loop-i-test.false in
-    let e : l.loop-i.i ≡ s.args.count = omega arith in
-    l.loop-i.invariant.1
-    ∙ ap (λ (n : ℕ). sets (set s.args.out.now s.args.to (s.args.count % 256)) (s.args.to + 1)
-    (rows_bytes 0 (take n (by_low (rows (goal.at.returns s).Start))))) e
-    ∙ all-written s.args.out.now s.args.to s.args.count (by_low (rows (goal.at.returns s).Start))
-    (order-length s.args.text.now s.args.offsets.now s.args.count) s.requires.0.0
+    let e : c.loop-i.i ≡ c.args.count = omega arith in
+    c.loop-i.invariant.1
+    ∙ ap (λ (n : ℕ). sets (set c.args.out.now c.args.to (c.args.count % 256)) (c.args.to + 1) (rows_bytes 0 (take n order))) e
+    ∙ all-written c.args.out.now c.args.to c.args.count order
+    (order-length c.args.text.now c.args.offsets.now c.args.count) c.requires.0.0

@@ -27,7 +27,7 @@ in_order text offsets count = by_low (text_rows text offsets count)
 abbrev pub invariant-loop-i : goal.invariant-loop-i
 invariant-loop-i l =
     (l.i ≤ l.count) × (l.out ≡ sets l.initial.out (l.to + 1) (rows_bytes 0 (take l.i (in_order l.text l.offsets l.count)))) ×
-    (l.edge ≡ of_z w64 (edge (in_order l.text l.offsets l.count) l.i)) × SFits w64 (edge (in_order l.text l.offsets l.count) l.i)
+    (l.edge ≡ edge (in_order l.text l.offsets l.count) l.i)
 
 abbrev pub decreases-loop-i : goal.decreases-loop-i
 decreases-loop-i l = l.count - l.i

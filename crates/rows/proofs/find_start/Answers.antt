@@ -22,7 +22,7 @@ use Rattle.rows.proofs.Loops.{same-long, text-length, text_at}
 use Rattle.model.proofs.Rows.Levels.{true-eq_z}
 use Rattle.rows.proofs.find_start.Invariants.{test}
 use Rattle.rows.proofs.find_start.Goals as goal
-use Rattle.rows.proofs.find_start.Goals.{After-long, At-loop-n, Start}
+use Rattle.rows.proofs.find_start.Goals.{After-long, At-loop-n}
 
 module _ (text offsets : List ℕ) (count : ℕ) (z : ℤ) where
   same : (n : ℕ) → n < count → eq_z (row_at (text_rows text offsets count) n).low z ≡ test text offsets z n
@@ -43,13 +43,13 @@ module _ (text offsets : List ℕ) (count : ℕ) (z : ℤ) where
       first-below (length (text_rows text offsets count)) (λ n. eq_z (row_at (text_rows text offsets count) n).low z) Nowhere
       (λ m a b. let l : m < count = omega arith in same m l ∙ h m l)
 
-abbrev start : At-loop-n → Start
-start l = (goal.at.At-loop-n l).Start
-
 -- `long(low)` is the row's low
-low-is : (a : After-long) → let l = a.before.before.before in
-    a.long.result ≡ (text_row (start l).args.text.now (start l).args.offsets.now l.loop-n.n).low
+low-is : (a : After-long) → a.long.result ≡ (text_row a.args.text.now a.args.offsets.now a.loop-n.n).low
 low-is a = a.long.ensures ∙ kept _ a.low_of-low.type_inv ∙ a.low_of-low.ensures
+
+-- no row before row n starts at the edge
+none : (l : At-loop-n) → (k : ℕ) → k < l.loop-n.n → test l.args.text.now l.args.offsets.now l.args.edge k ≡ false
+none l k b = ap (λ (z : ℤ). test l.args.text.now l.args.offsets.now z k) (sym (to_z-of_z l.ranges.edge)) ∙ l.loop-n.invariant.1 k b
 
 pub loop-n-init : goal.loop-n-init
 loop-n-init c = (omega arith, λ k l. absurd (omega arith))
@@ -64,14 +64,10 @@ long-requires c = search rules
 
 pub returns-then-long-edge : goal.returns-then-long-edge
 returns-then-long-edge c =
-    let a = c in
-    let l = c in
-    let s = c in
-    sym (ap (starting_at (text_rows s.args.text.now s.args.offsets.now s.args.count)) (sym (to_z-of_z s.fits.edge))
-    ∙ hit s.args.text.now s.args.offsets.now s.args.count (to_z w64 (of_z w64 s.args.edge)) l.loop-n.n
-    (omega (arith, a.loop-n-test.true)) l.loop-n.invariant.1
-    (true-eq_z _ _ (sym (low-is (goal.at.returns-then-long-edge a).After-long) ∙ same-long (sfits_of {w = w64} a.long.type_inv) s.fits.edge c.if-long-edge.true ∙ sym
-    (to_z-of_z s.fits.edge))))
+    sym (hit c.args.text.now c.args.offsets.now c.args.count c.args.edge c.loop-n.n
+    (omega (arith, c.loop-n-test.true)) (none (goal.at.returns-then-long-edge c).At-loop-n)
+    (true-eq_z _ _ (sym (low-is (goal.at.returns-then-long-edge c).After-long)
+    ∙ same-long (sfits_of {w = w64} c.long.type_inv) c.ranges.edge c.if-long-edge.true)))
 
 pub overflow_add-n : goal.overflow_add-n
 overflow_add-n c = omega (arith, c.loop-n-test.true)
@@ -80,19 +76,13 @@ pub loop-n-smaller : goal.loop-n-smaller
 loop-n-smaller c = omega (arith, c.loop-n-test.true)
 
 pub loop-n-preserved : goal.loop-n-preserved
-loop-n-preserved c =
-    let a = c in
-    let l = c in
-    let s = c in (
-      omega (arith, a.loop-n-test.true),
-      below_more _ _ l.loop-n.invariant.1
-          (eq_z-other _ _ (λ q. c.if-long-edge.false (ap (of_z w64) (low-is (goal.at.loop-n-preserved a).After-long ∙ q ∙ to_z-of_z s.fits.edge)))),
-    )
+loop-n-preserved c = (
+  omega (arith, c.loop-n-test.true),
+  below_more _ _ c.loop-n.invariant.1
+      (eq_z-other _ _ (λ q. c.if-long-edge.false (ap (of_z w64) (low-is (goal.at.loop-n-preserved c).After-long ∙ q ∙ to_z-of_z c.ranges.edge)))),
+)
 
 pub returns : goal.returns
 returns c =
-    let l = c in
-    let s = c in
-    sym (ap (starting_at (text_rows s.args.text.now s.args.offsets.now s.args.count)) (sym (to_z-of_z s.fits.edge))
-    ∙ miss s.args.text.now s.args.offsets.now s.args.count (to_z w64 (of_z w64 s.args.edge))
-    (λ k b. l.loop-n.invariant.1 k (omega (arith, c.loop-n-test.false))))
+    sym (miss c.args.text.now c.args.offsets.now c.args.count c.args.edge
+    (λ k b. none (goal.at.returns c).At-loop-n k (omega (arith, c.loop-n-test.false))))

@@ -26,7 +26,7 @@ abbrev pub test : List ℕ → List ℕ → ℤ → ℕ → Bool
 test text offsets z n = eq_z (text_row text offsets n).low z
 
 abbrev pub invariant-loop-n : goal.invariant-loop-n
-invariant-loop-n l = (l.n ≤ l.count) × ((k : ℕ) → k < l.n → test l.text l.offsets (to_z w64 l.edge) k ≡ false)
+invariant-loop-n l = (l.n ≤ l.count) × ((k : ℕ) → k < l.n → test l.text l.offsets l.edge k ≡ false)
 
 abbrev pub decreases-loop-n : goal.decreases-loop-n
 decreases-loop-n l = l.count - l.n

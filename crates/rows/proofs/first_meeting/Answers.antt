@@ -15,7 +15,6 @@ use Rattle.rows.proofs.Loops.{text_at}
 use Rattle.model.proofs.Rows.Area.{all_same}
 use Rattle.rows.proofs.first_meeting.Invariants.{test}
 use Rattle.rows.proofs.first_meeting.Goals as goal
-use Rattle.rows.proofs.first_meeting.Goals.{At-loop-n, Start}
 
 meets : (text offsets : List ℕ) (count n : ℕ) → n < count → (t : Bool) → t ≡ all_below n
     (λ m. apart (text_row text offsets m) (text_row text offsets n)) →
@@ -25,9 +24,6 @@ meets text offsets count n l t e =
     ap not (all_same n (λ m. apart (row_at (text_rows text offsets count) m) (row_at (text_rows text offsets count) n))
     (λ m. apart (text_row text offsets m) (text_row text offsets n))
     (λ k b. ap₂ apart (text_at text offsets count k (omega arith)) (text_at text offsets count n l)) ∙ sym e)
-
-abbrev start : At-loop-n → Start
-start l = (goal.at.At-loop-n l).Start
 
 pub loop-n-init : goal.loop-n-init
 loop-n-init c = (omega arith, λ k l. absurd (omega arith))
@@ -49,7 +45,7 @@ returns-then-not-apart_from_earlier c =
       omega arith,
       omega arith,
       meets s.args.text.now s.args.offsets.now s.args.count l.loop-n.n b
-          a.apart_from_earlier.result a.apart_from_earlier.ensures ∙ c.if-not-apart_from_earlier.true,
+          a.apart_from_earlier.result a.apart_from_earlier.ensures ∙ ap not c.if-not-apart_from_earlier.true,
       λ m x y. l.loop-n.invariant.1 m y,
     ))
 
@@ -69,7 +65,7 @@ loop-n-preserved c =
       omega arith,
       below_more _ _ l.loop-n.invariant.1
           (meets s.args.text.now s.args.offsets.now s.args.count l.loop-n.n b a.apart_from_earlier.result
-          a.apart_from_earlier.ensures ∙ c.if-not-apart_from_earlier.false),
+          a.apart_from_earlier.ensures ∙ ap not c.if-not-apart_from_earlier.false),
     )
 
 pub returns : goal.returns

@@ -1,5 +1,5 @@
 -- `rows::look_up` meets its contract. Assumes nothing.
-use mathlib.Core.Path.{◌≡◌, refl, sym, ap, subst, ◌∙◌}
+use mathlib.Core.Path.{◌≡◌, refl, sym, ap₂, subst, ◌∙◌}
 use mathlib.Core.Bool.{Bool, true, false, cond, ◌&&◌, true≢false}
 use mathlib.Core.List.{List}
 use mathlib.Core.Logic.{◌⊎◌, ⊎_elim}
@@ -24,7 +24,7 @@ use Rattle.rows.proofs.Scan.{row, at_row, all-rows, hit, miss, later-high}
 use Rattle.model.proofs.Rows.Sorted.{InOrder, first-high}
 use Rattle.rows.proofs.look_up.Invariants.{Passed}
 use Rattle.rows.proofs.look_up.Goals as goal
-use Rattle.rows.proofs.look_up.Goals.{After-count_below-below, After-from_byte-count, After-loop-i, At-loop-i, Start}
+use Rattle.rows.proofs.look_up.Goals.{After-count_below-below, After-loop-i, At-loop-i, Start}
 
 above : (a b : Bool) → b ≡ false → a && b ≡ false
 above true b e = e
@@ -74,51 +74,38 @@ more area w f o below i l p = by (lt_z (row area i).high w)
     none : below + 0 ≡ below
     none = omega arith
 
-abbrev start : After-from_byte-count → Start
-start w = (goal.at.After-from_byte-count w).Start
+abbrev area : Start → List ℕ
+area s = s.args.area.now
 
--- the area, and the word
-module _ (w : After-from_byte-count) where
-  abbrev area : List ℕ
-  area = (start w).args.area.now
+abbrev word : Start → ℤ
+word s = s.args.w
 
-  abbrev word : ℤ
-  word = to_z w32 (of_z w32 (start w).args.w)
-
-  same_word : word ≡ (start w).args.w
-  same_word = to_z-of_z (start w).fits.w
-
-  ordered : (byte_at area 0 ≤ 32) × (0 + 1 + 12 * byte_at area 0 ≤ length area) × ((byte_at area 0 ≡ 0) ⊎ InOrder (area_rows area 0))
-  ordered = area-true area 0 (start w).requires
+ordered : (s : Start) → (byte_at (area s) 0 ≤ 32) × (0 + 1 + 12 * byte_at (area s) 0 ≤ length (area s)) ×
+    ((byte_at (area s) 0 ≡ 0) ⊎ InOrder (area_rows (area s) 0))
+ordered s = area-true (area s) 0 s.requires
 
 pub bounds-area-0 : goal.bounds-area-0
-bounds-area-0 c = let s = c in omega (arith, (area-true s.args.area.now 0 s.requires).1)
+bounds-area-0 c = omega (arith, (area-true c.args.area.now 0 c.requires).1)
 
 pub loop-i-init : goal.loop-i-init
 loop-i-init c = (omega arith, record { few = omega arith; lower = λ k l. absurd (omega arith); next = λ l. absurd (omega arith) })
 
-pub overflow_mul-at : goal.overflow_mul-at
-overflow_mul-at c = omega (arith, c.from_byte-count.ensures, c.loop-i-test.true)
-
-pub overflow_add-at : goal.overflow_add-at
-overflow_add-at c = omega (arith, c.from_byte-count.ensures, c.loop-i-test.true)
-
-pub overflow_add-at-in-loop-i : goal.overflow_add-at-in-loop-i
-overflow_add-at-in-loop-i c = omega (arith, c.from_byte-count.ensures, c.loop-i-test.true)
-
 pub word_at-high-requires : goal.word_at-high-requires
 word_at-high-requires c =
-    let w = c in omega (arith, w.from_byte-count.ensures, c.loop-i-test.true, (ordered (goal.at.word_at-high-requires w).After-from_byte-count).1)
+    omega (arith, c.from_byte-count.ensures, c.loop-i-test.true, (ordered (goal.at.word_at-high-requires c).Start).1)
+
+-- the invariant, of the word itself
+so-far : (l : At-loop-i) → Passed l.args.area.now l.args.w l.loop-i.below l.loop-i.i
+so-far l =
+    subst (λ (z : ℤ). Passed l.args.area.now z l.loop-i.below l.loop-i.i) (to_z-of_z l.ranges.w) l.loop-i.invariant.1
 
 -- the high of the turn's row is below the word, or not
 counted : (c : After-count_below-below) →
-    let l = c.before.before.before in let w = l.before in
-    c.count_below-below.result ≡ cond (lt_z (row (area w) l.loop-i.i).high (word w)) 1 0
+    c.count_below-below.result ≡ cond (lt_z (row c.args.area.now c.loop-i.i).high c.args.w) 1 0
 counted c =
-    let a = c in
-    let w = c in
     c.count_below-below.ensures ∙
-    ap (λ (v : ℤ). cond (lt_z v (word (goal.at.After-count_below-below w).After-from_byte-count)) 1 0) (kept a.word_at-high.result a.word_at-high.type_inv ∙ a.word_at-high.ensures)
+    ap₂ (λ (u v : ℤ). cond (lt_z u v) 1 0) (kept c.word_at-high.result c.word_at-high.type_inv ∙ c.word_at-high.ensures)
+    (to_z-of_z c.ranges.w)
 
 one-most : (t : Bool) → cond t 1 0 ≤ 1
 one-most true = omega arith
@@ -126,75 +113,49 @@ one-most false = omega arith
 
 pub overflow_add-below : goal.overflow_add-below
 overflow_add-below c =
-    let l = c in
-    let w = c in
     omega (
       arith,
-      counted c,
-      one-most (lt_z (row (area (goal.at.overflow_add-below w).After-from_byte-count) l.loop-i.i).high (word (goal.at.overflow_add-below w).After-from_byte-count)),
-      l.loop-i.invariant.1.few,
+      counted (goal.at.overflow_add-below c).After-count_below-below,
+      one-most (lt_z (row c.args.area.now c.loop-i.i).high c.args.w),
+      c.loop-i.invariant.1.few,
       c.loop-i-test.true,
     )
 
 pub loop-i-preserved : goal.loop-i-preserved
 loop-i-preserved c =
-    let l = c in
-    let w = c in
+    let p = goal.at.loop-i-preserved c in
+    let area = c.args.area.now in
     let t = c.loop-i-test.true in
-    let inside : l.loop-i.i < byte_at (area (goal.at.loop-i-preserved w).After-from_byte-count) 0 = omega (arith, t, w.from_byte-count.ensures) in (
+    let inside : c.loop-i.i < byte_at area 0 = omega (arith, t, c.from_byte-count.ensures) in (
       omega (arith, t),
-      subst (λ (d : ℕ). Passed (area (goal.at.loop-i-preserved w).After-from_byte-count) (word (goal.at.loop-i-preserved w).After-from_byte-count) (l.loop-i.below + d) (l.loop-i.i + 1)) (sym (counted c))
+      subst (λ (z : ℤ). Passed area z (c.loop-i.below + c.count_below-below.result) (c.loop-i.i + 1)) (sym (to_z-of_z c.ranges.w))
+          (subst (λ (d : ℕ). Passed area c.args.w (c.loop-i.below + d) (c.loop-i.i + 1)) (sym (counted p.After-count_below-below))
           (⊎_elim (λ z. absurd (omega (arith, z, inside)))
-          (λ o. more (area (goal.at.loop-i-preserved w).After-from_byte-count) (word (goal.at.loop-i-preserved w).After-from_byte-count) (rw (same_word (goal.at.loop-i-preserved w).After-from_byte-count) (start (goal.at.loop-i-preserved w).After-from_byte-count).ranges.w) o l.loop-i.below l.loop-i.i inside
-          l.loop-i.invariant.1)
-          (ordered (goal.at.loop-i-preserved w).After-from_byte-count).2),
+          (λ o. more area c.args.w c.ranges.w o c.loop-i.below c.loop-i.i inside (so-far p.At-loop-i))
+          (ordered p.Start).2)),
     )
 
-as_passed : {area : List ℕ} {v w : ℤ} {below i n : ℕ} → v ≡ w → i ≡ n → Passed area v below i → Passed area w below n
-as_passed {area} {v} {w} {below} {i} {n} e f p = subst (λ (u : ℤ). Passed area u below n) e (subst (Passed area v below) f p)
-
 -- all highs are compared
-module _ (e : After-loop-i) where
-  abbrev l : At-loop-i
-  l = (goal.at.After-loop-i e).At-loop-i
-
-  passed : Passed (area (goal.at.At-loop-i l).After-from_byte-count) (start (goal.at.At-loop-i l).After-from_byte-count).args.w l.loop-i.below (byte_at (area (goal.at.At-loop-i l).After-from_byte-count) 0)
-  passed = as_passed (same_word (goal.at.At-loop-i l).After-from_byte-count) whole l.loop-i.invariant.1
-    where
-      whole : l.loop-i.i ≡ byte_at (area (goal.at.At-loop-i l).After-from_byte-count) 0
-      whole = omega (arith, l.loop-i.invariant.0, e.loop-i-test.false, l.from_byte-count.ensures)
+passed : (e : After-loop-i) → Passed e.args.area.now e.args.w e.loop-i.below (byte_at e.args.area.now 0)
+passed e =
+    let whole : e.loop-i.i ≡ byte_at e.args.area.now 0 =
+    omega (arith, e.loop-i.invariant.0, e.loop-i-test.false, e.from_byte-count.ensures) in
+    subst (Passed e.args.area.now e.args.w e.loop-i.below) whole (so-far (goal.at.After-loop-i e).At-loop-i)
 
 pub word_at-requires : goal.word_at-requires
 word_at-requires c =
-    let w = c in omega (arith, w.from_byte-count.ensures, c.if-below-count.true, (ordered (goal.at.word_at-requires w).After-from_byte-count).1)
+    omega (arith, c.from_byte-count.ensures, c.if-below-count.true, (ordered (goal.at.word_at-requires c).Start).1)
 
 pub returns-then-below-count : goal.returns-then-below-count
 returns-then-below-count c =
-    let e = c in
-    let w = c in
-    let inside : (l (goal.at.returns-then-below-count e).After-loop-i).loop-i.below < byte_at (area (goal.at.returns-then-below-count w).After-from_byte-count) 0 = omega (arith, w.from_byte-count.ensures, c.if-below-count.true) in
+    let p = goal.at.returns-then-below-count c in
+    let area = c.args.area.now in
+    let all = passed p.After-loop-i in
+    let inside : c.loop-i.below < byte_at area 0 = omega (arith, c.from_byte-count.ensures, c.if-below-count.true) in
     kept _ c.word_at.type_inv ∙ c.word_at.ensures ∙
-    sym (found (area (goal.at.returns-then-below-count w).After-from_byte-count) (start (goal.at.returns-then-below-count w).After-from_byte-count).args.w (start (goal.at.returns-then-below-count w).After-from_byte-count).fits.w (ordered (goal.at.returns-then-below-count w).After-from_byte-count).2 (l (goal.at.returns-then-below-count e).After-loop-i).loop-i.below inside (passed (goal.at.returns-then-below-count e).After-loop-i).lower
-    ((passed (goal.at.returns-then-below-count e).After-loop-i).next inside))
+    sym (found area c.args.w c.ranges.w (ordered p.Start).2 c.loop-i.below inside all.lower (all.next inside))
 
 pub returns : goal.returns
 returns c =
-    let e = c in
-    let w = c in
-    sym (miss (area (goal.at.returns w).After-from_byte-count) (start (goal.at.returns w).After-from_byte-count).args.w (λ k b. past (area (goal.at.returns w).After-from_byte-count) (start (goal.at.returns w).After-from_byte-count).args.w (l (goal.at.returns e).After-loop-i).loop-i.below (passed (goal.at.returns e).After-loop-i).lower k
-    (omega (arith, b, w.from_byte-count.ensures, c.if-below-count.false))))
-
-pub overflow_add-i : goal.overflow_add-i
-overflow_add-i c = omega (arith, c.loop-i-test.true)
-
-pub loop-i-smaller : goal.loop-i-smaller
-loop-i-smaller c = omega (arith, c.loop-i-test.true)
-
-pub overflow_mul-at-then-below-count : goal.overflow_mul-at-then-below-count
-overflow_mul-at-then-below-count c = omega (arith, (l (goal.at.overflow_mul-at-then-below-count c).After-loop-i).from_byte-count.ensures, c.if-below-count.true)
-
-pub overflow_add-at-then-below-count : goal.overflow_add-at-then-below-count
-overflow_add-at-then-below-count c = omega (arith, (l (goal.at.overflow_add-at-then-below-count c).After-loop-i).from_byte-count.ensures, c.if-below-count.true)
-
-pub overflow_add-at-then-below-count-2 : goal.overflow_add-at-then-below-count-2
-overflow_add-at-then-below-count-2 c = omega (arith, (l (goal.at.overflow_add-at-then-below-count-2 c).After-loop-i).from_byte-count.ensures, c.if-below-count.true)
+    sym (miss c.args.area.now c.args.w (λ k b. past c.args.area.now c.args.w c.loop-i.below
+    (passed (goal.at.returns c).After-loop-i).lower k (omega (arith, b, c.from_byte-count.ensures, c.if-below-count.false))))

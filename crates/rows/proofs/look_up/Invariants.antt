@@ -25,13 +25,13 @@ use Rattle.model.proofs.Rows.Sorted.{InOrder, first-high}
 use Rattle.rows.proofs.look_up.Given as goal
 
 -- those of the first i rows whose high is below the word, and that the next one's is not
-record Passed (area : List ℕ) (w : ℤ) (below i : ℕ) : Type 0 where
-  few : below ≤ i
-  lower : (k : ℕ) → k < below → le_z w (row area k).high ≡ false
-  next : below < i → le_z w (row area below).high ≡ true
+pub record Passed (area : List ℕ) (w : ℤ) (below i : ℕ) : Type 0 where
+  pub few : below ≤ i
+  pub lower : (k : ℕ) → k < below → le_z w (row area k).high ≡ false
+  pub next : below < i → le_z w (row area below).high ≡ true
 
 abbrev pub invariant-loop-i : goal.invariant-loop-i
-invariant-loop-i l = (l.i ≤ l.count) × Passed l.area (to_z w32 l.w) l.below l.i
+invariant-loop-i l = (l.i ≤ l.count) × Passed l.area l.w l.below l.i
 
 abbrev pub decreases-loop-i : goal.decreases-loop-i
 decreases-loop-i l = l.count - l.i

@@ -38,8 +38,8 @@ first : (e : Else-not-starts) → is_found (starting_at (rows (goal.at.Else-not-
 first e = sym e.starts.ensures ∙ e.if-not-starts.false
 
 -- what `joined` says of row n
-continued-is : (j : After-continued) → let l = j.before.before in
-    test (rows l.before.before.before.before) l.loop-n.n ≡ j.continued.result
+continued-is : (j : After-continued) →
+    test (rows (goal.at.After-continued j).Start) j.loop-n.n ≡ j.continued.result
 continued-is j =
     let l = j in
     let s = j in
