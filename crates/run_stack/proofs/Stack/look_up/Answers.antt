@@ -7,17 +7,13 @@ use Rattle.model.specs.Rules.Table.{table_word, area_rows}
 use Rattle.word.proofs.Locals.{kept}
 use Rattle.run_stack.proofs.Words.{view-one}
 use borrow.Author.Rules.{rules}
-use Rattle.run_stack.proofs.Stack.look_up.Statement.{statement}
-use Rattle.run_stack.proofs.Stack.look_up.Tie as tie
+use Rattle.run_stack.proofs.Stack.look_up.Goals as goal
 
-returns : tie.Need-returns
+pub returns : goal.returns
 returns c =
-    let a = c.before.before.before.before.before.args in
+    let a = c.args in
     let looked = table_word (area_rows a.table.now 0) in
-    let w : to_z w32 (of_z w32 c.look_up.result) ≡ looked a.self.top =
-    kept c.look_up.result c.look_up.type-inv ∙ c.look_up.ensures ∙
-    ap looked (kept a.self.top c.before.struct_told.given.0.1) in
+    let w : to_z w32 (of_z w32 c.look_up-top.result) ≡ looked a.self.top =
+    kept c.look_up-top.result c.look_up-top.type_inv ∙ c.look_up-top.ensures ∙
+    ap looked (kept a.self.top c.struct_told-1.given.0.1) in
     (rw w (view-one looked a.self.top (a.self.near ++ a.self.far) a.self.height (search rules)), refl)
-
-pub look-up-spec : {M : Type 1} → statement M
-look-up-spec = tie.close (tie.spec (λ c κs. search rules) returns)

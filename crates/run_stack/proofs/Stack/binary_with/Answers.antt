@@ -9,20 +9,16 @@ use Rattle.model.specs.Rules.Word.{binary_word}
 use Rattle.word.proofs.Locals.{kept}
 use Rattle.run_stack.proofs.Words.{view-with}
 use borrow.Author.Rules.{rules}
-use Rattle.run_stack.proofs.Stack.binary_with.Statement.{statement}
-use Rattle.run_stack.proofs.Stack.binary_with.Tie as tie
+use Rattle.run_stack.proofs.Stack.binary_with.Goals as goal
 
-returns : tie.Need-returns
+pub returns : goal.returns
 returns c =
-    let s = c.before.before.before.before in
+    let s = c in
     let a = s.args in
-    let w : to_z w32 (of_z w32 c.binary.result) ≡ binary_word a.operator a.self.top a.w =
-    kept c.binary.result c.binary.type-inv ∙ c.binary.ensures ∙
-    ap₂ (binary_word a.operator) (kept a.self.top c.before.struct_told.given.0.1) (to_z-of_z s.ranges.w) in (
+    let w : to_z w32 (of_z w32 c.binary-top.result) ≡ binary_word a.operator a.self.top a.w =
+    kept c.binary-top.result c.binary-top.type_inv ∙ c.binary-top.ensures ∙
+    ap₂ (binary_word a.operator) (kept a.self.top c.struct_told-1.given.0.1) (to_z-of_z s.ranges.w) in (
       rw w (view-with (binary_word a.operator) a.self.top a.w (a.self.near ++ a.self.far) a.self.height
           (search rules)),
       refl,
     )
-
-pub binary-with-spec : {M : Type 1} → statement M
-binary-with-spec = tie.close (tie.spec (λ c κs. search rules) returns)
