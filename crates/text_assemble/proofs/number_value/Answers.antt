@@ -16,5 +16,5 @@ returns c =
     let e = c in
     let s = e.args in
     rw (sym e.is_signed.ensures ∙ e.if-is_signed.false)
-    (c.ranged.ensures ∙ ap (λ (k : ℕ). ranged s.place 0 k n.number_of_lem.result) m.limit-most.ensures ∙
-    ap (ranged s.place 0 _) n.number_of_lem.ensures ∙ ranged-held s.place 0 _ _ (limit-small s.operand))
+    (c.ranged.ensures ∙ ap (λ (k : ℕ). ranged s.place 0 k n.number_of-number.result) m.limit-most.ensures ∙
+    ap (ranged s.place 0 _) n.number_of-number.ensures ∙ ranged-held s.place 0 _ _ (limit-small s.operand))

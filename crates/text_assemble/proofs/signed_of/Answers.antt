@@ -23,7 +23,7 @@ returns-then-first-eq45 c =
     let t = c in
     let s = t.args in
     let first = sym t.cell-first.ensures ∙ t.if-first-eq45.true in
-    let number = n.number_of_lem.ensures ∙ ap (λ (l : List ℕ). held_number (number_of l)) (part-rest s.spelling.now 1) in
+    let number = n.number_of-number.ensures ∙ ap (λ (l : List ℕ). held_number (number_of l)) (part-rest s.spelling.now 1) in
     c.negated.ensures ∙
     ap (λ (o : Outcome ℕ). o ▷ λ n. accepted (2 ^ 32 - n))
     (r.ranged-value.ensures ∙ ap (ranged s.place 1 (2 ^ 31 + 1)) number ∙ ranged-held s.place 1 (2 ^ 31 + 1) _ (omega arith)) ∙
