@@ -71,7 +71,7 @@ pub returns-in-Constant : goal.returns-in-Constant
 returns-in-Constant c =
     let e = c in
     let s = (goal.at.returns-in-Constant c).Start in
-    written s _ e.in-Constant.is (same_word (to_z-of_z (search rules))
+    written s _ e.in-Constant.is (same_word (to_z-of_z {w = w32} (search rules))
     (rw e.in_expression.ensures at c.put_push.ensures))
 
 pub returns-in-Read : goal.returns-in-Read

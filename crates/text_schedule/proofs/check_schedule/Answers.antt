@@ -32,12 +32,12 @@ use Rattle.text_schedule.proofs.Puts.{
 use Rattle.text_schedule.proofs.check_schedule.Invariants.{slots_of}
 use borrow.Enum.Refused.{opened}
 use Rattle.text_schedule.proofs.check_schedule.Goals as goal
-use Rattle.text_schedule.proofs.check_schedule.Goals.{After-from_byte-x, After-judge_put-judged, At-loop-at, In-Put-2}
+use Rattle.text_schedule.proofs.check_schedule.Goals.{After-from_byte-x, After-judge_put-judged, At-loop-at, In-Put}
 
 -- the PUT that is judged, and the tables before it
 module _ (c : After-judge_put-judged) where
-  abbrev put-at : In-Put-2
-  put-at = (goal.at.After-judge_put-judged c).In-Put-2
+  abbrev put-at : In-Put
+  put-at = (goal.at.After-judge_put-judged c).In-Put
 
   abbrev top : At-loop-at
   top = (goal.at.After-judge_put-judged c).At-loop-at
@@ -157,3 +157,11 @@ overflow_cast-ranks c = omega (arith, puts-few c)
 
 pub overflow_add-puts : goal.overflow_add-puts
 overflow_add-puts c = omega (arith, puts-few c)
+
+pub bounds-phases-x : goal.bounds-phases-x
+bounds-phases-x c =
+    omega (arith, declared (goal.at.bounds-phases-x c).After-judge_put-judged c.in-Fine.is, c.from_byte-x.ensures.0)
+
+pub bounds-ranks-x : goal.bounds-ranks-x
+bounds-ranks-x c =
+    omega (arith, declared (goal.at.bounds-ranks-x c).After-judge_put-judged c.in-Fine.is, c.from_byte-x.ensures.0)
