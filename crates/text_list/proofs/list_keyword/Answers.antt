@@ -25,7 +25,7 @@ use Rattle.text_list.proofs.Writes.{
   token-room,
 }
 use Rattle.text_list.proofs.list_keyword.Goals as goal
-use Rattle.text_list.proofs.list_keyword.Goals.{After-cell-opens, After-find_byte-found, After-slice_known-2-1, In-At, Start}
+use Rattle.text_list.proofs.list_keyword.Goals.{After-cell-opens, After-find_byte-found, In-At, Start}
 
 found : (f : After-find_byte-found) → let s = f in
     f.find_byte-found.result ≡ coded (byte_at s.args.bytes.now s.args.at) keywords
@@ -85,10 +85,14 @@ put_lead-start-requires c =
     (keyword_at keywords (i k)).spelling (s k).args.to
     (s k).args.out.now (fits k))
 
-row_inside : (c : After-slice_known-2-1) → let k = (goal.at.After-slice_known-2-1 c).In-At in
-    15 * i k ≤ length (s k).args.table.now
-row_inside c =
-    let k = (goal.at.After-slice_known-2-1 c).In-At in omega (arith, inside k, ap length (s k).requires.0, cells-length)
+row_inside : (k : In-At) → 15 * i k ≤ length (s k).args.table.now
+row_inside k = omega (arith, inside k, ap length (s k).requires.0, cells-length)
+
+pub slice_bounds-put_letters-count : goal.slice_bounds-put_letters-count
+slice_bounds-put_letters-count c = row_inside (goal.at.slice_bounds-put_letters-count c).In-At
+
+pub slice_bounds-put_letters-start : goal.slice_bounds-put_letters-start
+slice_bounds-put_letters-start c = row_inside (goal.at.slice_bounds-put_letters-start c).In-At
 
 pub put_letters-end-requires : goal.put_letters-end-requires
 put_letters-end-requires c =

@@ -9,10 +9,10 @@ use Rattle.model.specs.Rules.Outcome.{yielded_of, accepted}
 use Rattle.model.specs.Rules.TextForm.{listing, listing_of}
 use Rattle.text_keyword.proofs.Answered.{length-refused, length-done, answered-refused, answered-short, answered-done}
 use Rattle.text_list.proofs.list_with.Goals as goal
-use Rattle.text_list.proofs.list_with.Goals.{In-Number-2}
+use Rattle.text_list.proofs.list_with.Goals.{In-Number}
 
 -- what was measured
-measured : (k : In-Number-2) → let s = k in
+measured : (k : In-Number) → let s = k in
     (l : List ℕ) × (listing s.args.bytes.now ≡ accepted l) × (length l ≡ k.in-Number.n)
 measured k =
     let m = k in
@@ -34,7 +34,7 @@ pub returns-then-text-n : goal.returns-then-text-n
 unfolding listing_of
 returns-then-text-n c =
     let t = c in
-    let k = (goal.at.returns-then-text-n c).In-Number-2 in
+    let k = (goal.at.returns-then-text-n c).In-Number in
     let s = c in
     let l = measured k in
     let g = answered-short s.args.bytes.now (listing s.args.bytes.now) s.args.text.now s.requires.1 l.0 l.1 _
@@ -44,7 +44,7 @@ returns-then-text-n c =
 pub write_listing-end-requires : goal.write_listing-end-requires
 write_listing-end-requires c =
     let e = c in
-    let k = (goal.at.write_listing-end-requires c).In-Number-2 in
+    let k = (goal.at.write_listing-end-requires c).In-Number in
     let s = c in
     let l = measured k in
     (s.requires.0, record { written = l.0; done = l.1; fits = omega (arith, l.2, e.if-text-n.false) })
@@ -54,7 +54,7 @@ unfolding listing_of
 returns c =
     let w = c in
     let e = c in
-    let k = (goal.at.returns c).In-Number-2 in
+    let k = (goal.at.returns c).In-Number in
     let s = c in
     let l = measured k in
     answered-done s.args.bytes.now (listing s.args.bytes.now) s.args.text.now s.requires.1 l.0 l.1 _ _

@@ -70,6 +70,12 @@ find_value-found-requires c =
 start-inside : (c : In-At) → at c ≤ length (s c).args.table.now
 start-inside c = omega (arith, inside c, ap length (s c).requires.0, cells-length)
 
+pub slice_bounds-put_letters-count : goal.slice_bounds-put_letters-count
+slice_bounds-put_letters-count c = start-inside (goal.at.slice_bounds-put_letters-count c).In-At
+
+pub slice_bounds-put_letters-start : goal.slice_bounds-put_letters-start
+slice_bounds-put_letters-start c = start-inside (goal.at.slice_bounds-put_letters-start c).In-At
+
 pub put_letters-requires : goal.put_letters-requires
 put_letters-requires c = let k = (goal.at.put_letters-requires c).In-At in rw (letters k) (s k).requires.1
 
