@@ -22,13 +22,6 @@ use Rattle.basics.specs.declared.Judged.TheVariants as Judged
 use Rattle.check_links.proofs.Linking.{lat-at, lat-judged}
 use Rattle.check_links.proofs.check_links.Invariants.{unlinked, Rest}
 use Rattle.check_links.proofs.check_links.Goals as goal
-use Rattle.check_links.proofs.check_links.Goals.{Then-not-is_linked}
-
-few : (c : Then-not-is_linked) → c.loop-chain.chain < 16
-few c =
-    let c5 = c in
-    let s = c5.requires in
-    omega (arith, c.loop-chain-test.true, few-chains s.1)
 
 -- A program without chains has none that is wrong.
 unchained : (p : Program) (n : ℕ) → length p.chains ≡ n → n ≡ 0 → Judged.Fine ≡ judgement_of (linked p)
@@ -88,7 +81,10 @@ returns c =
     λ p q. check-ends _ _ _ _ l.chain (omega (arith, c.loop-chain-test.false, q.tables-are.counts.chains-are)) (l.invariant p q)
 
 pub offset_bounds-starts-chain : goal.offset_bounds-starts-chain
-offset_bounds-starts-chain c = omega (arith, few c)
+offset_bounds-starts-chain c = omega (arith, c.loop-chain-test.true, few-chains c.requires.1)
 
 pub loop-chain-smaller : goal.loop-chain-smaller
 loop-chain-smaller c = omega (arith, c.loop-chain-test.true)
+
+pub bounds-starts-chain : goal.bounds-starts-chain
+bounds-starts-chain c = omega (arith, c.loop-chain-test.true, few-chains c.requires.1)

@@ -17,7 +17,7 @@ use Rattle.check_links.proofs.Linking.{
   chain-begins,
 }
 use Rattle.check_links.proofs.is_linked.Goals as goal
-use Rattle.check_links.proofs.is_linked.Goals.{After-from_byte-left, After-lengths-1, In-loop-left, Start}
+use Rattle.check_links.proofs.is_linked.Goals.{After-from_byte-left, In-loop-left, Start}
 
 abbrev begun : After-from_byte-left → Start
 begun c = (goal.at.After-from_byte-left c).Start
@@ -28,11 +28,6 @@ inside : (c : In-loop-left) →
 inside c =
     let r = (begun (goal.at.In-loop-left c).After-from_byte-left).requires.0 in
     link-inside _ _ _ _ _ (c.loop-left.invariant r.0 r.1) c.loop-left-test.true
-
-few : (c : After-lengths-1) → c.args.chain < 16
-few c =
-    let s = c in
-    omega (arith, s.requires.1, few-chains s.requires.0.1)
 
 pub overflow_add-at : goal.overflow_add-at
 overflow_add-at c =
@@ -87,10 +82,13 @@ pub returns : goal.returns
 returns c = λ p q. sym (link-over _ _ _ _ _ (c.loop-left.invariant p q) (omega (arith, c.loop-left-test.false)))
 
 pub offset_bounds-starts-chain : goal.offset_bounds-starts-chain
-offset_bounds-starts-chain c = omega (arith, few c)
+offset_bounds-starts-chain c = omega (arith, c.requires.1, few-chains c.requires.0.1)
+
+pub bounds-starts-chain : goal.bounds-starts-chain
+bounds-starts-chain c = omega (arith, c.requires.1, few-chains c.requires.0.1)
 
 pub bounds-lengths-chain : goal.bounds-lengths-chain
-bounds-lengths-chain c = few (goal.at.bounds-lengths-chain c).After-lengths-1
+bounds-lengths-chain c = omega (arith, c.requires.1, few-chains c.requires.0.1)
 
 pub overflow_add-second : goal.overflow_add-second
 overflow_add-second c = omega (arith, inside (goal.at.overflow_add-second c).In-loop-left)

@@ -1,7 +1,6 @@
 -- `check_links::one_read` meets its contract. Assumes nothing.
 use Prim.Native.Nat.{ℕ, ◌+◌, ◌-◌, ◌≤◌, ◌<◌}
 use mathlib.Core.List.{List}
-use mathlib.Core.Logic.{⊎_elim}
 use mathlib.Core.Path.{◌≡◌, subst}
 use native.Mathlib.Omega.{arith}
 use lib.ListN.{length, get_or}
@@ -25,7 +24,7 @@ use Rattle.check_links.proofs.Counting.{
   stands-inside,
 }
 use Rattle.check_links.proofs.one_read.Goals as goal
-use Rattle.check_links.proofs.one_read.Goals.{After-loop-i, Else-count-index, In-loop-i, Joined-text-at}
+use Rattle.check_links.proofs.one_read.Goals.{After-loop-i, Else-count-index, In-loop-i, Joined-text-at, then-text-at, else-text-at}
 
 -- where the signal is declared
 module _ (a : Else-count-index) where
@@ -81,8 +80,8 @@ module _ (c : Joined-text-at) where
   abbrev b : In-loop-i
   b = (goal.at.Joined-text-at c).In-loop-i
 
-  go_on : (p : Program) → Indexes (text (goal.at.In-loop-i b).Else-count-index) (reads (goal.at.In-loop-i b).Else-count-index) (firsts (goal.at.In-loop-i b).Else-count-index) (n (goal.at.In-loop-i b).Else-count-index) p →
-      Searched (w (goal.at.In-loop-i b).Else-count-index) (body_reads (signal_at p (x (goal.at.In-loop-i b).Else-count-index)).body)
+  go_on : (p : Program) → Indexes (text (a b)) (reads (a b)) (firsts (a b)) (n (a b)) p →
+      Searched (w (a b)) (body_reads (signal_at p (x (a b))).body)
       (i b + 1 - b.from_entry-first.result)
       c.if-text-at.many c.if-text-at.found
   go_on p e =
@@ -90,12 +89,12 @@ module _ (c : Joined-text-at) where
       let l = b.loop-i.invariant.0 in
       let z = c.from_entry-at.ensures.0 in
       let v = b.loop-i.invariant.3 p e in
-      ⊎_elim
-      (λ h. same-search _ _ h.1 h.2
-      (one_hit e (w (goal.at.In-loop-i b).Else-count-index) (x (goal.at.In-loop-i b).Else-count-index) (i b) (lt (goal.at.In-loop-i b).Else-count-index) _ f l (high b) _ z v h.0.taken))
-      (λ h. same-search _ _ h.1 h.2
-      (one-missed e (w (goal.at.In-loop-i b).Else-count-index) (x (goal.at.In-loop-i b).Else-count-index) (i b) (lt (goal.at.In-loop-i b).Else-count-index) _ f l (high b) _ z v h.0.left))
-      c.if-text-at.branch
+      elim c.if-text-at.branch [
+        then-text-at h ↦
+            same-search _ _ h.many-is h.found-is (one_hit e (w (a b)) (x (a b)) (i b) (lt (a b)) _ f l (high b) _ z v h.if-text-at.true)
+        | else-text-at h ↦
+            same-search _ _ h.many-is h.found-is (one-missed e (w (a b)) (x (a b)) (i b) (lt (a b)) _ f l (high b) _ z v h.if-text-at.false)
+      ]
 
 -- where all are seen
 module _ (d : After-loop-i) where
@@ -147,7 +146,7 @@ loop-i-preserved c =
     let v = (b c).loop-i.invariant in (
       omega (arith, v.0),
       omega (arith, (b c).loop-i-test.true),
-      ⊎_elim (λ h. omega (arith, v.2, h)) (λ h. omega (arith, v.2, h)) c.if-text-at.branch,
+      elim c.if-text-at.branch [ then-text-at h ↦ omega (arith, v.2) | else-text-at h ↦ omega (arith, v.2) ],
       go_on c,
     )
 
@@ -155,14 +154,14 @@ pub returns-then-many-ne1 : goal.returns-then-many-ne1
 returns-then-many-ne1 c =
     let d = (goal.at.returns-then-many-ne1 c).After-loop-i in
     λ p e.
-    subst (λ (m : ℕ). Nowhere ≡ one_read (w (goal.at.After-loop-i d).Else-count-index) (body_reads (signal_at p m).body)) (o d).from_byte-index.ensures.0
+    subst (λ (m : ℕ). Nowhere ≡ one_read (w (o d)) (body_reads (signal_at p m).body)) (o d).from_byte-index.ensures.0
     (none_found _ _ _ (all_seen d p e) (d.loop-i.invariant.3 p e) (λ z. c.if-many-ne1.true z))
 
 pub returns : goal.returns
 returns c =
     let d = (goal.at.returns c).After-loop-i in
     λ p e.
-    subst (λ (m : ℕ). At d.loop-i.found ≡ one_read (w (goal.at.After-loop-i d).Else-count-index) (body_reads (signal_at p m).body))
+    subst (λ (m : ℕ). At d.loop-i.found ≡ one_read (w (o d)) (body_reads (signal_at p m).body))
     (o d).from_byte-index.ensures.0
     (one_found _ _ _ (all_seen d p e) (d.loop-i.invariant.3 p e) (omega (arith, c.if-many-ne1.false)))
 

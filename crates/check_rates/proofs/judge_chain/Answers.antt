@@ -63,13 +63,13 @@ module _ (c : After-in_program-in-loop-i) where
   ends : (place + 2 ≤ length start.args.text.now) × (length start.args.text.now ≤ 18446744073709551615)
   ends = (
     link-inside (known start) (x start) start.requires.1 i within,
-    omega (arith, start.good.0.1),
+    omega (arith, start.well_formed.0.1),
   )
 
 pub overflow_add-first : goal.overflow_add-first
 overflow_add-first c =
     let a = (goal.at.overflow_add-first c).Start in
-    omega (arith, inside a, c.from_entry.ensures.0, c.in_program.ensures, a.well-formed.0.1)
+    omega (arith, inside a, c.from_entry.ensures.0, c.in_program.ensures, a.well_formed.0.1)
 
 pub loop-i-init : goal.loop-i-init
 loop-i-init c =
