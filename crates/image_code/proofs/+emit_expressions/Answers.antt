@@ -32,7 +32,7 @@ use Rattle.image_code.proofs.Operands.{
   spans,
 }
 use Rattle.image_code.proofs.+emit_expressions.Goals as goal
-use Rattle.image_code.proofs.+emit_expressions.Goals.{After-operands_of-operands, In-loop-left, Start}
+use Rattle.image_code.proofs.+emit_expressions.Goals.{After-operands_of-operands, In-loop-left, Joined-operands-eq0, Start, then-operands-eq0, else-operands-eq0}
 
 -- in a turn
 module _ (t : ℕ) (b : In-loop-left t ) where
@@ -61,7 +61,7 @@ module _ (t : ℕ) (b : In-loop-left t ) where
   one_more = omega (arith, b.loop-left-test.true)
 
   counted : length text < 2 ^ 64
-  counted = start.requires.counted.1
+  counted = start.requires.counted
 
   all : Rooms depth text here (length out) from (suc (left - 1)) 0
   all = subst (λ n. Rooms depth text here (length out) from n 0) (sym one_more) b.loop-left.invariant.0
@@ -103,37 +103,34 @@ module _ (t : ℕ) (o : After-operands_of-operands t ) where
     byte = own-byte operator is (room t turn).spelled operands
 
 -- one expression is written, by either branch
-abbrev Joined : ℕ → Type 0
-Joined t = tie.Joined1 
-
-one : (t : ℕ) (j : Joined t) →
-    let b = turn t j.before in
+one : (t : ℕ) (j : Joined-operands-eq0 t) →
+    let b = (goal.at.Joined-operands-eq0 t j).In-loop-left in
     Emits (text t b) (here t b) (out t b) (from t b) j.if-operands-eq0.out.now j.if-operands-eq0.done.next j.if-operands-eq0.done.end
 one t j =
-    let o = j.before in
-    let b = turn t o in
+    let o = (goal.at.Joined-operands-eq0 t j).After-operands_of-operands in
     elim j.if-operands-eq0.branch [
-      | inl x ↦
+      | then-operands-eq0 x ↦
           let e : (lead_of (operator t o)).arity ≡ 0 =
-          arity-is (operator t o) ∙ sym o.operands_of-operands.ensures ∙ x.0.taken in
-          rw (x.3, x.4) (emits-last (operator t o) (is t o) (rw e emits_none) x.2.ensures)
-      | inr y ↦
-          let h = operands t o y.0.left in
+          arity-is (operator t o) ∙ sym o.operands_of-operands.ensures ∙ x.if-operands-eq0.true in
+          rw (x.out-is, x.done-is) (emits-last (operator t o) (is t o) (rw e emits_none) x.put_leaf-done.ensures)
+      | else-operands-eq0 y ↦
+          let h = operands t o y.if-operands-eq0.false in
           let ws = rw (sym (one-wide (operator t o) h), sym (arity-is (operator t o))) at
-          (rw (y.1.ensures, o.operands_of-operands.ensures) at y.3.ensures.1) in
-          rw (y.7, y.8) (emits-last (operator t o) (is t o) ws (rw (sym (byte t o y.0.left)) at y.6.ensures))
+          (rw (y.in_expression.ensures, o.operands_of-operands.ensures) at y.emit_expressions-before.ensures.emits_all) in
+          rw (y.out-is, y.done-is) (emits-last (operator t o) (is t o) ws (rw (sym (byte t o y.if-operands-eq0.false)) at
+          y.put_operator-done.ensures))
     ]
 
 -- in the same slice
-same : (t : ℕ) (j : Joined t) → j.if-operands-eq0.out.name ≡ (turn t j.before).loop-left.out.name
+same : (t : ℕ) (j : Joined-operands-eq0 t) → j.if-operands-eq0.out.ghost_name ≡ j.loop-left.out.ghost_name
 same t j =
     elim j.if-operands-eq0.branch [
-      | inl x ↦ rw x.3 refl
-      | inr y ↦ rw y.7 y.3.ensures.0
+      | then-operands-eq0 x ↦ rw x.out-is refl
+      | else-operands-eq0 y ↦ rw y.out-is y.emit_expressions-before.ensures.same
     ]
 
 pub loop-left-init : goal.loop-left-init
-loop-left-init t c = (c.requires.counted.0, refl, λ l next end w. w)
+loop-left-init t c = (c.requires.rooms, refl, λ l next end w. w)
 
 pub operator_at-operator-requires : goal.operator_at-operator-requires
 operator_at-operator-requires t c = spells-stands (room t (goal.at.operator_at-operator-requires t c).In-loop-left).spelled
@@ -146,7 +143,7 @@ put_leaf-done-requires t c =
       operator = operator-stands (operator t o) (is t o) (room t b);
       leaf = arity-is (operator t o) ∙ sym o.operands_of-operands.ensures ∙ c.if-operands-eq0.true;
       counted = omega (arith, inside t o, counted t b);
-      fits = omega (arith, (lead t o).ranges);
+      fits = omega (arith, (lead t o).fits);
     }
 
 pub overflow_add-first : goal.overflow_add-first
@@ -162,8 +159,11 @@ pub emit_expressions-before-requires : goal.emit_expressions-before-requires
 emit_expressions-before-requires t c =
     let o = (goal.at.emit_expressions-before-requires t c).After-operands_of-operands in
     let h = c.if-operands-eq0.false in (
-      omega (arith, some t o, (start t (goal.at.After-operands_of-operands t o).In-loop-left).requires.rooms),
-      (rw (c.in_expression.ensures, o.operands_of-operands.ensures) (without (behind t o h)), counted t (goal.at.After-operands_of-operands t o).In-loop-left),
+      omega (arith, some t o, c.decreases),
+      (
+        rw (c.in_expression.ensures, o.operands_of-operands.ensures) (without (behind t o h)),
+        counted t (goal.at.After-operands_of-operands t o).In-loop-left,
+      ),
     )
 
 pub put_operator-done-requires : goal.put_operator-done-requires
@@ -199,3 +199,9 @@ returns t c =
       same = l.invariant.1;
       emits_all = l.invariant.2 _ _ _ (rw z emits_none);
     }
+
+pub bounds-text-here : goal.bounds-text-here
+bounds-text-here t c =
+    let o = (goal.at.bounds-text-here t c).After-operands_of-operands in
+    let one = one-wide (operator t o) (operands t o c.if-operands-eq0.false) in
+    omega (arith, inside t o, one)

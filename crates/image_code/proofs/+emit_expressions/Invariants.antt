@@ -36,9 +36,12 @@ use Rattle.image_code.proofs.+emit_expressions.Given as goal
 -- What is left to write decides the whole.
 abbrev pub invariant-loop-left : goal.invariant-loop-left
 invariant-loop-left l =
-    Rooms l.depth l.text.now l.done.next (length l.out.now) l.done.end l.left 0 × (l.out.ghost_name ≡ l.initial.out.name) ×
-    ((l : List ℕ) (next end : ℕ) → EmitsAll l.text.now l.done.next l.left l.out.now l.done.end l next end →
-    EmitsAll l.text.now l.at l.number l.initial.out.now l.to l next end)
+    Rooms l.depth l.text.now l.done.next (length l.out.now) l.done.end l.left 0 × (l.out.ghost_name ≡ l.initial.out.ghost_name) ×
+    ((m : List ℕ) (next end : ℕ) → EmitsAll l.text.now l.done.next l.left l.out.now l.done.end m next end →
+    EmitsAll l.text.now l.at l.number l.initial.out.now l.to m next end)
 
 abbrev pub decreases-loop-left : goal.decreases-loop-left
 decreases-loop-left l = l.left
+
+abbrev pub decreases-emit_expressions : goal.decreases-emit_expressions
+decreases-emit_expressions l = l.depth

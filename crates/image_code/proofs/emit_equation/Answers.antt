@@ -9,14 +9,14 @@ pub overflow_add-place : goal.overflow_add-place
 overflow_add-place c =
     let c4 = c in
     let h = c4.requires.signal_room.here in
-    omega (arith, (place_inside _ _ h.signal h.stands h.spelled).1 c4.requires.place_value, c4.well-formed.0.1)
+    omega (arith, (place_inside _ _ h.signal h.stands h.spelled).1 c4.requires.place_value, c4.well_formed.0.1)
 
 pub emit_expressions-value-requires : goal.emit_expressions-value-requires
 emit_expressions-value-requires c =
     let c5 = c in
     record {
       rooms = rw c.in_program.ensures (alone (equation-room c5.requires.place_value c5.requires.signal_room));
-      counted = c5.well-formed.0.0;
+      counted = c5.well_formed.0.0;
     }
 
 pub put_access-code-requires : goal.put_access-code-requires

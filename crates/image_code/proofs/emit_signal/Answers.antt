@@ -21,7 +21,7 @@ emit_equation-requires c = record {
 pub returns-then-text-place-eq17 : goal.returns-then-text-place-eq17
 returns-then-text-place-eq17 c =
     let done = c.emit_equation.ensures in
-    rw (c.out-1.given.1.0 (sym done.0)) done.1
+    rw (c.out-1.given.1.0 (sym done.same)) done.emits_signal
 
 pub put_access-sample-requires : goal.put_access-sample-requires
 put_access-sample-requires c = omega (arith, sample-room c.if-text-place-eq17.false c.requires)

@@ -6,6 +6,7 @@ use mathlib.Core.Path.{◌≡◌, subst}
 use native.Mathlib.Omega.{arith}
 use lib.ListN.{length}
 use mir.Facts.{to_z-of_z}
+use mir.Syntax.{w32}
 use types.Run.{OneOf, miss}
 use denote.Enum.Declared.{tag_of, declared}
 use Rattle.model.specs.declared.Operator.{Operator}
