@@ -9,8 +9,8 @@ use Rattle.model.specs.declared.Declaration.{Declaration}
 use Rattle.model.specs.declared.Declaration.TheVariants as Declaration
 use Rattle.model.specs.declared.Mode.{Mode}
 use Rattle.model.specs.contracts.Declaration.{enum}
-use Rattle.check_latency.proofs.limit_at.Statement.{statement}
-use Rattle.check_latency.proofs.limit_at.Tie as tie
+use borrow.Enum.Refused.{opened}
+use Rattle.check_latency.proofs.limit_at.Goals as goal
 
 -- The commands other than LAT.
 abbrev others : List ℕ
@@ -20,18 +20,14 @@ missed : (c : Declaration) {mode : Mode} {bound : ℕ} → c ≡ Declaration.Lat
     OneOf others (tag_of (sum enum) c) → ⊥
 missed c e k = miss others 6 tt (subst (λ y. OneOf others (tag_of (sum enum) y)) e k)
 
-returns : tie.Need-returns
-returns c = λ mode bound e. absurd (missed _ (c.before.declaration-at.ensures ∙ e) c.match.keys2)
+pub returns-in_default : goal.returns-in_default
+returns-in_default c = λ mode bound e. absurd (missed _ (c.declaration_at-declaration.ensures ∙ e) (opened c.in_default.in_default-own.keys2))
 
-returns-2 : tie.Need-returns-2
-returns-2 c =
-    let v = c.before.declaration.given in
+pub returns : goal.returns
+returns c =
     λ mode bound e.
-    let same : ◌≡◌ {A = Declaration} (Declaration.Latency v.0.0 v.0.1.0) (Declaration.Latency mode bound) =
-    sym v.1 ∙ c.before.before.before.declaration-at.ensures ∙ e in
-    let mode-is : v.0.0 ≡ mode = cc same in
-    let bound-is : v.0.1.0 ≡ bound = cc same in
+    let same : ◌≡◌ {A = Declaration} (Declaration.Latency c.in-Latency.mode c.in-Latency.bound) (Declaration.Latency mode bound) =
+    sym c.in-Latency.is ∙ c.declaration_at-declaration.ensures ∙ e in
+    let mode-is : c.in-Latency.mode ≡ mode = cc same in
+    let bound-is : c.in-Latency.bound ≡ bound = cc same in
     λ i. record { mode = mode-is i; bound = bound-is i }
-
-pub limit-at-spec : {M : Type 1} → statement M
-limit-at-spec = tie.close (tie.spec (λ c κs. search rules) (λ c. search rules) returns returns-2)

@@ -20,8 +20,7 @@ use Rattle.text_schedule.specs.Arranged.{Arranged}
 use Rattle.text_schedule.specs.declared.PairTables.{PairTables}
 use Rattle.text_schedule.proofs.Arranged.{ordered}
 use Rattle.check_latency.specs.Timely.{Timed}
-use Rattle.check_latency.proofs.check_latency.Statement.{statement}
-use Rattle.check_latency.proofs.check_latency.Tie as tie
+use Rattle.check_latency.proofs.check_latency.Goals as goal
 
 -- Reads that are met leave a pair whose latencies can be judged.
 timed : (text reads : List ℕ) (t : PairTables) (p : Program) (s : Schedule) → Arranged text reads t p s →
@@ -55,17 +54,14 @@ unchained p s h n e z = go p.chains refl
     go [] q = rw q refl
     go (c ∷ cs) q = absurd (omega (arith, e, z, ap length q))
 
-returns : tie.Need-returns
-returns c p s g m = unchained p s _ _ g.stands.tables-are.counts.chains-are c.if1.true
+pub returns-then-tables-eq0 : goal.returns-then-tables-eq0
+returns-then-tables-eq0 c p s g m = unchained p s _ _ g.stands.tables-are.counts.chains-are c.if-tables-eq0.true
 
-judge-chains-requires : tie.Need-judge-chains-requires
-judge-chains-requires c κs =
-    let c8 = c.before.before.before.before.before.before.before.before in
+pub judge_chains-requires : goal.judge_chains-requires
+judge_chains-requires c =
+    let c8 = c in
     let q = c8.requires in
     (q.0, q.1, timed _ _ _ _ _ q.2 q.3)
 
-returns-2 : tie.Need-returns-2
-returns-2 c p s g m = c.judge-chains.ensures p s (timed _ _ _ p s g m)
-
-pub check-latency-spec : {M : Type 1} → statement M
-check-latency-spec = tie.close (tie.spec returns judge-chains-requires returns-2)
+pub returns : goal.returns
+returns c p s g m = c.judge_chains.ensures p s (timed _ _ _ p s g m)
