@@ -9,15 +9,15 @@ use Rattle.rows.specs.Rows.{text_rows}
 use Rattle.rows.proofs.Loops.{text-length}
 use Rattle.image_write.specs.Rows.{table_by}
 use borrow.Author.Rules.{rules}
-use Rattle.image_write.proofs.emit_table.Statement.{statement}
-use Rattle.image_write.proofs.emit_table.Tie as tie
+use Rattle.image_write.proofs.emit_table.Goals as goal
+use Rattle.image_write.proofs.emit_table.Goals.{After-emit_rows}
 
 size : (text offsets : List ℕ) (count : ℕ) → length (table_by text offsets count) ≡ 1 + 12 * count
 size text offsets count = omega (arith, sorted-bytes (text_rows text offsets count), text-length text offsets count)
 
-emit-rows-requires : tie.Need-emit-rows-requires
-emit-rows-requires c κs =
-    let s = c.before.before.before in
+pub emit_rows-requires : goal.emit_rows-requires
+emit_rows-requires c =
+    let s = c in
     let t = s.requires.0 in (
       t.placed,
       t.upright,
@@ -31,23 +31,26 @@ emit-rows-requires c κs =
     )
 
 -- so many bytes were lent
-within : (c : tie.After-emit-rows) → let s = c.before.before.before.before in
+within : (c : After-emit_rows) → let s = c in
     s.args.to + (1 + 12 * s.args.count) ≤ length s.args.out.now
 within c =
-    let s = c.before.before.before.before in
+    let s = c in
     omega (arith, s.requires.1, size s.args.text.now s.args.offsets.now s.args.count)
 
-returns : tie.Need-returns
+pub returns : goal.returns
 returns c =
-    let r = c.before.before in
-    let s = r.before.before.before.before in
+    let r = c in
+    let s = c in
     record {
-      holds = r.emit-rows.ensures;
+      holds = r.emit_rows.ensures;
       ends = omega (arith, size s.args.text.now s.args.offsets.now s.args.count);
     }
 
-pub emit-table-spec : {M : Type 1} → statement M
-emit-table-spec =
-    tie.close
-    (tie.spec emit-rows-requires (λ c. omega (arith, within c.before.before)) (λ c. omega (arith, within c.before.before))
-    (λ c. omega (arith, within c.before.before)) (λ c. search rules) returns)
+pub overflow_add-result : goal.overflow_add-result
+overflow_add-result c = omega (arith, within (goal.at.overflow_add-result c).After-emit_rows)
+
+pub overflow_mul-result : goal.overflow_mul-result
+overflow_mul-result c = omega (arith, within (goal.at.overflow_mul-result c).After-emit_rows)
+
+pub overflow_add-result-2 : goal.overflow_add-result-2
+overflow_add-result-2 c = omega (arith, within (goal.at.overflow_add-result-2 c).After-emit_rows)

@@ -1,0 +1,35 @@
+-- `image_write::emit_runs` meets its contract. Assumes nothing.
+use Prim.Native.Nat.{ℕ, ◌+◌, ◌-◌, ◌<◌}
+use mathlib.Core.Bool.{true}
+use mathlib.Core.List.{List, ◌∷◌}
+use mathlib.Core.Path.{◌≡◌, sym, ap, ◌∙◌}
+use native.Mathlib.Omega.{arith}
+use borrow.Author.Rules.{rules}
+use lib.ListN.{length, length-set}
+use Rattle.runs.proofs.Runs.{due-first, due-next}
+use Rattle.model.specs.Rules.Reads.{Rate, due}
+use Rattle.image_write.specs.Cursors.{Pending, Splits, Open}
+use Rattle.image_write.proofs.Cursors.{
+  mixed,
+  first-mixed,
+  last-mixed,
+  run-first,
+  others-mixed,
+  pending-same,
+  entry-inside,
+  entry-small,
+  pending-written,
+}
+use Rattle.image_write.proofs.emit_runs.Given as goal
+
+abbrev pub rate : ℕ → ℕ → Rate
+rate period phase = record { period = period; phase = phase }
+
+abbrev pub invariant-loop-c : goal.invariant-loop-c
+invariant-loop-c l =
+    (l.step ≡ l.period) × (length l.nexts ≡ 241) × (due (rate l.period l.phase) l.c ≡ true) ×
+    ((all l : List ℕ) (after : ℕ → ℕ) (old new : ℕ → List ℕ) → Pending all l l.to l.h after old l.initial.out l.initial.nexts →
+    Splits (rate l.period l.phase) l.x l.h old new → Pending all l l.to l.h after (mixed old new l.c) l.out l.nexts)
+
+abbrev pub decreases-loop-c : goal.decreases-loop-c
+decreases-loop-c l = l.h - l.c
