@@ -23,29 +23,27 @@ use Rattle.move_rule.proofs.Narrowings.{
   other-stays,
   before-is,
 }
-use Rattle.move_rule.proofs.narrow_by_read.Statement.{statement}
-use Rattle.move_rule.proofs.narrow_by_read.Tie as tie
+use Rattle.move_rule.proofs.narrow_by_read.Goals as goal
+use Rattle.move_rule.proofs.narrow_by_read.Goals.{After-from_byte-index, Start}
 
-returns : tie.Need-returns
-returns c =
-    let a = c.before.before in
+pub returns-then-read-reader : goal.returns-then-read-reader
+returns-then-read-reader c =
+    let a = c in
     λ p s ρ t lr k o m.
     unnarrowed a.requires.2 (λ x f lt below.
-    self-stays p s a.args.reader ρ m (ap (λ y. y.signal) (sym o) ∙ sym c.before.from_byte.ensures.0 ∙ c.if1.true)
+    self-stays p s a.args.reader ρ m (ap (λ y. y.signal) (sym o) ∙ sym c.from_byte-read.ensures.0 ∙ c.if-read-reader.true)
     (t.feasible.ordered.phases a.args.reader lr) x f below)
 
 -- The read, by what the tables say of it.
-module _ (c : tie.After-from-byte2) (p : Program) (s : Schedule) (ρ : Read) where
-  abbrev start : tie.Start
-  start =
-      let b = c.before.before.before.before.before in
-      b.before.before.before.before.before
+module _ (c : After-from_byte-index) (p : Program) (s : Schedule) (ρ : Read) where
+  abbrev start : Start
+  start = (goal.at.After-from_byte-index c).Start
 
   abbrev reader : ℕ
   reader = start.args.reader
 
   abbrev read : ℕ
-  read = c.before.before.before.before.before.before.before.before.before.from_byte.result
+  read = c.from_byte-read.result
 
   abbrev rate : ℕ → Rate
   rate x = rate_at start.args.periods.now start.args.phases.now x
@@ -60,7 +58,7 @@ module _ (c : tie.After-from-byte2) (p : Program) (s : Schedule) (ρ : Read) whe
       w = ρ.operands.signal
 
       signal-is : read ≡ w
-      signal-is = c.before.before.before.before.before.before.before.before.before.from_byte.ensures.0 ∙ ap (λ y.
+      signal-is = c.from_byte-read.ensures.0 ∙ ap (λ y.
           y.signal) o
 
       read-rate : rate read ≡ rate_of p s w
@@ -69,10 +67,10 @@ module _ (c : tie.After-from-byte2) (p : Program) (s : Schedule) (ρ : Read) whe
       reader-rate : rate reader ≡ rate_of p s reader
       reader-rate = rate-is start.args.periods.now t.periods-are t.slots-are reader lr
 
-      index_is : c.from-byte2.result ≡ settled p s reader ρ
+      index_is : c.from_byte-index.result ≡ settled p s reader ρ
       unfolding settled
       index_is =
-          c.from-byte2.ensures.0 ∙ c.before.settled-index.ensures ∙
+          c.from_byte-index.ensures.0 ∙ c.settled_index.ensures ∙
           (λ j. settled_index (k j) (read-rate j) (reader-rate j) (o j).factor (o j).index)
 
       before_here : first ≡ before s w reader
@@ -80,29 +78,22 @@ module _ (c : tie.After-from-byte2) (p : Program) (s : Schedule) (ρ : Read) whe
           ap (λ y. ltb (get_or start.args.ranks.now y 0) (get_or start.args.ranks.now reader 0)) signal-is ∙
           before-is t w reader m.declared lr
 
-      met-in : (b : Bool) (q : Phases) → MetIn b start.args.kind (rate read) (rate reader) c.from-byte2.result first q →
+      met-in : (b : Bool) (q : Phases) → MetIn b start.args.kind (rate read) (rate reader) c.from_byte-index.result first q →
           MetIn b ρ.kind (rate_of p s w) (rate_of p s reader) (settled p s reader ρ) (before s w reader) q
       met-in b q h = transport (λ j. MetIn b (k j) (read-rate j) (reader-rate j) (index_is j) (before_here j) q) h
 
-returns-2 : tie.Need-returns-2
-returns-2 c =
-    let n = c.before.before.before.before in
-    let e = n.before.before.before.before in
+pub returns : goal.returns
+returns c =
+    let n = c in
+    let e = (goal.at.returns c).After-from_byte-index in
     λ p s ρ t lr k o m.
-    let a = start e p s ρ in
+    let a = c in
     let same = signal-is e p s ρ t lr k o m in
-    narrowed-both (narrowed_at n.narrow.ensures) (narrowed_at c.narrow2.ensures)
+    narrowed-both (narrowed_at n.narrow.ensures) (narrowed_at c.narrow-2.ensures)
     (λ x f lt below.
     let stays = other-stays p s a.args.reader ρ m (t.feasible.ordered.phases _ m.declared)
-    (t.feasible.ordered.phases _ lr) _ _ (met-in e p s ρ t lr k o m false _ n.before.before.before.phases-met.ensures)
-    (met-in e p s ρ t lr k o m true _ c.before.before.before.phases-met2.ensures)
-    (λ z. e.before.before.before.before.before.before.before.before.if1.false (same ∙ z)) x f below
+    (t.feasible.ordered.phases _ lr) _ _ (met-in e p s ρ t lr k o m false _ n.phases_met-of_read.ensures)
+    (met-in e p s ρ t lr k o m true _ c.phases_met-of_reader.ensures)
+    (λ z. e.if-read-reader.false (same ∙ z)) x f below
     (omega (arith, t.short x lt)) in
     (λ h. stays.0 (λ z. h.0 (z ∙ sym same), h.1), λ h. let g = stays.1 h in (λ z. g.0 (z ∙ same), g.1)))
-
-pub narrow-by-read-spec : {M : Type 1} → statement M
-narrow-by-read-spec =
-    tie.close
-    (tie.spec (λ c κs. search rules) returns (λ c. search rules) (λ c. search rules) (λ c. search rules) (λ c. search rules)
-    (λ c. search rules) (λ c. search rules) (λ c κs. search rules) (λ c κs. search rules) (λ c κs. search rules)
-    (λ c κs. search rules) (λ c κs. search rules) (λ c κs. search rules) returns-2)
