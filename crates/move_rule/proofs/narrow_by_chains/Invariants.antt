@@ -20,8 +20,9 @@ use Rattle.move_rule.proofs.narrow_by_chains.Given as goal
 abbrev pub invariant-loop-chain : goal.invariant-loop-chain
 invariant-loop-chain l =
     (l.chain ≤ l.tables.chains) × Long l.lows l.highs ×
-    ((p : Program) (s : Schedule) → Timed l.text l.reads l.tables l.periods l.phases l.h p s → timely p s l.h ≡ accepted tt →
-    Narrowed p (λ x f. (j : ℕ) → j < l.chain → ChainStays p s l.h x f (chain_at p j)) l.initial.lows l.initial.highs l.lows l.highs)
+    ((p : Program) (s : Schedule) → Timed l.text l.reads l.tables l.periods l.phases l.h p s →
+    timely p s l.h ≡ accepted tt → Narrowed p (λ x f. (j : ℕ) → j < l.chain → ChainStays p s l.h x f (chain_at p j))
+    l.initial.lows l.initial.highs l.lows l.highs)
 
 abbrev pub decreases-loop-chain : goal.decreases-loop-chain
 decreases-loop-chain l = l.tables.chains - l.chain
