@@ -1,6 +1,7 @@
 // What a person reads and writes: words and numbers on standard output and standard error, files by name, the words of a command
 // line. A command line is bytes in which every word ends with a 0.
 #![tactic(auto)]
+
 ghost use Rattle.std.specs.Prelude.{◌≤◌, ◌≡◌, length};
 ghost use Rattle.io.specs.Counts.{IsPrefixLen};
 

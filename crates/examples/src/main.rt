@@ -1,6 +1,7 @@
 // The paper's program A: compiled into too small a buffer and into one that is large enough, then run on the machine. It writes
 // the answer of each call and the words after each.
 #![tactic(auto)]
+
 ghost use Rattle.std.specs.Prelude.{◌≤◌, length};
 
 use libc::STDOUT_FILENO;

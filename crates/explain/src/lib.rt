@@ -1,5 +1,6 @@
 // What a refusal means and where, in words on standard error; on standard output its number and place, for a script.
 #![tactic(auto)]
+
 use model::{Fault, Yielded};
 use text_program::Tables;
 use text_schedule::Slots;

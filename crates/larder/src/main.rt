@@ -1,6 +1,7 @@
 // The shop's tool: one command a call, on files. All that is decided is decided by the calls of larderlate; here files are read
 // and written, and answers are put in words. `larder run FILE` takes the commands from a file, a line each.
 #![tactic(auto)]
+
 use libc::STDOUT_FILENO;
 use model::{Fault, Found, Joined, Ran, Yielded, refusals};
 

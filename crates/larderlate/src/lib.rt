@@ -2,6 +2,7 @@
 // board too. Each call takes any bytes and words, and its answer and what it leaves are the definition's. What they promise
 // together is in crate `promises`.
 #![tactic(auto)]
+
 ghost use Rattle.std.specs.Prelude.{◌≡◌};
 ghost use Rattle.model.specs.Rules.Compile.{compile_of};
 ghost use Rattle.model.specs.Rules.Outcome.{yielded_of, refused};

@@ -1,6 +1,7 @@
 // The chart of a pair as an SVG picture: a row a signal, a column a cycle of the hypercycle, a box a run, the load of each cycle
 // under it with the CAP as a line.
 #![tactic(auto)]
+
 ghost use Rattle.std.specs.Prelude.{◌≤◌, ◌<◌, ◌≡◌};
 
 use basics::Judged;

@@ -1,6 +1,7 @@
 // An image in words: head, records, run lists, rows, code and tail, each with its offset. It is well formed; what is read past
 // its end would be 0.
 #![tactic(auto)]
+
 ghost use Rattle.std.specs.Prelude.{◌≤◌, ◌<◌};
 
 use model::Yielded;

@@ -1,5 +1,6 @@
 // The list of moves in words: signal by signal its number, label, present phase and the phases that it may have, as ranges.
 #![tactic(auto)]
+
 use model::Yielded;
 use timetable::Timetable;
 

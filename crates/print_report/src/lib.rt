@@ -1,5 +1,6 @@
 // A report in words: the sizes, and a line a cycle with its commands, its load and a bar.
 #![tactic(auto)]
+
 ghost use Rattle.std.specs.Prelude.{◌≤◌, ◌<◌, ◌≡◌, get_or};
 ghost use Rattle.print_report.specs.Bar.{bar_of};
 

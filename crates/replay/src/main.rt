@@ -1,6 +1,7 @@
 // Makes the calls of a stream on standard input and prints a line for each (docs/VECTORS.md has the layout of both). What is
 // compared from outside is these lines. A stream that is cut off or too large for the space here ends the run.
 #![tactic(auto)]
+
 ghost use Rattle.std.specs.Prelude.{◌≡◌, ◌≤◌, length};
 ghost use Rattle.io.specs.Counts.{IsPrefixLen};
 ghost use Rattle.trial_step.specs.Underway.{at_start, Underway};

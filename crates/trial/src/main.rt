@@ -2,6 +2,7 @@
 // each cycle of the script, or the number of the refusal; on standard error it says in words what is wrong. All that is printed
 // is made by `trial_prepare` and `trial_step`; here it is read and written.
 #![tactic(auto)]
+
 ghost use Rattle.io.specs.Counts.{IsPrefixLen};
 ghost use Rattle.trial_step.specs.Underway.{at_start, Underway};
 

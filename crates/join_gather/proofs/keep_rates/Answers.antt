@@ -6,58 +6,57 @@ use Rattle.model.proofs.Texts.Legal.{stands, signal-spelled, place_inside}
 use Rattle.model.proofs.Joining.Lent.{number-inside}
 use Rattle.join_gather.proofs.Lent.{kept}
 use borrow.Author.Rules.{rules}
-use Rattle.join_gather.proofs.keep_rates.Statement.{statement}
-use Rattle.join_gather.proofs.keep_rates.Tie as tie
+use Rattle.join_gather.proofs.keep_rates.Goals as goal
 
-mul-first : tie.Need-overflow-mul-first
-mul-first c =
-    let s = c.before.before in
+pub overflow_mul-first : goal.overflow_mul-first
+overflow_mul-first c =
+    let s = c in
     omega (arith, number-inside s.args.numbers.now s.args.k 3 s.requires.0 (omega arith))
 
-add-second : tie.Need-overflow-add-second
-add-second c =
-    let s = c.before.before in
+pub overflow_add-second : goal.overflow_add-second
+overflow_add-second c =
+    let s = c in
     omega (arith, number-inside s.args.numbers.now s.args.k 3 s.requires.0 (omega arith))
 
-mul-start : tie.Need-overflow-mul-start
-mul-start c =
-    let s = c.before.before in
+pub offset_bounds-numbers-first : goal.offset_bounds-numbers-first
+offset_bounds-numbers-first c =
+    let s = c in
     omega (arith, number-inside s.args.numbers.now s.args.k 3 s.requires.0 (omega arith))
 
-shared-slice-read-start : tie.Need-shared-slice-read-start
-shared-slice-read-start c =
-    let s = c.before.before.before in
+pub bounds-numbers-first : goal.bounds-numbers-first
+bounds-numbers-first c =
+    let s = c in
     omega (arith, number-inside s.args.numbers.now s.args.k 0 s.requires.0 (omega arith))
 
-mul-end : tie.Need-overflow-mul-end
-mul-end c =
-    let s = c.before.before.before in
+pub offset_bounds-numbers-second : goal.offset_bounds-numbers-second
+offset_bounds-numbers-second c =
+    let s = c in
     omega (arith, number-inside s.args.numbers.now s.args.k 3 s.requires.0 (omega arith))
 
-shared-slice-read-end : tie.Need-shared-slice-read-end
-shared-slice-read-end c =
-    let s = c.before.before.before.before in
+pub bounds-numbers-second : goal.bounds-numbers-second
+bounds-numbers-second c =
+    let s = c in
     omega (arith, number-inside s.args.numbers.now s.args.k 1 s.requires.0 (omega arith))
 
-add-end : tie.Need-overflow-add-end
-add-end c =
-    let s = c.before.before.before.before in
+pub overflow_add-end : goal.overflow_add-end
+overflow_add-end c =
+    let s = c in
     omega (arith, (kept s.args.texts.now s.args.numbers.now s.requires.1).programs s.args.k s.requires.0)
 
-sub-add-rates : tie.Need-overflow-sub-add-rates
-sub-add-rates c = search rules
+pub slice_bounds-add_rates-count : goal.slice_bounds-add_rates-count
+slice_bounds-add_rates-count c = search rules
 
-part-add-rates-start : tie.Need-slice-bounds-add-rates-start
-part-add-rates-start c = search rules
+pub slice_bounds-add_rates-start : goal.slice_bounds-add_rates-start
+slice_bounds-add_rates-start c = search rules
 
-part-add-rates-end : tie.Need-slice-bounds-add-rates-end
-part-add-rates-end c =
-    let s = c.before.before.before.before in
+pub slice_bounds-add_rates-end : goal.slice_bounds-add_rates-end
+slice_bounds-add_rates-end c =
+    let s = c in
     omega (arith, (kept s.args.texts.now s.args.numbers.now s.requires.1).programs s.args.k s.requires.0)
 
-add-rates-requires : tie.Need-add-rates-requires
-add-rates-requires c κs =
-    let s = c.before.before.before.before.before.before.before in
+pub add_rates-requires : goal.add_rates-requires
+add_rates-requires c =
+    let s = c in
     let r = s.requires.2.1 in
     let l = (stands _ s.requires.2.0.program r.declares).1 in
     let all = r.tables-are.counts.signals-are in (
@@ -73,22 +72,5 @@ add-rates-requires c κs =
           ),
     )
 
-returns : tie.Need-returns
+pub returns : goal.returns
 returns c = search rules
-
-pub keep-rates-spec : {M : Type 1} → statement M
-keep-rates-spec =
-    tie.close
-    (tie.spec
-    mul-first
-    add-second
-    mul-start
-    shared-slice-read-start
-    mul-end
-    shared-slice-read-end
-    add-end
-    sub-add-rates
-    part-add-rates-start
-    part-add-rates-end
-    add-rates-requires
-    returns)
