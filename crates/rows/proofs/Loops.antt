@@ -11,9 +11,9 @@ use lib.Dec.{eqb}
 use lib.IntN.{ℤ, pos, negsuc, suc_ℤ, ◌+ℤ◌, +ℤ_one}
 use lib.ListN.{length}
 use lib.Signed.{mag, le_z}
-use mir.Facts.{to_z-of_z, sfits_widen}
+use mir.Facts.{to_z-of_z, of_z-to_z, sfits_to_z, sfits_widen}
 use mir.Syntax.{w32, w64}
-use mir.Val.{to_z, of_z, SFits}
+use mir.Val.{to_z, of_z, Fits, SFits}
 use Rattle.model.specs.Rules.Search.{all_below}
 use Rattle.model.specs.Rules.Word.{eq_z}
 use Rattle.model.proofs.Basics.Tests.{first-fails, second-fails}
@@ -57,6 +57,16 @@ module _ (text offsets : List ℕ) (count : ℕ) where
 
 pub edge-next : (rows : List Row) (n : ℕ) → edge rows (n + 1) ≡ suc_ℤ (row_at rows n).high
 edge-next rows n = rw (add-one n)
+
+-- What a loop's signed variable is, by its bits.
+pub by_bits : {b : ℕ} {e r : ℤ} → to_z w64 b ≡ e → SFits w64 r → of_z w64 r ≡ b → r ≡ e
+by_bits t f h = sym (to_z-of_z f) ∙ ap (to_z w64) h ∙ t
+
+pub bits_by : {b : ℕ} {e : ℤ} → Fits w64 b → to_z w64 b ≡ e → of_z w64 e ≡ b
+bits_by {b} f t = ap (of_z w64) (sym t) ∙ of_z-to_z {w = w64} {n = b} f
+
+pub fits_by : {b : ℕ} {e : ℤ} → Fits w64 b → to_z w64 b ≡ e → SFits w64 e
+fits_by {b} f t = rw (← t) (sfits_to_z {w = w64} {n = b} f)
 
 -- A test on the bits is the test on the numbers.
 pub same_test : {a b : ℤ} → SFits w64 a → SFits w64 b → eqb (of_z w64 a) (of_z w64 b) ≡ eq_z a b

@@ -5,8 +5,8 @@ use Prim.Native.Nat.{ℕ, zero, suc, ◌+◌, ◌-◌, ◌≤◌, ◌<◌}
 use native.Mathlib.Numerals.{add-one, unary_clauses}
 use native.Mathlib.Nat.{zero-add, suc-add}
 use native.Mathlib.Omega.{arith}
-use lib.ListN.{length, get_or, set, get_or-append, length-append}
-use lib.Seq.{get_or-set_same, get_or-set_other, get_or-append-add, set-append_left}
+use lib.ListN.{length, get_or, set, length-append}
+use lib.Seq.{get_or-set_same, get_or-set_other, set-append_left}
 use lib.IntN.{ℤ, pos}
 use Rattle.run_stack.specs.View.{under, view_of}
 use Rattle.model.specs.Rules.Machine.{on_one, on_two, on_three}
@@ -63,14 +63,7 @@ view-three f t ws (suc (suc (suc n))) p = rw (two n, add-one (suc n)) refl
 split : (i n m : ℕ) → m ≡ n → n ≤ i → i ≡ m + (i - n)
 split i n m e p = omega arith
 
--- the words in two parts: a word and a store of the first part, and of the second
-pub near_word : (xs ys : List ℤ) (i : ℕ) → i < length xs → get_or xs i (pos 0) ≡ get_or (xs ++ ys) i (pos 0)
-near_word xs ys i p = sym (get_or-append xs ys (pos 0) i p)
-
-pub far-word : (xs ys : List ℤ) (n i : ℕ) → length xs ≡ n → n ≤ i → get_or ys (i - n) (pos 0) ≡ get_or (xs ++ ys) i (pos 0)
-far-word xs ys n i e p =
-    sym (ap (λ (k : ℕ). get_or (xs ++ ys) k (pos 0)) (split i n (length xs) e p) ∙ get_or-append-add xs ys (i - n) (pos 0))
-
+-- the words in two parts: a store of the first part, and of the second
 pub near_store : (xs ys : List ℤ) (i : ℕ) (w : ℤ) → i < length xs → set xs i w ++ ys ≡ set (xs ++ ys) i w
 near_store xs ys i w p = sym (set-append_left xs ys i w p)
 

@@ -135,7 +135,7 @@ use Rattle.model.specs.declared.Unary.{Unary}
 use Rattle.model.specs.declared.Unary.TheVariants.{Negate, Table}
 use Rattle.model.proofs.Pairs.Decide.{line-settled, settled-line}
 use Rattle.model.proofs.Basics.Outcomes.{table_at}
-use Rattle.model.proofs.Pairs.Lines.{once, single-uses, single-rule, single-line, single-first}
+use Rattle.model.proofs.Pairs.Lines.{single-uses, single-rule, single-line, single-first}
 
 -- One read.
 -- An open read with factor 1 settles at 0, met or not.
@@ -283,10 +283,12 @@ records-bare (x ∷ xs) (o ∷ os) = rw (records-bare xs os)
 -- What holds of the elements of a list holds of what they are mapped to.
 module _ {A B : Type 0} (f : A → B) (Q : A → Type 0) (R : B → Type 0) where
   among-map : (a : A) (xs : List A) → a among xs → f a among map f xs
+  among-map a [] m = elim m [ ]
   among-map a (x ∷ xs) (◌among◌.here e) = ◌among◌.here (ap f e)
   among-map a (x ∷ xs) (◌among◌.later m) = ◌among◌.later (among-map a xs m)
 
   map-among : (b : B) (xs : List A) → b among map f xs → (a : A) × (a among xs) × (b ≡ f a)
+  map-among b [] m = elim m [ ]
   map-among b (x ∷ xs) (◌among◌.here e) = (x, ◌among◌.here refl, e)
   map-among b (x ∷ xs) (◌among◌.later m) = let h = map-among b xs m in (h.0, ◌among◌.later h.1, h.2)
 

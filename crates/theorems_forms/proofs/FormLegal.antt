@@ -20,7 +20,6 @@ use Rattle.model.specs.declared.Kind.{Kind}
 use Rattle.model.specs.declared.Kind.TheVariants.{Now, Last, When, LastWhen, Current}
 use Rattle.model.specs.declared.Operand.{Operand}
 use Rattle.model.specs.declared.Operator.{Operator}
-use Rattle.model.specs.declared.Operator.TheVariants as Operator
 use Rattle.model.specs.declared.Unary.{Unary}
 use Rattle.model.specs.declared.Unary.TheVariants.{Negate, Table}
 use Rattle.model.proofs.Basics.Outcomes.{accepted-then}
@@ -92,7 +91,7 @@ module _ (text : List ℕ) (are : AreBytes text) where
   unary-said Negate at b le s = command 20 at 1 (omega arith) b refl le s
   unary-said Table at b le s = command 26 at 1 (omega arith) b refl le s
 
-  read-said : {kind : Kind} {x : _} (at : ℕ) → OperatorWritten text at (Operator.Read kind x) → Said
+  read-said : (at : ℕ) {kind : Kind} {x : _} → OperatorWritten text at (Operator.Read kind x) → Said
       (at + read_width kind) [] → Said at []
   read-said at (OperatorWritten.plain kind w le b) s = kind-said kind at b (omega (arith, plain-width kind w)) s
   read-said at (OperatorWritten.sampled kind w le b p q) s = kind-said kind at b (omega (arith, sampled-width kind w)) s

@@ -367,6 +367,7 @@ module _ (parts : List Part) (ok : All FeasiblePart parts) where
       wired_body (map (wire_of parts) links) (base parts l.input_part + l.input) b ≡
       equation 0 (read (wire_read (wire_of parts l)))
   unfolding wired_body
+  linked-body [] names apart l m b = elim m [ ]
   linked-body (m ∷ ls) names apart l (◌among◌.here e) b =
       let same : base parts m.input_part + m.input ≡ base parts l.input_part + l.input =
       ap (λ (k : PartLink). base parts k.input_part + k.input) (sym e) in

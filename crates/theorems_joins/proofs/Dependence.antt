@@ -45,6 +45,7 @@ use Rattle.theorems_pairs.proofs.Faults.{all_among}
 use Rattle.theorems_streams.proofs.Dependence.{reads-exactly, only-readers}
 
 among-map : {A B : Type 0} (g : A → B) (xs : List A) (y : B) → y among map g xs → (x : A) × (x among xs) × (y ≡ g x)
+among-map g [] y m = elim m [ ]
 among-map g (x ∷ xs) y (◌among◌.here e) = (x, ◌among◌.here refl, e)
 among-map g (x ∷ xs) y (◌among◌.later m) = let h = among-map g xs y m in (h.0, ◌among◌.later h.1, h.2)
 
@@ -64,6 +65,7 @@ wired-among (l ∷ ls) x b ρ m = go (eqb l.input x) refl m (λ q. wired-among l
 
     one : ρ among (wire_read l ∷ []) → ρ ≡ wire_read l
     one (◌among◌.here e) = e
+    one (◌among◌.later m) = elim m [ ]
 
     go : (t : Bool) → eqb l.input x ≡ t → ρ among body_reads (cond t (equation 0 (read (wire_read l))) (wired_body ls x b)) →
         (ρ among body_reads (wired_body ls x b) → Either ls) → Either (l ∷ ls)

@@ -40,7 +40,6 @@ use Rattle.model.specs.Rules.Join.{
 }
 use Rattle.model.specs.Rules.Outcome.{Outcome, accepted, refused, fault, ◌▷◌, provided}
 use Rattle.model.specs.Rules.Parts.{Part, tabled_parts, part_at, PartLink}
-use Rattle.model.specs.Rules.Program.{input, is_input}
 use Rattle.model.specs.Rules.Search.{first_below, all_below}
 use Rattle.model.specs.Says.Feasible.{All}
 use Rattle.model.specs.declared.Fault.{Fault}

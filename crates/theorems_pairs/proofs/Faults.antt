@@ -19,6 +19,7 @@ use Rattle.model.proofs.Basics.Outcomes.{Lowest, lowest-none, none-lowest, lowes
 -- Elements of lists.
 module _ {A : Type 0} where
   pub among-at : (x : A) (xs : List A) (d : A) → x among xs → (j : ℕ) × (j < length xs) × (get_or xs j d ≡ x)
+  among-at x [] d x'' = elim x'' [ ]
   among-at x (y ∷ ys) d (◌among◌.here e) = (0, omega arith, sym e)
   among-at x (y ∷ ys) d (◌among◌.later m) =
       let h = among-at x ys d m in (suc h.0, omega (arith, h.1), h.2)
@@ -29,6 +30,7 @@ module _ {A : Type 0} where
   at-among (y ∷ ys) d (suc j) lt = ◌among◌.later (at-among ys d j (omega arith))
 
   pub all_among : (Q : A → Type 0) (xs : List A) → All Q xs → (x : A) → x among xs → Q x
+  all_among Q [] h x x4 = elim x4 [ ]
   all_among Q (y ∷ ys) h x (◌among◌.here e) = subst Q (sym e) h.0
   all_among Q (y ∷ ys) h x (◌among◌.later m) = all_among Q ys h.1 x m
 
@@ -41,6 +43,7 @@ module _ {A : Type 0} where
   among_none (y ∷ ys) h = absurd (h y (◌among◌.here refl))
 
   pub none-among : (xs : List A) (x : A) → xs ≡ [] → ¬ (x among xs)
+  none-among [] x e x4 = elim x4 [ ]
   none-among (y ∷ ys) x e (◌among◌.here q) = absurd (omega (arith, ap length e))
   none-among (y ∷ ys) x e (◌among◌.later m) = absurd (omega (arith, ap length e))
 
@@ -54,6 +57,7 @@ module _ {A : Type 0} where
       go (inr n) = inr n
 
   pub append_left : (x : A) (xs ys : List A) → x among xs → x among (xs ++ ys)
+  append_left x [] ys x'' = elim x'' [ ]
   append_left x (z ∷ xs) ys (◌among◌.here e) = ◌among◌.here e
   append_left x (z ∷ xs) ys (◌among◌.later m) = ◌among◌.later (append_left x xs ys m)
 
@@ -64,6 +68,8 @@ module _ {A : Type 0} where
 -- A test that fails puts one element into the list.
 module _ {A : Type 0} where
   pub among-cond : (t : Bool) (x y : A) → x among (cond t [] (y ∷ [])) → (t ≡ false) × (x ≡ y)
+  among-cond false x y (Rattle.theorems_pairs.specs.Conditions.later x6) = elim x6 [ ]
+  among-cond mathlib.Core.Bool.true x y x4 = elim x4 [ ]
   among-cond false x y (◌among◌.here e) = (refl, e)
 
   pub cond-among : (t : Bool) (x : A) → t ≡ false → x among (cond t [] (x ∷ []))
@@ -74,6 +80,7 @@ module _ {A B : Type 0} (f : ℕ → A → List B) where
   pub among-join : (i : ℕ) (xs : List A) (d : A) (y : B) → y among join_from i f xs →
       (j : ℕ) × (j < length xs) × (y among f (i + j) (get_or xs j d))
   unfolding join_from
+  among-join i [] d y m = elim m [ ]
   among-join i (x ∷ xs) d y m = go (among-append y (f i x) (join_from (suc i) f xs) m) (λ n. among-join (suc i) xs d y n)
     where
       Found : Type 0

@@ -101,6 +101,10 @@ module _ (p : Program) where
             f among (cond a (cond b (fault 12 q.place ∷ []) (cond c [] (fault 13 q.place ∷ [])))
             (fault 12 q.place ∷ [])) →
             FaultAt all (length before) f.number × (f.place ≡ q.place)
+        go false b c d e g (Rattle.theorems_pairs.specs.Conditions.later x7) = elim x7 [ ]
+        go true false false d e g (Rattle.theorems_pairs.specs.Conditions.later x10) = elim x10 [ ]
+        go true false true d e g x8 = elim x8 [ ]
+        go true true c d e g (Rattle.theorems_pairs.specs.Conditions.later x10) = elim x10 [ ]
         go false b c d e g (◌among◌.here s) =
             rw s (FaultAt.undeclared (rw here (λ k. false≢true (sym d ∙ lt-ltb _ _ k))), refl)
         go true true c d e g (◌among◌.here s) = rw s (not-fresh e, refl)
@@ -142,6 +146,7 @@ module _ (p : Program) where
 
   puts-sound : (before qs : List Put) (f : Fault) → f among puts_faults p before qs → Has (before ++ qs) f
   unfolding puts_faults all
+  puts-sound before [] f m = elim m [ ]
   puts-sound before (q ∷ qs) f m =
       go (among-append f (put_faults p before q) _ m) (λ n. puts-sound (before ++ (q ∷ [])) qs f n)
     where

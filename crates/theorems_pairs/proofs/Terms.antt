@@ -266,11 +266,11 @@ module _ (p : Program) (s : Schedule) where
   to-way [] past x {k = k} (Returns.more h r) = (k, Returns.more h r, WayBack.one)
   to-way (y ∷ ls) past x back = go (to-way ls (x ∷ past) y back)
     where
-      go : {a m r k : ℕ} → (j : ℕ) × Returns p s (y ∷ (x ∷ past)) a m y j × WayBack p s (y ∷ ls) y j r k →
+      go : {a m z r k : ℕ} → (j : ℕ) × Returns p s (y ∷ (x ∷ past)) a m z j × WayBack p s (y ∷ ls) z j r k →
           (j : ℕ) × Returns p s (x ∷ past) a m x j × WayBack p s (x ∷ (y ∷ ls)) x j r k
       go (j, Returns.more {j = i} h rest, way) = (i, rest, WayBack.more h way)
 
-  of-way : (ls past : List ℕ) (x : ℕ) {a m j r k : ℕ} → Returns p s (x ∷ past) a m x j → WayBack p s (x ∷ ls) x j r k →
+  of-way : (ls past : List ℕ) (x : ℕ) {a m z j r k : ℕ} → Returns p s (x ∷ past) a m z j → WayBack p s (x ∷ ls) z j r k →
       Returns p s (reverse_aux ls (x ∷ past)) a m r k
   of-way [] past x back WayBack.one = back
   of-way (y ∷ ls) past x back (WayBack.more h way) = of-way ls (x ∷ past) y (Returns.more h back) way
@@ -425,7 +425,7 @@ module _ (program schedule : List ℕ) (p : Program) (h : ℕ) (s : Schedule) (c
           back-again : (y : ℕ) (ys : List ℕ) → Returns p s (reverse_aux ys (y ∷ [])) x m r k → WayBack p s (y ∷ ys) x m r k
           back-again y ys t = let w = to-way p s ys [] y t in go w.1 w.2
             where
-              go : {u n j : ℕ} → Returns p s (y ∷ []) u n y j → WayBack p s (y ∷ ys) y j r k → WayBack p s (y ∷ ys) u n r k
+              go : {u n z j : ℕ} → Returns p s (y ∷ []) u n z j → WayBack p s (y ∷ ys) z j r k → WayBack p s (y ∷ ys) u n r k
               go Returns.one way = way
 
       module _ (r : ℕ) (ws : List ℕ) (from : backwards a ≡ r ∷ ws) where

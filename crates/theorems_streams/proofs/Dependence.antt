@@ -109,15 +109,15 @@ answers-alike : {p : Program} {h : ℕ} {counts : List ℕ} {c n n' : ℕ} {cs c
     (answers ≡ answers') × (n ≡ n')
 answers-alike AlikeCalls.none Answered.none Answered.none = (refl, refl)
 answers-alike (AlikeCalls.resets a) (Answered.resets t) (Answered.resets t') =
-    let q = answers-alike a t t' in (ap (λ (os : List (Outcome ℕ)). accepted 0 ∷ os) q.0, q.1)
-answers-alike (AlikeCalls.few l l' a) (Answered.few m t) (Answered.few m' t') =
-    let q = answers-alike a t t' in (ap (λ (os : List (Outcome ℕ)). refuse 23 0 ∷ os) q.0, q.1)
+    let q = answers-alike {c = 0} a t t' in (ap (λ (os : List (Outcome ℕ)). accepted 0 ∷ os) q.0, q.1)
+answers-alike {c = c} (AlikeCalls.few l l' a) (Answered.few m t) (Answered.few m' t') =
+    let q = answers-alike {c = c} a t t' in (ap (λ (os : List (Outcome ℕ)). refuse 23 0 ∷ os) q.0, q.1)
 answers-alike (AlikeCalls.few l l' a) (Answered.few m t) (Answered.runs m' t') = absurd (omega arith)
 answers-alike (AlikeCalls.few l l' a) (Answered.runs m t) t' = absurd (omega arith)
 answers-alike (AlikeCalls.runs l l' a) (Answered.few m t) t' = absurd (omega arith)
 answers-alike (AlikeCalls.runs l l' a) (Answered.runs m t) (Answered.few m' t') = absurd (omega arith)
 answers-alike {h = h} {counts} {c} (AlikeCalls.runs l l' a) (Answered.runs m t) (Answered.runs m' t') =
-    let q = answers-alike a t t' in (ap (λ (os : List (Outcome ℕ)). accepted (get_or counts (c % h) 0) ∷ os) q.0, q.1)
+    let q = answers-alike {c = suc c} a t t' in (ap (λ (os : List (Outcome ℕ)). accepted (get_or counts (c % h) 0) ∷ os) q.0, q.1)
 
 -- A list may end after any of its calls.
 alike-take : {p : Program} {cs cs' : List Call} (n : ℕ) → AlikeCalls p cs cs' → AlikeCalls p (take n cs) (take n cs')

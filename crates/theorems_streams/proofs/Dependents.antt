@@ -106,6 +106,7 @@ any-among test (ρ ∷ ρs) e = go (either (test ρ.operands.signal) (any_read t
 among-any : (test : ℕ → Bool) (ρs : List Read) (ρ : Read) → ρ among ρs → test ρ.operands.signal ≡ true →
     any_read test ρs ≡ true
 unfolding any_read
+among-any test [] ρ m t = elim m [ ]
 among-any test (σ ∷ ρs) ρ (◌among◌.here e) t =
     or_left (test σ.operands.signal) (any_read test ρs) (ap (λ (r : Read). test r.operands.signal) (sym e) ∙ t)
 among-any test (σ ∷ ρs) ρ (◌among◌.later m) t =

@@ -1,7 +1,7 @@
 -- The rows in the image of an accepted pair are the program's; what TABLE yields on it is what it yields in the program, for any
 -- number. Assumes nothing.
 use Prim.Native.Nat.{ℕ, suc, ◌≤◌, ◌<◌}
-use mathlib.Core.Bool.{true, false, false≢true, and-eq-true_iff}
+use mathlib.Core.Bool.{true, false≢true, and-eq-true_iff}
 use mathlib.Core.List.{List}
 use mathlib.Core.Logic.{◌⊎◌, inl, inr}
 use mathlib.Core.Path.{◌≡◌, refl, sym, subst, ◌∙◌}

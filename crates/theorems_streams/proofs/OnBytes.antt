@@ -311,8 +311,9 @@ module _ (p : Program) (s : Schedule) (h : ℕ) (acc : Feasible p s) (whole : Mu
       (log_of p log' cs)
   unfolding after log_after call_of
   calls-shown [] x = x
-  calls-shown (reset ∷ cs) x = calls-shown cs (reset-shown x)
-  calls-shown (cycle samples ∷ cs) x = calls-shown cs (cycle-shown samples x)
+  calls-shown {state = state} (reset ∷ cs) x = calls-shown {state = (reset_of (image_of p s h) state).left} cs (reset-shown x)
+  calls-shown {state = state} (cycle samples ∷ cs) x =
+      calls-shown {state = (cycle_of (image_of p s h) state samples).left} cs (cycle-shown samples x)
 
   -- In a state that is ready, after the cycles of the log, no call of a list is refused but a cycle with too few samples.
   calls-answered : (cs : List Call) (state : List ℤ) (log : List (List ℤ)) → Ready p h state →

@@ -64,15 +64,16 @@ pub list-alike : {image tail lent : List ℕ} → well_formed image ≡ true →
     (cs : List Call) → after lent state cs ≡ after image state cs
 unfolding after
 list-alike f b state [] = refl
-list-alike {image} f b state (c ∷ cs) =
-    list-alike f b _ cs ∙ ap (λ (e : Effect ℕ ℤ). after image e.left cs) (call-alike f b state c)
+list-alike {image} {lent = lent} f b state (c ∷ cs) =
+    list-alike f b (call_of lent state c).left cs ∙ ap (λ (e : Effect ℕ ℤ). after image e.left cs) (call-alike f b state c)
 
 pub log-alike : {image tail lent : List ℕ} → well_formed image ≡ true → Bears image tail lent → (state : List ℤ)
     (log : List (List ℤ)) (cs : List Call) → log_after lent state log cs ≡ log_after image state log cs
 unfolding log_after
 log-alike f b state log [] = refl
-log-alike {image} f b state log (c ∷ cs) =
-    log-alike f b _ _ cs ∙
+log-alike {image} {lent = lent} f b state log (c ∷ cs) =
+    let e = call_of lent state c in
+    log-alike f b e.left (logged c e.answer log) cs ∙
     ap (λ (e : Effect ℕ ℤ). log_after image e.left (logged c e.answer log) cs) (call-alike f b state c)
 
 pub answers-alike : {image tail lent : List ℕ} → well_formed image ≡ true → Bears image tail lent → (state : List ℤ)
@@ -80,5 +81,5 @@ pub answers-alike : {image tail lent : List ℕ} → well_formed image ≡ true 
 unfolding answers_of
 answers-alike f b state [] = refl
 answers-alike {image} {lent = lent} f b state (c ∷ cs) =
-    ap (λ (rest : List (Outcome ℕ)). (call_of lent state c).answer ∷ rest) (answers-alike f b _ cs) ∙
+    ap (λ (rest : List (Outcome ℕ)). (call_of lent state c).answer ∷ rest) (answers-alike f b (call_of lent state c).left cs) ∙
     ap (λ (e : Effect ℕ ℤ). e.answer ∷ answers_of image e.left cs) (call-alike f b state c)

@@ -39,7 +39,6 @@ use Rattle.theorems_trials.specs.TrialRefusals.{
   WrongSet,
 }
 use Rattle.model.specs.declared.ScriptCommand.{ScriptCommand}
-use Rattle.model.specs.declared.ScriptCommand.TheVariants as ScriptCommand
 use Rattle.model.proofs.Bench.Scripts.{past, step}
 use Rattle.theorems_pairs.proofs.Judged.{Judged, Only, provided-judged}
 

@@ -274,13 +274,13 @@ last_empty (LastSet.last (c ∷ before) after at w e free) = let z : ◌≡◌ {
 last_empty (LastSet.none free) = refl
 
 module _ (x m : ℕ) (after : List Action) where
-  sample-last : {n : ℕ} {w : ℤ} (before : List Action) (samples : List ℤ) → x < length samples → Makes before n → (t : ℕ) →
+  sample-last : (before : List Action) {n : ℕ} {w : ℤ} (samples : List ℤ) → x < length samples → Makes before n → (t : ℕ) →
       n ≤ t → t < n + m → LastSet x (get_or samples x (pos 0)) before w →
       get_or (samples_at (calls_from samples (before ++ (run m ∷ after))) t) x (pos 0) ≡ w
   unfolding calls_from
   sample-last [] samples inside Makes.none t from to latest =
       ap (λ l. get_or l x (pos 0)) (run_at m samples (calls_from samples after) t (omega arith)) ∙ last_empty latest
-  sample-last {n} {w} (alter at y u ∷ before) samples inside (Makes.sets r) t from to latest =
+  sample-last (alter at y u ∷ before) {w = w} samples inside (Makes.sets r) t from to latest =
       sample-last before (set samples y u) (omega (arith, length-set samples y u)) r t from to (go (eqb y x) refl)
     where
       go : (b : Bool) → eqb y x ≡ b → LastSet x (get_or (set samples y u) x (pos 0)) before w

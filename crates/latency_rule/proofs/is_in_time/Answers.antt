@@ -1,0 +1,6 @@
+-- `latency_rule::is_in_time` meets its contract. Assumes nothing.
+use borrow.Author.Rules.{rules}
+use Rattle.latency_rule.proofs.is_in_time.Goals as goal
+
+pub returns-in-At : goal.returns-in-At
+returns-in-At c = rw c.in-At.is

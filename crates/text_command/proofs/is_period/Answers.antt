@@ -1,0 +1,9 @@
+-- `text_command::is_period` meets its contract. Assumes nothing.
+use borrow.Author.Tests.{le-leb, lt-leb}
+use Rattle.text_command.proofs.is_period.Goals as goal
+
+pub returns-then-n-ge1 : goal.returns-then-n-ge1
+returns-then-n-ge1 c = rw (le-leb 1 _ c.if-n-ge1.true)
+
+pub returns-else-n-ge1 : goal.returns-else-n-ge1
+returns-else-n-ge1 c = rw (lt-leb 1 _ c.if-n-ge1.false)
