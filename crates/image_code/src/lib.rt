@@ -88,7 +88,7 @@ pub fn emit_expressions(
 ) -> Emitted
     requires rooms { Rooms depth text.now.now at (length out.old.now) to number 0 }
     requires counted { length text.now.now < 2 ^ 64 }
-    ensures same { out.new.name ≡ out.old.name }
+    ensures same { out.new.ghost_name ≡ out.old.ghost_name }
     ensures emits_all { EmitsAll text.now.now at number out.old.now to
         out.new.now result.next result.end }
 {

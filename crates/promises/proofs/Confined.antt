@@ -432,16 +432,19 @@ pub confined : {k : ℕ} {s s' : Scene} {es es' : List Event} → SceneBut k s s
 unfolding answers_in after_events
 confined h EventsBut.none = record { answers = refl; scene = h }
 confined {k} {s} {s'} h (EventsBut.loads j start size a) =
-    confined-after (ap call (load_same k s s' h j start size).answer) (confined (after-load k s s' h j start size) a) refl refl
-    refl refl
+    let next = confined {s = after_event s (load j start size)} (after-load k s s' h j start size) a in
+    confined-after (ap call (load_same k s s' h j start size).answer) next refl refl refl refl
 confined {k} {s} {s'} h (EventsBut.marks j a) =
-    confined-after (ap (λ (b : Board). call (mark_place_of b j).answer) h.board) (confined (after-mark k s s' h j) a) refl refl
-    refl refl
+    let next = confined {s = after_event s (mark j)} (after-mark k s s' h j) a in
+    confined-after (ap (λ (b : Board). call (mark_place_of b j).answer) h.board) next refl refl refl refl
 confined {k} {s} {s'} h (EventsBut.few {samples = samples} {samples'} l l' a) =
     let c = few-same k s s' h samples samples' l l' in
-    confined-after (ap turned c.answer) (confined (after_turn k s s' h samples samples' c) a) refl refl refl refl
+    let next = confined {s = after_event s (turn samples)} (after_turn k s s' h samples samples' c) a in
+    confined-after (ap turned c.answer) next refl refl refl refl
 confined {k} {s} {s'} h (EventsBut.turns {samples = samples} {samples'} l l' same a) =
     let c = turn-same k s s' h samples samples' l l' same in
-    confined-after (ap turned c.answer) (confined (after_turn k s s' h samples samples' c) a) refl refl refl refl
+    let next = confined {s = after_event s (turn samples)} (after_turn k s s' h samples samples' c) a in
+    confined-after (ap turned c.answer) next refl refl refl refl
 confined {k} {s} {s'} h (EventsBut.changes {state = state} {state'} images c a) =
-    let r = confined (after-change k s s' h images state state' c) a in record { answers = r.answers; scene = r.scene }
+    let r = confined {s = after_event s (change images state)} (after-change k s s' h images state state' c) a in
+    record { answers = r.answers; scene = r.scene }

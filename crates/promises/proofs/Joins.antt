@@ -9,7 +9,7 @@ use Rattle.model.specs.Rules.Machine.{stretch}
 use Rattle.promises.specs.Joins.{RequestK}
 use Rattle.theorems_calls.specs.Exactness.{size_of}
 use Rattle.board.proofs.Promises.{place-cycles}
-use Rattle.board.proofs.Lists.{four, numbers-place-alone}
+use Rattle.board.proofs.Lists.{numbers-place-alone}
 use Rattle.promises.proofs.BoardCourses.{answers-alone}
 use Rattle.promises.proofs.Places.{place-holds}
 use Rattle.theorems_joins.proofs.Alike as JoinAlike

@@ -48,6 +48,7 @@ use Rattle.promises.specs.Moves.{SettlesIn, SettlesAsBefore, MayGo, move_to, Bef
 
 -- Membership in joined lists.
 none_in : {A : Type 0} (e : A) (xs : List A) → e among xs → 0 < length xs
+none_in e [] m = elim m [ ]
 none_in e (x ∷ xs) (◌among◌.here q) = omega arith
 none_in e (x ∷ xs) (◌among◌.later m) = omega arith
 
@@ -56,6 +57,7 @@ none-among e m = omega (arith, none_in e [] m)
 
 module _ {A : Type 0} where
   among-left : {e : A} (xs ys : List A) → e among xs → e among (xs ++ ys)
+  among-left [] ys m = elim m [ ]
   among-left (x ∷ xs) ys (◌among◌.here q) = ◌among◌.here q
   among-left (x ∷ xs) ys (◌among◌.later m) = ◌among◌.later (among-left xs ys m)
 

@@ -28,7 +28,6 @@ use Rattle.model.specs.Rules.Word.{AreBytes}
 use Rattle.model.specs.declared.Fault.{Fault}
 use Rattle.model.specs.declared.Sizes.{Sizes}
 use Rattle.promises.specs.Reports.{RequestA}
-use Rattle.board.proofs.Alone.{same}
 use Rattle.model.proofs.Images.Counts.{counts-length, counts-at, counts_past}
 use Rattle.model.proofs.Images.Stretches.{image-length}
 use Rattle.model.proofs.Images.Tails.{lent-formed, written-length}

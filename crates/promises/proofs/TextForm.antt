@@ -1,6 +1,5 @@
 -- The text form. Assumes nothing.
 use Rattle.promises.specs.TextForm.{TextForm}
-use Rattle.model.proofs.Texts.Legal.{legal}
 use Rattle.theorems_examples.proofs.FormExamples as FormExamples
 use Rattle.theorems_forms.proofs.FormCalls as Calls
 use Rattle.theorems_forms.proofs.FormLegal as Legal

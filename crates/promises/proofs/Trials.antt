@@ -3,9 +3,7 @@ use mathlib.Core.Path.{refl, sym, subst}
 use lib.ListN.{length}
 use Rattle.promises.specs.Trials.{RequestE}
 use Rattle.theorems_trials.specs.Trials.{Makes, SetInputs}
-use Rattle.board.proofs.Alone.{same}
 use Rattle.model.proofs.Pairs.Verdict.{pair-bounded}
-use Rattle.model.proofs.Texts.Legal.{legal}
 use Rattle.theorems_pairs.proofs.Exact as Pairs
 use Rattle.theorems_trials.proofs.Decimals as Decimals
 use Rattle.theorems_trials.proofs.Scripts.{script-actions}

@@ -1,7 +1,7 @@
 -- The faults that a check collects, as a relation: the check accepts where there is none, and refuses with the one at the
 -- lowest place. Assumes nothing.
 use Prim.Native.Nat.{ℕ, zero, suc, ◌+◌, ◌≤◌, ◌<◌}
-use mathlib.Core.Bool.{Bool, false, cond}
+use mathlib.Core.Bool.{Bool, true, false, cond}
 use mathlib.Core.List.{List, [], ◌∷◌, ◌++◌}
 use mathlib.Core.Logic.{◌⊎◌, inl, inr}
 use mathlib.Core.Path.{◌≡◌, refl, sym, ap, subst}
@@ -19,7 +19,7 @@ use Rattle.model.proofs.Basics.Outcomes.{Lowest, lowest-none, none-lowest, lowes
 -- Elements of lists.
 module _ {A : Type 0} where
   pub among-at : (x : A) (xs : List A) (d : A) → x among xs → (j : ℕ) × (j < length xs) × (get_or xs j d ≡ x)
-  among-at x [] d x'' = elim x'' [ ]
+  among-at x [] d m = elim m [ ]
   among-at x (y ∷ ys) d (◌among◌.here e) = (0, omega arith, sym e)
   among-at x (y ∷ ys) d (◌among◌.later m) =
       let h = among-at x ys d m in (suc h.0, omega (arith, h.1), h.2)
@@ -30,7 +30,7 @@ module _ {A : Type 0} where
   at-among (y ∷ ys) d (suc j) lt = ◌among◌.later (at-among ys d j (omega arith))
 
   pub all_among : (Q : A → Type 0) (xs : List A) → All Q xs → (x : A) → x among xs → Q x
-  all_among Q [] h x x4 = elim x4 [ ]
+  all_among Q [] h x m = elim m [ ]
   all_among Q (y ∷ ys) h x (◌among◌.here e) = subst Q (sym e) h.0
   all_among Q (y ∷ ys) h x (◌among◌.later m) = all_among Q ys h.1 x m
 
@@ -43,7 +43,7 @@ module _ {A : Type 0} where
   among_none (y ∷ ys) h = absurd (h y (◌among◌.here refl))
 
   pub none-among : (xs : List A) (x : A) → xs ≡ [] → ¬ (x among xs)
-  none-among [] x e x4 = elim x4 [ ]
+  none-among [] x e m = elim m [ ]
   none-among (y ∷ ys) x e (◌among◌.here q) = absurd (omega (arith, ap length e))
   none-among (y ∷ ys) x e (◌among◌.later m) = absurd (omega (arith, ap length e))
 
@@ -57,7 +57,7 @@ module _ {A : Type 0} where
       go (inr n) = inr n
 
   pub append_left : (x : A) (xs ys : List A) → x among xs → x among (xs ++ ys)
-  append_left x [] ys x'' = elim x'' [ ]
+  append_left x [] ys m = elim m [ ]
   append_left x (z ∷ xs) ys (◌among◌.here e) = ◌among◌.here e
   append_left x (z ∷ xs) ys (◌among◌.later m) = ◌among◌.later (append_left x xs ys m)
 
@@ -68,9 +68,9 @@ module _ {A : Type 0} where
 -- A test that fails puts one element into the list.
 module _ {A : Type 0} where
   pub among-cond : (t : Bool) (x y : A) → x among (cond t [] (y ∷ [])) → (t ≡ false) × (x ≡ y)
-  among-cond false x y (Rattle.theorems_pairs.specs.Conditions.later x6) = elim x6 [ ]
-  among-cond mathlib.Core.Bool.true x y x4 = elim x4 [ ]
+  among-cond true x y m = elim m [ ]
   among-cond false x y (◌among◌.here e) = (refl, e)
+  among-cond false x y (◌among◌.later m) = elim m [ ]
 
   pub cond-among : (t : Bool) (x : A) → t ≡ false → x among (cond t [] (x ∷ []))
   cond-among t x e = rw e (◌among◌.here refl)

@@ -165,9 +165,9 @@ module _ (p : Program) where
       go : (a b : Bool) → ltb ρ.operands.signal (count p) ≡ a → period_rule ρ.kind w v n ≡ b →
           f among (cond a (cond b [] (fault 8 ρ.place ∷ [])) (fault 7 ρ.place ∷ [])) →
           RateFault p f
-      go false b d e (Rattle.theorems_pairs.specs.Conditions.later x6) = elim x6 [ ]
-      go true false d e (Rattle.theorems_pairs.specs.Conditions.later x8) = elim x8 [ ]
-      go true true d e x6 = elim x6 [ ]
+      go false b d e (◌among◌.later m) = elim m [ ]
+      go true false d e (◌among◌.later m) = elim m [ ]
+      go true true d e m = elim m [ ]
       go true false d e (◌among◌.here q) =
           rw q (RateFault.broken_rule r ρ i (ltb-true _ _ d) (λ k. false≢true (sym e ∙ true-periods ρ.kind w v n k)))
       go false b d e (◌among◌.here q) =

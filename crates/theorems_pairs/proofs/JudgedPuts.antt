@@ -101,10 +101,10 @@ module _ (p : Program) where
             f among (cond a (cond b (fault 12 q.place ∷ []) (cond c [] (fault 13 q.place ∷ [])))
             (fault 12 q.place ∷ [])) →
             FaultAt all (length before) f.number × (f.place ≡ q.place)
-        go false b c d e g (Rattle.theorems_pairs.specs.Conditions.later x7) = elim x7 [ ]
-        go true false false d e g (Rattle.theorems_pairs.specs.Conditions.later x10) = elim x10 [ ]
-        go true false true d e g x8 = elim x8 [ ]
-        go true true c d e g (Rattle.theorems_pairs.specs.Conditions.later x10) = elim x10 [ ]
+        go false b c d e g (◌among◌.later m) = elim m [ ]
+        go true false false d e g (◌among◌.later m) = elim m [ ]
+        go true false true d e g m = elim m [ ]
+        go true true c d e g (◌among◌.later m) = elim m [ ]
         go false b c d e g (◌among◌.here s) =
             rw s (FaultAt.undeclared (rw here (λ k. false≢true (sym d ∙ lt-ltb _ _ k))), refl)
         go true true c d e g (◌among◌.here s) = rw s (not-fresh e, refl)

@@ -2,15 +2,15 @@
 use mathlib.Core.List.{◌++◌}
 use mathlib.Core.Logic.{◌⊎◌, inl, inr}
 use mathlib.Core.Path.{refl, subst}
-use Rattle.model.specs.Rules.Program.{Expr, read, binary, unary, choose, Read, reads_of}
+use Rattle.model.specs.Rules.Program.{Expr, constant, read, binary, unary, choose, Read, reads_of}
 use Rattle.theorems_pairs.specs.Conditions.{◌among◌}
 use Rattle.theorems_pairs.specs.Subexpression.{Subexpression}
 use Rattle.theorems_pairs.proofs.Faults.{among-append, append_left, append_right}
 
 pub among-part : (e : Expr) (ρ : Read) → ρ among reads_of e → Subexpression (read ρ) e
 unfolding reads_of
-among-part (Rattle.model.specs.Rules.Program.constant _) ρ m = elim m [ ]
-among-part (read σ) ρ (Rattle.theorems_pairs.specs.Conditions.later x5) = elim x5 [ ]
+among-part (constant _) ρ m = elim m [ ]
+among-part (read σ) ρ (◌among◌.later m) = elim m [ ]
 among-part (read σ) ρ (◌among◌.here e) = subst (λ (τ : Read). Subexpression (read ρ) (read τ)) e Subexpression.whole
 among-part (binary operator x y) ρ m = go (among-append ρ (reads_of x) (reads_of y) m) (among-part x ρ) (among-part y ρ)
   where
@@ -35,7 +35,7 @@ among-part (choose x y z) ρ m =
 
 pub part-among : (e : Expr) (ρ : Read) → Subexpression (read ρ) e → ρ among reads_of e
 unfolding reads_of
-part-among (Rattle.model.specs.Rules.Program.constant _) σ x'' = elim x'' [ ]
+part-among (constant _) σ m = elim m [ ]
 part-among (read ρ) σ Subexpression.whole = ◌among◌.here refl
 part-among (binary operator x y) ρ (Subexpression.left s) = append_left ρ (reads_of x) (reads_of y) (part-among x ρ s)
 part-among (binary operator x y) ρ (Subexpression.right s) = append_right ρ (reads_of x) (reads_of y) (part-among y ρ s)

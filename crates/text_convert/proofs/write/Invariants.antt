@@ -1,0 +1,16 @@
+-- `text_convert::write` meets its contract. Assumes nothing.
+use Prim.Native.Nat.{◌≤◌}
+use native.Mathlib.Omega.{arith}
+use borrow.Author.Rules.{rules}
+use lib.ListN.{length}
+use Rattle.model.specs.Rules.Rewrite.{rewrite_from, rewrite}
+use Rattle.model.proofs.Basics.Left.{Left, starts, room, turn, done}
+use Rattle.text_convert.proofs.Walk.{Turn, turn-of, rewrite-starts, rewrite-ends}
+use Rattle.text_convert.proofs.write.Given as goal
+
+abbrev pub invariant-loop-left : goal.invariant-loop-left
+invariant-loop-left l =
+    (l.at ≤ length l.text) × Left l.initial.out 0 (rewrite l.text) l.out l.to (rewrite_from l.left l.text l.at)
+
+abbrev pub decreases-loop-left : goal.decreases-loop-left
+decreases-loop-left l = l.left

@@ -1,0 +1,57 @@
+-- `text_list::list_token` meets its contract. Assumes nothing.
+use Prim.Native.Nat.{ℕ, ◌+◌, ◌<◌}
+use mathlib.Core.List.{List, [], ◌∷◌}
+use mathlib.Core.Path.{◌≡◌, sym, ap, ◌∙◌}
+use native.Mathlib.Omega.{arith}
+use borrow.Author.Rules.{rules}
+use Rattle.model.specs.Rules.Word.{byte_at}
+use Rattle.text_keyword.specs.Cells.{all_cells, cells, operand_by, pending_at}
+use Rattle.text_keyword.proofs.Rows.{pending-none, pending-more}
+use Rattle.text_list.proofs.list_token.Goals as goal
+use Rattle.text_list.proofs.list_token.Goals.{After-cell-number, After-operand_by-operand, Else-number-eq0, Then-number-eq0}
+
+-- the number of the next operand
+number : (e : After-cell-number) → let s = e in e.cell-number.result ≡ byte_at cells s.args.pending
+number e =
+    let s = e in
+    e.cell-number.ensures ∙ ap (λ (t : List ℕ). byte_at t s.args.pending) s.requires.0
+
+none : (t : Then-number-eq0) → let s = t in pending_at s.args.pending ≡ []
+none t = let s = t in pending-none s.args.pending
+    (sym (number (goal.at.Then-number-eq0 t).After-cell-number) ∙ t.if-number-eq0.true)
+
+more : (e : Else-number-eq0) → let s = e in
+    (s.args.pending < all_cells) ×
+    (pending_at s.args.pending ≡ operand_by (byte_at cells s.args.pending) ∷ pending_at (s.args.pending + 1))
+more e =
+    let s = e in
+    pending-more s.args.pending (λ q. e.if-number-eq0.false (number (goal.at.Else-number-eq0 e).After-cell-number ∙ q))
+
+operand : (o : After-operand_by-operand) → let s = o in
+    pending_at s.args.pending ≡ o.operand_by-operand.result ∷ pending_at (s.args.pending + 1)
+operand o =
+    let e = (goal.at.After-operand_by-operand o).Else-number-eq0 in
+    let s = o in
+    (more e).1 ∙
+    ap (λ x. x ∷ pending_at (s.args.pending + 1)) (sym (o.operand_by-operand.ensures ∙ ap operand_by (number (goal.at.Else-number-eq0 e).After-cell-number)))
+
+pub list_keyword-requires : goal.list_keyword-requires
+list_keyword-requires c =
+    let t = (goal.at.list_keyword-requires c).Then-number-eq0 in
+    let s = c in
+    (s.requires.0, s.requires.1, rw (none t) at s.requires.2)
+
+pub returns-then-number-eq0 : goal.returns-then-number-eq0
+returns-then-number-eq0 c = let l = c in rw (none (goal.at.returns-then-number-eq0 l).Then-number-eq0) l.list_keyword.ensures
+
+pub list_operand-requires : goal.list_operand-requires
+list_operand-requires c =
+    let o = (goal.at.list_operand-requires c).After-operand_by-operand in
+    let s = c in
+    (s.requires.0, s.requires.1, rw (operand o) at s.requires.2)
+
+pub returns : goal.returns
+returns c = let l = c in rw (operand (goal.at.returns l).After-operand_by-operand) l.list_operand.ensures
+
+pub overflow_add-next : goal.overflow_add-next
+overflow_add-next c = omega (arith, (more (goal.at.overflow_add-next c).Else-number-eq0).0)

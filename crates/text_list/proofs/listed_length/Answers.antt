@@ -1,0 +1,106 @@
+-- `text_list::listed_length` meets its contract. Assumes nothing.
+use Prim.Native.Nat.{◌-◌}
+use mathlib.Core.Path.{◌≡◌, refl, sym, ap, ◌∙◌}
+use native.Mathlib.Omega.{arith}
+use borrow.Author.Rules.{rules}
+use lib.ListN.{length}
+use Rattle.model.specs.Rules.TextForm.{listed_at}
+use Rattle.model.specs.Rules.Word.{AreBytes}
+use Rattle.text_keyword.specs.Cells.{pending_at}
+use Rattle.text_keyword.specs.Written.{length_answer}
+use Rattle.text_list.proofs.Walk.{
+  Short,
+  is-short,
+  room-short,
+  Told,
+  puts-fine,
+  puts-fault,
+  Measured,
+  measured-starts,
+  measured-next,
+  measured-refused,
+  measured-ends,
+}
+use Rattle.text_list.proofs.listed_length.Goals as goal
+use Rattle.text_list.proofs.listed_length.Goals.{At-loop-at, In_default, Start}
+
+abbrev start : At-loop-at → Start
+start l = (goal.at.At-loop-at l).Start
+
+are : (l : At-loop-at) → AreBytes (start l).args.bytes.now
+are l = λ i. omega (arith, l.shared_slice_known-2-1.given i)
+
+pub list_token-put-requires : goal.list_token-put-requires
+list_token-put-requires c =
+    let l = (goal.at.list_token-put-requires c).At-loop-at in (
+      (start l).requires.0,
+      omega arith,
+      room-short (start l).args.bytes.now (are l) l.loop-at.at (pending_at l.loop-at.pending)
+          l.loop-at.token (omega (arith, l.loop-at.invariant.0)),
+    )
+
+pub returns-in-Refused : goal.returns-in-Refused
+returns-in-Refused c =
+    let j = c in
+    let p = c in
+    let l = (goal.at.returns-in-Refused c).At-loop-at in
+    let bytes = (start l).args.bytes.now in
+    sym (ap length_answer
+    (measured-refused bytes l.loop-at.at l.loop-at.pending l.loop-at.total _ l.loop-at.invariant.1 (omega arith)
+    (puts-fault (listed_at bytes l.loop-at.at (pending_at l.loop-at.pending)) l.loop-at.at 0 _ _ p.list_token-put.result _
+    p.list_token-put.ensures j.in-Refused.is)))
+
+-- what was put
+told : (t : In_default) → let p = t in
+    let l = (goal.at.In_default t).At-loop-at in
+    Told (listed_at (start l).args.bytes.now l.loop-at.at (pending_at l.loop-at.pending)) l.loop-at.at l.loop-at.token
+    p.list_token-put.new.out p.list_token-put.result
+told t =
+    let p = t in
+    let l = (goal.at.In_default t).At-loop-at in
+    puts-fine (listed_at (start l).args.bytes.now l.loop-at.at (pending_at l.loop-at.pending)) l.loop-at.at l.loop-at.token
+    p.list_token-put.new.out p.list_token-put.result p.list_token-put.ensures t.in_default.is
+
+short : (t : In_default) → let l = t in
+    Short l.loop-at.at (told t).x
+short t =
+    let l = (goal.at.In_default t).At-loop-at in
+    is-short (start l).args.bytes.now (are l) l.loop-at.at (pending_at l.loop-at.pending) (told t).x (told t).listed
+
+pub loop-at-preserved : goal.loop-at-preserved
+loop-at-preserved c =
+    let t = (goal.at.loop-at-preserved c).In_default in
+    let p = c in
+    let l = (goal.at.loop-at-preserved c).At-loop-at in
+    let r = p.list_token-put.result in
+    let h = told t in (
+      h.same ∙ l.loop-at.invariant.0,
+      measured-next (start l).args.bytes.now l.loop-at.at l.loop-at.pending l.loop-at.total r.next r.width
+          r.end h.x
+          (are l) l.loop-at.invariant.1 (omega arith) h.listed h.pending h.width h.end,
+    )
+
+pub overflow_add-total : goal.overflow_add-total
+overflow_add-total c =
+    let t = (goal.at.overflow_add-total c).In_default in
+    let l = (goal.at.overflow_add-total c).At-loop-at in
+    omega (arith, l.loop-at.invariant.1.low, (start l).requires.1, (told t).end, (short t).short)
+
+pub overflow_add-at : goal.overflow_add-at
+overflow_add-at c = let t = (goal.at.overflow_add-at c).In_default in omega (arith, (told t).width, (short t).narrow)
+
+pub loop-at-smaller : goal.loop-at-smaller
+loop-at-smaller c = let t = (goal.at.loop-at-smaller c).In_default in omega (arith, (told t).width, (short t).some)
+
+pub returns : goal.returns
+returns c =
+    let l = (goal.at.returns c).At-loop-at in
+    c.ended_length.ensures ∙
+    sym (measured-ends (start l).args.bytes.now l.loop-at.at l.loop-at.pending l.loop-at.total l.loop-at.invariant.1
+    (omega arith))
+
+pub loop-at-init : goal.loop-at-init
+loop-at-init c = (refl, measured-starts c.args.bytes.now)
+
+pub slice_bounds-list_token-end : goal.slice_bounds-list_token-end
+slice_bounds-list_token-end c = sym c.loop-at.invariant.0

@@ -1,0 +1,14 @@
+-- `text_list::value_at` meets its contract. Assumes nothing.
+use Prim.Native.Nat.{ℕ, ◌+◌, ◌*◌, ◌-◌, ◌^◌, ◌≤◌, ◌<◌}
+use mathlib.Core.Path.{◌≡◌, sym, ap, ◌∙◌}
+use native.Mathlib.Omega.{arith}
+use borrow.Author.Rules.{rules}
+use Rattle.model.specs.Rules.TextForm.{low_at}
+use Rattle.text_list.proofs.Writes.{low-next, low_small, low-none, power_small}
+use Rattle.text_list.proofs.value_at.Given as goal
+
+abbrev pub invariant-loop-i : goal.invariant-loop-i
+invariant-loop-i l = (l.i ≤ l.n) × (l.value ≡ low_at (l.n - l.i) l.bytes (l.at + l.i))
+
+abbrev pub decreases-loop-i : goal.decreases-loop-i
+decreases-loop-i l = l.i

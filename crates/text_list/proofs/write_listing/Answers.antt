@@ -1,0 +1,92 @@
+-- `text_list::write_listing` meets its contract. Assumes nothing.
+use Prim.Native.Nat.{◌+◌, ◌-◌, ◌≤◌, ◌<◌}
+use mathlib.Core.List.{◌∷◌, []}
+use mathlib.Core.Path.{refl}
+use native.Mathlib.Omega.{arith}
+use lib.ListN.{length, length-set}
+use Rattle.model.specs.Rules.TextForm.{listing}
+use Rattle.model.specs.Rules.Word.{AreBytes}
+use Rattle.model.proofs.Basics.Left.{Left, room, turn, done}
+use Rattle.text_keyword.specs.Written.{bytes_written}
+use Rattle.text_list.proofs.Walk.{
+  Writing,
+  writing-starts,
+  writing-room,
+  writing-next,
+  next-width,
+  writing-last,
+  fits-written,
+  newline-parts,
+}
+use Rattle.text_list.proofs.write_listing.Goals as goal
+use Rattle.text_list.proofs.write_listing.Goals.{After-loop-at, After-struct_known-1, At-loop-at, Start}
+
+abbrev start : At-loop-at → Start
+start l = (goal.at.At-loop-at l).Start
+
+are : (l : At-loop-at) → AreBytes (start l).args.bytes.now
+are l = λ i. omega (arith, l.shared_slice_known-2-1.given i)
+
+pub list_token-put-requires : goal.list_token-put-requires
+list_token-put-requires c =
+    let l = (goal.at.list_token-put-requires c).At-loop-at in
+    let s = c in (
+      s.requires.0,
+      omega arith,
+      writing-room s.args.bytes.now s.args.out.now l.loop-at.at l.loop-at.pending l.loop-at.out l.loop-at.to
+          l.loop-at.invariant (omega arith) s.requires.1,
+    )
+
+width : (c : After-struct_known-1) → let p = c in
+    (0 < p.list_token-put.result.width) × (p.list_token-put.result.width ≤ 4)
+width c =
+    let p = c in
+    let l = (goal.at.After-struct_known-1 c).At-loop-at in
+    let s = c in
+    next-width s.args.bytes.now s.args.out.now l.loop-at.at l.loop-at.pending l.loop-at.out l.loop-at.to
+    l.loop-at.invariant (omega arith) _ p.list_token-put.result p.list_token-put.ensures (are l)
+
+pub loop-at-preserved : goal.loop-at-preserved
+loop-at-preserved c =
+    let p = c in
+    let l = (goal.at.loop-at-preserved c).At-loop-at in
+    let s = c in
+    writing-next s.args.bytes.now s.args.out.now l.loop-at.at l.loop-at.pending l.loop-at.out l.loop-at.to
+    l.loop-at.invariant (omega arith) _ p.list_token-put.result p.list_token-put.ensures (are l)
+
+-- the newline
+last : (e : After-loop-at) → let l = (goal.at.After-loop-at e).At-loop-at in
+    let s = e in
+    Left s.args.out.now 0 (bytes_written (listing s.args.bytes.now)) l.loop-at.out l.loop-at.to (10 ∷ [])
+last e =
+    let l = (goal.at.After-loop-at e).At-loop-at in
+    let s = e in
+    writing-last s.args.bytes.now s.args.out.now l.loop-at.at l.loop-at.pending l.loop-at.out l.loop-at.to
+    l.loop-at.invariant (omega arith)
+
+space : (e : After-loop-at) → e.loop-at.to + 1 ≤ length e.loop-at.out
+space e =
+    let s = e in
+    room newline-parts (last e) (fits-written s.args.bytes.now s.args.out.now s.requires.1)
+
+pub returns : goal.returns
+returns c = done refl (turn newline-parts (last c) (record { holds = refl; ends = refl }))
+
+pub loop-at-init : goal.loop-at-init
+loop-at-init c = let s = c in writing-starts s.args.bytes.now
+    s.args.out.now s.requires.1
+
+pub overflow_add-at : goal.overflow_add-at
+overflow_add-at c = omega (arith, width c)
+
+pub loop-at-smaller : goal.loop-at-smaller
+loop-at-smaller c = omega (arith, width c)
+
+pub bounds-out-to : goal.bounds-out-to
+bounds-out-to c = omega (arith, space c)
+
+pub overflow_add-result : goal.overflow_add-result
+overflow_add-result c = omega (arith, space c, c.loop-at.invariant.remains.size)
+
+pub shape_of-out : goal.shape_of-out
+shape_of-out c = simp length-set c.loop-at.invariant.remains.size
