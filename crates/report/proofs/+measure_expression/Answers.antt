@@ -42,10 +42,10 @@ module _ (t : ℕ) (c : After-operator_at-decoded t ) where
   depth = c.args.depth
 
   nests : Nests depth text at
-  nests = c.requires.1.0
+  nests = c.requires.0
 
   short : length text ≤ 8192
-  short = c.requires.1.1
+  short = c.requires.1
 
   module _ (o : Operator) (e : c.operator_at-decoded.result ≡ o) where
     is : operator_at text at ≡ o
@@ -61,7 +61,7 @@ module _ (t : ℕ) (c : After-operator_at-decoded t ) where
     all = operands o is nests
 
 pub operator_at-decoded-requires : goal.operator_at-decoded-requires
-operator_at-decoded-requires t c = spells-stands c.requires.1.0.spelled
+operator_at-decoded-requires t c = spells-stands c.requires.0.spelled
 
 pub overflow_add-at : goal.overflow_add-at
 overflow_add-at t c = omega (
@@ -305,5 +305,5 @@ returns-in-If t c =
     c.joined-operands-in-If.ensures) c.operated-in-If.ensures
 
 pub returns-in_default : goal.returns-in_default
-returns-in_default t c = absurd (no-operator c.operator_at-decoded.result (opened c.in_default.in_default-own.keys6)
+returns-in_default t c = absurd (no-operator c.operator_at-decoded.result c.in_default.in_default-own.keys6
     (operator-stands _ (is t (goal.at.returns-in_default t c).After-operator_at-decoded _ refl) (nests t (goal.at.returns-in_default t c).After-operator_at-decoded)))

@@ -17,7 +17,7 @@ use Rattle.report.proofs.measure_signal.Goals.{After-measure_expression-value, S
 
 -- where the signal's declaration stands
 inside : (s : Start) → let a = s.args in
-    (a.place < length a.t1.now) × (byte_at a.t1.now a.place ≡ 0x11 → a.place + 8 ≤ length a.t1.now)
+    (a.place < length a.text.now) × (byte_at a.text.now a.place ≡ 0x11 → a.place + 8 ≤ length a.text.now)
 inside s = let h = s.requires.0 in place_inside _ _ h.signal h.stands h.spelled
 
 -- a signal with an equation
@@ -26,7 +26,7 @@ module _ (c : Then-text-place-eq17) where
   start = (goal.at.Then-text-place-eq17 c).Start
 
   abbrev text : List ℕ
-  text = start.args.t1.now
+  text = start.args.text.now
 
   abbrev place : ℕ
   place = start.args.place

@@ -11,36 +11,36 @@ use Rattle.model.specs.declared.Kind.TheVariants.{Now}
 use Rattle.read_rule.specs.Reads.{met_by}
 use Rattle.text_program.specs.Tables.{rate_at}
 use Rattle.join_check.specs.Met.{source_at}
-use Rattle.join_check.proofs.link_met.Statement.{statement}
-use Rattle.join_check.proofs.link_met.Tie as tie
+use Rattle.join_check.proofs.link_met.Goals as goal
+use Rattle.join_check.proofs.link_met.Goals.{After-number_of-w, Start}
 
-number-of-requires-2 : tie.Need-number-of-requires-2
-number-of-requires-2 c κs =
-    let s = c.before.before in
+pub number_of-w-requires : goal.number_of-w-requires
+number_of-w-requires c =
+    let s = c in
     (omega (arith, s.requires.whole), s.requires.other, rw (add_assoc s.args.at 2 1) s.requires.source)
 
 -- the joined number of the signal
-module _ (k : tie.After-number-of2) where
-  abbrev start : tie.Start
-  start = k.before.before.before
+module _ (k : After-number_of-w) where
+  abbrev start : Start
+  start = (goal.at.After-number_of-w k).Start
 
-  source : k.number-of2.result ≡ source_at start.args.links.now start.args.at start.args.bases.now
-  source = rw (add_assoc start.args.at 2 1) at k.number-of2.ensures
+  source : k.number_of-w.result ≡ source_at start.args.links.now start.args.at start.args.bases.now
+  source = rw (add_assoc start.args.at 2 1) at k.number_of-w.ensures
 
-  source-below : k.number-of2.result < 64
-  source-below = omega (arith, source, start.pre.source)
+  source-below : k.number_of-w.result < 64
+  source-below = omega (arith, source, start.requires.source)
 
-returns : tie.Need-returns
+pub returns : goal.returns
 returns c =
-    let k = c.before.before.before.before.before.before.before in
-    let s = start k in
+    let k = (goal.at.returns c).After-number_of-w in
+    let s = c in
     let periods = s.args.periods.now in
     let phases = s.args.phases.now in
     let ranks = s.args.ranks.now in
-    let r = k.before.number_of_lem.ensures in
+    let r = k.number_of-r.ensures in
     let w = source k in
     λ q.
-    c.is-met.ensures
+    c.is_met.ensures
     (record {
       rule =
           ap (λ (n : ℕ). get_or periods n 0) r ∙ q.same ∙ sym (ap (λ (n : ℕ). get_or periods n 0) w);
@@ -52,9 +52,11 @@ returns c =
     met_by Now (record { signal = 0; factor = 1; index = Fixed 0 }) (rate_at periods phases n) (rate_at periods phases m)
     (ltb (get_or ranks n 0) (get_or ranks m 0))) r w
 
-pub link-met-spec : {M : Type 1} → statement M
-link-met-spec =
-    tie.close
-    (tie.spec (λ c κs. search rules) (λ c. search rules) number-of-requires-2 source-below (λ c. source-below c.before)
-    (λ c. search rules) (λ c. search rules) (λ c. source-below c.before.before.before.before) (λ c. search rules)
-    (λ c κs. search rules) returns)
+pub bounds-periods-w : goal.bounds-periods-w
+bounds-periods-w c = source-below (goal.at.bounds-periods-w c).After-number_of-w
+
+pub bounds-phases-w : goal.bounds-phases-w
+bounds-phases-w c = source-below (goal.at.bounds-phases-w c).After-number_of-w
+
+pub bounds-ranks-w : goal.bounds-ranks-w
+bounds-ranks-w c = source-below (goal.at.bounds-ranks-w c).After-number_of-w

@@ -22,40 +22,20 @@ use Rattle.model.proofs.Joining.Lent.{link-in, link-out}
 use Rattle.join_links.proofs.Right.{quarter}
 use Rattle.join_check.specs.Met.{Linking, link_met_by}
 use Rattle.join_check.proofs.Numbered.{link-inside, equal-periods, met-is, links-turn}
-use Rattle.join_check.proofs.links_met.Statement.{statement}
-use Rattle.join_check.proofs.links_met.Tie as tie
+use Rattle.join_check.proofs.links_met.Invariants.{link_fault, Rest}
+use Rattle.join_check.proofs.links_met.Goals as goal
+use Rattle.join_check.proofs.links_met.Goals.{Else-not-link_met}
 
--- The fault of a link, where there is one.
-abbrev link_fault : List Part → List PartLink → PartLink → List Fault
-link_fault parts ls l =
-    let q = joined_pair parts ls in
-    cond (is_met q.program q.schedule (wire_of parts l).input (wire_read (wire_of parts l))) []
-    (fault 14 l.place ∷ [])
-
--- What is left of the links from link i on.
-abbrev Rest : List Part → List ℕ → ℕ → Type 0
-Rest parts links i =
-    Left (λ (l : PartLink). l.place ∷ []) (λ j l. link_fault parts (links_of links) l) (links_met parts (links_of links))
-    (links_of links) i
-
-abbrev invariant-loop : tie.invariant-loop
-invariant-loop links bases periods phases ranks at₀ at =
-    (i : ℕ) × (at ≡ 4 * i) × (at ≤ length links) ×
-    ((parts : List Part) → Linking parts links bases periods phases ranks → Rest parts links i)
-
-abbrev decreases-loop : tie.decreases-loop
-decreases-loop links bases periods phases ranks at₀ at = length links - at
-
-loop-holds : tie.Need-loop-init invariant-loop decreases-loop
+pub loop-at-init : goal.loop-at-init
 unfolding links_met
-loop-holds c =
-    let links = c.before.args.links.now in
+loop-at-init c =
+    let links = c.args.links.now in
     (0, refl, omega arith, λ parts l. check-starts _ _ _ _ 0 (links_in links) (links-turn links) refl)
 
-link-met-requires : tie.Need-link-met-requires invariant-loop decreases-loop
-link-met-requires c κs =
-    let l = c.before.loop in
-    link-inside c.before.before.before.requires.1 l.invariant.0 l.at l.invariant.1 c.loop-test.true
+pub link_met-requires : goal.link_met-requires
+link_met-requires c =
+    let l = c.loop-at in
+    link-inside c.requires.1 l.invariant.0 l.at l.invariant.1 c.loop-at-test.true
 
 faults-there : (parts : List Part) (ls : List PartLink) (l : PartLink) →
     All (λ (f : Fault). f.place ≡ l.place) (link_fault parts ls l)
@@ -91,61 +71,61 @@ module _ (parts : List Part) (links bases periods phases ranks : List ℕ)
       go true = refl
       go false = refl
 
-returns : tie.Need-returns invariant-loop decreases-loop
-returns c =
-    let l = c.before.before.before.before.loop in
-    let s = c.before.before.before.before.before.before in
+pub returns-then-not-link_met : goal.returns-then-not-link_met
+returns-then-not-link_met c =
+    let l = c.loop-at in
+    let s = c in
     let links = s.args.links.now in
     let i = l.invariant.0 in
-    let lt = c.before.before.before.loop-test.true in
+    let lt = c.loop-at-test.true in
     λ parts k.
     let met =
-    sym (c.before.before.link-met.ensures (equal-periods k i l.at l.invariant.1 lt)) ∙
-    not-true _ c.before.if1.true in
+    sym (c.link_met.ensures (equal-periods k i l.at l.invariant.1 lt)) ∙
+    c.if-not-link_met.true in
     let r : c.refuse.result ≡ Judged.Refused (fault 14 i) =
     c.refuse.ensures ∙ ap (λ (n : ℕ). Judged.Refused (fault 14 n)) (quarter l.at i l.invariant.1) in
     check-refuses _ _ _ _ i (link_at links 0) (below-list parts links _ _ _ _ k i l.at l.invariant.1 lt) (l.invariant.3 parts k) _
     (judged parts links _ _ _ _ k i l.at l.invariant.1 lt false _ met r)
     (single-at (λ (m : PartLink). m.place) (link_fault parts (links_of links)) (faults-there parts (links_of links))) _ r
 
-loop-again : tie.Need-loop-preserved invariant-loop decreases-loop
-loop-again c =
-    let l = c.before.before.before.loop in
-    let s = c.before.before.before.before.before in
+pub loop-at-preserved : goal.loop-at-preserved
+loop-at-preserved c =
+    let l = c.loop-at in
+    let s = c in
     let links = s.args.links.now in
     let i = l.invariant.0 in
-    let lt = c.before.before.loop-test.true in
+    let lt = c.loop-at-test.true in
     let inside = link-inside s.requires.1 i l.at l.invariant.1 lt in (
       suc i,
       omega (arith, l.invariant.1),
       omega (arith, inside.whole),
       λ parts k.
-          let met = sym (c.before.link-met.ensures (equal-periods k i l.at l.invariant.1 lt)) ∙ not-false _ c.if1.false in
+          let met = sym (c.link_met.ensures (equal-periods k i l.at l.invariant.1 lt)) ∙ c.if-not-link_met.false in
           check-passes _ _ _ _ i (link_at links 0) (below-list parts links _ _ _ _ k i l.at l.invariant.1 lt) (l.invariant.3 parts k)
           Judged.Fine (judged parts links _ _ _ _ k i l.at l.invariant.1 lt true Judged.Fine met refl) refl,
     )
 
-returns-2 : tie.Need-returns-2 invariant-loop decreases-loop
-returns-2 c =
-    let l = c.before.loop in
-    let links = c.before.before.before.args.links.now in
+pub returns : goal.returns
+returns c =
+    let l = c.loop-at in
+    let links = c.args.links.now in
     λ parts k.
     check-ends _ _ _ _ l.invariant.0
     (omega (
       arith,
       table-length (links_in links) (link_at links),
-      link-out links l.invariant.0 (omega (arith, l.invariant.1, c.loop-test.false)),
+      link-out links l.invariant.0 (omega (arith, l.invariant.1, c.loop-at-test.false)),
     )) (l.invariant.3 parts k)
 
-fits : (c : tie.Else1 invariant-loop decreases-loop) → let a = c.before.before.before in
-    a.loop.at + 4 ≤ length a.before.before.args.links.now
+fits : (c : Else-not-link_met) → let a = c in
+    a.loop-at.at + 4 ≤ length a.args.links.now
 fits c =
-    let a = c.before.before.before in
-    let l = a.loop in
-    (link-inside a.before.before.requires.1 l.invariant.0 l.at l.invariant.1 c.before.before.loop-test.true).whole
+    let a = c in
+    let l = a.loop-at in
+    (link-inside a.requires.1 l.invariant.0 l.at l.invariant.1 c.loop-at-test.true).whole
 
-pub links-met-spec : {M : Type 1} → statement M
-links-met-spec =
-    tie.close
-    (tie.spec invariant-loop decreases-loop loop-holds link-met-requires (λ c κs. search rules) returns (λ c. omega (arith, fits c))
-    (λ c. omega (arith, fits c)) loop-again returns-2)
+pub overflow_add-at : goal.overflow_add-at
+overflow_add-at c = omega (arith, fits c)
+
+pub loop-at-smaller : goal.loop-at-smaller
+loop-at-smaller c = omega (arith, fits c)
