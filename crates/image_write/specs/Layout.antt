@@ -10,14 +10,14 @@ use Rattle.image_write.specs.declared.Layout.{Layout}
 
 -- The layout is that of the image of p and s and its tail.
 pub record LaidOut (p : Program) (s : Schedule) (h : ℕ) (r : Layout) : Type 0 where
-  pub lists_at : r.lists ≡ lists_at (count p) h
+  pub lists-at : r.lists ≡ lists_at (count p) h
   pub code_at : r.code ≡ codes_at p s h
   pub ends : r.end ≡ length_of p s h
   pub tail-ends : r.written ≡ written_length p s h
 
 -- The same by the tables of n signals, whose code has so many bytes, with so many rows.
 pub record LaidOutBy (periods order phases : List ℕ) (n h size rows : ℕ) (r : Layout) : Type 0 where
-  pub lists_at : r.lists ≡ lists_at n h
+  pub lists-at : r.lists ≡ lists_at n h
   pub code_at : r.code ≡ lists_at n h + length (joined (lists_by periods order phases n h)) + (1 + 12 * rows)
   pub ends : r.end ≡ r.code + size
   pub tail-ends : r.written ≡ with_tail r.end n

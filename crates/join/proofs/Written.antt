@@ -194,7 +194,7 @@ module _ {texts numbers links : List ℕ} {r : Verdict} (ready : JoinReady texts
         let n = wired-count joining in
         let c = code_by timed-by h in
         record {
-          lists_at = omega (arith, by.lists_at, n);
+          lists-at = omega (arith, by.lists-at, n);
           code_at = omega (arith, by.code_at, c, rows-size);
           ends = omega (arith, by.code_at, by.ends, c, rows-size, code-long);
           tail-ends = omega (arith, by.code_at, by.ends, by.tail-ends, c, rows-size, code-long, n);

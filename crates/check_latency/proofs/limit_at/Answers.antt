@@ -21,12 +21,15 @@ missed : (c : Declaration) {mode : Mode} {bound : ℕ} → c ≡ Declaration.Lat
 missed c e k = miss others 6 tt (subst (λ y. OneOf others (tag_of (sum enum) y)) e k)
 
 pub returns-in_default : goal.returns-in_default
-returns-in_default c = λ mode bound e. absurd (missed _ (c.declaration_at-declaration.ensures ∙ e) (opened c.in_default.in_default-own.keys2))
+returns-in_default c =
+    λ mode bound e.
+    absurd (missed _ (c.declaration_at-declaration.ensures ∙ e) (opened c.in_default.in_default-own.keys2))
 
 pub returns : goal.returns
 returns c =
     λ mode bound e.
-    let same : ◌≡◌ {A = Declaration} (Declaration.Latency c.in-Latency.mode c.in-Latency.bound) (Declaration.Latency mode bound) =
+    let same :
+    ◌≡◌ {A = Declaration} (Declaration.Latency c.in-Latency.mode c.in-Latency.bound) (Declaration.Latency mode bound) =
     sym c.in-Latency.is ∙ c.declaration_at-declaration.ensures ∙ e in
     let mode-is : c.in-Latency.mode ≡ mode = cc same in
     let bound-is : c.in-Latency.bound ≡ bound = cc same in

@@ -24,7 +24,14 @@ use Rattle.check_links.proofs.Counting.{
   stands-inside,
 }
 use Rattle.check_links.proofs.one_read.Goals as goal
-use Rattle.check_links.proofs.one_read.Goals.{After-loop-i, Else-count-index, In-loop-i, Joined-text-at, then-text-at, else-text-at}
+use Rattle.check_links.proofs.one_read.Goals.{
+  After-loop-i,
+  Else-count-index,
+  In-loop-i,
+  Joined-text-at,
+  then-text-at,
+  else-text-at,
+}
 
 -- where the signal is declared
 module _ (a : Else-count-index) where
@@ -91,9 +98,11 @@ module _ (c : Joined-text-at) where
       let v = b.loop-i.invariant.3 p e in
       elim c.if-text-at.branch [
         then-text-at h ↦
-            same-search _ _ h.many-is h.found-is (one_hit e (w (a b)) (x (a b)) (i b) (lt (a b)) _ f l (high b) _ z v h.if-text-at.true)
+            same-search _ _ h.many-is h.found-is
+            (one_hit e (w (a b)) (x (a b)) (i b) (lt (a b)) _ f l (high b) _ z v h.if-text-at.true)
         | else-text-at h ↦
-            same-search _ _ h.many-is h.found-is (one-missed e (w (a b)) (x (a b)) (i b) (lt (a b)) _ f l (high b) _ z v h.if-text-at.false)
+            same-search _ _ h.many-is h.found-is
+            (one-missed e (w (a b)) (x (a b)) (i b) (lt (a b)) _ f l (high b) _ z v h.if-text-at.false)
       ]
 
 -- where all are seen

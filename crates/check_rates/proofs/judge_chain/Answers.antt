@@ -81,7 +81,9 @@ loop-i-init c =
     )
 
 pub bounds-text-at : goal.bounds-text-at
-bounds-text-at c = omega (arith, stands (goal.at.bounds-text-at c).After-in_program-in-loop-i, ends (goal.at.bounds-text-at c).After-in_program-in-loop-i)
+bounds-text-at c =
+    let s = (goal.at.bounds-text-at c).After-in_program-in-loop-i in
+    omega (arith, stands s, ends s)
 
 pub returns-in_default : goal.returns-in_default
 returns-in_default c =

@@ -18,7 +18,8 @@ Rest p x = Left signal_places (λ s σ. signal_rates p σ) (lowest (read_rates p
 
 abbrev pub invariant-loop-reader : goal.invariant-loop-reader
 invariant-loop-reader l =
-    (l.reader ≤ l.count) × ((p : Program) → Indexes l.text l.reads l.firsts l.count p → PeriodsOf p l.periods → Rest p l.reader)
+    (l.reader ≤ l.count) ×
+    ((p : Program) → Indexes l.text l.reads l.firsts l.count p → PeriodsOf p l.periods → Rest p l.reader)
 
 abbrev pub decreases-loop-reader : goal.decreases-loop-reader
 decreases-loop-reader l = l.count - l.reader

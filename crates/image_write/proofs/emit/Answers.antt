@@ -69,8 +69,8 @@ module _ (s : Start) where
   arranged = s.requires.arrangement.2
 
   -- the layout, by the tables
-  lists_at : s.args.layout.lists ≡ lists_at count h
-  lists_at = s.requires.laid_out.lists_at ∙ lists-by arranged
+  lists-is : s.args.layout.lists ≡ lists_at count h
+  lists-is = s.requires.laid_out.lists-at ∙ lists-by arranged
 
   code_at : s.args.layout.code ≡ codes_by h count lists rows
   code_at = s.requires.laid_out.code_at ∙ code_by arranged
@@ -134,7 +134,7 @@ after-offsets : (c : After-emit_offsets-lists) → let s = (goal.at.After-emit_o
     (joined (lists s) ++ (rows s ++ joined (codes s)))
 after-offsets c =
     let s = (goal.at.After-emit_offsets-lists c).Start in
-    turn (both (paired s) _) (after-records (goal.at.After-emit_offsets-lists c).After-emit_records-offsets) (rw (lists_at s) at c.emit_offsets-lists.ensures.1)
+    turn (both (paired s) _) (after-records (goal.at.After-emit_offsets-lists c).After-emit_records-offsets) (rw (lists-is s) at c.emit_offsets-lists.ensures.1)
 
 after-lists : (c : After-emit_lists-table) → let s = (goal.at.After-emit_lists-table c).Start in
     Rest s c.emit_lists-table.new.out c.emit_lists-table.result (rows s ++ joined (codes s))
@@ -171,8 +171,8 @@ emit_offsets-lists-requires c =
     let l = after-records d in (
       refl,
       (timed (arranged s), phased (arranged s), short-hypercycle (arranged s)),
-      omega (arith, lists_at s, ends s, end-within s, l.size),
-      rw (lists_at s) (room (both (paired s) _) l (space s)),
+      omega (arith, lists-is s, ends s, end-within s, l.size),
+      rw (lists-is s) (room (both (paired s) _) l (space s)),
     )
 
 pub emit_lists-table-requires : goal.emit_lists-table-requires

@@ -146,3 +146,6 @@ bounds-nexts-c-in-loop-c c = omega (arith, lt c, (s c).requires.1)
 
 pub loop-c-smaller : goal.loop-c-smaller
 loop-c-smaller c = omega (arith, lt c, v c, (top c).loop-c.invariant.0)
+
+pub bounds-out-to : goal.bounds-out-to
+bounds-out-to c = inside c

@@ -26,10 +26,10 @@ abbrev pub rate : ℕ → ℕ → Rate
 rate period phase = record { period = period; phase = phase }
 
 abbrev pub invariant-loop-c : goal.invariant-loop-c
-invariant-loop-c l =
-    (l.step ≡ l.period) × (length l.nexts ≡ 241) × (due (rate l.period l.phase) l.c ≡ true) ×
-    ((all l : List ℕ) (after : ℕ → ℕ) (old new : ℕ → List ℕ) → Pending all l l.to l.h after old l.initial.out l.initial.nexts →
-    Splits (rate l.period l.phase) l.x l.h old new → Pending all l l.to l.h after (mixed old new l.c) l.out l.nexts)
+invariant-loop-c v =
+    (v.step ≡ v.period) × (length v.nexts ≡ 241) × (due (rate v.period v.phase) v.c ≡ true) ×
+    ((all l : List ℕ) (after : ℕ → ℕ) (old new : ℕ → List ℕ) → Pending all l v.to v.h after old v.initial.out v.initial.nexts →
+    Splits (rate v.period v.phase) v.x v.h old new → Pending all l v.to v.h after (mixed old new v.c) v.out v.nexts)
 
 abbrev pub decreases-loop-c : goal.decreases-loop-c
 decreases-loop-c l = l.h - l.c

@@ -35,7 +35,7 @@ returns c =
     let l = c.lay_out_code.ensures in
     λ text reads p q r.
     record {
-      lists_at = l.lists_at ∙ sym (lists-by r);
+      lists-at = l.lists-at ∙ sym (lists-by r);
       code_at = omega (arith, code_by r, l.code_at, table-size r);
       ends = omega (arith, length-by r, l.code_at, l.ends, size, code-size r, table-size r);
       tail-ends =
@@ -43,7 +43,7 @@ returns c =
     }
 
 pub offset_bounds-codes-n : goal.offset_bounds-codes-n
-offset_bounds-codes-n c = omega (arith, few c)
+offset_bounds-codes-n c = omega (arith, (declared c.requires.2.2).few)
 
 pub bounds-codes-n : goal.bounds-codes-n
-bounds-codes-n c = omega (arith, few c)
+bounds-codes-n c = omega (arith, (declared c.requires.2.2).few)

@@ -39,7 +39,7 @@ pub returns : goal.returns
 returns c =
     let a = c.lists_at-lists.ensures in
     let e = c.lists_length-runs.ensures in
-    record { lists_at = a; code_at = omega (arith, a, e); ends = refl; tail-ends = refl }
+    record { lists-at = a; code_at = omega (arith, a, e); ends = refl; tail-ends = refl }
 
 pub lists_at-lists-requires : goal.lists_at-lists-requires
 lists_at-lists-requires c = few c

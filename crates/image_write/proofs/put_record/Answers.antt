@@ -10,6 +10,7 @@ use Rattle.image_code.proofs.Operands.{word-length}
 use Rattle.model.specs.Rules.Writing.{Wrote}
 use Rattle.model.proofs.Basics.Left.{after}
 use borrow.Author.Rules.{rules}
+use mir.Syntax.{w32}
 use Rattle.image_write.proofs.put_record.Goals as goal
 
 pub returns : goal.returns
@@ -22,7 +23,7 @@ returns c =
     let p : Wrote a.out.now a.to (word_bytes w) c6.put_word.new.out (a.to + 4) =
     record {
       holds = c6.put_word.ensures ∙
-          ap (λ (z : ℤ). sets a.out.now a.to (word_bytes z)) (to_z-of_z (search rules) ∙ c8.word_at-initial.ensures);
+          ap (λ (z : ℤ). sets a.out.now a.to (word_bytes z)) (to_z-of_z {w = w32} (search rules) ∙ c8.word_at-initial.ensures);
       ends = omega (arith, word-length w);
     } in
     after p c.put_offset.ensures
