@@ -1,5 +1,6 @@
 // What several crates share: numbers by their width, a choice, and what a check answers.
 #![tactic(auto)]
+
 ghost use Rattle.std.specs.Prelude.{cond, ◌≡◌, ◌+◌, ◌<◌, leb};
 ghost use Rattle.model.specs.declared.Fault.{Fault};
 

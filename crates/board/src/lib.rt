@@ -3,6 +3,7 @@
 // due), start, size and count, in place order; then the place last taken. Any numbers are a record. A call that is not refused
 // writes the numbers of its place, and a turn the place last taken; a refused call changes nothing, the record included.
 #![tactic(auto)]
+
 ghost use Rattle.std.specs.Prelude.{◌≡◌, ◌+◌, ◌≤◌, ◌<◌, leb, length};
 ghost use Rattle.model.specs.Rules.Machine.{Does, ran_of, cycled_of};
 ghost use Rattle.model.specs.Rules.Outcome.{refuse};

@@ -1,5 +1,6 @@
 // The hypercycle: refusal 9.
 #![tactic(auto)]
+
 ghost use Rattle.std.specs.Prelude.{◌≡◌, ◌%◌, ◌≤◌, eqb, length};
 ghost use Rattle.model.specs.Rules.Program.{Program};
 ghost use Rattle.model.specs.Rules.Rates.{is_multiple, hypercycle};

@@ -1,5 +1,6 @@
 // The hops of a chain, each by the one read of the link before.
 #![tactic(auto)]
+
 ghost use Rattle.std.specs.Prelude.{◌≡◌, ℕ, ◌<◌};
 ghost use Rattle.model.specs.Rules.Command.{declaration_at};
 ghost use Rattle.model.specs.Rules.Latency.{read_among, backwards, keeps, timely};

@@ -1,5 +1,6 @@
 // The links of the chains: refusal 10.
 #![tactic(auto)]
+
 ghost use Rattle.std.specs.Prelude.{◌≡◌, ◌≤◌, ◌<◌};
 ghost use Rattle.model.specs.Rules.Program.{Program, signal_at, body_reads};
 ghost use Rattle.model.specs.Rules.Rates.{is_linked, linked};

@@ -1,5 +1,6 @@
 // Load: in no cycle of the hypercycle does the summed weight of the signals run exceed CAP (15).
 #![tactic(auto)]
+
 ghost use Rattle.std.specs.Prelude.{List, ◌≡◌, ℕ, ◌*◌, ◌≤◌, ◌<◌, ltb, length, get_or};
 ghost use Rattle.model.specs.Rules.Load.{loaded};
 ghost use Rattle.model.specs.Rules.Program.{Program, count};

@@ -1,5 +1,6 @@
 // The checks of a pair in the stated order.
 #![tactic(auto)]
+
 ghost use Rattle.std.specs.Prelude.{◌≡◌, ◌≤◌, length};
 ghost use Rattle.model.specs.Rules.Compile.{short_enough, pair_of};
 ghost use Rattle.model.specs.Rules.Program.{Program, count};

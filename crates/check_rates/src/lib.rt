@@ -1,5 +1,6 @@
 // The checks of declarations and rates: refusals 7 and 8.
 #![tactic(auto)]
+
 ghost use Rattle.std.specs.Prelude.{List, ◌≡◌, ℕ, ◌≤◌, ◌<◌};
 ghost use Rattle.model.specs.Rules.Outcome.{lowest};
 ghost use Rattle.model.specs.Rules.Program.{Program, signal_at};

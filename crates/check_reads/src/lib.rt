@@ -1,5 +1,6 @@
 // Whether every read is met (14): over the reads by their index, with the operands that stand at their offsets.
 #![tactic(auto)]
+
 ghost use Rattle.std.specs.Prelude.{◌≡◌, ◌≤◌, ◌<◌};
 ghost use Rattle.model.specs.Rules.Outcome.{lowest};
 ghost use Rattle.model.specs.Rules.Program.{Program};

@@ -1,5 +1,6 @@
 // The table of a program: if it has a row or a TABLE, every word lies in exactly one row (29, 30).
 #![tactic(auto)]
+
 ghost use Rattle.std.specs.Prelude.{List, ◌≡◌, ℕ, ◌+◌, ltb};
 ghost use Rattle.model.specs.Rules.Cover.{tabled};
 ghost use Rattle.model.specs.Rules.Program.{Program};

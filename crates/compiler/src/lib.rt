@@ -1,5 +1,6 @@
 // The compiler: a program and a schedule to an image with its tail, or the first refusal.
 #![tactic(auto)]
+
 ghost use Rattle.std.specs.Prelude.{◌≤◌, length};
 ghost use Rattle.model.specs.Rules.Machine.{Does};
 ghost use Rattle.model.specs.Rules.Compile.{compile_of};

@@ -1,5 +1,6 @@
 // Lines of decimal numbers, written to a lent buffer.
 #![tactic(auto)]
+
 ghost use Rattle.std.specs.Prelude.{◌≡◌, ◌+◌, ◌≤◌, ◌<◌, length};
 ghost use Rattle.decimal.specs.PutBytes.{PutBytes};
 ghost use Rattle.model.specs.Rules.Decimal.{natural, decimal, line_of};

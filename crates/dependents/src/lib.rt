@@ -1,5 +1,6 @@
 // Which signals an input reaches: those that read it, by themselves or through others.
 #![tactic(auto)]
+
 ghost use Rattle.std.specs.Prelude.{Bool, List, ◌≡◌, ℕ, ◌≤◌, ◌<◌, length};
 ghost use Rattle.model.specs.Rules.Dependents.{any_read, mark_readers, mark_byte, mark_bytes, dependents_of};
 ghost use Rattle.model.specs.Rules.Machine.{Does, ran_of};

@@ -1,5 +1,6 @@
 // The code of a signal: operands first, operator after.
 #![tactic(auto)]
+
 ghost use Rattle.std.specs.Prelude.{◌≡◌, [], ◌∷◌, ◌+◌, ◌^◌, ◌≤◌, ◌<◌, length};
 ghost use Rattle.model.specs.Rules.Width.{in_code};
 ghost use Rattle.model.specs.Rules.Word.{byte_at, word_bytes};

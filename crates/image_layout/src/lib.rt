@@ -1,5 +1,6 @@
 // Where the areas of an image start: head, records, offsets of the run lists, lists, code.
 #![tactic(auto)]
+
 ghost use Rattle.std.specs.Prelude.{◌≡◌, ◌≤◌};
 ghost use Rattle.model.specs.Rules.Image.{record_at, lists_at};
 

@@ -1,5 +1,6 @@
 // Whether an image is well formed, for any bytes; the image in what is lent, and its tail. Nothing is written or copied.
 #![tactic(auto)]
+
 ghost use Rattle.std.specs.Prelude.{◌≡◌, true, ℕ, ◌+◌, ◌<◌, ◌≤◌, ltb, length, take};
 ghost use Rattle.model.specs.Rules.Machine.{hyper_of, count_of, stated_length, list_offset, table_offset, row_count, code_offset};
 ghost use Rattle.model.specs.Rules.Machine.{head_ok, lists_ok, table_ok, entries_ok, codes_ok, well_formed};

@@ -1,6 +1,7 @@
 // What the check of an image's code knows of a command by its byte: two tables, filled once a call, and what they say of one
 // command.
 #![tactic(auto)]
+
 ghost use Rattle.std.specs.Prelude.{false, ◌≡◌, ◌+◌, ◌<◌, ◌≤◌, length};
 ghost use Rattle.image_valid_code.specs.Shape.{Shapes, Ceilings, command_bytes, after_of, fetch_of, last_of};
 ghost use Rattle.model.specs.Rules.Word.{byte_at};

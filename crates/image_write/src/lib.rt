@@ -1,5 +1,6 @@
 // The image of an accepted pair and its tail: their layout, and their parts one after another.
 #![tactic(auto)]
+
 ghost use Rattle.std.specs.Prelude.{◌≡◌, List, ◌∷◌, ◌++◌, ℕ, ◌+◌, ◌≤◌, ◌<◌, length, get_or, drop};
 ghost use Rattle.std.proofs.lemmas.List.Edits.{sets};
 ghost use Rattle.model.specs.Rules.Image.{joined, offsets, records, written_of, tail_entry};

@@ -1,5 +1,6 @@
 // Parts that are compiled alone, in one lent buffer, and links between them, joined to one image.
 #![tactic(auto)]
+
 ghost use Rattle.std.specs.Prelude.{cond, ◌≡◌, ◌≤◌, length};
 ghost use Rattle.model.specs.Rules.Join.{joined_of, part_in, join_of, part_named};
 ghost use Rattle.model.specs.Rules.Outcome.{refused};

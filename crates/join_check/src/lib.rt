@@ -1,5 +1,6 @@
 // Links by joined numbers, and whether their reads are met: 14.
 #![tactic(auto)]
+
 ghost use Rattle.std.specs.Prelude.{List, ◌≡◌, ℕ, ◌+◌, ◌≤◌, ◌<◌, length};
 ghost use Rattle.model.specs.Rules.Join.{links_of, links_met};
 ghost use Rattle.model.specs.Rules.Parts.{Part};

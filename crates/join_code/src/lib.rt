@@ -1,5 +1,6 @@
 // The code of a part in a join: the base of its signals added to the operand of each LOAD.
 #![tactic(auto)]
+
 ghost use Rattle.std.specs.Prelude.{◌≡◌, ◌+◌, ◌≤◌, ◌<◌, length, get_or};
 ghost use Rattle.join_code.specs.Shift.{shift_at, Coded, shifted};
 

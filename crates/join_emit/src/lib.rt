@@ -1,5 +1,6 @@
 // The image of joined parts: the code and the records of their signals, part by part, their run lists and rows.
 #![tactic(auto)]
+
 ghost use Rattle.std.specs.Prelude.{◌≡◌, ℕ, ◌+◌, ◌≤◌, ◌<◌, length};
 ghost use Rattle.std.proofs.lemmas.List.Edits.{sets};
 ghost use Rattle.model.specs.Rules.Image.{joined};

@@ -1,6 +1,7 @@
 // The parts of a join, each checked alone, and what is joined of them: by part and number what the links are judged by, and by
 // joined number what the image is made of.
 #![tactic(auto)]
+
 ghost use Rattle.std.specs.Prelude.{◌||◌, List, [], ◌∷◌, ◌++◌, ◌≡◌, ℕ, ◌+◌, ◌*◌, ◌≤◌, ◌<◌, length, get_or};
 ghost use Rattle.model.specs.Rules.Join.{parts_in, texts_at, lent, program_text, part_pair, parts_from};
 ghost use Rattle.check_pair.specs.Checked.{CheckedAs};

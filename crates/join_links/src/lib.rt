@@ -1,5 +1,6 @@
 // The links of a join: whether each names an IN of one part and a signal of another, of equal periods, and no IN twice (31).
 #![tactic(auto)]
+
 ghost use Rattle.std.specs.Prelude.{List, ◌≡◌, true, ℕ, ◌+◌, ◌*◌, ◌≤◌, ◌<◌, length, get_or};
 ghost use Rattle.model.specs.Rules.Join.{is_right, named};
 ghost use Rattle.model.specs.Rules.Parts.{Part};

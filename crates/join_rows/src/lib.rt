@@ -1,5 +1,6 @@
 // The rows of a join: those of the one part that has some, from its own text.
 #![tactic(auto)]
+
 ghost use Rattle.std.specs.Prelude.{◌+◌, ◌*◌, ◌≤◌, length};
 ghost use Rattle.model.specs.Rules.Writing.{Wrote};
 ghost use Rattle.join_rows.specs.Rows.{RowsReady, rows_by};

@@ -1,5 +1,6 @@
 // The texts of the parts of a join, before all else: how long they are, how many, and whether they lie in their lent buffer.
 #![tactic(auto)]
+
 ghost use Rattle.std.specs.Prelude.{◌≡◌, ◌<◌, leb};
 ghost use Rattle.model.specs.Rules.Join.{parts_in, texts_at, program_total, are_lent, lent};
 ghost use Rattle.model.specs.Rules.Search.{all_below};

@@ -1,5 +1,6 @@
 // All checks of a join, in the stated order.
 #![tactic(auto)]
+
 ghost use Rattle.std.specs.Prelude.{List, ◌≡◌};
 ghost use Rattle.model.specs.Rules.Join.{one_table};
 ghost use Rattle.model.specs.Rules.Parts.{Part};

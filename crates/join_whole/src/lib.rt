@@ -1,5 +1,6 @@
 // The joined checks in order: 4 for signals and chains, 9, 14, 15.
 #![tactic(auto)]
+
 ghost use Rattle.std.specs.Prelude.{List, ◌≡◌, ℕ};
 ghost use Rattle.model.specs.Rules.Join.{links_of, joined_verdict};
 ghost use Rattle.model.specs.Rules.Parts.{Part};

@@ -1,5 +1,6 @@
 // Latency: going back from runs of the last link over the reads of a chain.
 #![tactic(auto)]
+
 ghost use Rattle.std.specs.Prelude.{◌≡◌, not, ◌+◌, ◌*◌, ◌-◌, ◌/◌, ◌≤◌, ◌<◌};
 ghost use Rattle.model.specs.Rules.Search.{first_below, is_found, all_below};
 ghost use Rattle.model.specs.Rules.Reads.{run_cycle};

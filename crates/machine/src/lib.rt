@@ -1,5 +1,6 @@
 // Reset and cycle, on any image, with its tail or without, state and samples. A refused call changes nothing.
 #![tactic(auto)]
+
 ghost use Rattle.std.specs.Prelude.{◌≡◌, true, ℕ, ◌<◌, ◌≤◌, pos, length, get_or};
 ghost use Rattle.model.specs.Rules.Machine.{
   Does,

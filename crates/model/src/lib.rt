@@ -1,5 +1,6 @@
 // The types that the definitions of specs/ and the code of the other crates share, and the numbers of the refusals.
 #![tactic(auto)]
+
 pub mod refusals;
 
 // The index of a read: one of its n, or left open for the schedule to settle (255 in the text).

@@ -1,6 +1,7 @@
 // The phases that are left to each signal of an accepted pair where it moves alone: those at which every read is met at its
 // settled index and every chain keeps its limit.
 #![tactic(auto)]
+
 ghost use Rattle.std.specs.Prelude.{◌↔◌, ◌≡◌, ℕ, ◌≤◌, ◌<◌};
 ghost use Rattle.model.specs.Rules.Latency.{timely};
 ghost use Rattle.model.specs.Rules.Outcome.{accepted};

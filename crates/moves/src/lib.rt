@@ -1,5 +1,6 @@
 // Where one job may go: the phases that each signal of an accepted pair may take while all else stays.
 #![tactic(auto)]
+
 ghost use Rattle.std.specs.Prelude.{true, List, ◌↔◌, ◌≡◌, ℕ, ◌+◌, ◌*◌, ◌≤◌, ◌<◌, length, get_or};
 ghost use Rattle.model.specs.Rules.Machine.{Does};
 ghost use Rattle.model.specs.Rules.Compile.{Pair};

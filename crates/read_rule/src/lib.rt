@@ -1,5 +1,6 @@
 // One read: its line, its order, the index that it settles on, and whether it is met.
 #![tactic(auto)]
+
 ghost use Rattle.std.specs.Prelude.{false, cond, ◌≡◌, ℕ, ◌-◌, ◌≤◌, ◌<◌};
 ghost use Rattle.model.specs.Rules.Reads.{writer_first};
 ghost use Rattle.model.specs.Rules.Search.{first_from};

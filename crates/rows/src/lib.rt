@@ -1,5 +1,6 @@
 // The table of rows: its check (29, 30), its area of an image, written and judged, and its lookup.
 #![tactic(auto)]
+
 ghost use Rattle.std.specs.Prelude.{◌≡◌, true, cond, ℕ, ◌+◌, ◌*◌, ◌<◌, ◌≤◌, length, get_or};
 ghost use Rattle.std.proofs.Math.IntN.{suc_ℤ};
 ghost use Rattle.std.proofs.lemmas.List.Edits.{sets};

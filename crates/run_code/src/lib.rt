@@ -1,5 +1,6 @@
 // Runs the code of one signal. The code is known to be well formed, so nothing is checked again here.
 #![tactic(auto)]
+
 ghost use Rattle.std.specs.Prelude.{◌≡◌, true, ◌<◌, ◌≤◌, ltb, length};
 ghost use Rattle.model.specs.Rules.Cover.{area_ok};
 ghost use Rattle.model.specs.Rules.Table.{area_rows};

@@ -1,5 +1,6 @@
 // The working stack of an image's code, by value: each method hands the next stack back. It is never short and never over 32.
 #![tactic(auto)]
+
 ghost use Rattle.std.specs.Prelude.{true, ◌≡◌, [], ◌∷◌, ◌+◌, ◌<◌, ◌≤◌, pos, get_or};
 ghost use Rattle.model.specs.Rules.Cover.{area_ok};
 ghost use Rattle.model.specs.Rules.Machine.{on_one, on_two, on_three};

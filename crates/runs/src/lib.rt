@@ -1,6 +1,7 @@
 // The runs of a signal of period P and phase p: in cycles kP + p. What is summed over the signals that run in a cycle (loads,
 // commands, the runs themselves) is summed here.
 #![tactic(auto)]
+
 ghost use Rattle.std.specs.Prelude.{◌≡◌, ℕ, ◌*◌, ◌≤◌, ◌<◌, length, get_or};
 ghost use Rattle.runs.specs.Raised.{Raised};
 

@@ -1,5 +1,6 @@
 // One decoded command of a program text (a declaration or an operator of an expression) or of a schedule text.
 #![tactic(auto)]
+
 ghost use Rattle.std.specs.Prelude.{cond, ◌⊎◌, ◌≡◌, ◌<◌, ◌≤◌, length};
 ghost use Rattle.model.specs.Rules.Command.{is_period, is_index, index_of, mode_of, declaration_of, declaration_at};
 ghost use Rattle.model.specs.Rules.Command.{plain_read, sampled_read, operator_of, operator_at};

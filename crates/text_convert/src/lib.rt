@@ -1,5 +1,6 @@
 // The converter: a program text with each read of factor 1 written as NOW or LAST.
 #![tactic(auto)]
+
 ghost use Rattle.std.specs.Prelude.{◌≡◌, ◌++◌, ◌+◌, ◌*◌, ◌≤◌, length, take, drop};
 ghost use Rattle.model.specs.Rules.Machine.{Does};
 ghost use Rattle.model.specs.Rules.Outcome.{yielded_of};

@@ -1,5 +1,6 @@
 // The table of the text form, and looking it up.
 #![tactic(auto)]
+
 ghost use Rattle.std.specs.Prelude.{◌≡◌, ◌+◌, ◌*◌, ◌≤◌, ◌<◌, eqb, length};
 ghost use Rattle.model.specs.Rules.Search.{first_below};
 ghost use Rattle.model.specs.Rules.TextForm.{same_bytes, size, is_signed, ended};

@@ -1,5 +1,6 @@
 // Program texts to tables: what stands where, or the first fault.
 #![tactic(auto)]
+
 ghost use Rattle.std.specs.Prelude.{◌≡◌, [], ℕ, ◌+◌, ◌*◌, ◌≤◌, ◌<◌, leb, length};
 ghost use Rattle.model.specs.Rules.Command.{is_signal};
 ghost use Rattle.model.specs.Rules.Outcome.{provided};

@@ -1,5 +1,6 @@
 // The tokens of a text: where they start and end, and the numbers that they say.
 #![tactic(auto)]
+
 ghost use Rattle.std.specs.Prelude.{◌≡◌, ◌^◌, ◌≤◌, ◌<◌, min, length};
 ghost use Rattle.model.specs.Rules.TextForm.{other, class_of, number_from, number_of};
 ghost use Rattle.model.specs.Rules.Word.{byte_at};

@@ -1,5 +1,6 @@
 // What runs when: the signals of an accepted pair with period, phase and label, and the load of each cycle.
 #![tactic(auto)]
+
 ghost use Rattle.model.specs.Rules.Compile.{pair_of};
 ghost use Rattle.basics.specs.Judgement.{Answers};
 ghost use Rattle.timetable.specs.Timetable.{TimetableOf};

@@ -1,5 +1,6 @@
 // The start of a bench trial: the pair is compiled, the script checked and the state reset, before any line.
 #![tactic(auto)]
+
 ghost use Rattle.std.specs.Prelude.{◌≡◌, true};
 ghost use Rattle.model.specs.Rules.Machine.{well_formed};
 ghost use Rattle.trial_prepare.specs.Prepares.{not_ready, PreparesOn, Prepares, HoldsImage};

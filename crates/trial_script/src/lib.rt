@@ -1,5 +1,6 @@
 // A bench trial's script: its commands, and its check as a whole.
 #![tactic(auto)]
+
 ghost use Rattle.std.specs.Prelude.{◌≡◌, true, ℕ, ◌*◌, ◌≤◌, ◌<◌, length};
 ghost use Rattle.model.specs.Rules.Machine.{well_formed};
 ghost use Rattle.model.specs.Rules.Script.{script_command_at, script_of, inputs_only, check_of, cycles_of};

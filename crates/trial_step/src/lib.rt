@@ -1,5 +1,6 @@
 // A bench trial, one line at a time: each step runs the next cycle of a script and writes its line.
 #![tactic(auto)]
+
 ghost use Rattle.std.specs.Prelude.{◌≡◌, ◌≤◌, ◌<◌, length, set};
 ghost use Rattle.machine.specs.Runnable.{Runnable};
 ghost use Rattle.model.specs.Rules.Script.{script_at, calls_from};

@@ -1,6 +1,7 @@
 // The command lists of the paper, read as widths: how many bytes each command takes, its own byte and its operands, without the
 // expression or the LINKs that follow. A byte that is not listed for its kind of text has none.
 #![tactic(auto)]
+
 ghost use Rattle.std.specs.Prelude.{◌≡◌};
 ghost use Rattle.model.specs.Rules.Width.{
   program_width,

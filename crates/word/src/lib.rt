@@ -1,5 +1,6 @@
 // The signed 32-bit words: their operators, their bits, and their bytes with the low byte first.
 #![tactic(auto)]
+
 ghost use Rattle.std.specs.Prelude.{◌≡◌, ◌+◌, ◌%◌, ◌^◌, ◌<◌, ◌≤◌, length};
 ghost use Rattle.std.proofs.lemmas.List.Edits.{sets};
 ghost use Rattle.model.specs.Rules.Word.{bits_of, word_of, nearest};

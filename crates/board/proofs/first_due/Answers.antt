@@ -37,7 +37,7 @@ loop-place-preserved c =
     let w = c.args.words.now in
     one_more (board_of w) c.args.from c.loop-place.place c.loop-place.invariant
     (λ low. elim c.if-from-place.branch [
-      then-from-place+else-is_due e ↦ due-held w c.loop-place.place c.loop-place-test.true ∙ sym e.is_due.ensures ∙ e.if-is_due.false
+      | then-from-place+else-is_due e ↦ due-held w c.loop-place.place c.loop-place-test.true ∙ sym e.is_due.ensures ∙ e.if-is_due.false
       | else-from-place e ↦ absurd (omega (arith, e.if-from-place.false))
     ])
 

@@ -97,7 +97,7 @@ module _ (c : Joined-text-at) where
       let z = c.from_entry-at.ensures.0 in
       let v = b.loop-i.invariant.3 p e in
       elim c.if-text-at.branch [
-        then-text-at h ↦
+        | then-text-at h ↦
             same-search _ _ h.many-is h.found-is
             (one_hit e (w (a b)) (x (a b)) (i b) (lt (a b)) _ f l (high b) _ z v h.if-text-at.true)
         | else-text-at h ↦

@@ -35,7 +35,7 @@ use Rattle.image_code.proofs.+emit_expressions.Goals as goal
 use Rattle.image_code.proofs.+emit_expressions.Goals.{After-operands_of-operands, In-loop-left, Joined-operands-eq0, Start, then-operands-eq0, else-operands-eq0}
 
 -- in a turn
-module _ (t : ℕ) (b : In-loop-left t ) where
+module _ (t : ℕ) (b : In-loop-left t) where
   abbrev start : Start t
   start = (goal.at.In-loop-left t b).Start
 
@@ -70,7 +70,7 @@ module _ (t : ℕ) (b : In-loop-left t ) where
   room = first-room all
 
 -- where the operator is known
-module _ (t : ℕ) (o : After-operands_of-operands t ) where
+module _ (t : ℕ) (o : After-operands_of-operands t) where
   abbrev turn : In-loop-left t
   turn = (goal.at.After-operands_of-operands t o).In-loop-left
 

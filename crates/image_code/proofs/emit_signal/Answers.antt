@@ -13,9 +13,9 @@ bounds-text-place c =
 
 pub emit_equation-requires : goal.emit_equation-requires
 emit_equation-requires c = record {
-      signal_room = c.requires;
-      place_value = c.if-text-place-eq17.true;
-    }
+  signal_room = c.requires;
+  place_value = c.if-text-place-eq17.true;
+}
 
 -- the slice is back as the call left it, for it is the one that the call gives back
 pub returns-then-text-place-eq17 : goal.returns-then-text-place-eq17

@@ -24,9 +24,9 @@ loop-i-preserved c =
     (ltb l.loop-i.most n && ltb (byte_at list l.loop-i.i) n) =
     λ n h. all_one l.loop-i.i _ ∙ rw (l.loop-i.invariant.0 n h) in (
       elim c.if-most-x.branch [
-        then-most-x w ↦ λ n h. more n h ∙ below-greater l.loop-i.most (byte_at list l.loop-i.i) n w.if-most-x.true ∙
-            ap (λ (k : ℕ). ltb k n) (sym w.most-is) |
-        else-most-x w ↦ λ n h. more n h ∙ below-least l.loop-i.most (byte_at list l.loop-i.i) n w.if-most-x.false ∙
+        | then-most-x w ↦ λ n h. more n h ∙ below-greater l.loop-i.most (byte_at list l.loop-i.i) n w.if-most-x.true ∙
+            ap (λ (k : ℕ). ltb k n) (sym w.most-is)
+        | else-most-x w ↦ λ n h. more n h ∙ below-least l.loop-i.most (byte_at list l.loop-i.i) n w.if-most-x.false ∙
             ap (λ (k : ℕ). ltb k n) (sym w.most-is)
       ],
       omega arith,

@@ -162,10 +162,10 @@ offset_bounds-firsts-reader-2 c = omega (arith, small (goal.at.offset_bounds-fir
 
 pub bounds-firsts-reader-2 : goal.bounds-firsts-reader-2
 bounds-firsts-reader-2 c = omega (
-      arith,
-      small
-          (goal.at.bounds-firsts-reader-2 c).Start,
-    )
+  arith,
+  small
+      (goal.at.bounds-firsts-reader-2 c).Start,
+)
 
 pub offset_bounds-reads-i : goal.offset_bounds-reads-i
 offset_bounds-reads-i c = omega (arith, c.loop-i-test.true, c.from_entry-end.ensures.1)

@@ -32,7 +32,7 @@ rows s = rows_from s.args.image.now s.args.start s.args.count
 inside : (l : In-loop-i) → l.loop-i.i < length (rows (goal.at.In-loop-i l).Start)
 inside l = let s = l in rw (rows-length s.args.image.now s.args.start s.args.count) (omega arith)
 
-low-is : (a : After-word_at-low) → 
+low-is : (a : After-word_at-low) →
     (row_at (rows (goal.at.After-word_at-low a).Start) a.loop-i.i).low ≡ a.word_at-low.result
 low-is a =
     let l = a in
@@ -41,7 +41,7 @@ low-is a =
     (omega (arith, a.loop-i-test.true)))
     ∙ sym a.word_at-low.ensures
 
-high_is : (a : After-word_at-high) → 
+high_is : (a : After-word_at-high) →
     (row_at (rows (goal.at.After-word_at-high a).Start) a.loop-i.i).high ≡ a.word_at-high.result
 high_is a =
     let l = a in

@@ -88,8 +88,8 @@ at-if m = choose _ _ _ _ _ _ _ m.loop-at-test.true m.loop-at.invariant m.in-58.i
 other : (j : In_default) (k : ℕ) → 0x50 ≤ k → k < 0x53
     → let l = j in byte_at (code (goal.at.In_default l).At-loop-at) l.loop-at.at ≡ k → ⊥
 other j k lo hi e = elim j.in_default.branch [
-  in_default-via-then-byte-lt80 w ↦ omega arith |
-  in_default-via-else-byte-lt80+else-byte-lt83 w ↦ omega arith
+  | in_default-via-then-byte-lt80 w ↦ omega arith
+  | in_default-via-else-byte-lt80+else-byte-lt83 w ↦ omega arith
 ]
 
 at-binary : (j : In_default)

@@ -88,6 +88,6 @@ returns c =
 
 pub value_at-value-requires : goal.value_at-value-requires
 value_at-value-requires c = (
-      omega (arith, c.size-width.ensures, size_small c.args.operand),
-      omega (arith, c.if-bytes-at.false, c.requires.1),
-    )
+  omega (arith, c.size-width.ensures, size_small c.args.operand),
+  omega (arith, c.if-bytes-at.false, c.requires.1),
+)

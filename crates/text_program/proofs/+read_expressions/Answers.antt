@@ -29,7 +29,7 @@ use Rattle.text_program.proofs.+read_expressions.Goals.{Joined-operands-eq0, the
 use Rattle.text_program.proofs.+read_expressions.Goals.{After-operands_of-operands, In-loop-left, Start}
 
 -- in a turn
-module _ (t : ℕ) (b : In-loop-left t ) where
+module _ (t : ℕ) (b : In-loop-left t) where
   abbrev start : Start t
   start = (goal.at.In-loop-left t b).Start
 
@@ -66,7 +66,7 @@ module _ (t : ℕ) (b : In-loop-left t ) where
       l' r) z w)
 
 -- where the operator is known, and the depth is not 0
-module _ (t : ℕ) (o : After-operands_of-operands t ) where
+module _ (t : ℕ) (o : After-operands_of-operands t) where
   abbrev turn : In-loop-left t
   turn = (goal.at.After-operands_of-operands t o).In-loop-left
 
