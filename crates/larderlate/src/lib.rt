@@ -220,7 +220,6 @@ fn written_of_reported(reported: Reported, old: usize) -> usize
 }
 
 // The same calls for a C caller (include/larderlate.h).
-#[unsafe(no_mangle)]
 pub extern "C" fn larderlate_compile(program: &[u8], schedule: &[u8], image: &mut [u8]) -> u64
     ensures { Tells
         (compile_of program.now schedule.now image.old)
@@ -231,7 +230,6 @@ pub extern "C" fn larderlate_compile(program: &[u8], schedule: &[u8], image: &mu
 }
 
 // The part that a refusal names stands behind a pointer. The header's larderlate_join lends it whole parts.
-#[unsafe(no_mangle)]
 pub extern "C" fn larderlate_join_numbers(
     texts: &[u8],
     numbers: &[usize],
@@ -251,7 +249,6 @@ pub extern "C" fn larderlate_join_numbers(
     code_of_joined(joined)
 }
 
-#[unsafe(no_mangle)]
 pub extern "C" fn larderlate_report(
     program: &[u8],
     schedule: &[u8],
@@ -274,7 +271,6 @@ pub extern "C" fn larderlate_report(
     code_of_reported(reported)
 }
 
-#[unsafe(no_mangle)]
 pub extern "C" fn larderlate_reset(image: &[u8], state: &mut [i32]) -> u64
     ensures { Tells (reset_of image.now state.old) result state.new }
 {
@@ -282,7 +278,6 @@ pub extern "C" fn larderlate_reset(image: &[u8], state: &mut [i32]) -> u64
     code_of_ran(ran)
 }
 
-#[unsafe(no_mangle)]
 pub extern "C" fn larderlate_cycle(image: &[u8], state: &mut [i32], samples: &[i32]) -> u64
     ensures { Tells (cycle_of image.now state.old samples.now) result state.new }
 {
@@ -291,7 +286,6 @@ pub extern "C" fn larderlate_cycle(image: &[u8], state: &mut [i32], samples: &[i
 }
 
 // Where the tail starts, behind a pointer, and how long it is.
-#[unsafe(no_mangle)]
 pub extern "C" fn larderlate_tail(image: &[u8], start: &mut usize) -> u64
     ensures answer { result ≡ code_number (length_of_tail (tail_in image.now)) }
     ensures place { start.new ≡ start_in start.old image.now (tail_in image.now) }
@@ -304,7 +298,6 @@ pub extern "C" fn larderlate_tail(image: &[u8], start: &mut usize) -> u64
     n as u64
 }
 
-#[unsafe(no_mangle)]
 pub extern "C" fn larderlate_convert(program: &[u8], res: &mut [u8]) -> u64
     ensures { Tells (convert_of program.now res.old) result res.new }
 {
@@ -312,7 +305,6 @@ pub extern "C" fn larderlate_convert(program: &[u8], res: &mut [u8]) -> u64
     code_of_yielded(converted)
 }
 
-#[unsafe(no_mangle)]
 pub extern "C" fn larderlate_moves(program: &[u8], schedule: &[u8], list: &mut [u8]) -> u64
     ensures { Tells (moves_of program.now schedule.now list.old) result list.new }
 {
@@ -320,7 +312,6 @@ pub extern "C" fn larderlate_moves(program: &[u8], schedule: &[u8], list: &mut [
     code_of_yielded(listed)
 }
 
-#[unsafe(no_mangle)]
 pub extern "C" fn larderlate_dependents(
     program: &[u8],
     schedule: &[u8],
@@ -335,7 +326,6 @@ pub extern "C" fn larderlate_dependents(
     code_of_ran(ran)
 }
 
-#[unsafe(no_mangle)]
 pub extern "C" fn larderlate_assemble(text: &[u8], bytes: &mut [u8]) -> u64
     ensures { Tells (assemble_of text.now bytes.old) result bytes.new }
 {
@@ -343,7 +333,6 @@ pub extern "C" fn larderlate_assemble(text: &[u8], bytes: &mut [u8]) -> u64
     code_of_yielded(assembled)
 }
 
-#[unsafe(no_mangle)]
 pub extern "C" fn larderlate_list(bytes: &[u8], text: &mut [u8]) -> u64
     ensures { Tells (listing_of bytes.now text.old) result text.new }
 {
@@ -353,14 +342,12 @@ pub extern "C" fn larderlate_list(bytes: &[u8], text: &mut [u8]) -> u64
 
 // The board's calls. The record is an array of 17 numbers that the caller keeps (crate `board`); a refused call and an idle
 // turn leave it as it was.
-#[unsafe(no_mangle)]
 pub extern "C" fn larderlate_board_new(words: &mut [usize; 17])
     ensures { words.new ≡ new_words }
 {
     *words = board::new_record();
 }
 
-#[unsafe(no_mangle)]
 pub extern "C" fn larderlate_board_load(
     words: &mut [usize; 17],
     images: &[u8],
@@ -381,7 +368,6 @@ pub extern "C" fn larderlate_board_load(
     code_of_ran(ran)
 }
 
-#[unsafe(no_mangle)]
 pub extern "C" fn larderlate_board_mark(words: &mut [usize; 17], place: usize) -> u64
     ensures answer { result ≡ code_number (mark_place_of (board_of words.old) place).answer }
     ensures kept { words.new ≡
@@ -391,7 +377,6 @@ pub extern "C" fn larderlate_board_mark(words: &mut [usize; 17], place: usize) -
     code_of_ran(ran)
 }
 
-#[unsafe(no_mangle)]
 pub extern "C" fn larderlate_board_turn(
     words: &mut [usize; 17],
     images: &[u8],

@@ -84,22 +84,22 @@ returns c =
     rw (sym c.from_entry-code.ensures.0, sym e) l.invariant.5
 
 pub offset_bounds-before-base : goal.offset_bounds-before-base
-offset_bounds-before-base c = omega (arith, (begun c).requires.1)
+offset_bounds-before-base c = omega (arith, c.requires.1)
 
 pub bounds-before-base : goal.bounds-before-base
-bounds-before-base c = omega (arith, (begun c).requires.1)
+bounds-before-base c = omega (arith, c.requires.1)
 
 pub overflow_add-at : goal.overflow_add-at
-overflow_add-at c = omega (arith, room c)
+overflow_add-at c = omega (arith, c.loop-x.invariant.0, c.loop-x.invariant.2)
 
 pub overflow_add-end : goal.overflow_add-end
-overflow_add-end c = omega (arith, room c)
+overflow_add-end c = omega (arith, c.loop-x.invariant.0, c.loop-x.invariant.2)
 
 pub offset_bounds-codes-end : goal.offset_bounds-codes-end
-offset_bounds-codes-end c = omega (arith, room c)
+offset_bounds-codes-end c = omega (arith, c.loop-x.invariant.0, c.loop-x.invariant.2)
 
 pub bounds-codes-end : goal.bounds-codes-end
-bounds-codes-end c = omega (arith, room c)
+bounds-codes-end c = omega (arith, c.loop-x.invariant.0, c.loop-x.invariant.2)
 
 pub overflow_add-upto : goal.overflow_add-upto
 overflow_add-upto c = omega (arith, c.from_entry.ensures.1, c.loop-x.invariant.1)

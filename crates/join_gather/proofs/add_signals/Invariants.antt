@@ -12,14 +12,14 @@ invariant-loop-x l =
     (l.base ≡ l.initial.next.signals) × (l.code < 65536) × (l.base + l.n ≤ 64) × (l.x ≤ l.n) × JointSpace l.initial.next ×
     AddsFirst l.initial.next
     (record {
-      l.places = l.places;
-      l.periods = l.periods;
-      l.weights = l.weights;
-      l.labels = l.labels;
-      l.codes = l.codes;
-      l.order = l.order;
-      l.phases = l.phases;
-      l.ranks = l.ranks;
+      places = l.places;
+      periods = l.periods;
+      weights = l.weights;
+      labels = l.labels;
+      codes = l.codes;
+      order = l.order;
+      phases = l.phases;
+      ranks = l.ranks;
     }) l.code l.x l.next
 
 abbrev pub decreases-loop-x : goal.decreases-loop-x
