@@ -2,12 +2,13 @@
 // and written, and answers are put in words. `larder run FILE` takes the commands from a file, a line each.
 #![tactic(auto)]
 
-use libc::STDOUT_FILENO;
 use model::{Fault, Found, Joined, Ran, Yielded, refusals};
+use std::io;
 
-fn say_use() {
-    console::print(b"failed\n");
+fn say_use(rt: &HostRuntime) -> io::Result<()> {
+    console::print(rt, b"failed\n")?;
     console::say(
+        rt,
         b"\
         larder compile PROGRAM SCHEDULE IMAGE     writes the image with its tail\n\
         larder report PROGRAM SCHEDULE            what it needs: sizes, and a line a cycle\n\
@@ -21,7 +22,7 @@ fn say_use() {
         larder labels IMAGE                       a line a signal: number, label, period, phase\n\
         larder convert PROGRAM FILE               a program from when a factor of 1 was allowed\n\
         larder run FILE                           these commands from a file, a line each\n",
-    );
+    )
 }
 
 // What a pair of files is read for.
@@ -35,251 +36,265 @@ enum Task {
 }
 
 // A line that says a number of an image.
-fn print_field(text: &[u8], n: usize) {
-    console::print(text);
-    console::print_number(n);
+fn print_field(rt: &HostRuntime, text: &[u8], n: usize) -> io::Result<()> {
+    console::print(rt, text)?;
+    console::print_number(rt, n)
 }
 
 // Says L, the length, H and N of an image of n bytes.
-fn print_image(image: &[u8], n: usize) {
+fn print_image(rt: &HostRuntime, image: &[u8], n: usize) -> io::Result<()> {
     if image.len() < 4 {
-        return;
+        return Ok(());
     }
     print_field(
+        rt,
         b"L ",
         basics::from_byte(image[2]) + 256 * basics::from_byte(image[3]),
-    );
-    print_field(b" length ", n);
-    print_field(b" H ", basics::from_byte(image[0]));
-    print_field(b" N ", basics::from_byte(image[1]));
-    console::print(b"\n");
+    )?;
+    print_field(rt, b" length ", n)?;
+    print_field(rt, b" H ", basics::from_byte(image[0]))?;
+    print_field(rt, b" N ", basics::from_byte(image[1]))?;
+    console::print(rt, b"\n")
 }
 
 // Writes an image of n bytes to a file, and says what it is.
-fn write_image(name: &[u8], image: &[u8], n: usize) {
+fn write_image(rt: &HostRuntime, name: &[u8], image: &[u8], n: usize) -> io::Result<()> {
     if image.len() < n {
-        return;
+        return Ok(());
     }
-    if console::write_file(name, &image[0..n]) {
-        print_image(image, n);
+    if console::write_file(rt, name, &image[0..n])? {
+        print_image(rt, image, n)?;
     }
+    Ok(())
 }
 
-fn compile(line: &[u8], program: &[u8], schedule: &[u8]) {
+fn compile(rt: &HostRuntime, line: &[u8], program: &[u8], schedule: &[u8]) -> io::Result<()> {
     let mut image: [u8; 24679] = [0; 24679];
     let compiled = larderlate::compile(program, schedule, &mut image);
     match compiled {
-        Yielded::Number(n) => write_image(console::word_of(line, 3), &image, n),
-        Yielded::Refused(fault) => explain::refuse_pair(fault, program, schedule),
+        Yielded::Number(n) => write_image(rt, console::word_of(line, 3), &image, n),
+        Yielded::Refused(fault) => explain::refuse_pair(rt, fault, program, schedule),
     }
 }
 
 // A signal that the input reaches: its number and label.
-fn print_mark(marks: &[u8; 64], labels: &[u16; 64], x: usize) {
+fn print_mark(rt: &HostRuntime, marks: &[u8; 64], labels: &[u16; 64], x: usize) -> io::Result<()> {
     if 63 < x {
-        return;
+        return Ok(());
     }
     if marks[x] == 1 {
-        print_field(b"signal ", x);
-        print_field(b" label ", basics::from_entry(labels[x]));
-        console::print(b"\n");
+        print_field(rt, b"signal ", x)?;
+        print_field(rt, b" label ", basics::from_entry(labels[x]))?;
+        console::print(rt, b"\n")?;
     }
+    Ok(())
 }
 
-fn print_marks(marks: &[u8; 64], labels: &[u16; 64]) {
+fn print_marks(rt: &HostRuntime, marks: &[u8; 64], labels: &[u16; 64]) -> io::Result<()> {
     let mut x: usize = 0;
     while x < 64 {
-        print_mark(marks, labels, x);
+        print_mark(rt, marks, labels, x)?;
         x = x + 1;
     }
+    Ok(())
 }
 
-fn print_dependents(program: &[u8], schedule: &[u8], input: usize) {
+fn print_dependents(
+    rt: &HostRuntime,
+    program: &[u8],
+    schedule: &[u8],
+    input: usize,
+) -> io::Result<()> {
     let mut marks: [u8; 64] = [0; 64];
     let ran = larderlate::dependents(program, schedule, input, &mut marks);
     match ran {
         Ran::Done => {
             let table = timetable::of_pair(program, schedule);
             let labels = table.labels;
-            print_marks(&marks, &labels);
+            print_marks(rt, &marks, &labels)
         }
         Ran::Refused(fault) => {
             if fault.number == 48 {
-                explain::refuse_call(fault);
+                explain::refuse_call(rt, fault)
             } else {
-                explain::refuse_pair(fault, program, schedule);
+                explain::refuse_pair(rt, fault, program, schedule)
             }
         }
     }
 }
 
-fn dependents(line: &[u8], program: &[u8], schedule: &[u8]) {
+fn dependents(rt: &HostRuntime, line: &[u8], program: &[u8], schedule: &[u8]) -> io::Result<()> {
     let input = text_token::number_of(console::word_of(line, 3));
     match input {
-        Found::At(n) => print_dependents(program, schedule, n),
-        Found::Nowhere => say_use(),
+        Found::At(n) => print_dependents(rt, program, schedule, n),
+        Found::Nowhere => say_use(rt),
     }
 }
 
-fn run_pair(task: Task, line: &[u8], program: &[u8], schedule: &[u8]) {
+fn run_pair(
+    rt: &HostRuntime,
+    task: Task,
+    line: &[u8],
+    program: &[u8],
+    schedule: &[u8],
+) -> io::Result<()> {
     match task {
-        Task::Compile => compile(line, program, schedule),
-        Task::Report => print_report::print_report(program, schedule),
-        Task::Chart => print_chart::print_chart(program, schedule),
-        Task::Moves => print_moves::print_moves(program, schedule),
-        Task::Dependents => dependents(line, program, schedule),
+        Task::Compile => compile(rt, line, program, schedule),
+        Task::Report => print_report::print_report(rt, program, schedule),
+        Task::Chart => print_chart::print_chart(rt, program, schedule),
+        Task::Moves => print_moves::print_moves(rt, program, schedule),
+        Task::Dependents => dependents(rt, line, program, schedule),
     }
 }
 
 // Reads the program and the schedule that the line names, each one byte past its bound, so that a longer one is seen.
-fn with_pair(task: Task, line: &[u8]) {
+fn with_pair(rt: &HostRuntime, task: Task, line: &[u8]) -> io::Result<()> {
     let mut program = [0u8; 8193];
     let mut schedule = [0u8; 194];
-    let fd = console::open(console::word_of(line, 1));
-    if fd < 0 {
-        return;
-    }
-    let p = console::read(fd, &mut program);
-    let fd2 = console::open(console::word_of(line, 2));
-    if fd2 < 0 {
-        return;
-    }
-    let s = console::read(fd2, &mut schedule);
-    run_pair(task, line, &program[..p], &schedule[..s]);
+    let Some(file) = console::open(rt, console::word_of(line, 1))? else {
+        return Ok(());
+    };
+    let p = console::read(file, &mut program);
+    let Some(file2) = console::open(rt, console::word_of(line, 2))? else {
+        return Ok(());
+    };
+    let s = console::read(file2, &mut schedule);
+    run_pair(rt, task, line, &program[..p], &schedule[..s])
 }
 
 // A file that is longer than its bound.
-fn refuse_long() {
-    explain::refuse_call(Fault {
-        number: refusals::TEXT_TOO_LONG,
-        place: 0,
-    });
+fn refuse_long(rt: &HostRuntime) -> io::Result<()> {
+    explain::refuse_call(
+        rt,
+        Fault {
+            number: refusals::TEXT_TOO_LONG,
+            place: 0,
+        },
+    )?;
+    Ok(())
 }
 
-fn print_listing(bytes: &[u8]) {
+fn print_listing(rt: &HostRuntime, bytes: &[u8]) -> io::Result<()> {
     let mut text: [u8; 131072] = [0; 131072];
     let listed = larderlate::list(bytes, &mut text);
     match listed {
         Yielded::Number(n) => {
             if n <= 131072 {
-                let size = io::count(n as isize, &text);
-                console::print(&text[..size]);
+                console::print(rt, &text[..n])?;
             }
         }
-        Yielded::Refused(fault) => explain::refuse_bytes(fault, bytes),
+        Yielded::Refused(fault) => explain::refuse_bytes(rt, fault, bytes)?,
     }
+    Ok(())
 }
 
-fn list(line: &[u8]) {
+fn list(rt: &HostRuntime, line: &[u8]) -> io::Result<()> {
     let mut bytes = [0u8; 8193];
-    let fd = console::open(console::word_of(line, 1));
-    if fd < 0 {
-        return;
-    }
-    let n = console::read(fd, &mut bytes);
+    let Some(file) = console::open(rt, console::word_of(line, 1))? else {
+        return Ok(());
+    };
+    let n = console::read(file, &mut bytes);
     if 8192 < n {
-        refuse_long();
-        return;
+        return refuse_long(rt);
     }
-    print_listing(&bytes[..n]);
+    print_listing(rt, &bytes[..n])
 }
 
 // Writes the bytes of a text or of a conversion to the file that word 2 of the line names, and says how many they are.
-fn write_bytes(line: &[u8], bytes: &[u8], n: usize) {
+fn write_bytes(rt: &HostRuntime, line: &[u8], bytes: &[u8], n: usize) -> io::Result<()> {
     if bytes.len() < n {
-        return;
+        return Ok(());
     }
-    if console::write_file(console::word_of(line, 2), &bytes[0..n]) {
-        print_field(b"length ", n);
-        console::print(b"\n");
+    if console::write_file(rt, console::word_of(line, 2), &bytes[0..n])? {
+        print_field(rt, b"length ", n)?;
+        console::print(rt, b"\n")?;
     }
+    Ok(())
 }
 
-fn assemble_text(line: &[u8], text: &[u8]) {
+fn assemble_text(rt: &HostRuntime, line: &[u8], text: &[u8]) -> io::Result<()> {
     let mut bytes: [u8; 8192] = [0; 8192];
     let assembled = larderlate::assemble(text, &mut bytes);
     match assembled {
-        Yielded::Number(n) => write_bytes(line, &bytes, n),
-        Yielded::Refused(fault) => explain::refuse_text(fault, text),
+        Yielded::Number(n) => write_bytes(rt, line, &bytes, n),
+        Yielded::Refused(fault) => explain::refuse_text(rt, fault, text),
     }
 }
 
-fn assemble(line: &[u8]) {
+fn assemble(rt: &HostRuntime, line: &[u8]) -> io::Result<()> {
     let mut text: [u8; 262145] = [0; 262145];
-    let fd = console::open(console::word_of(line, 1));
-    if fd < 0 {
-        return;
-    }
-    let n = console::read(fd, &mut text);
+    let Some(file) = console::open(rt, console::word_of(line, 1))? else {
+        return Ok(());
+    };
+    let n = console::read(file, &mut text);
     if 262144 < n {
-        refuse_long();
-        return;
+        return refuse_long(rt);
     }
-    assemble_text(line, &text[..n]);
+    assemble_text(rt, line, &text[..n])
 }
 
-fn convert(line: &[u8]) {
+fn convert(rt: &HostRuntime, line: &[u8]) -> io::Result<()> {
     let mut program = [0u8; 8193];
     let mut result: [u8; 8192] = [0; 8192];
-    let fd = console::open(console::word_of(line, 1));
-    if fd < 0 {
-        return;
-    }
-    let p = console::read(fd, &mut program);
+    let Some(file) = console::open(rt, console::word_of(line, 1))? else {
+        return Ok(());
+    };
+    let p = console::read(file, &mut program);
     let converted = larderlate::convert(&program[..p], &mut result);
     match converted {
-        Yielded::Number(n) => write_bytes(line, &result, n),
-        Yielded::Refused(fault) => explain::refuse_bytes(fault, &program[..p]),
+        Yielded::Number(n) => write_bytes(rt, line, &result, n),
+        Yielded::Refused(fault) => explain::refuse_bytes(rt, fault, &program[..p]),
     }
 }
 
 // The line of signal x, whose entry of the tail stands at 4x.
-fn print_label(tail: &[u8], x: usize) {
+fn print_label(rt: &HostRuntime, tail: &[u8], x: usize) -> io::Result<()> {
     if 63 < x {
-        return;
+        return Ok(());
     }
     let at = 4 * x;
     if tail.len() < at + 4 {
-        return;
+        return Ok(());
     }
-    console::print_number(x);
+    console::print_number(rt, x)?;
     print_field(
+        rt,
         b" ",
         basics::from_byte(tail[at]) + 256 * basics::from_byte(tail[at + 1]),
-    );
-    print_field(b" ", basics::from_byte(tail[at + 2]));
-    print_field(b" ", basics::from_byte(tail[at + 3]));
-    console::print(b"\n");
+    )?;
+    print_field(rt, b" ", basics::from_byte(tail[at + 2]))?;
+    print_field(rt, b" ", basics::from_byte(tail[at + 3]))?;
+    console::print(rt, b"\n")
 }
 
-fn print_tail(tail: &[u8]) {
+fn print_tail(rt: &HostRuntime, tail: &[u8]) -> io::Result<()> {
     let mut x: usize = 0;
     while x < 64 {
-        print_label(tail, x);
+        print_label(rt, tail, x)?;
         x = x + 1;
     }
+    Ok(())
 }
 
-fn print_labels(image: &[u8]) {
+fn print_labels(rt: &HostRuntime, image: &[u8]) -> io::Result<()> {
     let length = larderlate::tail_length(image);
     match length {
-        Yielded::Number(_) => print_tail(larderlate::tail(image)),
-        Yielded::Refused(fault) => explain::refuse_call(fault),
+        Yielded::Number(_) => print_tail(rt, larderlate::tail(image)),
+        Yielded::Refused(fault) => explain::refuse_call(rt, fault),
     }
 }
 
 // No image with its tail is longer than 65,791 bytes; one more is read, so that a longer file is seen.
-fn with_image(line: &[u8], labels: bool) {
+fn with_image(rt: &HostRuntime, line: &[u8], labels: bool) -> io::Result<()> {
     let mut image: [u8; 65792] = [0; 65792];
-    let fd = console::open(console::word_of(line, 1));
-    if fd < 0 {
-        return;
-    }
-    let n = console::read(fd, &mut image);
+    let Some(file) = console::open(rt, console::word_of(line, 1))? else {
+        return Ok(());
+    };
+    let n = console::read(file, &mut image);
     if labels {
-        print_labels(&image[..n]);
+        print_labels(rt, &image[..n])
     } else {
-        print_image::print_image(&image[..n]);
+        print_image::print_image(rt, &image[..n])
     }
 }
 
@@ -294,22 +309,28 @@ enum Next {
 }
 
 // Reads the text that word i of the line names to `at` of the buffer, one byte past its bound.
-fn read_text(line: &[u8], i: usize, texts: &mut [u8], at: usize, bound: usize) -> Next {
-    let fd = console::open(console::word_of(line, i));
-    if fd < 0 {
-        return Next::Failed;
-    }
+fn read_text(
+    rt: &HostRuntime,
+    line: &[u8],
+    i: usize,
+    texts: &mut [u8],
+    at: usize,
+    bound: usize,
+) -> io::Result<Next> {
+    let Some(file) = console::open(rt, console::word_of(line, i))? else {
+        return Ok(Next::Failed);
+    };
     if texts.len() < at {
-        return Next::Failed;
+        return Ok(Next::Failed);
     }
     if texts.len() - at < bound {
-        return Next::Failed;
+        return Ok(Next::Failed);
     }
-    let n = console::read(fd, &mut texts[at..at + bound]);
+    let n = console::read(file, &mut texts[at..at + bound]);
     if bound < n {
-        return Next::Failed;
+        return Ok(Next::Failed);
     }
-    Next::At(at + n)
+    Ok(Next::At(at + n))
 }
 
 // The bound of text j, with one byte more: programs and schedules take turns.
@@ -325,42 +346,49 @@ fn keep_number(numbers: &mut [usize], i: usize, n: usize) {
 
 // Reads text j of a join, of `count`, and keeps its start and length; answers where the next goes.
 fn read_next(
+    rt: &HostRuntime,
     line: &[u8],
     j: usize,
     count: usize,
     texts: &mut [u8],
     numbers: &mut [usize],
     at: usize,
-) -> Next {
+) -> io::Result<Next> {
     if count <= j {
-        return Next::At(at);
+        return Ok(Next::At(at));
     }
     if 17 < j {
-        return Next::Failed;
+        return Ok(Next::Failed);
     }
-    let next = read_text(line, j + 3, texts, at, bound_of(j));
+    let next = read_text(rt, line, j + 3, texts, at, bound_of(j))?;
     if let Next::At(end) = next {
         keep_number(numbers, 2 * j, at);
         if at <= end {
             keep_number(numbers, 2 * j + 1, end - at);
         }
     }
-    next
+    Ok(next)
 }
 
 // Reads all texts of a join that the line names, from word 3 on, with the start and length of each.
-fn read_texts(line: &[u8], count: usize, texts: &mut [u8], numbers: &mut [usize]) -> Next {
+fn read_texts(
+    rt: &HostRuntime,
+    line: &[u8],
+    count: usize,
+    texts: &mut [u8],
+    numbers: &mut [usize],
+) -> io::Result<Next> {
     let mut at: usize = 0;
     let mut j: usize = 0;
     while j < 18 {
-        let next = read_next(line, j, count, texts, numbers, at);
+        let next = read_next(rt, line, j, count, texts, numbers, at)?;
         let Next::At(end) = next else {
-            return Next::Failed;
+            return Ok(Next::Failed);
         };
         at = end;
         j = j + 1;
     }
-    Next::At(at)
+    Ok(Next::At(at))
 }
 
 // Text j of a join, where it lies in the buffer.
@@ -383,65 +411,77 @@ fn text_of<'a>(texts: &'a [u8], numbers: &[usize], j: usize) -> &'a [u8] {
 }
 
 // A refusal inside a part.
-fn refuse_part(fault: Fault, part: usize, texts: &[u8], numbers: &[usize]) {
-    explain::refuse(fault);
-    console::say(b", part ");
-    console::say_number(part);
+fn refuse_part(
+    rt: &HostRuntime,
+    fault: Fault,
+    part: usize,
+    texts: &[u8],
+    numbers: &[usize],
+) -> io::Result<()> {
+    explain::refuse(rt, fault)?;
+    console::say(rt, b", part ")?;
+    console::say_number(rt, part)?;
     if part < 9 {
         let program = text_of(texts, numbers, 2 * part);
         let schedule = text_of(texts, numbers, 2 * part + 1);
-        explain::say_where(fault, program, schedule);
+        explain::say_where(rt, fault, program, schedule)?;
     }
+    Ok(())
 }
 
 // A refusal of the parts together: the link or the cycle.
-fn refuse_join(fault: Fault) {
-    explain::refuse(fault);
+fn refuse_join(rt: &HostRuntime, fault: Fault) -> io::Result<()> {
+    explain::refuse(rt, fault)?;
     let number = fault.number;
     match number {
-        14 | 31 => console::say(b", link "),
-        15 => console::say(b", cycle "),
-        _ => console::say(b", "),
+        14 | 31 => console::say(rt, b", link ")?,
+        15 => console::say(rt, b", cycle ")?,
+        _ => console::say(rt, b", ")?,
     }
-    console::say_number(fault.place);
-    console::say(b"\n");
+    console::say_number(rt, fault.place)?;
+    console::say(rt, b"\n")
 }
 
-fn join_texts(line: &[u8], links: &[u8], texts: &[u8], numbers: &[usize], count: usize) {
+fn join_texts(
+    rt: &HostRuntime,
+    line: &[u8],
+    links: &[u8],
+    texts: &[u8],
+    numbers: &[usize],
+    count: usize,
+) -> io::Result<()> {
     let mut image: [u8; 24679] = [0; 24679];
     if numbers.len() < count {
-        return;
+        return Ok(());
     }
     let joined = larderlate::join(texts, &numbers[0..count], links, &mut image);
     match joined {
-        Joined::Length(n) => write_image(console::word_of(line, 2), &image, n),
-        Joined::Refused(fault) => refuse_join(fault),
-        Joined::RefusedIn(part, fault) => refuse_part(fault, part, texts, numbers),
+        Joined::Length(n) => write_image(rt, console::word_of(line, 2), &image, n),
+        Joined::Refused(fault) => refuse_join(rt, fault),
+        Joined::RefusedIn(part, fault) => refuse_part(rt, fault, part, texts, numbers),
     }
 }
 
 // Joins the parts that the line names, each by a program and a schedule, with the links of a file.
-fn join(line: &[u8], count: usize) {
+fn join(rt: &HostRuntime, line: &[u8], count: usize) -> io::Result<()> {
     let mut links: [u8; 1025] = [0; 1025];
     let mut texts: [u8; 75483] = [0; 75483];
     let mut numbers: [usize; 36] = [0; 36];
-    let fd = console::open(console::word_of(line, 1));
-    if fd < 0 {
-        return;
-    }
-    let n = console::read(fd, &mut links);
+    let Some(file) = console::open(rt, console::word_of(line, 1))? else {
+        return Ok(());
+    };
+    let n = console::read(file, &mut links);
     if 1024 < n {
-        refuse_long();
-        return;
+        return refuse_long(rt);
     }
-    let next = read_texts(line, count, &mut texts, &mut numbers);
+    let next = read_texts(rt, line, count, &mut texts, &mut numbers)?;
     let Next::At(_) = next else {
-        return;
+        return Ok(());
     };
     if TEXTS < count {
-        return;
+        return Ok(());
     }
-    join_texts(line, &links[..n], &texts, &numbers, 2 * count);
+    join_texts(rt, line, &links[..n], &texts, &numbers, 2 * count)
 }
 
 // Whether the line is this command with so many words.
@@ -467,73 +507,73 @@ fn is_join(line: &[u8], words: usize) -> bool {
 }
 
 // The commands on a program and a schedule; whether the line is one.
-fn run_on_pair(line: &[u8], words: usize) -> bool {
+fn run_on_pair(rt: &HostRuntime, line: &[u8], words: usize) -> io::Result<bool> {
     if is_command(line, b"compile", words, 4) {
-        with_pair(Task::Compile, line);
+        with_pair(rt, Task::Compile, line)?;
     } else if is_command(line, b"report", words, 3) {
-        with_pair(Task::Report, line);
+        with_pair(rt, Task::Report, line)?;
     } else if is_command(line, b"chart", words, 3) {
-        with_pair(Task::Chart, line);
+        with_pair(rt, Task::Chart, line)?;
     } else if is_command(line, b"moves", words, 3) {
-        with_pair(Task::Moves, line);
+        with_pair(rt, Task::Moves, line)?;
     } else if is_command(line, b"dependents", words, 4) {
-        with_pair(Task::Dependents, line);
+        with_pair(rt, Task::Dependents, line)?;
     } else {
-        return false;
+        return Ok(false);
     }
-    true
+    Ok(true)
 }
 
 // The commands on one file; whether the line is one.
-fn run_on_file(line: &[u8], words: usize) -> bool {
+fn run_on_file(rt: &HostRuntime, line: &[u8], words: usize) -> io::Result<bool> {
     if is_command(line, b"list", words, 2) {
-        list(line);
+        list(rt, line)?;
     } else if is_command(line, b"assemble", words, 3) {
-        assemble(line);
+        assemble(rt, line)?;
     } else if is_command(line, b"convert", words, 3) {
-        convert(line);
+        convert(rt, line)?;
     } else if is_command(line, b"list-image", words, 2) {
-        with_image(line, false);
+        with_image(rt, line, false)?;
     } else if is_command(line, b"labels", words, 2) {
-        with_image(line, true);
+        with_image(rt, line, true)?;
     } else {
-        return false;
+        return Ok(false);
     }
-    true
+    Ok(true)
 }
 
 // Carries out one command line, or says how the program is used.
-fn run_line(line: &[u8]) {
+fn run_line(rt: &HostRuntime, line: &[u8]) -> io::Result<()> {
     let words = console::count_words(line);
-    if run_on_pair(line, words) {
-        return;
+    if run_on_pair(rt, line, words)? {
+        return Ok(());
     }
-    if run_on_file(line, words) {
-        return;
+    if run_on_file(rt, line, words)? {
+        return Ok(());
     }
     if is_join(line, words) {
         if 3 <= words {
-            join(line, words - 3);
+            join(rt, line, words - 3)?;
         }
-        return;
+        return Ok(());
     }
-    say_use();
+    say_use(rt)
 }
 
 // Carries out the command whose words stand at the start of the line.
-fn run_taken(line: &mut [u8], n: usize) {
+fn run_taken(rt: &HostRuntime, line: &mut [u8], n: usize) -> io::Result<()> {
     if n == 0 {
-        return;
+        return Ok(());
     }
     if line.len() <= n {
-        return;
+        return Ok(());
     }
     line[n] = 0;
     let end = n + 1;
     if line.len() < end {
-        return;
+        return Ok(());
     }
-    run_line(&line[0..end]);
+    run_line(rt, &line[0..end])
 }
 
 // A blank ends a word.
@@ -543,57 +583,54 @@ fn ended(byte: u8) -> u8 {
 
 // Takes the next byte of a file of commands, and shows it: a blank ends a word, the end of the line ends the command, which is
 // then carried out.
-fn take_byte(line: &mut [u8], n: usize, byte: u8) -> usize {
+fn take_byte(rt: &HostRuntime, line: &mut [u8], n: usize, byte: u8) -> io::Result<usize> {
     let shown = [byte];
-    io::write_all(STDOUT_FILENO, &shown);
+    console::print(rt, &shown)?;
     if byte == 10 {
-        run_taken(line, n);
-        return 0;
+        run_taken(rt, line, n)?;
+        return Ok(0);
     }
     if line.len() <= n {
-        return n;
+        return Ok(n);
     }
     line[n] = ended(byte);
-    n + 1
+    Ok(n + 1)
 }
 
-fn run_commands(text: &[u8], line: &mut [u8]) {
+fn run_commands(rt: &HostRuntime, text: &[u8], line: &mut [u8]) -> io::Result<()> {
     let mut n: usize = 0;
     let mut i: usize = 0;
     while i < text.len() {
-        n = take_byte(line, n, text[i]);
+        n = take_byte(rt, line, n, text[i])?;
         i = i + 1;
     }
+    Ok(())
 }
 
 // A file of commands has at most 65,535 bytes, and a command at most 4,095.
-fn run_file(line: &[u8]) {
-    let mut text = io::large_buffer();
-    let mut command = io::buffer();
-    let fd = console::open(console::word_of(line, 1));
-    if fd < 0 {
-        return;
-    }
-    let n = console::read(fd, &mut text);
+fn run_file(rt: &HostRuntime, line: &[u8]) -> io::Result<()> {
+    let mut text = [0u8; 65536];
+    let mut command = [0u8; 4096];
+    let Some(file) = console::open(rt, console::word_of(line, 1))? else {
+        return Ok(());
+    };
+    let n = console::read(file, &mut text);
     if 65535 < n {
-        refuse_long();
-        return;
+        return refuse_long(rt);
     }
-    run_commands(&text[..n], &mut command);
+    run_commands(rt, &text[..n], &mut command)
 }
 
-fn main() {
-    let mut space = io::large_buffer();
-    let n = console::arguments(&mut space);
+fn main(rt: HostRuntime) -> io::Result<()> {
+    let mut space = [0u8; 65536];
+    let n = console::arguments(&rt, &mut space);
     if 65536 < n {
-        return;
+        return Ok(());
     }
-    let size = io::count(n as isize, &space);
-    let line = &space[..size];
+    let line = &space[..n];
     let words = console::count_words(line);
     if is_command(line, b"run", words, 2) {
-        run_file(line);
-        return;
+        return run_file(&rt, line);
     }
-    run_line(line);
+    run_line(&rt, line)
 }

@@ -5,6 +5,7 @@
 ghost use Rattle.std.specs.Prelude.{◌≤◌, ◌<◌, ◌≡◌};
 
 use basics::Judged;
+use std::io;
 use timetable::Timetable;
 
 // In pixels: what stands left of the cycles and above the rows, the height of a row, and that of the highest load.
@@ -70,128 +71,168 @@ fn y_of(x: usize) -> usize
     TOP + ROW * x
 }
 
-fn number(text: &[u8], n: usize) {
-    console::print(text);
-    console::print_number(n);
+fn number(rt: &HostRuntime, text: &[u8], n: usize) -> io::Result<()> {
+    console::print(rt, text)?;
+    console::print_number(rt, n)
 }
 
 // The start of the picture.
-fn open(right: usize, bottom: usize)
+fn open(rt: &HostRuntime, right: usize, bottom: usize) -> io::Result<()>
     requires { (right ≤ 10000) × (bottom ≤ 10000) }
 {
     number(
+        rt,
         b"<svg xmlns=\"http://www.w3.org/2000/svg\" width=\"",
         right + 150,
-    );
-    number(b"\" height=\"", bottom);
-    console::print(b"\" font-family=\"monospace\" font-size=\"10\">\n");
-    console::print(b"<rect width=\"100%\" height=\"100%\" fill=\"white\"/>\n");
+    )?;
+    number(rt, b"\" height=\"", bottom)?;
+    console::print(rt, b"\" font-family=\"monospace\" font-size=\"10\">\n")?;
+    console::print(
+        rt,
+        b"<rect width=\"100%\" height=\"100%\" fill=\"white\"/>\n",
+    )
 }
 
 // A line from one point to another.
-fn line(x: usize, y: usize, to_x: usize, to_y: usize, colour: &[u8]) {
-    console::print(b"<path stroke=\"");
-    console::print(colour);
-    number(b"\" d=\"M", x);
-    number(b" ", y);
-    number(b"L", to_x);
-    number(b" ", to_y);
-    console::print(b"\"/>\n");
+fn line(
+    rt: &HostRuntime,
+    x: usize,
+    y: usize,
+    to_x: usize,
+    to_y: usize,
+    colour: &[u8],
+) -> io::Result<()> {
+    console::print(rt, b"<path stroke=\"")?;
+    console::print(rt, colour)?;
+    number(rt, b"\" d=\"M", x)?;
+    number(rt, b" ", y)?;
+    number(rt, b"L", to_x)?;
+    number(rt, b" ", to_y)?;
+    console::print(rt, b"\"/>\n")
 }
 
-fn text_at(x: usize, y: usize) {
-    number(b"<text x=\"", x);
-    number(b"\" y=\"", y);
-    console::print(b"\">");
+fn text_at(rt: &HostRuntime, x: usize, y: usize) -> io::Result<()> {
+    number(rt, b"<text x=\"", x)?;
+    number(rt, b"\" y=\"", y)?;
+    console::print(rt, b"\">")
 }
 
 // The number of cycle c above the rows, with a line down to `bottom`, where it is one that is numbered.
-fn draw_tick(c: usize, every: usize, wide: usize, bottom: usize) {
+fn draw_tick(
+    rt: &HostRuntime,
+    c: usize,
+    every: usize,
+    wide: usize,
+    bottom: usize,
+) -> io::Result<()> {
     if 240 < c {
-        return;
+        return Ok(());
     }
     if 24 < wide {
-        return;
+        return Ok(());
     }
     if every == 0 {
-        return;
+        return Ok(());
     }
     if c % every != 0 {
-        return;
+        return Ok(());
     }
     let x = x_of(c, wide);
-    line(x, TOP, x, bottom, b"#ddd");
-    text_at(x, TOP - 6);
-    console::print_number(c);
-    console::print(b"</text>\n");
+    line(rt, x, TOP, x, bottom, b"#ddd")?;
+    text_at(rt, x, TOP - 6)?;
+    console::print_number(rt, c)?;
+    console::print(rt, b"</text>\n")
 }
 
-fn draw_ticks(h: usize, every: usize, wide: usize, bottom: usize) {
+fn draw_ticks(
+    rt: &HostRuntime,
+    h: usize,
+    every: usize,
+    wide: usize,
+    bottom: usize,
+) -> io::Result<()> {
     let mut c: usize = 0;
     while c < h {
-        draw_tick(c, every, wide, bottom);
+        draw_tick(rt, c, every, wide, bottom)?;
         c = c + 1;
     }
+    Ok(())
 }
 
 // The box of a run, where the signal of this row runs in cycle c.
-fn draw_run(period: u8, phase: u8, c: usize, wide: usize, y: usize) {
+fn draw_run(
+    rt: &HostRuntime,
+    period: u8,
+    phase: u8,
+    c: usize,
+    wide: usize,
+    y: usize,
+) -> io::Result<()> {
     let p = basics::from_byte(period);
     if p == 0 {
-        return;
+        return Ok(());
     }
     if 240 < c {
-        return;
+        return Ok(());
     }
     if 24 < wide {
-        return;
+        return Ok(());
     }
     if wide < 2 {
-        return;
+        return Ok(());
     }
     if c % p != basics::from_byte(phase) {
-        return;
+        return Ok(());
     }
-    number(b"M", x_of(c, wide));
-    number(b" ", y);
-    number(b"h", wide - 1);
-    number(b"v11h-", wide - 1);
-    console::print(b"z");
+    number(rt, b"M", x_of(c, wide))?;
+    number(rt, b" ", y)?;
+    number(rt, b"h", wide - 1)?;
+    number(rt, b"v11h-", wide - 1)?;
+    console::print(rt, b"z")
 }
 
-fn draw_runs(period: u8, phase: u8, h: usize, wide: usize, y: usize) {
+fn draw_runs(
+    rt: &HostRuntime,
+    period: u8,
+    phase: u8,
+    h: usize,
+    wide: usize,
+    y: usize,
+) -> io::Result<()> {
     let mut c: usize = 0;
     while c < h {
-        draw_run(period, phase, c, wide, y);
+        draw_run(rt, period, phase, c, wide, y)?;
         c = c + 1;
     }
+    Ok(())
 }
 
 // The row of signal x: its number, label, period and phase, and its runs.
-fn draw_row(table: Timetable, x: usize, wide: usize) {
+fn draw_row(rt: &HostRuntime, table: Timetable, x: usize, wide: usize) -> io::Result<()> {
     if 63 < x {
-        return;
+        return Ok(());
     }
     let labels = table.labels;
     let periods = table.periods;
     let phases = table.phases;
     let y = y_of(x);
-    text_at(4, y + 10);
-    number(b"", x);
-    number(b" label ", basics::from_entry(labels[x]));
-    number(b" period ", basics::from_byte(periods[x]));
-    number(b" phase ", basics::from_byte(phases[x]));
-    console::print(b"</text>\n<path fill=\"#36c\" d=\"");
-    draw_runs(periods[x], phases[x], table.hypercycle, wide, y);
-    console::print(b"\"/>\n");
+    text_at(rt, 4, y + 10)?;
+    number(rt, b"", x)?;
+    number(rt, b" label ", basics::from_entry(labels[x]))?;
+    number(rt, b" period ", basics::from_byte(periods[x]))?;
+    number(rt, b" phase ", basics::from_byte(phases[x]))?;
+    console::print(rt, b"</text>\n<path fill=\"#36c\" d=\"")?;
+    draw_runs(rt, periods[x], phases[x], table.hypercycle, wide, y)?;
+    console::print(rt, b"\"/>\n")
 }
 
-fn draw_rows(table: Timetable, signals: usize, wide: usize) {
+fn draw_rows(rt: &HostRuntime, table: Timetable, signals: usize, wide: usize) -> io::Result<()> {
     let mut x: usize = 0;
     while x < signals {
-        draw_row(table, x, wide);
+        draw_row(rt, table, x, wide)?;
         x = x + 1;
     }
+    Ok(())
 }
 
 fn greater(a: u32, b: u32) -> u32
@@ -229,54 +270,68 @@ fn height(load: u32, most: u32) -> usize
 }
 
 // The load of cycle c, from the line at `base` up.
-fn draw_load(load: u32, most: u32, c: usize, wide: usize, base: usize) {
+fn draw_load(
+    rt: &HostRuntime,
+    load: u32,
+    most: u32,
+    c: usize,
+    wide: usize,
+    base: usize,
+) -> io::Result<()> {
     if 240 < c {
-        return;
+        return Ok(());
     }
     if 24 < wide {
-        return;
+        return Ok(());
     }
     if wide < 2 {
-        return;
+        return Ok(());
     }
     if most == 0 {
-        return;
+        return Ok(());
     }
     if base < 100 {
-        return;
+        return Ok(());
     }
     let high = height(load, most);
-    number(b"M", x_of(c, wide));
-    number(b" ", base - high);
-    number(b"h", wide - 1);
-    number(b"v", high);
-    number(b"h-", wide - 1);
-    console::print(b"z");
+    number(rt, b"M", x_of(c, wide))?;
+    number(rt, b" ", base - high)?;
+    number(rt, b"h", wide - 1)?;
+    number(rt, b"v", high)?;
+    number(rt, b"h-", wide - 1)?;
+    console::print(rt, b"z")
 }
 
-fn draw_loads(loads: &[u32; 240], most: u32, h: usize, wide: usize, base: usize)
+fn draw_loads(
+    rt: &HostRuntime,
+    loads: &[u32; 240],
+    most: u32,
+    h: usize,
+    wide: usize,
+    base: usize,
+) -> io::Result<()>
     requires { h ≤ 240 }
 {
     let mut c: usize = 0;
     while c < h {
-        draw_load(loads[c], most, c, wide, base);
+        draw_load(rt, loads[c], most, c, wide, base)?;
         c = c + 1;
     }
+    Ok(())
 }
 
 // The CAP as a line; one above what is drawn is only named.
-fn draw_cap(limit: u32, most: u32, right: usize, base: usize)
+fn draw_cap(rt: &HostRuntime, limit: u32, most: u32, right: usize, base: usize) -> io::Result<()>
     requires { (1 ≤ most) × (100 ≤ base) × (base ≤ 10000) × (right ≤ 10000) }
 {
     let y = base - height(limit, most);
-    text_at(right + 4, y + 3);
-    number(b"CAP ", limit as usize);
+    text_at(rt, right + 4, y + 3)?;
+    number(rt, b"CAP ", limit as usize)?;
     if most < limit {
-        console::print(b", above</text>\n");
-        return;
+        return console::print(rt, b", above</text>\n");
     }
-    console::print(b"</text>\n");
-    line(LEFT, y, right, y, b"#c00");
+    console::print(rt, b"</text>\n")?;
+    line(rt, LEFT, y, right, y, b"#c00")
 }
 
 // The highest load that is drawn: the CAP's too, where there is one of at most four times the loads.
@@ -295,49 +350,57 @@ fn scale(table: Timetable) -> u32
 }
 
 // The loads of all cycles under the rows, which end at `bottom`.
-fn draw_area(table: Timetable, wide: usize, h: usize, right: usize, bottom: usize)
+fn draw_area(
+    rt: &HostRuntime,
+    table: Timetable,
+    wide: usize,
+    h: usize,
+    right: usize,
+    bottom: usize,
+) -> io::Result<()>
     requires { (h ≤ 240) × (right ≤ 10000) × (bottom ≤ 1000) }
 {
     let base = bottom + LOAD + 20;
     let most = scale(table);
     let loads = table.loads;
-    text_at(4, base);
-    number(b"load, highest ", highest(&loads) as usize);
-    console::print(b"</text>\n<path fill=\"#999\" d=\"");
-    draw_loads(&loads, most, h, wide, base);
-    console::print(b"\"/>\n");
-    line(LEFT, base, right, base, b"#000");
+    text_at(rt, 4, base)?;
+    number(rt, b"load, highest ", highest(&loads) as usize)?;
+    console::print(rt, b"</text>\n<path fill=\"#999\" d=\"")?;
+    draw_loads(rt, &loads, most, h, wide, base)?;
+    console::print(rt, b"\"/>\n")?;
+    line(rt, LEFT, base, right, base, b"#000")?;
     if table.capped {
-        draw_cap(table.limit, most, right, base);
+        draw_cap(rt, table.limit, most, right, base)?;
     }
+    Ok(())
 }
 
-fn draw(table: Timetable, h: usize, n: usize)
+fn draw(rt: &HostRuntime, table: Timetable, h: usize, n: usize) -> io::Result<()>
     requires { (h ≤ 240) × (n ≤ 64) }
 {
     let wide = column(h);
     let right = x_of(h, wide);
     let bottom = y_of(n);
-    open(right, bottom + LOAD + 40);
-    draw_ticks(h, tick(h), wide, bottom + LOAD + 20);
-    draw_rows(table, n, wide);
-    draw_area(table, wide, h, right, bottom);
-    console::print(b"</svg>\n");
+    open(rt, right, bottom + LOAD + 40)?;
+    draw_ticks(rt, h, tick(h), wide, bottom + LOAD + 20)?;
+    draw_rows(rt, table, n, wide)?;
+    draw_area(rt, table, wide, h, right, bottom)?;
+    console::print(rt, b"</svg>\n")
 }
 
 // Draws the chart of a pair on standard output, or prints how it is refused.
-pub fn print_chart(program: &[u8], schedule: &[u8]) {
+pub fn print_chart(rt: &HostRuntime, program: &[u8], schedule: &[u8]) -> io::Result<()> {
     let table = timetable::of_pair(program, schedule);
     let judged = table.judged;
     if let Judged::Refused(fault) = judged {
-        explain::refuse_pair(fault, program, schedule);
-        return;
+        return explain::refuse_pair(rt, fault, program, schedule);
     }
     let h = table.hypercycle;
     let n = table.signals;
     if h <= 240 {
         if n <= 64 {
-            draw(table, h, n);
+            draw(rt, table, h, n)?;
         }
     }
+    Ok(())
 }

@@ -2,9 +2,10 @@
 // its end would be 0.
 #![tactic(auto)]
 
-ghost use Rattle.std.specs.Prelude.{◌≤◌, ◌<◌};
+ghost use Rattle.std.specs.Prelude.{◌≤◌, ◌<◌, IfOk};
 
 use model::Yielded;
+use std::io;
 
 fn byte(image: &[u8], at: usize) -> usize
     ensures { result < 256 }
@@ -22,167 +23,171 @@ fn two(image: &[u8], at: usize) -> usize
     byte(image, at) + 256 * byte(image, at + 1)
 }
 
-fn print_word(image: &[u8], at: usize)
+fn print_word(rt: &HostRuntime, image: &[u8], at: usize) -> io::Result<()>
     requires { at < 900000 }
 {
     let bits = two(image, at) + 65536 * two(image, at + 2);
     if bits < 2147483648 {
-        console::print_number(bits);
-        return;
+        return console::print_number(rt, bits);
     }
-    console::print(b"-");
-    console::print_number(4294967296 - bits);
+    console::print(rt, b"-")?;
+    console::print_number(rt, 4294967296 - bits)
 }
 
 // An offset, and what stands there.
-fn print_at(at: usize, what: &[u8]) {
-    console::print_padded(at, 5);
-    console::print(what);
+fn print_at(rt: &HostRuntime, at: usize, what: &[u8]) -> io::Result<()> {
+    console::print_padded(rt, at, 5)?;
+    console::print(rt, what)
 }
 
-fn print_pair(text: &[u8], n: usize) {
-    console::print(text);
-    console::print_number(n);
+fn print_pair(rt: &HostRuntime, text: &[u8], n: usize) -> io::Result<()> {
+    console::print(rt, text)?;
+    console::print_number(rt, n)
 }
 
-fn print_head(image: &[u8]) {
-    print_at(0, b" head");
-    print_pair(b" H ", byte(image, 0));
-    print_pair(b" N ", byte(image, 1));
-    print_pair(b" L ", two(image, 2));
-    console::print(b"\n");
+fn print_head(rt: &HostRuntime, image: &[u8]) -> io::Result<()> {
+    print_at(rt, 0, b" head")?;
+    print_pair(rt, b" H ", byte(image, 0))?;
+    print_pair(rt, b" N ", byte(image, 1))?;
+    print_pair(rt, b" L ", two(image, 2))?;
+    console::print(rt, b"\n")
 }
 
-fn print_record(image: &[u8], x: usize) {
+fn print_record(rt: &HostRuntime, image: &[u8], x: usize) -> io::Result<()> {
     if 255 < x {
-        return;
+        return Ok(());
     }
     let at = 4 + 6 * x;
-    print_at(at, b" signal ");
-    console::print_number(x);
-    console::print(b" initial ");
-    print_word(image, at);
-    print_pair(b" code at ", two(image, at + 4));
-    console::print(b"\n");
+    print_at(rt, at, b" signal ")?;
+    console::print_number(rt, x)?;
+    console::print(rt, b" initial ")?;
+    print_word(rt, image, at)?;
+    print_pair(rt, b" code at ", two(image, at + 4))?;
+    console::print(rt, b"\n")
 }
 
-fn print_records(image: &[u8], n: usize) {
+fn print_records(rt: &HostRuntime, image: &[u8], n: usize) -> io::Result<()> {
     let mut x: usize = 0;
     while x < n {
-        print_record(image, x);
+        print_record(rt, image, x)?;
         x = x + 1;
     }
+    Ok(())
 }
 
-fn print_entries(image: &[u8], from: usize, to: usize) {
+fn print_entries(rt: &HostRuntime, image: &[u8], from: usize, to: usize) -> io::Result<()> {
     let mut at = from;
     while at < to {
-        print_pair(b" ", byte(image, at));
+        print_pair(rt, b" ", byte(image, at))?;
         at = at + 1;
     }
+    Ok(())
 }
 
 // The list of cycle c, whose offset stands in the area after the records of n signals.
-fn print_list(image: &[u8], n: usize, c: usize) {
+fn print_list(rt: &HostRuntime, image: &[u8], n: usize, c: usize) -> io::Result<()> {
     if 255 < n {
-        return;
+        return Ok(());
     }
     if 255 < c {
-        return;
+        return Ok(());
     }
     let at = 4 + 6 * n + 2 * c;
     let from = two(image, at);
-    print_at(from, b" cycle ");
-    console::print_number(c);
-    console::print(b" runs");
-    print_entries(image, from, two(image, at + 2));
-    console::print(b"\n");
+    print_at(rt, from, b" cycle ")?;
+    console::print_number(rt, c)?;
+    console::print(rt, b" runs")?;
+    print_entries(rt, image, from, two(image, at + 2))?;
+    console::print(rt, b"\n")
 }
 
-fn print_lists(image: &[u8], n: usize, h: usize) {
+fn print_lists(rt: &HostRuntime, image: &[u8], n: usize, h: usize) -> io::Result<()> {
     let mut c: usize = 0;
     while c < h {
-        print_list(image, n, c);
+        print_list(rt, image, n, c)?;
         c = c + 1;
     }
+    Ok(())
 }
 
-fn print_row(image: &[u8], from: usize, i: usize) {
+fn print_row(rt: &HostRuntime, image: &[u8], from: usize, i: usize) -> io::Result<()> {
     if 65535 < from {
-        return;
+        return Ok(());
     }
     if 255 < i {
-        return;
+        return Ok(());
     }
     let at = from + 1 + 12 * i;
-    print_at(at, b" row from ");
-    print_word(image, at);
-    console::print(b" to ");
-    print_word(image, at + 4);
-    console::print(b" gives ");
-    print_word(image, at + 8);
-    console::print(b"\n");
+    print_at(rt, at, b" row from ")?;
+    print_word(rt, image, at)?;
+    console::print(rt, b" to ")?;
+    print_word(rt, image, at + 4)?;
+    console::print(rt, b" gives ")?;
+    print_word(rt, image, at + 8)?;
+    console::print(rt, b"\n")
 }
 
-fn print_rows(image: &[u8], from: usize, count: usize) {
-    print_at(from, b" rows ");
-    console::print_number(count);
-    console::print(b"\n");
+fn print_rows(rt: &HostRuntime, image: &[u8], from: usize, count: usize) -> io::Result<()> {
+    print_at(rt, from, b" rows ")?;
+    console::print_number(rt, count)?;
+    console::print(rt, b"\n")?;
     let mut i: usize = 0;
     while i < count {
-        print_row(image, from, i);
+        print_row(rt, image, from, i)?;
         i = i + 1;
     }
+    Ok(())
 }
 
 // The commands of image code that are operators.
-fn print_operator(code: usize) {
+fn print_operator(rt: &HostRuntime, code: usize) -> io::Result<()> {
     match code {
-        0x30 => console::print(b" ADD"),
-        0x31 => console::print(b" SUB"),
-        0x32 => console::print(b" MUL"),
-        0x33 => console::print(b" LESS"),
-        0x34 => console::print(b" SAME"),
-        0x35 => console::print(b" MIN"),
-        0x36 => console::print(b" MAX"),
-        0x38 => console::print(b" NEG"),
-        0x3A => console::print(b" IF"),
-        _ => console::print(b" TABLE"),
+        0x30 => console::print(rt, b" ADD"),
+        0x31 => console::print(rt, b" SUB"),
+        0x32 => console::print(rt, b" MUL"),
+        0x33 => console::print(rt, b" LESS"),
+        0x34 => console::print(rt, b" SAME"),
+        0x35 => console::print(rt, b" MIN"),
+        0x36 => console::print(rt, b" MAX"),
+        0x38 => console::print(rt, b" NEG"),
+        0x3A => console::print(rt, b" IF"),
+        _ => console::print(rt, b" TABLE"),
     }
 }
 
 // One command, and how many bytes it takes.
-fn print_command(image: &[u8], at: usize) -> usize
+fn print_command(rt: &HostRuntime, image: &[u8], at: usize) -> io::Result<usize>
     requires { at < 65536 }
-    ensures { (1 ≤ result) × (result ≤ 5) }
+    ensures { IfOk result (λ n. (1 ≤ n) × (n ≤ 5)) }
 {
     let code = byte(image, at);
     if code == 0x50 {
-        console::print(b" PUSH ");
-        print_word(image, at + 1);
-        return 5;
+        console::print(rt, b" PUSH ")?;
+        print_word(rt, image, at + 1)?;
+        return Ok(5);
     }
     if code < 0x50 {
-        print_operator(code);
-        return 1;
+        print_operator(rt, code)?;
+        return Ok(1);
     }
     match code {
-        0x51 => console::print(b" LOAD "),
-        0x52 => console::print(b" FETCH "),
-        _ => console::print(b" STORE "),
+        0x51 => console::print(rt, b" LOAD ")?,
+        0x52 => console::print(rt, b" FETCH ")?,
+        _ => console::print(rt, b" STORE ")?,
     }
-    console::print_number(byte(image, at + 1));
-    2
+    console::print_number(rt, byte(image, at + 1))?;
+    Ok(2)
 }
 
-fn print_commands(image: &[u8], from: usize, to: usize) {
+fn print_commands(rt: &HostRuntime, image: &[u8], from: usize, to: usize) -> io::Result<()> {
     let mut at = from;
     while at < to {
         if 65535 < at {
-            return;
+            return Ok(());
         }
-        at = at + print_command(image, at);
+        at = at + print_command(rt, image, at)?;
     }
+    Ok(())
 }
 
 // Where the code of signal x starts; the code of the last one ends with the image.
@@ -197,69 +202,71 @@ fn code_at(image: &[u8], n: usize, x: usize) -> usize
     two(image, 2)
 }
 
-fn print_code(image: &[u8], n: usize, x: usize) {
+fn print_code(rt: &HostRuntime, image: &[u8], n: usize, x: usize) -> io::Result<()> {
     if 63 < x {
-        return;
+        return Ok(());
     }
     let from = code_at(image, n, x);
-    print_at(from, b" code of signal ");
-    console::print_number(x);
-    console::print(b":");
-    print_commands(image, from, code_at(image, n, x + 1));
-    console::print(b"\n");
+    print_at(rt, from, b" code of signal ")?;
+    console::print_number(rt, x)?;
+    console::print(rt, b":")?;
+    print_commands(rt, image, from, code_at(image, n, x + 1))?;
+    console::print(rt, b"\n")
 }
 
-fn print_codes(image: &[u8], n: usize) {
+fn print_codes(rt: &HostRuntime, image: &[u8], n: usize) -> io::Result<()> {
     let mut x: usize = 0;
     while x < n {
-        print_code(image, n, x);
+        print_code(rt, image, n, x)?;
         x = x + 1;
     }
+    Ok(())
 }
 
 // The entry of signal x in the tail after an image of L bytes.
-fn print_entry(image: &[u8], x: usize, end: usize) {
+fn print_entry(rt: &HostRuntime, image: &[u8], x: usize, end: usize) -> io::Result<()> {
     if 255 < x {
-        return;
+        return Ok(());
     }
     if 65535 < end {
-        return;
+        return Ok(());
     }
     let at = end + 4 * x;
-    print_at(at, b" signal ");
-    console::print_number(x);
-    print_pair(b" label ", two(image, at));
-    print_pair(b" period ", byte(image, at + 2));
-    print_pair(b" phase ", byte(image, at + 3));
-    console::print(b"\n");
+    print_at(rt, at, b" signal ")?;
+    console::print_number(rt, x)?;
+    print_pair(rt, b" label ", two(image, at))?;
+    print_pair(rt, b" period ", byte(image, at + 2))?;
+    print_pair(rt, b" phase ", byte(image, at + 3))?;
+    console::print(rt, b"\n")
 }
 
-fn print_tail(image: &[u8], n: usize, end: usize) {
+fn print_tail(rt: &HostRuntime, image: &[u8], n: usize, end: usize) -> io::Result<()> {
     let mut x: usize = 0;
     while x < n {
-        print_entry(image, x, end);
+        print_entry(rt, image, x, end)?;
         x = x + 1;
     }
+    Ok(())
 }
 
 // Prints an image from a file, or that it is none.
-pub fn print_image(image: &[u8]) {
+pub fn print_image(rt: &HostRuntime, image: &[u8]) -> io::Result<()> {
     let length = image_valid::tail_length(image);
     if let Yielded::Refused(fault) = length {
-        explain::refuse(fault);
-        console::say(b"\n");
-        return;
+        explain::refuse(rt, fault)?;
+        return console::say(rt, b"\n");
     }
     let h = byte(image, 0);
     let n = byte(image, 1);
     let end = two(image, 2);
-    print_head(image);
-    print_records(image, n);
-    print_lists(image, n, h);
+    print_head(rt, image)?;
+    print_records(rt, image, n)?;
+    print_lists(rt, image, n, h)?;
     let rows = two(image, 4 + 6 * n + 2 * h);
-    print_rows(image, rows, byte(image, rows));
-    print_codes(image, n);
+    print_rows(rt, image, rows, byte(image, rows))?;
+    print_codes(rt, image, n)?;
     if end < image.len() {
-        print_tail(image, n, end);
+        print_tail(rt, image, n, end)?;
     }
+    Ok(())
 }

@@ -2,6 +2,7 @@
 #![tactic(auto)]
 
 use model::Yielded;
+use std::io;
 use timetable::Timetable;
 
 // Whether the phase is one that the signal may have.
@@ -34,23 +35,24 @@ fn take_entries(list: &[u8], count: usize, x: usize, phases: &mut [bool; 240]) {
 }
 
 // The start or the end of a range, where phase f is one.
-fn print_phase(phases: &[bool; 240], f: usize) {
+fn print_phase(rt: &HostRuntime, phases: &[bool; 240], f: usize) -> io::Result<()> {
     if 239 < f {
-        return;
+        return Ok(());
     }
     if !may_have(phases, f) {
-        return;
+        return Ok(());
     }
     let after = may_have(phases, f + 1);
     if starts_at(phases, f) {
-        console::print(b" ");
-        console::print_number(f);
+        console::print(rt, b" ")?;
+        console::print_number(rt, f)?;
         if after {
-            console::print(b"-");
+            console::print(rt, b"-")?;
         }
     } else if !after {
-        console::print_number(f);
+        console::print_number(rt, f)?;
     }
+    Ok(())
 }
 
 fn starts_at(phases: &[bool; 240], f: usize) -> bool {
@@ -60,50 +62,64 @@ fn starts_at(phases: &[bool; 240], f: usize) -> bool {
     !may_have(phases, f - 1)
 }
 
-fn print_phases(phases: &[bool; 240]) {
+fn print_phases(rt: &HostRuntime, phases: &[bool; 240]) -> io::Result<()> {
     let mut f: usize = 0;
     while f < 240 {
-        print_phase(phases, f);
+        print_phase(rt, phases, f)?;
         f = f + 1;
     }
+    Ok(())
 }
 
-fn print_signal(list: &[u8], count: usize, table: Timetable, x: usize) {
+fn print_signal(
+    rt: &HostRuntime,
+    list: &[u8],
+    count: usize,
+    table: Timetable,
+    x: usize,
+) -> io::Result<()> {
     if 63 < x {
-        return;
+        return Ok(());
     }
     let labels = table.labels;
     let present = table.phases;
-    console::print(b"signal ");
-    console::print_number(x);
-    console::print(b" label ");
-    console::print_number(basics::from_entry(labels[x]));
-    console::print(b" phase ");
-    console::print_number(basics::from_byte(present[x]));
-    console::print(b" may have");
+    console::print(rt, b"signal ")?;
+    console::print_number(rt, x)?;
+    console::print(rt, b" label ")?;
+    console::print_number(rt, basics::from_entry(labels[x]))?;
+    console::print(rt, b" phase ")?;
+    console::print_number(rt, basics::from_byte(present[x]))?;
+    console::print(rt, b" may have")?;
     let mut phases: [bool; 240] = [false; 240];
     take_entries(list, count, x, &mut phases);
-    print_phases(&phases);
-    console::print(b"\n");
+    print_phases(rt, &phases)?;
+    console::print(rt, b"\n")
 }
 
-fn print_signals(list: &[u8], count: usize, table: Timetable, signals: usize) {
+fn print_signals(
+    rt: &HostRuntime,
+    list: &[u8],
+    count: usize,
+    table: Timetable,
+    signals: usize,
+) -> io::Result<()> {
     let mut x: usize = 0;
     while x < signals {
-        print_signal(list, count, table, x);
+        print_signal(rt, list, count, table, x)?;
         x = x + 1;
     }
+    Ok(())
 }
 
 // Prints where each signal of a pair may go, or how the pair is refused. There are at most 15,360 moves of 2 bytes.
-pub fn print_moves(program: &[u8], schedule: &[u8]) {
+pub fn print_moves(rt: &HostRuntime, program: &[u8], schedule: &[u8]) -> io::Result<()> {
     let mut list: [u8; 30720] = [0; 30720];
     let listed = moves::moves(program, schedule, &mut list);
     match listed {
         Yielded::Number(count) => {
             let table = timetable::of_pair(program, schedule);
-            print_signals(&list, count, table, table.signals);
+            print_signals(rt, &list, count, table, table.signals)
         }
-        Yielded::Refused(fault) => explain::refuse_pair(fault, program, schedule),
+        Yielded::Refused(fault) => explain::refuse_pair(rt, fault, program, schedule),
     }
 }

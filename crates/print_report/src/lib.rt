@@ -5,6 +5,7 @@ ghost use Rattle.std.specs.Prelude.{◌≤◌, ◌<◌, ◌≡◌, get_or};
 ghost use Rattle.print_report.specs.Bar.{bar_of};
 
 use model::{Reported, Sizes};
+use std::io;
 use timetable::Timetable;
 
 // The most commands of any of the first h cycles, at least 1.
@@ -43,66 +44,73 @@ fn bar_length(counts: &[u32; 240], c: usize, most: u32) -> usize
     scaled(counts[c], most)
 }
 
-fn print_entry(entry: u32, width: usize) {
-    console::print_padded(entry as usize, width);
+fn print_entry(rt: &HostRuntime, entry: u32, width: usize) -> io::Result<()> {
+    console::print_padded(rt, entry as usize, width)
 }
 
-fn print_cap(table: Timetable) {
+fn print_cap(rt: &HostRuntime, table: Timetable) -> io::Result<()> {
     if table.capped {
-        print_entry(table.limit, 11);
-        return;
+        return print_entry(rt, table.limit, 11);
     }
-    console::print(b"          -");
+    console::print(rt, b"          -")
 }
 
-fn print_line(counts: &[u32; 240], table: Timetable, c: usize, most: u32)
+fn print_line(
+    rt: &HostRuntime,
+    counts: &[u32; 240],
+    table: Timetable,
+    c: usize,
+    most: u32,
+) -> io::Result<()>
     requires { (c < 240) × (1 ≤ most) }
 {
     let loads = table.loads;
-    console::print_padded(c, 5);
-    print_entry(counts[c], 9);
-    print_entry(loads[c], 11);
-    print_cap(table);
-    console::print(b"  ");
-    console::print_times(b"#", bar_length(counts, c, most));
-    console::print(b"\n");
+    console::print_padded(rt, c, 5)?;
+    print_entry(rt, counts[c], 9)?;
+    print_entry(rt, loads[c], 11)?;
+    print_cap(rt, table)?;
+    console::print(rt, b"  ")?;
+    console::print_times(rt, b"#", bar_length(counts, c, most))?;
+    console::print(rt, b"\n")
 }
 
-fn print_lines(counts: &[u32; 240], table: Timetable, h: usize)
+fn print_lines(rt: &HostRuntime, counts: &[u32; 240], table: Timetable, h: usize) -> io::Result<()>
     requires { h ≤ 240 }
 {
     let most = most_of(counts, h);
     let mut c: usize = 0;
     while c < h {
-        print_line(counts, table, c, most);
+        print_line(rt, counts, table, c, most)?;
         c = c + 1;
     }
+    Ok(())
 }
 
-fn print_sizes(sizes: Sizes) {
-    console::print(b"L ");
-    console::print_number(sizes.length);
-    console::print(b"\nlength with its tail ");
-    console::print_number(sizes.written);
-    console::print(b"\nhighest stack use ");
-    console::print_number(sizes.stack);
-    console::print(b"\n");
+fn print_sizes(rt: &HostRuntime, sizes: Sizes) -> io::Result<()> {
+    console::print(rt, b"L ")?;
+    console::print_number(rt, sizes.length)?;
+    console::print(rt, b"\nlength with its tail ")?;
+    console::print_number(rt, sizes.written)?;
+    console::print(rt, b"\nhighest stack use ")?;
+    console::print_number(rt, sizes.stack)?;
+    console::print(rt, b"\n")
 }
 
 // Prints the report of a pair, or how it is refused.
-pub fn print_report(program: &[u8], schedule: &[u8]) {
+pub fn print_report(rt: &HostRuntime, program: &[u8], schedule: &[u8]) -> io::Result<()> {
     let mut counts: [u32; 240] = [0; 240];
     let reported = report::report(program, schedule, &mut counts);
     match reported {
         Reported::Sizes(sizes) => {
-            print_sizes(sizes);
+            print_sizes(rt, sizes)?;
             let table = timetable::of_pair(program, schedule);
-            console::print(b"cycle commands       load        CAP\n");
+            console::print(rt, b"cycle commands       load        CAP\n")?;
             let h = table.hypercycle;
             if h <= 240 {
-                print_lines(&counts, table, h);
+                print_lines(rt, &counts, table, h)?;
             }
         }
-        Reported::Refused(fault) => explain::refuse_pair(fault, program, schedule),
+        Reported::Refused(fault) => explain::refuse_pair(rt, fault, program, schedule)?,
     }
+    Ok(())
 }
