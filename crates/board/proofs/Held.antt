@@ -223,7 +223,7 @@ module _ (w : List ℕ) (long : length w ≡ 17) (k : ℕ) (lt : k < 4) (start s
   unfolding loaded_at board_of
   loaded-held =
       place_set w (loaded_words w k start size) k lt (λ i l ne. load-other i (omega arith) ne) (place_with start size)
-          (get_or w 16 0)
+      (get_or w 16 0)
       (by-numbers load-flags load-start load-size load-count) (load-other 16 (omega arith) (λ e. omega arith))
 
 pub mark-other : (w : List ℕ) (k i : ℕ) → (i ≡ 4 * k → ⊥) → get_or (marked_words w k) i 0 ≡ get_or w i 0

@@ -119,15 +119,18 @@ cycle-case lent words samples =
 
     go : (a b c d : Bool) → lent_ok lent ≡ a → ltb (count_of (image_part lent)) (length words) ≡ b →
         is_position (hyper_of (image_part lent)) (get_or words 0 (pos 0)) ≡ c →
-            leb (count_of (image_part lent)) (length samples) ≡ d →
+        leb (count_of (image_part lent)) (length samples) ≡ d →
         CycleCase lent words samples
     go false b c d w l p m =
         cycle-stays (fault 20 0) (λ h i. bad-image refl) (Answers.cycle-image (lends_nothing lent w) words samples nothing-formed)
     go true false c d w l p m =
         cycle-stays (fault 21 0)
         (λ h i. absurd
-        (omega (arith, few-signals (image_part lent) (lent-formed lent w),
-            ltb-false (count_of (image_part lent)) (length words) l)))
+        (omega (
+          arith,
+          few-signals (image_part lent) (lent-formed lent w),
+          ltb-false (count_of (image_part lent)) (length words) l,
+        )))
         (Answers.cycle-state (lends lent w) words samples (lent-formed lent w) l)
     go true true false d w l p m =
         cycle-stays (fault 22 0) (λ h i. bad-position refl)

@@ -43,7 +43,7 @@ inside text at w e h =
         action_width (cond a ScriptCommand.End
         (cond b (cond d (ScriptCommand.Set (byte_at text (at + 1)) (word_at text (at + 2))) ScriptCommand.EndsEarly)
         (cond c (cond f (ScriptCommand.Run (byte_at text (at + 1))) ScriptCommand.EndsEarly) ScriptCommand.Unknown))) ≤
-            length text
+        length text
     go true b c d f p q = omega arith
     go false true c true f p q = leb-true _ _ p
     go false true c false f p q = omega arith

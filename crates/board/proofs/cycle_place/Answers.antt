@@ -72,7 +72,7 @@ returns-then-not-is_positioned c =
     let room = lt-ltb (count_of (image e)) (length (start e).args.words.now) (omega (arith, few e, (start e).requires.0)) in
     let none = sym c.is_positioned.ensures ∙ c.if-not-is_positioned.true in
     let g = gives-refusal (cycle-position e.image_in-image.ensures _ _ (well e) room none)
-        c.stopped-then-not-is_positioned.ensures in
+    c.stopped-then-not-is_positioned.ensures in
     gives-effect (inside-runs _ _ _ _ _ (inside (goal.at.Else-not-well_formed e).Else-not-is_inside)) g.0 g.1
 
 pub returns : goal.returns

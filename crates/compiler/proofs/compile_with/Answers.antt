@@ -28,7 +28,7 @@ checked l = (goal.at.After-lay_out-layout l).In-Fine
 -- the layout of its image and tail
 laid_out : (l : After-lay_out-layout) → let q = (pair (goal.at.After-lay_out-layout l).In-Fine).0 in
     LaidOut q.program q.schedule (answered (goal.at.After-lay_out-layout l).In-Fine).check_with-checked.result.pair.hypercycle
-        l.lay_out-layout.result
+    l.lay_out-layout.result
 laid_out l = l.lay_out-layout.ensures _ _ _ _ (pair (goal.at.After-lay_out-layout l).In-Fine).2.arranged
 
 pub returns-in_default : goal.returns-in_default

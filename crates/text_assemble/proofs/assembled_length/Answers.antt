@@ -15,14 +15,14 @@ pub loop-start-preserved : goal.loop-start-preserved
 loop-start-preserved c =
     measured-next c.args.text.now c.loop-start.start c.loop-start.pending c.loop-start.total c.token_end-end.result
     c.token_start-start-in-loop-start.result c.read_token-read.result c.loop-start.invariant c.token_end-end.ensures
-        c.read_token-read.ensures
+    c.read_token-read.ensures
     c.in_default.is c.token_start-start-in-loop-start.ensures
 
 pub returns : goal.returns
 returns c =
     c.ended_length.ensures ∙
     sym (measured-ends c.args.text.now c.loop-start.start c.loop-start.pending c.loop-start.total c.loop-start.invariant
-        (omega arith))
+    (omega arith))
 
 pub overflow_add-total : goal.overflow_add-total
 overflow_add-total c =

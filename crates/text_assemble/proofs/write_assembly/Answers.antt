@@ -11,7 +11,7 @@ pub put_value-to-requires : goal.put_value-to-requires
 put_value-to-requires c =
     writing-room c.args.text.now c.args.out.now c.loop-start.start c.loop-start.pending c.loop-start.out c.loop-start.to
     c.token_end-end.result c.read_token-read.result c.loop-start.invariant c.token_end-end.ensures c.read_token-read.ensures
-        c.requires.1
+    c.requires.1
 
 pub loop-start-preserved : goal.loop-start-preserved
 loop-start-preserved c =

@@ -18,7 +18,7 @@ loop-left-init c = (omega arith, omega arith, omega (arith, ap length (rewrite-s
 pub overflow_add-total : goal.overflow_add-total
 overflow_add-total c =
     let t = now-turn (goal.at.overflow_add-total c).After-command_piece-piece in
-        omega (arith, t.inside, t.short, c.new_length-length.ensures)
+    omega (arith, t.inside, t.short, c.new_length-length.ensures)
 
 pub overflow_add-at : goal.overflow_add-at
 overflow_add-at c = let t = now-turn (goal.at.overflow_add-at c).After-command_piece-piece in

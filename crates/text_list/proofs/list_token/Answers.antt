@@ -33,7 +33,7 @@ operand o =
     let s = o in
     (more e).1 ∙
     ap (λ x. x ∷ pending_at (s.args.pending + 1))
-        (sym (o.operand_by-operand.ensures ∙ ap operand_by (number (goal.at.Else-number-eq0 e).After-cell-number)))
+    (sym (o.operand_by-operand.ensures ∙ ap operand_by (number (goal.at.Else-number-eq0 e).After-cell-number)))
 
 pub list_keyword-requires : goal.list_keyword-requires
 list_keyword-requires c =

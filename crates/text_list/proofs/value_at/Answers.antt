@@ -18,12 +18,11 @@ small l =
     )
 
 pub loop-i-preserved : goal.loop-i-preserved
-loop-i-preserved c =
-    (
-      omega (arith, c.loop-i.invariant.0),
-      sym (low-next c.args.bytes.now c.args.n c.args.at c.loop-i.i (omega arith) c.loop-i.invariant.0 ∙
-          sum (ap (λ (m : ℕ). 256 * m) (sym c.loop-i.invariant.1)) (sym c.from_byte-byte.ensures.0)),
-    )
+loop-i-preserved c = (
+  omega (arith, c.loop-i.invariant.0),
+  sym (low-next c.args.bytes.now c.args.n c.args.at c.loop-i.i (omega arith) c.loop-i.invariant.0 ∙
+      sum (ap (λ (m : ℕ). 256 * m) (sym c.loop-i.invariant.1)) (sym c.from_byte-byte.ensures.0)),
+)
   where
     sum : {a b c d : ℕ} → a ≡ b → c ≡ d → a + c ≡ b + d
     sum p q = omega arith

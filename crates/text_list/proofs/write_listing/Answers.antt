@@ -21,8 +21,7 @@ are l = λ i. omega (arith, l.shared_slice_known-2-1.given i)
 
 pub list_token-put-requires : goal.list_token-put-requires
 list_token-put-requires c =
-    let l = (goal.at.list_token-put-requires c).At-loop-at in
-    (
+    let l = (goal.at.list_token-put-requires c).At-loop-at in (
       c.requires.0,
       omega arith,
       writing-room c.args.bytes.now c.args.out.now l.loop-at.at l.loop-at.pending l.loop-at.out l.loop-at.to

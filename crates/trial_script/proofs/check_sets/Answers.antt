@@ -30,7 +30,7 @@ is_input w = marked (turn w).args.inputs.now
 
 stands : (m : After-may_stand) →
     let w = (goal.at.After-may_stand m).After-action_width-width in
-        m.may_stand.result ≡ may_stand (is_input w) (script_command_at (text w) (turn w).loop-at.at)
+    m.may_stand.result ≡ may_stand (is_input w) (script_command_at (text w) (turn w).loop-at.at)
 stands m = let w = (goal.at.After-may_stand m).After-action_width-width in m.may_stand.ensures ∙
     ap (may_stand (is_input w)) w.script_command_at-command.ensures
 
@@ -53,12 +53,11 @@ pub loop-at-smaller : goal.loop-at-smaller
 loop-at-smaller c = let w = (goal.at.loop-at-smaller c).After-action_width-width in omega (arith, within w)
 
 pub loop-at-preserved : goal.loop-at-preserved
-loop-at-preserved c = let w = (goal.at.loop-at-preserved c).After-action_width-width in
-    (
-      c.loop-at.invariant.0 ∙ sets_more (text w) c.loop-at.at w.action_width-width.result (width w) (omega arith) (is_input w)
-          (sym (stands (goal.at.loop-at-preserved c).After-may_stand) ∙ c.if-not-may_stand.false),
-      within w,
-    )
+loop-at-preserved c = let w = (goal.at.loop-at-preserved c).After-action_width-width in (
+  c.loop-at.invariant.0 ∙ sets_more (text w) c.loop-at.at w.action_width-width.result (width w) (omega arith) (is_input w)
+      (sym (stands (goal.at.loop-at-preserved c).After-may_stand) ∙ c.if-not-may_stand.false),
+  within w,
+)
 
 pub returns : goal.returns
 returns c =

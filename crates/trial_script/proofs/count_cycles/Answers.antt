@@ -43,9 +43,11 @@ pub loop-at-preserved : goal.loop-at-preserved
 loop-at-preserved c = let w = (goal.at.loop-at-preserved c).After-action_width-width in
     let runs : c.from_byte-total.result ≡ cycles_made (script_command_at (text w) c.loop-at.at) =
     c.from_byte-total.ensures.0 ∙ c.cycles_made.ensures ∙ ap cycles_made w.script_command_at-command.ensures in
-    let more = cycles-more (text w) c.loop-at.at w.action_width-width.result (width w) (omega arith) in
-    (omega (arith, runs, more, c.loop-at.invariant.0), omega (arith, c.from_byte-total.ensures.1, c.loop-at.invariant.1),
-        within w)
+    let more = cycles-more (text w) c.loop-at.at w.action_width-width.result (width w) (omega arith) in (
+      omega (arith, runs, more, c.loop-at.invariant.0),
+      omega (arith, c.from_byte-total.ensures.1, c.loop-at.invariant.1),
+      within w,
+    )
 
 pub returns : goal.returns
 returns c =

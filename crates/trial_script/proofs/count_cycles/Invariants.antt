@@ -8,7 +8,7 @@ use Rattle.trial_script.proofs.count_cycles.Given as goal
 abbrev pub invariant-loop-at : goal.invariant-loop-at
 invariant-loop-at l =
     (l.total + cycles_of (script_at l.text l.at).actions ≡ cycles_of (script_at l.text 0).actions) × (l.total ≤ 255 * l.at) ×
-        (l.at ≤ length l.text)
+    (l.at ≤ length l.text)
 
 abbrev pub decreases-loop-at : goal.decreases-loop-at
 decreases-loop-at l = length l.text - l.at

@@ -19,7 +19,7 @@ turn n = (goal.at.After-next_line-next n).At-loop-block
 -- the block as the step has left it is as long as before
 block_same : (b : After-block-1) → let n = (goal.at.After-block-1 b).After-next_line-next in
     length (put_mid (turn n).loop-block.size (length (turn n).loop-block.block - (turn n).loop-block.size)
-        (turn n).loop-block.block
+    (turn n).loop-block.block
     n.next_line-next.new.line) ≡
     length (turn n).loop-block.block
 block_same b =

@@ -9,10 +9,10 @@ use Rattle.trial_step.proofs.next_block.Given as goal
 abbrev pub invariant-loop-block : goal.invariant-loop-block
 invariant-loop-block l =
     Filling l.image l.text l.initial.reached l.initial.samples l.initial.state l.initial.block l.samples l.state l.block
-        l.reached l.size ×
+    l.reached l.size ×
     ((n : ℕ) × (length l.block < n + l.size) ×
     (block_of l.image l.text l.initial.reached l.initial.samples l.initial.state l.initial.block ≡
-        fill_from n l.image l.text l.reached l.samples l.state l.block l.size))
+    fill_from n l.image l.text l.reached l.samples l.state l.block l.size))
 
 abbrev pub decreases-loop-block : goal.decreases-loop-block
 decreases-loop-block l =

@@ -18,17 +18,16 @@ bounds-image-1 c =
     omega (arith, (head _ (formed _ c.requires.0.formed).good).four)
 
 pub put_line-requires : goal.put_line-requires
-put_line-requires c =
-    (
-      omega (
-        arith,
-        c.put_line-arg-2-1.given.1,
-        c.from_byte-n.ensures.0,
-        (head _
-            (formed _ c.requires.0.formed).good).signals,
-      ),
-      c.requires.1,
-    )
+put_line-requires c = (
+  omega (
+    arith,
+    c.put_line-arg-2-1.given.1,
+    c.from_byte-n.ensures.0,
+    (head _
+        (formed _ c.requires.0.formed).good).signals,
+  ),
+  c.requires.1,
+)
 
 pub returns : goal.returns
 returns c = let w = c in
