@@ -128,7 +128,8 @@ mark-count places j k = other (eqb k j) refl
         (get_or (set places k (with_due true (get_or places k vacant))) k vacant).count ≡ (get_or places k vacant).count
     own (yes lt) = ap (λ (q : Place). q.count) (get_or-set_same places k (with_due true (get_or places k vacant)) vacant lt)
     own (no ge) =
-        ap (λ (l : List Place). (get_or l k vacant).count) (set_out places k (with_due true (get_or places k vacant)) (omega arith))
+        ap (λ (l : List Place). (get_or l k vacant).count)
+        (set_out places k (with_due true (get_or places k vacant)) (omega arith))
 
     other : (t : Bool) → eqb k j ≡ t →
         (get_or (set places j (with_due true (get_or places j vacant))) k vacant).count ≡ (get_or places k vacant).count

@@ -16,7 +16,8 @@ true≢false e = let z : ◌≡◌ {A = ℕ} 0 1 = cc in omega arith
 
 -- The next due place: the first of the four in cyclic order that is due, or none as none is.
 module _ (b : Board) where
-  pub next-at : (i : ℕ) → i < 4 → due_after b i ≡ true → ((m : ℕ) → m < i → due_after b m ≡ false) → next_due b ≡ At (place_after b i)
+  pub next-at : (i : ℕ) → i < 4 → due_after b i ≡ true → ((m : ℕ) → m < i → due_after b m ≡ false) →
+      next_due b ≡ At (place_after b i)
   unfolding next_due
   next-at i lt e h = go (first_below 4 (due_after b)) refl
     where

@@ -58,7 +58,8 @@ use Rattle.board.proofs.Places.{place-held}
 abbrev place_in : List ℕ → ℕ → Place
 place_in w k = place_from (get_or w (4 * k) 0) (get_or w (4 * k + 1) 0) (get_or w (4 * k + 2) 0) (get_or w (4 * k + 3) 0)
 
-by-places : (w : List ℕ) {a b c d : Place} {last : ℕ} → place_in w 0 ≡ a → place_in w 1 ≡ b → place_in w 2 ≡ c → place_in w 3 ≡ d →
+by-places : (w : List ℕ) {a b c d : Place} {last : ℕ} → place_in w 0 ≡ a → place_in w 1 ≡ b → place_in w 2 ≡ c →
+    place_in w 3 ≡ d →
     get_or w 16 0 ≡ last →
     board_of w ≡ record { places = a ∷ (b ∷ (c ∷ (d ∷ []))); last = last }
 unfolding board_of
@@ -221,7 +222,8 @@ module _ (w : List ℕ) (long : length w ≡ 17) (k : ℕ) (lt : k < 4) (start s
   loaded-held : board_of (loaded_words w k start size) ≡ loaded_at (board_of w) k start size
   unfolding loaded_at board_of
   loaded-held =
-      place_set w (loaded_words w k start size) k lt (λ i l ne. load-other i (omega arith) ne) (place_with start size) (get_or w 16 0)
+      place_set w (loaded_words w k start size) k lt (λ i l ne. load-other i (omega arith) ne) (place_with start size)
+      (get_or w 16 0)
       (by-numbers load-flags load-start load-size load-count) (load-other 16 (omega arith) (λ e. omega arith))
 
 pub mark-other : (w : List ℕ) (k i : ℕ) → (i ≡ 4 * k → ⊥) → get_or (marked_words w k) i 0 ≡ get_or w i 0

@@ -1,4 +1,5 @@
--- Laws that the proofs of several functions cite; what the calls promise together, of the record and of the numbers that stand for it.
+-- Laws that the proofs of several functions cite; what the calls promise together, of the record and of the numbers that stand
+-- for it.
 pub mod Called
 pub mod Stretch
 pub mod Words

@@ -98,7 +98,8 @@ reset-case lent words = go (lent_ok lent) (ltb (count_of (image_part lent)) (len
 
 -- A cycle is refused, on the words and samples of a place by 20 or 22 alone, or runs.
 data CycleCase (lent : List ℕ) (words samples : List ℤ) : Type 0 where
-  cycle-stays : (f : Fault) → (64 < length words → 64 ≤ length samples → RunFault f) → cycle_of lent words samples ≡ kept f words →
+  cycle-stays : (f : Fault) → (64 < length words → 64 ≤ length samples → RunFault f) →
+      cycle_of lent words samples ≡ kept f words →
       CycleCase lent words samples
   cycle-does : lent_ok lent ≡ true → Runnable (image_part lent) words samples → CycleCase lent words samples
 
@@ -117,14 +118,19 @@ cycle-case lent words samples =
     image = image_part lent
 
     go : (a b c d : Bool) → lent_ok lent ≡ a → ltb (count_of (image_part lent)) (length words) ≡ b →
-        is_position (hyper_of (image_part lent)) (get_or words 0 (pos 0)) ≡ c → leb (count_of (image_part lent)) (length samples) ≡ d →
+        is_position (hyper_of (image_part lent)) (get_or words 0 (pos 0)) ≡ c →
+        leb (count_of (image_part lent)) (length samples) ≡ d →
         CycleCase lent words samples
     go false b c d w l p m =
         cycle-stays (fault 20 0) (λ h i. bad-image refl) (Answers.cycle-image (lends_nothing lent w) words samples nothing-formed)
     go true false c d w l p m =
         cycle-stays (fault 21 0)
         (λ h i. absurd
-        (omega (arith, few-signals (image_part lent) (lent-formed lent w), ltb-false (count_of (image_part lent)) (length words) l)))
+        (omega (
+          arith,
+          few-signals (image_part lent) (lent-formed lent w),
+          ltb-false (count_of (image_part lent)) (length words) l,
+        )))
         (Answers.cycle-state (lends lent w) words samples (lent-formed lent w) l)
     go true true false d w l p m =
         cycle-stays (fault 22 0) (λ h i. bad-position refl)

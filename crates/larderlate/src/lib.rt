@@ -220,7 +220,7 @@ fn written_of_reported(reported: Reported, old: usize) -> usize
 }
 
 // The same calls for a C caller (include/larderlate.h).
-pub extern "C" fn larderlate_compile(program: &[u8], schedule: &[u8], image: &mut [u8]) -> u64
+pub fn larderlate_compile(program: &[u8], schedule: &[u8], image: &mut [u8]) -> u64
     ensures { Tells
         (compile_of program.now schedule.now image.old)
         result image.new }
@@ -230,7 +230,7 @@ pub extern "C" fn larderlate_compile(program: &[u8], schedule: &[u8], image: &mu
 }
 
 // The part that a refusal names stands behind a pointer. The header's larderlate_join lends it whole parts.
-pub extern "C" fn larderlate_join_numbers(
+pub fn larderlate_join_numbers(
     texts: &[u8],
     numbers: &[usize],
     links: &[u8],
@@ -249,7 +249,7 @@ pub extern "C" fn larderlate_join_numbers(
     code_of_joined(joined)
 }
 
-pub extern "C" fn larderlate_report(
+pub fn larderlate_report(
     program: &[u8],
     schedule: &[u8],
     counts: &mut [u32; 240],
@@ -271,14 +271,14 @@ pub extern "C" fn larderlate_report(
     code_of_reported(reported)
 }
 
-pub extern "C" fn larderlate_reset(image: &[u8], state: &mut [i32]) -> u64
+pub fn larderlate_reset(image: &[u8], state: &mut [i32]) -> u64
     ensures { Tells (reset_of image.now state.old) result state.new }
 {
     let ran = reset(image, &mut state[..]);
     code_of_ran(ran)
 }
 
-pub extern "C" fn larderlate_cycle(image: &[u8], state: &mut [i32], samples: &[i32]) -> u64
+pub fn larderlate_cycle(image: &[u8], state: &mut [i32], samples: &[i32]) -> u64
     ensures { Tells (cycle_of image.now state.old samples.now) result state.new }
 {
     let cycled = cycle(image, &mut state[..], samples);
@@ -286,7 +286,7 @@ pub extern "C" fn larderlate_cycle(image: &[u8], state: &mut [i32], samples: &[i
 }
 
 // Where the tail starts, behind a pointer, and how long it is.
-pub extern "C" fn larderlate_tail(image: &[u8], start: &mut usize) -> u64
+pub fn larderlate_tail(image: &[u8], start: &mut usize) -> u64
     ensures answer { result ≡ code_number (length_of_tail (tail_in image.now)) }
     ensures place { start.new ≡ start_in start.old image.now (tail_in image.now) }
 {
@@ -298,21 +298,21 @@ pub extern "C" fn larderlate_tail(image: &[u8], start: &mut usize) -> u64
     n as u64
 }
 
-pub extern "C" fn larderlate_convert(program: &[u8], res: &mut [u8]) -> u64
+pub fn larderlate_convert(program: &[u8], res: &mut [u8]) -> u64
     ensures { Tells (convert_of program.now res.old) result res.new }
 {
     let converted = convert(program, &mut res[..]);
     code_of_yielded(converted)
 }
 
-pub extern "C" fn larderlate_moves(program: &[u8], schedule: &[u8], list: &mut [u8]) -> u64
+pub fn larderlate_moves(program: &[u8], schedule: &[u8], list: &mut [u8]) -> u64
     ensures { Tells (moves_of program.now schedule.now list.old) result list.new }
 {
     let listed = moves(program, schedule, &mut list[..]);
     code_of_yielded(listed)
 }
 
-pub extern "C" fn larderlate_dependents(
+pub fn larderlate_dependents(
     program: &[u8],
     schedule: &[u8],
     input: usize,
@@ -326,14 +326,14 @@ pub extern "C" fn larderlate_dependents(
     code_of_ran(ran)
 }
 
-pub extern "C" fn larderlate_assemble(text: &[u8], bytes: &mut [u8]) -> u64
+pub fn larderlate_assemble(text: &[u8], bytes: &mut [u8]) -> u64
     ensures { Tells (assemble_of text.now bytes.old) result bytes.new }
 {
     let assembled = assemble(text, &mut bytes[..]);
     code_of_yielded(assembled)
 }
 
-pub extern "C" fn larderlate_list(bytes: &[u8], text: &mut [u8]) -> u64
+pub fn larderlate_list(bytes: &[u8], text: &mut [u8]) -> u64
     ensures { Tells (listing_of bytes.now text.old) result text.new }
 {
     let listed = list(bytes, &mut text[..]);
@@ -342,13 +342,13 @@ pub extern "C" fn larderlate_list(bytes: &[u8], text: &mut [u8]) -> u64
 
 // The board's calls. The record is an array of 17 numbers that the caller keeps (crate `board`); a refused call and an idle
 // turn leave it as it was.
-pub extern "C" fn larderlate_board_new(words: &mut [usize; 17])
+pub fn larderlate_board_new(words: &mut [usize; 17])
     ensures { words.new ≡ new_words }
 {
     *words = board::new_record();
 }
 
-pub extern "C" fn larderlate_board_load(
+pub fn larderlate_board_load(
     words: &mut [usize; 17],
     images: &[u8],
     state: &mut [i32],
@@ -368,7 +368,7 @@ pub extern "C" fn larderlate_board_load(
     code_of_ran(ran)
 }
 
-pub extern "C" fn larderlate_board_mark(words: &mut [usize; 17], place: usize) -> u64
+pub fn larderlate_board_mark(words: &mut [usize; 17], place: usize) -> u64
     ensures answer { result ≡ code_number (mark_place_of (board_of words.old) place).answer }
     ensures kept { words.new ≡
         mark_record words.old place (mark_place_of (board_of words.old) place).answer }
@@ -377,7 +377,7 @@ pub extern "C" fn larderlate_board_mark(words: &mut [usize; 17], place: usize) -
     code_of_ran(ran)
 }
 
-pub extern "C" fn larderlate_board_turn(
+pub fn larderlate_board_turn(
     words: &mut [usize; 17],
     images: &[u8],
     state: &mut [i32],

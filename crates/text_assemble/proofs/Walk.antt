@@ -26,13 +26,11 @@ use Rattle.model.specs.Rules.TextForm.{
 }
 use Rattle.model.specs.Rules.Word.{byte_at}
 use Rattle.model.specs.declared.Yielded.{Yielded}
-use Rattle.model.specs.declared.Yielded.TheVariants as Yielded
 use Rattle.model.specs.declared.Fault.{Fault}
 use Rattle.model.specs.declared.Found.TheVariants.{At, Nowhere}
 use Rattle.model.specs.declared.Operand.{Operand}
 use Rattle.model.specs.declared.Operand.TheVariants.{One, Two, Four, Signed, Index, Mode}
 use Rattle.basics.specs.declared.Judged.{Judged}
-use Rattle.basics.specs.declared.Judged.TheVariants as Judged
 use Rattle.model.proofs.Basics.Outcomes.{
   accepted≢refused,
   accepted-same,

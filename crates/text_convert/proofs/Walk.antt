@@ -32,10 +32,8 @@ use Rattle.model.specs.Rules.Rewrite.{
 use Rattle.model.specs.Rules.Word.{byte_at}
 use Rattle.model.specs.Says.Written.{read_byte}
 use Rattle.model.specs.declared.Declaration.{Declaration}
-use Rattle.model.specs.declared.Declaration.TheVariants as Declaration
 use Rattle.model.specs.declared.Fault.{Fault}
 use Rattle.model.specs.declared.Operator.{Operator}
-use Rattle.model.specs.declared.Operator.TheVariants as Operator
 use Rattle.model.proofs.Texts.Legal.{read-width}
 use Rattle.model.proofs.Texts.Commands.{DeclarationSound, declaration-sound, OperatorSound, operator-sound}
 use Rattle.model.proofs.Texts.Picks.{chosen-all}
@@ -43,11 +41,9 @@ use Rattle.model.specs.Rules.Writing.{Wrote}
 use Rattle.model.proofs.Basics.Left.{Parts}
 use Rattle.text_program.specs.Tables.{ProgramReads}
 use Rattle.basics.specs.declared.Judged.{Judged}
-use Rattle.basics.specs.declared.Judged.TheVariants as Judged
 use Rattle.text_program.specs.declared.Tables.{Tables}
 use Rattle.text_convert.specs.Pieces.{width_in, new_length, bytes_in, operator_piece, piece_of, piece_at}
 use Rattle.text_convert.specs.declared.Piece.{Piece}
-use Rattle.text_convert.specs.declared.Piece.TheVariants as Piece
 
 -- Bytes that are copied one by one.
 pub copy_step : (text : List ℕ) (i left : ℕ) → 0 < left → i + left ≤ length text →
@@ -72,7 +68,8 @@ operator-width Operator.OutOfRange = refl
 operator-width (Operator.Constant w) = refl
 operator-width (Operator.Read kind x) = go (eqb x.factor 1) (read_byte (single_kind kind)) x.signal
   where
-    go : (b : Bool) (a s : ℕ) → width_in (cond b (Piece.Short (read_width kind) a s) (Piece.Keep (read_width kind))) ≡ read_width kind
+    go : (b : Bool) (a s : ℕ) →
+        width_in (cond b (Piece.Short (read_width kind) a s) (Piece.Keep (read_width kind))) ≡ read_width kind
     go true a s = refl
     go false a s = refl
 operator-width (Operator.Binary operator) = refl

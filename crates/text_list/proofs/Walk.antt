@@ -35,7 +35,6 @@ use Rattle.model.specs.Rules.TextForm.{
 }
 use Rattle.model.specs.Rules.Word.{word_of, byte_at, AreBytes}
 use Rattle.model.specs.declared.Yielded.{Yielded}
-use Rattle.model.specs.declared.Yielded.TheVariants as Yielded
 use Rattle.model.specs.declared.Fault.{Fault}
 use Rattle.model.specs.declared.Found.{Found}
 use Rattle.model.specs.declared.Found.TheVariants.{At, Nowhere}
@@ -54,7 +53,6 @@ use Rattle.model.proofs.Basics.Left.{Left, Parts, starts, room, turn, wrote-size
 use Rattle.model.proofs.Bench.Decimals.{natural-length, decimal-length}
 use Rattle.model.proofs.Pairs.Decide.{is-first, all_true}
 use Rattle.basics.specs.declared.Judged.{Judged}
-use Rattle.basics.specs.declared.Judged.TheVariants as Judged
 use Rattle.text_keyword.specs.Cells.{pending_at}
 use Rattle.text_keyword.specs.Written.{length_answer, ended_answer, bytes_written, FitsIn}
 use Rattle.text_keyword.proofs.Rows.{pending-starts}

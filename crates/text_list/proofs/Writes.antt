@@ -133,7 +133,8 @@ pub keyword-listed : (bytes : List ℕ) (at i : ℕ) → coded (byte_at bytes at
 unfolding listed_at
 keyword-listed bytes at i e = rw e refl
 
-pub keyword-unknown : (bytes : List ℕ) (at : ℕ) → coded (byte_at bytes at) keywords ≡ Nowhere → listed_at bytes at [] ≡ refuse 45 at
+pub keyword-unknown : (bytes : List ℕ) (at : ℕ) → coded (byte_at bytes at) keywords ≡ Nowhere →
+    listed_at bytes at [] ≡ refuse 45 at
 unfolding listed_at
 keyword-unknown bytes at e = rw e refl
 

@@ -1,5 +1,5 @@
 -- From the image of an accepted pair to its trial. Assumes nothing.
-use Prim.Native.Nat.{ℕ, ◌+◌, ◌≤◌, ◌<◌}
+use Prim.Native.Nat.{ℕ, ◌≤◌, ◌<◌}
 use mathlib.Core.Bool.{Bool, true}
 use mathlib.Core.List.{List, ◌++◌, append_assoc}
 use mathlib.Core.Path.{◌≡◌, refl, sym, ap, ap₂, subst, ◌∙◌}
@@ -34,7 +34,6 @@ use Rattle.model.proofs.Images.Tails.{headed, stated-length, written-bears, writ
 use Rattle.model.proofs.Bench.Scripts.{lines-count}
 use Rattle.model.proofs.Pairs.Verdict.{pair-accepted, pair-multiple, pair-bounded}
 use Rattle.basics.specs.declared.Judged.{Judged}
-use Rattle.basics.specs.declared.Judged.TheVariants as Judged
 use Rattle.machine.specs.Runnable.{Runnable}
 use Rattle.machine.proofs.Machine.{reset-done, lends-itself}
 use Rattle.machine.proofs.Runnable.{reset-runnable}
@@ -155,7 +154,8 @@ module _ (program schedule buffer : List ℕ) (bytes : AreBytes program) (room :
           }
       go (refused f) e = absurd (accepted≢refused _ n f a (unwritten f e))
 
-  pub compile-refuses : (f : Fault) → (compile_of program schedule buffer).answer ≡ refused f → pair_of program schedule ≡ refused f
+  pub compile-refuses : (f : Fault) → (compile_of program schedule buffer).answer ≡ refused f →
+      pair_of program schedule ≡ refused f
   compile-refuses f a = go (pair_of program schedule) refl
     where
       go : (o : Outcome Pair) → pair_of program schedule ≡ o → o ≡ refused f

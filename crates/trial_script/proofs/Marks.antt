@@ -113,7 +113,8 @@ marks-more {image} {table} {x} m lt =
         byte_at (set table x (mark_of (fetches image x))) y ≡ cond (ltb y (x + 1)) (mark_of (fetches image y)) 0
     go y true e =
         let same = eqb-true x y e in
-        rw (← same, lt-ltb x (x + 1) (omega arith)) (get_or-set_same table x (mark_of (fetches image x)) 0 (omega (arith, m.size)))
+        rw (← same, lt-ltb x (x + 1) (omega arith))
+        (get_or-set_same table x (mark_of (fetches image x)) 0 (omega (arith, m.size)))
     go y false e =
         let u = eqb-false x y e in
         get_or-set_other table x y (mark_of (fetches image x)) 0 (λ q. u (sym q)) ∙ m.at y ∙

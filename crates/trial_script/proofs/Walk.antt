@@ -26,7 +26,6 @@ use Rattle.model.specs.Rules.Script.{
 use Rattle.model.specs.Rules.Word.{byte_at, word_at}
 use Rattle.model.specs.declared.Fault.{Fault}
 use Rattle.model.specs.declared.ScriptCommand.{ScriptCommand}
-use Rattle.model.specs.declared.ScriptCommand.TheVariants as ScriptCommand
 use Rattle.model.proofs.Bench.Scripts.{past, step}
 use Rattle.image_valid.proofs.Parts.{formed, codes, stretch-length}
 use Rattle.trial_script.specs.Script.{action_width, cycles_made, altered, may_stand, ending_at}
@@ -43,7 +42,8 @@ inside text at w e h =
         at +
         action_width (cond a ScriptCommand.End
         (cond b (cond d (ScriptCommand.Set (byte_at text (at + 1)) (word_at text (at + 2))) ScriptCommand.EndsEarly)
-        (cond c (cond f (ScriptCommand.Run (byte_at text (at + 1))) ScriptCommand.EndsEarly) ScriptCommand.Unknown))) ≤ length text
+        (cond c (cond f (ScriptCommand.Run (byte_at text (at + 1))) ScriptCommand.EndsEarly) ScriptCommand.Unknown))) ≤
+        length text
     go true b c d f p q = omega arith
     go false true c true f p q = leb-true _ _ p
     go false true c false f p q = omega arith

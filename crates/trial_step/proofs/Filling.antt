@@ -17,7 +17,8 @@ use Rattle.trial_step.specs.declared.Progress.{Progress}
 -- So many bytes of the block are lines, and what was left then is these and what is left now.
 pub record Filling (image text : List ℕ) (p₀ : Progress) (samples₀ state₀ : List ℤ) (block₀ : List ℕ)
     (samples state : List ℤ) (block : List ℕ) (p : Progress) (size : ℕ) : Type 0 where
-  pub bytes : joined (lines_left image text p₀ samples₀ state₀) ≡ take size block ++ joined (lines_left image text p samples state)
+  pub bytes : joined (lines_left image text p₀ samples₀ state₀) ≡
+      take size block ++ joined (lines_left image text p samples state)
   pub fits : size ≤ length block
   pub underway : Underway image text p samples state
   pub most : length (lines_left image text p samples state) ≤ length (lines_left image text p₀ samples₀ state₀)

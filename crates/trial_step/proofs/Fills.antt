@@ -12,10 +12,8 @@ use Rattle.model.specs.Rules.Machine.{cycle_words}
 use Rattle.model.specs.Rules.Trial.{signals_of}
 use Rattle.trial_step.specs.Underway.{next_cycle, step_to, Step, step_of, Stepped, Fill, fill_to, fill_next, fill_from}
 use Rattle.trial_step.specs.declared.Next.{Next}
-use Rattle.trial_step.specs.declared.Next.TheVariants as Next
 use Rattle.trial_step.specs.declared.Progress.{Progress}
 use Rattle.trial_step.specs.declared.Sought.{Sought}
-use Rattle.trial_step.specs.declared.Sought.TheVariants as Sought
 
 -- A line has a byte at least.
 line-some : (j : ℕ) (words : List ℤ) → 0 < length (line_of j words)

@@ -20,7 +20,6 @@ use Rattle.trial_script.specs.Script.{action_width, cycles_made, altered}
 use Rattle.trial_script.proofs.Walk.{calls-more}
 use Rattle.trial_step.specs.Underway.{calls_left, lines_left, at_start, Underway, Printed, Lined, StepsOn}
 use Rattle.trial_step.specs.declared.Next.{Next}
-use Rattle.trial_step.specs.declared.Next.TheVariants as Next
 use Rattle.trial_step.specs.declared.Progress.{Progress}
 
 -- The calls left: within a RUN, and at its end.
@@ -37,7 +36,8 @@ module _ (text : List ℕ) (at : ℕ) (samples : List ℤ) where
   left-none = refl
 
 -- One command of the way to the next cycle.
-pub seek-step : (text : List ℕ) (at w runs : ℕ) (samples samples' : List ℤ) → w ≡ action_width (script_command_at text at) → 0 < w →
+pub seek-step : (text : List ℕ) (at w runs : ℕ) (samples samples' : List ℤ) → w ≡ action_width (script_command_at text at) →
+    0 < w →
     samples' ≡ altered samples (script_command_at text at) → runs ≡ cycles_made (script_command_at text at) →
     calls_from samples (script_at text at).actions ≡ calls_left text (at + w) runs samples'
 unfolding calls_left

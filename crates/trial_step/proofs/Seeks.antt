@@ -13,7 +13,6 @@ use Rattle.model.specs.Rules.Script.{script_command_at}
 use Rattle.model.specs.Rules.Trial.{signals_of}
 use Rattle.model.specs.Rules.Width.{in_script}
 use Rattle.model.specs.declared.ScriptCommand.{ScriptCommand}
-use Rattle.model.specs.declared.ScriptCommand.TheVariants as ScriptCommand
 use Rattle.trial_script.specs.Script.{action_width, cycles_made, altered}
 use Rattle.trial_step.specs.Underway.{
   Seeking,
@@ -30,7 +29,6 @@ use Rattle.trial_step.specs.Underway.{
 use Rattle.trial_step.specs.declared.Next.TheVariants as Next
 use Rattle.trial_step.specs.declared.Progress.{Progress}
 use Rattle.trial_step.specs.declared.Sought.{Sought}
-use Rattle.trial_step.specs.declared.Sought.TheVariants as Sought
 
 -- One command: none, or one that ends the script; a RUN that makes a cycle; another.
 module _ (go : ℕ → List ℤ → Seeking) (at : ℕ) (samples : List ℤ) where
@@ -64,7 +62,8 @@ module _ (go : ℕ → List ℤ → Seeking) (at : ℕ) (samples : List ℤ) whe
   by-other (ScriptCommand.Run (suc n)) h e = absurd (omega arith)
 
 module _ (text : List ℕ) (at : ℕ) (samples : List ℤ) where
-  pub seek-none : (left : ℕ) → action_width (script_command_at text at) ≡ 0 → seek_from left text at samples ≡ nothing_sought samples
+  pub seek-none : (left : ℕ) → action_width (script_command_at text at) ≡ 0 →
+      seek_from left text at samples ≡ nothing_sought samples
   unfolding seek_from
   seek-none zero e = refl
   seek-none (suc left) e = by-none _ at samples (script_command_at text at) e

@@ -1,5 +1,4 @@
 -- `board::count_up` meets its contract. Assumes nothing.
-use borrow.Author.Rules.{rules}
 use borrow.Author.Tests.{lt-ltb, le-ltb}
 use Rattle.board.specs.Board.{count_up}
 use Rattle.board.proofs.count_up.Goals as goal

@@ -4,7 +4,7 @@ use mathlib.Core.Bool.{true}
 use mathlib.Core.List.{List}
 use mathlib.Core.Path.{◌≡◌, refl, sym, ◌∙◌}
 use native.Mathlib.Omega.{arith}
-use borrow.Author.Tests.{leb-true, lt-ltb, not-true, not-false}
+use borrow.Author.Tests.{leb-true, lt-ltb}
 use lib.Dec.{leb}
 use lib.ListN.{length}
 use Rattle.model.specs.Rules.Machine.{count_of, well_formed}
@@ -12,7 +12,6 @@ use Rattle.machine.specs.Runnable.{Runnable}
 use Rattle.machine.proofs.Machine.{gives-refusal, gives-done, cycle-image, cycle-position}
 use Rattle.machine.proofs.Judging.{runs_done}
 use Rattle.board.proofs.Stretch.{gives-effect, few-signals, outside-27, inside-runs}
-use borrow.Author.Rules.{rules}
 use Rattle.board.proofs.cycle_place.Goals as goal
 use Rattle.board.proofs.cycle_place.Goals.{Else-not-is_inside, Else-not-is_positioned, Else-not-well_formed, Start}
 
@@ -21,8 +20,7 @@ inside e = sym e.is_inside.ensures ∙ e.if-not-is_inside.false
 
 pub returns-then-not-is_inside : goal.returns-then-not-is_inside
 returns-then-not-is_inside c =
-    let w = c in
-    gives-effect (outside-27 _ _ _ _ _ (sym w.is_inside.ensures ∙ c.if-not-is_inside.true)) c.stopped.ensures
+    gives-effect (outside-27 _ _ _ _ _ (sym c.is_inside.ensures ∙ c.if-not-is_inside.true)) c.stopped.ensures
     refl
 
 pub overflow_add-end : goal.overflow_add-end
@@ -32,11 +30,9 @@ overflow_add-end c =
 
 pub returns-then-not-well_formed : goal.returns-then-not-well_formed
 returns-then-not-well_formed c =
-    let w = c in
-    let i = c in
-    let ill = sym w.well_formed-2.ensures ∙ c.if-not-well_formed.true in
-    let g = gives-refusal (cycle-image i.image_in-image.ensures _ _ ill) c.stopped-then-not-well_formed.ensures in
-    gives-effect (inside-runs _ _ _ _ _ (inside (goal.at.returns-then-not-well_formed i).Else-not-is_inside)) g.0 g.1
+    let ill = sym c.well_formed-2.ensures ∙ c.if-not-well_formed.true in
+    let g = gives-refusal (cycle-image c.image_in-image.ensures _ _ ill) c.stopped-then-not-well_formed.ensures in
+    gives-effect (inside-runs _ _ _ _ _ (inside (goal.at.returns-then-not-well_formed c).Else-not-is_inside)) g.0 g.1
 
 -- where the image is well formed
 module _ (e : Else-not-well_formed) where
@@ -72,20 +68,19 @@ is_positioned-requires c = (well c, omega (arith, (start c).requires.0))
 
 pub returns-then-not-is_positioned : goal.returns-then-not-is_positioned
 returns-then-not-is_positioned c =
-    let p = c in
     let e = (goal.at.returns-then-not-is_positioned c).Else-not-well_formed in
     let room = lt-ltb (count_of (image e)) (length (start e).args.words.now) (omega (arith, few e, (start e).requires.0)) in
-    let none = sym p.is_positioned.ensures ∙ c.if-not-is_positioned.true in
-    let g = gives-refusal (cycle-position e.image_in-image.ensures _ _ (well e) room none) c.stopped-then-not-is_positioned.ensures in
+    let none = sym c.is_positioned.ensures ∙ c.if-not-is_positioned.true in
+    let g = gives-refusal (cycle-position e.image_in-image.ensures _ _ (well e) room none)
+    c.stopped-then-not-is_positioned.ensures in
     gives-effect (inside-runs _ _ _ _ _ (inside (goal.at.Else-not-well_formed e).Else-not-is_inside)) g.0 g.1
 
 pub returns : goal.returns
 returns c =
-    let r = c in
     let p = (goal.at.returns c).Else-not-is_positioned in
     let e = (goal.at.returns c).Else-not-well_formed in
     let runs = runs_done e.image_in-image.ensures (runnable p) in
-    let g = gives-done runs r.run_cycle-total.ensures.count r.run_cycle-total.ensures.left in
+    let g = gives-done runs c.run_cycle-total.ensures.count c.run_cycle-total.ensures.left in
     gives-effect (inside-runs _ _ _ _ _ (inside (goal.at.Else-not-well_formed e).Else-not-is_inside)) g.0 g.1
 
 pub slice_bounds-lent-end : goal.slice_bounds-lent-end

@@ -4,7 +4,6 @@ use mathlib.Core.Bool.{true, false}
 use mathlib.Core.Path.{◌≡◌, sym, ◌∙◌}
 use native.Mathlib.Decide.{dec_lt}
 use native.Mathlib.Omega.{arith}
-use borrow.Author.Rules.{rules}
 use Rattle.model.specs.declared.Found.TheVariants.{At, Nowhere}
 use Rattle.board.specs.Board.{place_at}
 use Rattle.board.specs.Board.{Board}
@@ -37,16 +36,16 @@ loop-place-preserved c =
     let w = c.args.words.now in
     one_more (board_of w) c.args.from c.loop-place.place c.loop-place.invariant
     (λ low. elim c.if-from-place.branch [
-      | then-from-place+else-is_due e ↦ due-held w c.loop-place.place c.loop-place-test.true ∙ sym e.is_due.ensures ∙ e.if-is_due.false
+      | then-from-place+else-is_due e ↦ due-held w c.loop-place.place c.loop-place-test.true ∙ sym e.is_due.ensures ∙
+          e.if-is_due.false
       | else-from-place e ↦ absurd (omega (arith, e.if-from-place.false))
     ])
 
 pub returns : goal.returns
 returns c =
-    let l = c in
-    let a = l.args in
+    let a = c.args in
     first-is a.from (4 - a.from) (λ k. (place_at (board_of a.words.now) k).due) Nowhere
-    (λ m low high. l.loop-place.invariant m low (omega arith))
+    (λ m low high. c.loop-place.invariant m low (omega arith))
 
 pub loop-place-init : goal.loop-place-init
 loop-place-init c = λ m low high. absurd (omega arith)

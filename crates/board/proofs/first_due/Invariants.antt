@@ -1,17 +1,9 @@
 -- `board::first_due` meets its contract. Assumes nothing.
-use Prim.Native.Nat.{ℕ, ◌+◌, ◌-◌, ◌≤◌, ◌<◌}
-use mathlib.Core.Bool.{true, false}
-use mathlib.Core.Logic.{⊎_elim}
-use mathlib.Core.Path.{◌≡◌, sym, ◌∙◌}
-use native.Mathlib.Decide.{dec_lt}
-use native.Mathlib.Omega.{arith}
-use borrow.Author.Rules.{rules}
-use Rattle.model.specs.declared.Found.TheVariants.{At, Nowhere}
+use Prim.Native.Nat.{ℕ, ◌-◌, ◌≤◌, ◌<◌}
+use mathlib.Core.Bool.{false}
+use mathlib.Core.Path.{◌≡◌}
 use Rattle.board.specs.Board.{place_at}
-use Rattle.board.specs.Board.{Board}
 use Rattle.board.specs.Record.{board_of}
-use Rattle.model.proofs.Pairs.Decide.{first-is}
-use Rattle.board.proofs.Places.{due-held}
 use Rattle.board.proofs.first_due.Given as goal
 
 abbrev pub invariant-loop-place : goal.invariant-loop-place

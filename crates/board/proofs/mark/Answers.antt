@@ -1,7 +1,6 @@
 -- `board::mark` meets its contract. Assumes nothing.
 use mathlib.Core.Path.{◌≡◌, sym, ap, ◌∙◌}
-use borrow.Author.Rules.{rules}
-use borrow.Author.Tests.{lt-ltb, le-ltb, not-true, not-false}
+use borrow.Author.Tests.{lt-ltb, le-ltb}
 use Rattle.board.specs.Board.{place_at}
 use Rattle.board.proofs.Called.{mark-place, mark-loaded, mark-done}
 use Rattle.board.proofs.Cases.{call_answer}
@@ -26,11 +25,9 @@ returns-then-place-ge-PLACES c =
 
 pub returns-then-not-is_loaded : goal.returns-then-not-is_loaded
 returns-then-not-is_loaded c =
-    let t = c in
-    let s = c in
-    let a = s.args in
-    let lt = lt-ltb _ _ s.if-place-ge-PLACES.false in
-    let loaded = held (goal.at.returns-then-not-is_loaded t).After-is_loaded ∙ t.if-not-is_loaded.true in
+    let a = c.args in
+    let lt = lt-ltb _ _ c.if-place-ge-PLACES.false in
+    let loaded = held (goal.at.returns-then-not-is_loaded c).After-is_loaded ∙ c.if-not-is_loaded.true in
     let e = sym (ap call_answer (mark-loaded (board_of a.words.now) a.place lt loaded)) in
     record {
       answer = c.refused-then-not-is_loaded.ensures ∙ e;
@@ -39,9 +36,8 @@ returns-then-not-is_loaded c =
 
 pub returns : goal.returns
 returns c =
-    let s = c in
-    let a = s.args in
-    let lt = lt-ltb _ _ s.if-place-ge-PLACES.false in
+    let a = c.args in
+    let lt = lt-ltb _ _ c.if-place-ge-PLACES.false in
     let loaded = held (goal.at.returns c).After-is_loaded ∙ c.if-not-is_loaded.false in
     let e = sym (ap call_answer (mark-done (board_of a.words.now) a.place lt loaded)) in
     record {

@@ -1,7 +1,6 @@
 -- `board::next_due` meets its contract. Assumes nothing.
 use Prim.Native.Nat.{◌+◌, ◌%◌}
 use mathlib.Core.Path.{◌≡◌, sym, ◌∙◌}
-use borrow.Author.Rules.{rules}
 use Rattle.model.specs.declared.Found.{Found}
 use Rattle.model.specs.declared.Found.TheVariants.{At, Nowhere}
 use Rattle.board.specs.Board.{next_due}
@@ -13,16 +12,14 @@ use Rattle.board.proofs.next_due.Goals as goal
 pub returns-in_default : goal.returns-in_default
 unfolding board_of
 returns-in_default c =
-    let d = c in
     let e = c.in_default.is in
-    e ∙ sym (next-after _ _ (sym d.first_due-found.ensures ∙ e))
+    e ∙ sym (next-after _ _ (sym c.first_due-found.ensures ∙ e))
 
 pub returns : goal.returns
 unfolding board_of
 returns c =
-    let t = c in
-    let b = board_of t.args.words.now in
-    again b (sym t.first_due-found.ensures ∙ t.in-Nowhere.is) _ c.first_due.ensures
+    let b = board_of c.args.words.now in
+    again b (sym c.first_due-found.ensures ∙ c.in-Nowhere.is) _ c.first_due.ensures
   where
     again : (b : Board) → first_due b (b.last % 4 + 1) ≡ Nowhere → (f : Found) → f ≡ first_due b 0 → f ≡ next_due b
     again b none (At k) e = sym (next-again b k none (sym e))

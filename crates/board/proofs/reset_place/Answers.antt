@@ -3,8 +3,7 @@ use Prim.Native.Nat.{◌+◌}
 use mathlib.Core.Bool.{true}
 use mathlib.Core.Path.{◌≡◌, refl, sym, ◌∙◌}
 use native.Mathlib.Omega.{arith}
-use borrow.Author.Rules.{rules}
-use borrow.Author.Tests.{leb-true, not-true, not-false}
+use borrow.Author.Tests.{leb-true}
 use lib.Dec.{leb}
 use lib.ListN.{length}
 use Rattle.board.proofs.Stretch.{gives-effect, outside-27, inside-runs}
@@ -16,8 +15,7 @@ inside e = sym e.is_inside.ensures ∙ e.if-not-is_inside.false
 
 pub returns-then-not-is_inside : goal.returns-then-not-is_inside
 returns-then-not-is_inside c =
-    let w = c in
-    gives-effect (outside-27 _ _ _ _ _ (sym w.is_inside.ensures ∙ c.if-not-is_inside.true)) c.refused.ensures
+    gives-effect (outside-27 _ _ _ _ _ (sym c.is_inside.ensures ∙ c.if-not-is_inside.true)) c.refused.ensures
     refl
 
 pub overflow_add-end : goal.overflow_add-end

@@ -1,12 +1,10 @@
 -- `board::tell_turn` meets its contract. Assumes nothing.
 use mathlib.Core.Path.{sym, ap, ◌∙◌}
-use borrow.Author.Rules.{rules}
 use Rattle.board.specs.Board.{turned_of}
 use Rattle.board.specs.Record.{outcome_in}
 use Rattle.board.proofs.tell_turn.Goals as goal
 
 pub returns-in-Took : goal.returns-in-Took
 returns-in-Took c =
-    let t = c in
-    let old = t.args.outcome.now in
-    c.outcome_of.ensures ∙ ap (λ x. outcome_in old (turned_of x)) (sym t.in-Took.is)
+    let old = c.args.outcome.now in
+    c.outcome_of.ensures ∙ ap (λ x. outcome_in old (turned_of x)) (sym c.in-Took.is)

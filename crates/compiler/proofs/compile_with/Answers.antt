@@ -1,7 +1,6 @@
 -- `compiler::compile_with` meets its contract. Assumes nothing.
 use mathlib.Core.Path.{◌≡◌, ap, ◌∙◌}
 use native.Mathlib.Omega.{arith}
-use borrow.Author.Rules.{rules}
 use Rattle.model.specs.Rules.Compile.{Pair, pair_of}
 use Rattle.model.specs.Rules.Outcome.{yielded_of, accepted}
 use Rattle.image_write.specs.Layout.{LaidOut}
@@ -28,14 +27,14 @@ checked l = (goal.at.After-lay_out-layout l).In-Fine
 
 -- the layout of its image and tail
 laid_out : (l : After-lay_out-layout) → let q = (pair (goal.at.After-lay_out-layout l).In-Fine).0 in
-    LaidOut q.program q.schedule (answered (goal.at.After-lay_out-layout l).In-Fine).check_with-checked.result.pair.hypercycle l.lay_out-layout.result
+    LaidOut q.program q.schedule (answered (goal.at.After-lay_out-layout l).In-Fine).check_with-checked.result.pair.hypercycle
+    l.lay_out-layout.result
 laid_out l = l.lay_out-layout.ensures _ _ _ _ (pair (goal.at.After-lay_out-layout l).In-Fine).2.arranged
 
 pub returns-in_default : goal.returns-in_default
 returns-in_default c =
     let told = c.in_default.is in
-    let k = c in
-    let g = compile-refused _ _ _ _ (answers-refused _ _ _ _ k.check_with-checked.ensures told) in
+    let g = compile-refused _ _ _ _ (answers-refused _ _ _ _ c.check_with-checked.ensures told) in
     (ap yielded_of (c.refused.ensures _ told) ∙ g.0, g.1)
 
 pub lay_out-layout-requires : goal.lay_out-layout-requires
@@ -49,20 +48,17 @@ returns-then-image-written c =
 
 pub emit-requires : goal.emit-requires
 emit-requires c =
-    let e = c in
     let l = (goal.at.emit-requires c).After-lay_out-layout in
     record {
       reads = _;
       arrangement = (_, _, (pair (goal.at.After-lay_out-layout l).In-Fine).2.arranged);
       laid_out = laid_out l;
-      room = omega (arith, e.if-image-written.false);
+      room = omega (arith, c.if-image-written.false);
     }
 
 pub returns : goal.returns
 returns c =
-    let w = c in
-    let e = c in
     let l = (goal.at.returns c).After-lay_out-layout in
     let k = pair (goal.at.After-lay_out-layout l).In-Fine in
-    compile-done _ _ _ k.0 _ _ k.1 k.2.hyper (laid_out l).tail-ends e.if-image-written.false
-    (w.emit.ensures _ _ _ k.2.arranged)
+    compile-done _ _ _ k.0 _ _ k.1 k.2.hyper (laid_out l).tail-ends c.if-image-written.false
+    (c.emit.ensures _ _ _ k.2.arranged)

@@ -1,6 +1,5 @@
 -- `text_assemble::assemble` meets its contract. Assumes nothing.
 use mathlib.Core.Path.{ap, ◌∙◌}
-use borrow.Author.Rules.{rules}
 use Rattle.model.specs.Rules.Outcome.{yielded_of}
 use Rattle.model.specs.Rules.TextForm.{assembly, assemble_of}
 use Rattle.text_keyword.proofs.Answered.{answered-long}

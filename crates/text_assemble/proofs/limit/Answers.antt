@@ -1,5 +1,4 @@
 -- `text_assemble::limit` meets its contract. Assumes nothing.
-use borrow.Author.Rules.{rules}
 use Rattle.text_assemble.proofs.limit.Goals as goal
 
 pub returns-in-One : goal.returns-in-One

@@ -1,7 +1,6 @@
 -- `text_assemble::number_value` meets its contract. Assumes nothing.
 use Prim.Native.Nat.{ℕ}
 use mathlib.Core.Path.{sym, ap, ◌∙◌}
-use borrow.Author.Rules.{rules}
 use Rattle.model.specs.Rules.TextForm.{ranged}
 use Rattle.text_assemble.proofs.Values.{ranged-held, limit-small}
 use Rattle.text_assemble.proofs.number_value.Goals as goal
@@ -11,10 +10,7 @@ returns-then-is_signed c = rw (sym c.is_signed.ensures ∙ c.if-is_signed.true) 
 
 pub returns : goal.returns
 returns c =
-    let m = c in
-    let n = c in
-    let e = c in
-    let s = e.args in
-    rw (sym e.is_signed.ensures ∙ e.if-is_signed.false)
-    (c.ranged.ensures ∙ ap (λ (k : ℕ). ranged s.place 0 k n.number_of-number.result) m.limit-most.ensures ∙
-    ap (ranged s.place 0 _) n.number_of-number.ensures ∙ ranged-held s.place 0 _ _ (limit-small s.operand))
+    let s = c.args in
+    rw (sym c.is_signed.ensures ∙ c.if-is_signed.false)
+    (c.ranged.ensures ∙ ap (λ (k : ℕ). ranged s.place 0 k c.number_of-number.result) c.limit-most.ensures ∙
+    ap (ranged s.place 0 _) c.number_of-number.ensures ∙ ranged-held s.place 0 _ _ (limit-small s.operand))

@@ -2,7 +2,6 @@
 use Prim.Native.Nat.{◌+◌, ◌≤◌}
 use mathlib.Core.Path.{◌≡◌, sym, ap, ◌∙◌}
 use native.Mathlib.Omega.{arith}
-use borrow.Author.Rules.{rules}
 use lib.ListN.{length}
 use Rattle.model.specs.Rules.Outcome.{accepted}
 use Rattle.model.specs.Rules.TextForm.{names, spelled}
@@ -23,42 +22,35 @@ found f =
 
 pub find_spelling-found-requires : goal.find_spelling-found-requires
 find_spelling-found-requires c =
-    let s = c in
-    let o = s.args.operand in
-    omega (arith, ap length s.requires, cells-length, names-inside o, c.names_count-count.ensures, c.names_from-from.ensures)
+    let o = c.args.operand in
+    omega (arith, ap length c.requires, cells-length, names-inside o, c.names_count-count.ensures, c.names_from-from.ensures)
 
 pub returns-in-At : goal.returns-in-At
 returns-in-At c =
-    let k = c in
     let f = (goal.at.returns-in-At c).After-find_spelling-found in
-    let s = c in
-    let o = s.args.operand in
-    let e = sym (found f) ∙ k.in-At.is in
-    let i = k.in-At.i in
-    let row = name-row o i (name-found o s.args.spelling.now i e) in
-    ap accepted (c.byte_of.ensures.0 ∙ name-byte s.requires o f.names_from-from.ensures i ∙ row.byte) ∙
-    sym (operand-named o s.args.place s.args.spelling.now i e)
+    let o = c.args.operand in
+    let e = sym (found f) ∙ c.in-At.is in
+    let i = c.in-At.i in
+    let row = name-row o i (name-found o c.args.spelling.now i e) in
+    ap accepted (c.byte_of.ensures.0 ∙ name-byte c.requires o f.names_from-from.ensures i ∙ row.byte) ∙
+    sym (operand-named o c.args.place c.args.spelling.now i e)
 
 pub returns-in-Nowhere : goal.returns-in-Nowhere
 returns-in-Nowhere c =
-    let k = c in
     let f = (goal.at.returns-in-Nowhere c).After-find_spelling-found in
-    let s = c in
     c.number_value.ensures ∙
-    sym (operand-number s.args.operand s.args.place s.args.spelling.now (sym (found f) ∙ k.in-Nowhere.is))
+    sym (operand-number c.args.operand c.args.place c.args.spelling.now (sym (found f) ∙ c.in-Nowhere.is))
 
 -- the row is one of the table
 inside : (c : In-At) →
     c.names_from-from.result + c.in-At.i ≤ all_rows
 inside c =
-    let k = c in
     let f = (goal.at.In-At c).After-find_spelling-found in
-    let s = c in
-    let o = s.args.operand in
-    let e = sym (found f) ∙ k.in-At.is in
+    let o = c.args.operand in
+    let e = sym (found f) ∙ c.in-At.is in
     omega (
       arith,
-      name-found o s.args.spelling.now k.in-At.i e,
+      name-found o c.args.spelling.now c.in-At.i e,
       names-inside o,
       f.names_from-from.ensures,
     )

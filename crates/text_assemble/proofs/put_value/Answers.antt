@@ -2,10 +2,8 @@
 use Prim.Native.Nat.{◌+◌, ◌≤◌}
 use mathlib.Core.Path.{refl}
 use native.Mathlib.Omega.{arith}
-use borrow.Author.Rules.{rules}
 use lib.ListN.{length}
-use Rattle.model.specs.Rules.TextForm.{low_bytes}
-use Rattle.model.proofs.Basics.Left.{Left, starts, room, turn, done}
+use Rattle.model.proofs.Basics.Left.{starts, room, turn, done}
 use Rattle.text_assemble.proofs.Walk.{low_parts, low-none, low-length}
 use Rattle.text_assemble.proofs.put_value.Goals as goal
 use Rattle.text_assemble.proofs.put_value.Goals.{In-loop-left}
@@ -13,9 +11,8 @@ use Rattle.text_assemble.proofs.put_value.Goals.{In-loop-left}
 space : (c : In-loop-left) → c.loop-left.end + 1 ≤ length c.loop-left.out
 space c =
     let l = c.loop-left in
-    let s = c in
     room (low_parts l.left l.rest (omega arith)) l.invariant
-    (omega (arith, s.requires, low-length s.args.size s.args.value))
+    (omega (arith, c.requires, low-length c.args.size c.args.value))
 
 pub loop-left-preserved : goal.loop-left-preserved
 loop-left-preserved c =

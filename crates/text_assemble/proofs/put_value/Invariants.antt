@@ -1,12 +1,6 @@
 -- `text_assemble::put_value` meets its contract. Assumes nothing.
-use Prim.Native.Nat.{◌+◌, ◌≤◌}
-use mathlib.Core.Path.{refl}
-use native.Mathlib.Omega.{arith}
-use borrow.Author.Rules.{rules}
-use lib.ListN.{length}
 use Rattle.model.specs.Rules.TextForm.{low_bytes}
-use Rattle.model.proofs.Basics.Left.{Left, starts, room, turn, done}
-use Rattle.text_assemble.proofs.Walk.{low_parts, low-none, low-length}
+use Rattle.model.proofs.Basics.Left.{Left}
 use Rattle.text_assemble.proofs.put_value.Given as goal
 
 abbrev pub invariant-loop-left : goal.invariant-loop-left

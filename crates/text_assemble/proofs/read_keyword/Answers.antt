@@ -3,7 +3,6 @@ use Prim.Native.Nat.{ℕ, ◌+◌, ◌*◌, ◌<◌}
 use mathlib.Core.List.{List, [], ◌∷◌}
 use mathlib.Core.Path.{◌≡◌, refl, sym, ap, ◌∙◌}
 use native.Mathlib.Omega.{arith}
-use borrow.Author.Rules.{rules}
 use lib.ListN.{length}
 use Rattle.model.specs.Rules.Outcome.{accepted}
 use Rattle.model.specs.Rules.TextForm.{keywords, keyword_at, spelled}
@@ -22,40 +21,35 @@ found f =
 inside : (c : In-At) → c.in-At.row < command_rows
 inside c =
     let f = (goal.at.In-At c).After-find_spelling-found in
-    let s = c in
-    keyword-found s.args.spelling.now _ (sym (found f) ∙ c.in-At.is)
+    keyword-found c.args.spelling.now _ (sym (found f) ∙ c.in-At.is)
 
 pub returns-in-At : goal.returns-in-At
 returns-in-At c =
     let k = (goal.at.returns-in-At c).In-At in
     let f = (goal.at.returns-in-At c).After-find_spelling-found in
-    let s = c in
     let i = k.in-At.row in
     let row = keyword-row i (inside k) in
     let z : 0 + i ≡ i = omega arith in
     let byte : c.byte_of-value.result ≡ (keyword_at keywords i).byte =
-    c.byte_of-value.ensures.0 ∙ ap (λ (t : List ℕ). byte_of t i) s.requires ∙ ap (byte_of cells) (sym z) ∙ row.byte in
+    c.byte_of-value.ensures.0 ∙ ap (λ (t : List ℕ). byte_of t i) c.requires ∙ ap (byte_of cells) (sym z) ∙ row.byte in
     record {
       answer =
           ap (λ (l : List ℕ). accepted (record { bytes = l; pending = pending_at (15 * i + 11) }))
           (one_byte c.byte_of-value.result c.byte_of-value.ensures.1 ∙ ap (λ (b : ℕ). b ∷ []) byte) ∙
           ap (λ os. accepted (record { bytes = (keyword_at keywords i).byte ∷ []; pending = os }))
           (ap (λ (n : ℕ). pending_at (15 * n + 11)) (sym z) ∙ row.operands) ∙
-          sym (keyword-read s.args.place s.args.spelling.now i (sym (found f) ∙ k.in-At.is));
+          sym (keyword-read c.args.place c.args.spelling.now i (sym (found f) ∙ k.in-At.is));
       small = omega arith;
     }
 
 pub returns-in-Nowhere : goal.returns-in-Nowhere
 returns-in-Nowhere c =
-    let r = c in
-    let k = c in
     let f = (goal.at.returns-in-Nowhere c).After-find_spelling-found in
-    let s = c in
     let e = c.refuse_read.ensures in
     record {
       answer =
-          ap read_of e ∙ rw r.refuse.ensures refl ∙
-          sym (keyword-refused s.args.place s.args.spelling.now (sym (found f) ∙ k.in-Nowhere.is));
+          ap read_of e ∙ rw c.refuse.ensures refl ∙
+          sym (keyword-refused c.args.place c.args.spelling.now (sym (found f) ∙ c.in-Nowhere.is));
       small = rw e (omega arith);
     }
 

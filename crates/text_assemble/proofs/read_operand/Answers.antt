@@ -2,7 +2,6 @@
 use Prim.Native.Nat.{ℕ}
 use mathlib.Core.Path.{sym, ap, ◌∙◌}
 use native.Mathlib.Omega.{arith}
-use borrow.Author.Rules.{rules}
 use Rattle.model.specs.Rules.Outcome.{accepted}
 use Rattle.model.specs.Rules.TextForm.{token, low_bytes}
 use Rattle.text_keyword.specs.Cells.{pending_at}
@@ -13,28 +12,24 @@ use Rattle.text_assemble.proofs.read_operand.Goals as goal
 
 pub returns-in-Number : goal.returns-in-Number
 returns-in-Number c =
-    let k = c in
-    let f = c in
-    let s = f.args in
-    let v = k.in-Number.value in
+    let s = c.args in
+    let v = c.in-Number.value in
     record {
       answer =
           ap (λ (n : ℕ). accepted (record { bytes = low_bytes n v; pending = pending_at s.next })) c.size-size.ensures ∙
           sym (operand_read s.operand (pending_at s.next) (token s.place s.spelling.now) v
-          (sym f.operand_of-valued.ensures ∙ ap yielded_of k.in-Number.is));
+          (sym c.operand_of-valued.ensures ∙ ap yielded_of c.in-Number.is));
       small = omega (arith, c.size-size.ensures, size_small s.operand);
     }
 
 pub returns-in-Refused : goal.returns-in-Refused
 returns-in-Refused c =
-    let k = c in
-    let f = c in
-    let s = f.args in
+    let s = c.args in
     let e = c.refuse_read.ensures in
     record {
       answer =
           ap read_of e ∙
           sym (operand-refused s.operand (pending_at s.next) (token s.place s.spelling.now) _
-          (sym f.operand_of-valued.ensures ∙ ap yielded_of k.in-Refused.is));
+          (sym c.operand_of-valued.ensures ∙ ap yielded_of c.in-Refused.is));
       small = rw e (omega arith);
     }

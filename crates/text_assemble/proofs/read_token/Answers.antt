@@ -3,7 +3,6 @@ use Prim.Native.Nat.{ℕ, ◌+◌, ◌<◌}
 use mathlib.Core.List.{List, ◌∷◌}
 use mathlib.Core.Path.{◌≡◌, sym, ap, ◌∙◌}
 use native.Mathlib.Omega.{arith}
-use borrow.Author.Rules.{rules}
 use Rattle.model.specs.Rules.Word.{byte_at}
 use Rattle.text_keyword.specs.Cells.{all_cells, cells, operand_by, pending_at}
 use Rattle.text_keyword.proofs.Rows.{pending-none, pending-more}
@@ -25,15 +24,13 @@ more e =
 pub returns-then-number-eq0 : goal.returns-then-number-eq0
 returns-then-number-eq0 c =
     let e = (goal.at.returns-then-number-eq0 c).After-cell-number in
-    let s = c in
-    rw (pending-none s.args.pending (sym (number e) ∙ c.if-number-eq0.true)) c.read_keyword.ensures
+    rw (pending-none c.args.pending (sym (number e) ∙ c.if-number-eq0.true)) c.read_keyword.ensures
 
 pub returns : goal.returns
 returns c =
     let o = c in
     let e = (goal.at.returns c).Else-number-eq0 in
-    let s = c in
-    let operand : o.operand_by-operand.result ≡ operand_by (byte_at cells s.args.pending) =
+    let operand : o.operand_by-operand.result ≡ operand_by (byte_at cells c.args.pending) =
     o.operand_by-operand.ensures ∙ ap operand_by (number (goal.at.Else-number-eq0 e).After-cell-number) in
     rw ((more e).1, ← operand) c.read_operand.ensures
 

@@ -4,7 +4,6 @@ use mathlib.Core.List.{List}
 use mathlib.Core.Path.{sym, ap, ◌∙◌}
 use lib.ListN.{length}
 use native.Mathlib.Omega.{arith}
-use borrow.Author.Rules.{rules}
 use Rattle.model.specs.Rules.Outcome.{Outcome, accepted, ◌▷◌}
 use Rattle.model.specs.Rules.TextForm.{ranged, number_of}
 use Rattle.text_keyword.proofs.Finding.{part-rest}
@@ -18,7 +17,6 @@ some c = some_byte c.args.spelling.now (sym c.cell-first.ensures ∙ c.if-first-
 
 pub returns-then-first-eq45 : goal.returns-then-first-eq45
 returns-then-first-eq45 c =
-    let r = c in
     let n = c in
     let t = c in
     let s = t.args in
@@ -26,17 +24,15 @@ returns-then-first-eq45 c =
     let number = n.number_of-number.ensures ∙ ap (λ (l : List ℕ). held_number (number_of l)) (part-rest s.spelling.now 1) in
     c.negated.ensures ∙
     ap (λ (o : Outcome ℕ). o ▷ λ n. accepted (2 ^ 32 - n))
-    (r.ranged-value.ensures ∙ ap (ranged s.place 1 (2 ^ 31 + 1)) number ∙ ranged-held s.place 1 (2 ^ 31 + 1) _ (omega arith)) ∙
+    (c.ranged-value.ensures ∙ ap (ranged s.place 1 (2 ^ 31 + 1)) number ∙ ranged-held s.place 1 (2 ^ 31 + 1) _ (omega arith)) ∙
     sym (signed-minus s.place s.spelling.now first)
 
 pub returns : goal.returns
 returns c =
-    let n = c in
-    let e = c in
-    let s = e.args in
-    c.ranged.ensures ∙ ap (ranged s.place 0 (2 ^ 31)) n.number_of-number-2.ensures ∙
+    let s = c.args in
+    c.ranged.ensures ∙ ap (ranged s.place 0 (2 ^ 31)) c.number_of-number-2.ensures ∙
     ranged-held s.place 0 (2 ^ 31) _ (omega arith) ∙
-    sym (signed-plus s.place s.spelling.now (λ q. e.if-first-eq45.false (e.cell-first.ensures ∙ q)))
+    sym (signed-plus s.place s.spelling.now (λ q. c.if-first-eq45.false (c.cell-first.ensures ∙ q)))
 
 pub slice_bounds-number_of-count : goal.slice_bounds-number_of-count
 slice_bounds-number_of-count c = some c

@@ -1,9 +1,7 @@
 -- `text_assemble::write_assembly` meets its contract. Assumes nothing.
 use Prim.Native.Nat.{◌-◌}
-use native.Mathlib.Omega.{arith}
-use borrow.Author.Rules.{rules}
 use lib.ListN.{length}
-use Rattle.text_assemble.proofs.Walk.{Writing, writing-starts, writing-room, writing-next, writing-ends}
+use Rattle.text_assemble.proofs.Walk.{Writing}
 use Rattle.text_assemble.proofs.write_assembly.Given as goal
 
 abbrev pub invariant-loop-start : goal.invariant-loop-start

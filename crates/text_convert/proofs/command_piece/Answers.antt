@@ -5,7 +5,6 @@ use borrow.Author.Tests.{le-ltb}
 use lib.ListN.{get_or-eq_default}
 use Rattle.model.specs.Rules.Command.{declaration_at}
 use Rattle.model.specs.Rules.Rewrite.{command_at}
-use borrow.Author.Rules.{rules}
 use Rattle.text_command.proofs.Least.{from_one}
 use Rattle.text_convert.proofs.command_piece.Goals as goal
 

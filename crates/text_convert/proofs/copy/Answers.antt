@@ -3,9 +3,8 @@ use Prim.Native.Nat.{◌+◌, ◌-◌, ◌≤◌}
 use mathlib.Core.List.{[], ◌∷◌}
 use native.Mathlib.Omega.{arith}
 use mathlib.Core.Path.{refl}
-use borrow.Author.Rules.{rules}
 use lib.ListN.{length, get_or, take, drop}
-use Rattle.model.proofs.Basics.Left.{Left, Parts, starts, room, turn, done}
+use Rattle.model.proofs.Basics.Left.{Parts, starts, room, turn, done}
 use Rattle.text_convert.proofs.Walk.{copy_step, copy-fits, take_none}
 use Rattle.text_convert.proofs.copy.Goals as goal
 use Rattle.text_convert.proofs.copy.Goals.{After-shared_slice_known-1}
@@ -19,10 +18,9 @@ step c = copy_step _ _ _ (omega arith) c.loop-left.invariant.0
 space : (c : After-shared_slice_known-1) →
     c.loop-left.end + 1 ≤ length c.loop-left.out
 space c =
-    let c3 = c in
-    let a = c3.args in
+    let a = c.args in
     room (step c) c.loop-left.invariant.1
-    (copy-fits a.text.now a.at a.n a.to _ c3.requires.0 c3.requires.1)
+    (copy-fits a.text.now a.at a.n a.to _ c.requires.0 c.requires.1)
 
 pub overflow_add-end : goal.overflow_add-end
 overflow_add-end c = omega (arith, space c, c.loop-left.invariant.1.size)

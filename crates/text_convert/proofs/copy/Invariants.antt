@@ -1,17 +1,13 @@
 -- `text_convert::copy` meets its contract. Assumes nothing.
-use Prim.Native.Nat.{◌+◌, ◌-◌, ◌≤◌}
-use mathlib.Core.List.{[], ◌∷◌}
-use native.Mathlib.Omega.{arith}
-use mathlib.Core.Path.{refl}
-use borrow.Author.Rules.{rules}
-use lib.ListN.{length, get_or, take, drop}
-use Rattle.model.proofs.Basics.Left.{Left, Parts, starts, room, turn, done}
-use Rattle.text_convert.proofs.Walk.{copy_step, copy-fits, take_none}
+use Prim.Native.Nat.{◌+◌, ◌≤◌}
+use lib.ListN.{length, take, drop}
+use Rattle.model.proofs.Basics.Left.{Left}
 use Rattle.text_convert.proofs.copy.Given as goal
 
 abbrev pub invariant-loop-left : goal.invariant-loop-left
 invariant-loop-left l =
-    (l.i + l.left ≤ length l.text) × Left l.initial.out l.to (take l.n (drop l.at l.text)) l.out l.end (take l.left (drop l.i l.text))
+    (l.i + l.left ≤ length l.text) ×
+    Left l.initial.out l.to (take l.n (drop l.at l.text)) l.out l.end (take l.left (drop l.i l.text))
 
 abbrev pub decreases-loop-left : goal.decreases-loop-left
 decreases-loop-left l = l.left

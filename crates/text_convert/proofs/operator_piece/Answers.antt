@@ -1,6 +1,5 @@
 -- `text_convert::operator_piece` meets its contract. Assumes nothing.
 use borrow.Author.Tests.{eq-eqb, ne_eqb}
-use borrow.Author.Rules.{rules}
 use Rattle.text_convert.proofs.operator_piece.Goals as goal
 
 pub returns-then-factor-eq1 : goal.returns-then-factor-eq1

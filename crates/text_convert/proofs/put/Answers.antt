@@ -3,7 +3,6 @@ use mathlib.Core.Path.{refl}
 use native.Mathlib.Numerals.{towards_suc}
 use native.Mathlib.Omega.{arith}
 use lib.ListN.{length-set}
-use borrow.Author.Rules.{rules}
 use Rattle.text_convert.proofs.put.Goals as goal
 
 pub copy-requires : goal.copy-requires
@@ -21,8 +20,7 @@ returns-in-Keep c = rw c.in-Keep.is c.copy.ensures
 
 pub overflow_add-result : goal.overflow_add-result
 overflow_add-result c =
-    let p = c in
-    omega (arith, c.in_expression.ensures, rw p.in-Short.is at p.requires.1)
+    omega (arith, c.in_expression.ensures, rw c.in-Short.is at c.requires.1)
 
 pub returns-in-Short : goal.returns-in-Short
 returns-in-Short c =

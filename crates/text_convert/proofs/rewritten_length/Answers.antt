@@ -1,10 +1,7 @@
 -- `text_convert::rewritten_length` meets its contract. Assumes nothing.
-use Prim.Native.Nat.{◌+◌, ◌≤◌}
-use mathlib.Core.Path.{◌≡◌, ap}
+use mathlib.Core.Path.{ap}
 use native.Mathlib.Omega.{arith}
-use borrow.Author.Rules.{rules}
 use lib.ListN.{length}
-use Rattle.model.specs.Rules.Rewrite.{rewrite_from, rewrite}
 use Rattle.model.proofs.Basics.Left.{parts-length}
 use Rattle.text_convert.proofs.Walk.{Turn, turn-of, rewrite-starts, rewrite-ends}
 use Rattle.text_convert.proofs.rewritten_length.Goals as goal
@@ -12,8 +9,7 @@ use Rattle.text_convert.proofs.rewritten_length.Goals.{After-command_piece-piece
 
 -- what the turn does
 now-turn : (c : After-command_piece-piece) →
-    let l = c in
-    Turn l.args.text.now l.loop-left.at l.loop-left.left c.command_piece-piece.result
+    Turn c.args.text.now c.loop-left.at c.loop-left.left c.command_piece-piece.result
 now-turn c = turn-of _ _ _ _ (omega arith) (omega arith) c.command_piece-piece.ensures
 
 pub loop-left-init : goal.loop-left-init
@@ -21,10 +17,12 @@ loop-left-init c = (omega arith, omega arith, omega (arith, ap length (rewrite-s
 
 pub overflow_add-total : goal.overflow_add-total
 overflow_add-total c =
-    let t = now-turn (goal.at.overflow_add-total c).After-command_piece-piece in omega (arith, t.inside, t.short, c.new_length-length.ensures)
+    let t = now-turn (goal.at.overflow_add-total c).After-command_piece-piece in
+    omega (arith, t.inside, t.short, c.new_length-length.ensures)
 
 pub overflow_add-at : goal.overflow_add-at
-overflow_add-at c = let t = now-turn (goal.at.overflow_add-at c).After-command_piece-piece in omega (arith, t.inside, c.width_in-width.ensures)
+overflow_add-at c = let t = now-turn (goal.at.overflow_add-at c).After-command_piece-piece in
+    omega (arith, t.inside, c.width_in-width.ensures)
 
 pub loop-left-preserved : goal.loop-left-preserved
 loop-left-preserved c =

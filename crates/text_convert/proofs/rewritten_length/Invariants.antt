@@ -1,12 +1,8 @@
 -- `text_convert::rewritten_length` meets its contract. Assumes nothing.
 use Prim.Native.Nat.{◌+◌, ◌≤◌}
-use mathlib.Core.Path.{◌≡◌, ap}
-use native.Mathlib.Omega.{arith}
-use borrow.Author.Rules.{rules}
+use mathlib.Core.Path.{◌≡◌}
 use lib.ListN.{length}
 use Rattle.model.specs.Rules.Rewrite.{rewrite_from, rewrite}
-use Rattle.model.proofs.Basics.Left.{parts-length}
-use Rattle.text_convert.proofs.Walk.{Turn, turn-of, rewrite-starts, rewrite-ends}
 use Rattle.text_convert.proofs.rewritten_length.Given as goal
 
 abbrev pub invariant-loop-left : goal.invariant-loop-left

@@ -1,18 +1,13 @@
 -- `text_convert::write` meets its contract. Assumes nothing.
-use Prim.Native.Nat.{◌≤◌}
 use native.Mathlib.Omega.{arith}
-use borrow.Author.Rules.{rules}
-use lib.ListN.{length}
-use Rattle.model.specs.Rules.Rewrite.{rewrite_from, rewrite}
-use Rattle.model.proofs.Basics.Left.{Left, starts, room, turn, done}
+use Rattle.model.proofs.Basics.Left.{starts, room, turn, done}
 use Rattle.text_convert.proofs.Walk.{Turn, turn-of, rewrite-starts, rewrite-ends}
 use Rattle.text_convert.proofs.write.Goals as goal
 use Rattle.text_convert.proofs.write.Goals.{After-command_piece-piece}
 
 -- what the turn does
 now-turn : (c : After-command_piece-piece) →
-    let l = c in
-    Turn l.args.text.now l.loop-left.at l.loop-left.left c.command_piece-piece.result
+    Turn c.args.text.now c.loop-left.at c.loop-left.left c.command_piece-piece.result
 now-turn c = turn-of _ _ _ _ (omega arith) (omega arith) c.command_piece-piece.ensures
 
 pub loop-left-init : goal.loop-left-init
@@ -20,10 +15,8 @@ loop-left-init c = (omega arith, rw (rewrite-starts c.args.text.now) starts)
 
 pub put-to-requires : goal.put-to-requires
 put-to-requires c =
-    let c3 = c in
-    let c6 = c in
     let t = now-turn (goal.at.put-to-requires c).After-command_piece-piece in
-    (t.inside, rw (← t.size) (room t.parts c3.loop-left.invariant.1 (omega (arith, c6.requires))))
+    (t.inside, rw (← t.size) (room t.parts c.loop-left.invariant.1 (omega (arith, c.requires))))
 
 pub overflow_add-at : goal.overflow_add-at
 overflow_add-at c =
@@ -31,11 +24,9 @@ overflow_add-at c =
 
 pub loop-left-preserved : goal.loop-left-preserved
 loop-left-preserved c =
-    let c3 = c in
     let c5 = (goal.at.loop-left-preserved c).After-command_piece-piece in
-    let c7 = c in
     let t = now-turn c5 in
-    rw c.width_in-width.ensures (t.inside, turn t.parts c7.loop-left.invariant.1 c3.put-to.ensures)
+    rw c.width_in-width.ensures (t.inside, turn t.parts c.loop-left.invariant.1 c.put-to.ensures)
 
 pub returns : goal.returns
 returns c =

@@ -1,11 +1,8 @@
 -- `text_convert::write` meets its contract. Assumes nothing.
 use Prim.Native.Nat.{◌≤◌}
-use native.Mathlib.Omega.{arith}
-use borrow.Author.Rules.{rules}
 use lib.ListN.{length}
 use Rattle.model.specs.Rules.Rewrite.{rewrite_from, rewrite}
-use Rattle.model.proofs.Basics.Left.{Left, starts, room, turn, done}
-use Rattle.text_convert.proofs.Walk.{Turn, turn-of, rewrite-starts, rewrite-ends}
+use Rattle.model.proofs.Basics.Left.{Left}
 use Rattle.text_convert.proofs.write.Given as goal
 
 abbrev pub invariant-loop-left : goal.invariant-loop-left

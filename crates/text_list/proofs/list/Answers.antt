@@ -1,6 +1,5 @@
 -- `text_list::list` meets its contract. Assumes nothing.
 use mathlib.Core.Path.{ap, ◌∙◌}
-use borrow.Author.Rules.{rules}
 use Rattle.model.specs.Rules.Outcome.{yielded_of}
 use Rattle.model.specs.Rules.TextForm.{listing, listing_of}
 use Rattle.text_keyword.proofs.Answered.{answered-long}

@@ -3,7 +3,6 @@ use Prim.Native.Nat.{ℕ, ◌+◌, ◌-◌, ◌*◌, ◌≤◌, ◌<◌}
 use mathlib.Core.List.{List, []}
 use mathlib.Core.Path.{◌≡◌, refl, sym, ap, ◌∙◌}
 use native.Mathlib.Omega.{arith}
-use borrow.Author.Rules.{rules}
 use lib.ListN.{length, take, drop}
 use Rattle.model.specs.Rules.Outcome.{accepted}
 use Rattle.model.specs.Rules.TextForm.{keywords, keyword_at, coded, lead, listed_at}
@@ -71,11 +70,9 @@ separator e =
 
 pub returns-in_default : goal.returns-in_default
 returns-in_default c =
-    let e = c in
     let f = (goal.at.returns-in_default c).After-find_byte-found in
-    let s = c in
-    puts-refused (keyword-unknown s.args.bytes.now s.args.at (sym (found f) ∙ e.in_default.is)) s.args.at
-    s.args.to s.args.out.now c.refuse_put.result c.refuse_put.ensures
+    puts-refused (keyword-unknown c.args.bytes.now c.args.at (sym (found f) ∙ c.in_default.is)) c.args.at
+    c.args.to c.args.out.now c.refuse_put.result c.refuse_put.ensures
 
 pub put_lead-start-requires : goal.put_lead-start-requires
 put_lead-start-requires c =
@@ -96,22 +93,19 @@ slice_bounds-put_letters-start c = row_inside (goal.at.slice_bounds-put_letters-
 
 pub put_letters-end-requires : goal.put_letters-end-requires
 put_letters-end-requires c =
-    let l = c in
     let e = (goal.at.put_letters-end-requires c).After-cell-opens in
     let k = (goal.at.put_letters-end-requires c).In-At in
     rw (letters k) (token-room (lead (s k).args.at (keyword_at keywords (i k)).opens) (keyword_at keywords (i k)).spelling
-    (s k).args.to (s k).args.out.now (fits k) (rw (separator e) at l.put_lead-start.ensures))
+    (s k).args.to (s k).args.out.now (fits k) (rw (separator e) at c.put_lead-start.ensures))
 
 pub returns : goal.returns
 returns c =
-    let p = c in
-    let l = c in
     let e = (goal.at.returns c).After-cell-opens in
     let k = (goal.at.returns c).In-At in
     puts-is (listed k)
     (record {
       fine = refl;
-      wrote = after (rw (separator e) at l.put_lead-start.ensures) (rw (letters k) at p.put_letters-end.ensures);
+      wrote = after (rw (separator e) at c.put_lead-start.ensures) (rw (letters k) at c.put_letters-end.ensures);
       width = refl;
       pending = (row k).operands;
     })

@@ -1,10 +1,9 @@
 -- `text_list::list_operand` meets its contract. Assumes nothing.
-use Prim.Native.Nat.{ℕ, ◌+◌, ◌-◌, ◌≤◌}
+use Prim.Native.Nat.{ℕ, ◌+◌, ◌≤◌}
 use mathlib.Core.Bool.{false}
 use mathlib.Core.List.{◌∷◌}
 use mathlib.Core.Path.{◌≡◌, refl, ap, ◌∙◌}
 use native.Mathlib.Omega.{arith}
-use borrow.Author.Rules.{rules}
 use lib.ListN.{length}
 use Rattle.model.specs.Rules.Outcome.{accepted}
 use Rattle.model.specs.Rules.TextForm.{size, low_at, lead, listed_at, operand_token}
@@ -51,11 +50,9 @@ module _ (v : After-value_at-value) where
 
 pub returns-then-bytes-at : goal.returns-then-bytes-at
 returns-then-bytes-at c =
-    let t = c in
-    let s = c in
     puts-refused
-    (operand-cut s.args.bytes.now s.args.at s.args.operand (pending_at s.args.next)
-    (omega (arith, t.if-bytes-at.true, t.size-width.ensures, s.requires.1))) s.args.at s.args.to s.args.out.now
+    (operand-cut c.args.bytes.now c.args.at c.args.operand (pending_at c.args.next)
+    (omega (arith, c.if-bytes-at.true, c.size-width.ensures, c.requires.1))) c.args.at c.args.to c.args.out.now
     c.refuse_put.result c.refuse_put.ensures
 
 pub put_lead-start-requires : goal.put_lead-start-requires
@@ -66,22 +63,19 @@ put_lead-start-requires c =
 
 pub put_operand-end-requires : goal.put_operand-end-requires
 put_operand-end-requires c =
-    let l = c in
     let v = (goal.at.put_operand-end-requires c).After-value_at-value in (
       (s v).requires.0,
       rw (is-value v) (token-room (lead (s v).args.at false) (operand_token (s v).args.operand (value v)) (s v).args.to
-          (s v).args.out.now (fits v) l.put_lead-start.ensures),
+          (s v).args.out.now (fits v) c.put_lead-start.ensures),
     )
 
 pub returns : goal.returns
 returns c =
-    let p = c in
-    let l = c in
     let v = (goal.at.returns c).After-value_at-value in
     puts-is (listed v)
     (record {
       fine = refl;
-      wrote = after l.put_lead-start.ensures (rw (is-value v) at p.put_operand-end.ensures);
+      wrote = after c.put_lead-start.ensures (rw (is-value v) at c.put_operand-end.ensures);
       width = v.size-width.ensures;
       pending = refl;
     })

@@ -3,7 +3,6 @@ use Prim.Native.Nat.{ℕ, ◌+◌, ◌<◌}
 use mathlib.Core.List.{List, [], ◌∷◌}
 use mathlib.Core.Path.{◌≡◌, sym, ap, ◌∙◌}
 use native.Mathlib.Omega.{arith}
-use borrow.Author.Rules.{rules}
 use Rattle.model.specs.Rules.Word.{byte_at}
 use Rattle.text_keyword.specs.Cells.{all_cells, cells, operand_by, pending_at}
 use Rattle.text_keyword.proofs.Rows.{pending-none, pending-more}
@@ -33,25 +32,24 @@ operand o =
     let e = (goal.at.After-operand_by-operand o).Else-number-eq0 in
     let s = o in
     (more e).1 ∙
-    ap (λ x. x ∷ pending_at (s.args.pending + 1)) (sym (o.operand_by-operand.ensures ∙ ap operand_by (number (goal.at.Else-number-eq0 e).After-cell-number)))
+    ap (λ x. x ∷ pending_at (s.args.pending + 1))
+    (sym (o.operand_by-operand.ensures ∙ ap operand_by (number (goal.at.Else-number-eq0 e).After-cell-number)))
 
 pub list_keyword-requires : goal.list_keyword-requires
 list_keyword-requires c =
     let t = (goal.at.list_keyword-requires c).Then-number-eq0 in
-    let s = c in
-    (s.requires.0, s.requires.1, rw (none t) at s.requires.2)
+    (c.requires.0, c.requires.1, rw (none t) at c.requires.2)
 
 pub returns-then-number-eq0 : goal.returns-then-number-eq0
-returns-then-number-eq0 c = let l = c in rw (none (goal.at.returns-then-number-eq0 l).Then-number-eq0) l.list_keyword.ensures
+returns-then-number-eq0 c = rw (none (goal.at.returns-then-number-eq0 c).Then-number-eq0) c.list_keyword.ensures
 
 pub list_operand-requires : goal.list_operand-requires
 list_operand-requires c =
     let o = (goal.at.list_operand-requires c).After-operand_by-operand in
-    let s = c in
-    (s.requires.0, s.requires.1, rw (operand o) at s.requires.2)
+    (c.requires.0, c.requires.1, rw (operand o) at c.requires.2)
 
 pub returns : goal.returns
-returns c = let l = c in rw (operand (goal.at.returns l).After-operand_by-operand) l.list_operand.ensures
+returns c = rw (operand (goal.at.returns c).After-operand_by-operand) c.list_operand.ensures
 
 pub overflow_add-next : goal.overflow_add-next
 overflow_add-next c = omega (arith, (more (goal.at.overflow_add-next c).Else-number-eq0).0)

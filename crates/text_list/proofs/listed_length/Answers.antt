@@ -1,26 +1,12 @@
 -- `text_list::listed_length` meets its contract. Assumes nothing.
-use Prim.Native.Nat.{◌-◌}
-use mathlib.Core.Path.{◌≡◌, refl, sym, ap, ◌∙◌}
+use mathlib.Core.Path.{refl, sym, ap, ◌∙◌}
 use native.Mathlib.Omega.{arith}
-use borrow.Author.Rules.{rules}
-use lib.ListN.{length}
 use Rattle.model.specs.Rules.TextForm.{listed_at}
 use Rattle.model.specs.Rules.Word.{AreBytes}
 use Rattle.text_keyword.specs.Cells.{pending_at}
 use Rattle.text_keyword.specs.Written.{length_answer}
-use Rattle.text_list.proofs.Walk.{
-  Short,
-  is-short,
-  room-short,
-  Told,
-  puts-fine,
-  puts-fault,
-  Measured,
-  measured-starts,
-  measured-next,
-  measured-refused,
-  measured-ends,
-}
+use Rattle.text_list.proofs.Walk.{Short, is-short, room-short, Told, puts-fine, puts-fault}
+use Rattle.text_list.proofs.Walk.{measured-starts, measured-next, measured-refused, measured-ends}
 use Rattle.text_list.proofs.listed_length.Goals as goal
 use Rattle.text_list.proofs.listed_length.Goals.{At-loop-at, In_default, Start}
 
@@ -41,14 +27,12 @@ list_token-put-requires c =
 
 pub returns-in-Refused : goal.returns-in-Refused
 returns-in-Refused c =
-    let j = c in
-    let p = c in
     let l = (goal.at.returns-in-Refused c).At-loop-at in
     let bytes = (start l).args.bytes.now in
     sym (ap length_answer
     (measured-refused bytes l.loop-at.at l.loop-at.pending l.loop-at.total _ l.loop-at.invariant.1 (omega arith)
-    (puts-fault (listed_at bytes l.loop-at.at (pending_at l.loop-at.pending)) l.loop-at.at 0 _ _ p.list_token-put.result _
-    p.list_token-put.ensures j.in-Refused.is)))
+    (puts-fault (listed_at bytes l.loop-at.at (pending_at l.loop-at.pending)) l.loop-at.at 0 _ _ c.list_token-put.result _
+    c.list_token-put.ensures c.in-Refused.is)))
 
 -- what was put
 told : (t : In_default) → let p = t in
@@ -70,9 +54,8 @@ short t =
 pub loop-at-preserved : goal.loop-at-preserved
 loop-at-preserved c =
     let t = (goal.at.loop-at-preserved c).In_default in
-    let p = c in
     let l = (goal.at.loop-at-preserved c).At-loop-at in
-    let r = p.list_token-put.result in
+    let r = c.list_token-put.result in
     let h = told t in (
       h.same ∙ l.loop-at.invariant.0,
       measured-next (start l).args.bytes.now l.loop-at.at l.loop-at.pending l.loop-at.total r.next r.width

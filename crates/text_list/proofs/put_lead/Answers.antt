@@ -1,7 +1,6 @@
 -- `text_list::put_lead` meets its contract. Assumes nothing.
 use mathlib.Core.Path.{◌≡◌, refl, ap}
 use native.Mathlib.Omega.{arith}
-use borrow.Author.Rules.{rules}
 use lib.ListN.{length}
 use mathlib.Core.List.{◌∷◌, []}
 use Rattle.text_list.specs.Puts.{lead_by}
@@ -15,10 +14,10 @@ returns-then-at-eq0 c =
     rw (lead-first a.at a.opens c.if-at-eq0.true) (record { holds = refl; ends = omega arith })
 
 space : (c : Then-opens-eq0) → lead_by c.args.at c.args.opens ≡ 32 ∷ []
-space c = let s = c in lead-space s.args.at s.args.opens c.if-at-eq0.false c.if-opens-eq0.true
+space c = lead-space c.args.at c.args.opens c.if-at-eq0.false c.if-opens-eq0.true
 
 line : (c : Else-opens-eq0) → lead_by c.args.at c.args.opens ≡ 10 ∷ []
-line c = let s = c in lead-line s.args.at s.args.opens c.if-at-eq0.false c.if-opens-eq0.false
+line c = lead-line c.args.at c.args.opens c.if-at-eq0.false c.if-opens-eq0.false
 
 pub returns-then-opens-eq0 : goal.returns-then-opens-eq0
 returns-then-opens-eq0 c = rw (space c) (record { holds = refl; ends = refl })

@@ -1,12 +1,10 @@
 -- `text_list::put_letters` meets its contract. Assumes nothing.
-use Prim.Native.Nat.{◌+◌, ◌-◌, ◌≤◌}
+use Prim.Native.Nat.{◌+◌, ◌≤◌}
 use mathlib.Core.List.{◌∷◌, []}
-use mathlib.Core.Path.{◌≡◌, refl, sym, ◌∙◌}
+use mathlib.Core.Path.{refl, sym, ◌∙◌}
 use native.Mathlib.Omega.{arith}
-use borrow.Author.Rules.{rules}
 use lib.ListN.{length, drop}
-use Rattle.model.specs.Rules.Word.{byte_at}
-use Rattle.model.proofs.Basics.Left.{Left, Parts, starts, room, turn, done}
+use Rattle.model.proofs.Basics.Left.{Parts, starts, room, turn, done}
 use Rattle.text_keyword.specs.Cells.{letters_of}
 use Rattle.text_keyword.proofs.Finding.{letters-end}
 use Rattle.text_list.proofs.Writes.{letters-parts, some-inside}
@@ -26,10 +24,9 @@ space t = room (parts t) t.loop-c.invariant.1 t.requires
 
 pub loop-c-smaller : goal.loop-c-smaller
 loop-c-smaller c =
-    let t = c in
-    let l = t.loop-c in
-    let letters = t.args.letters.now in
-    omega (arith, some-inside letters l.i (λ q. t.loop-c-test.true (l.invariant.0 ∙ q)))
+    let l = c.loop-c in
+    let letters = c.args.letters.now in
+    omega (arith, some-inside letters l.i (λ q. c.loop-c-test.true (l.invariant.0 ∙ q)))
 
 pub overflow_add-i : goal.overflow_add-i
 overflow_add-i t =

@@ -1,15 +1,10 @@
 -- `text_list::put_letters` meets its contract. Assumes nothing.
-use Prim.Native.Nat.{◌+◌, ◌-◌, ◌≤◌}
-use mathlib.Core.List.{◌∷◌, []}
-use mathlib.Core.Path.{◌≡◌, refl, sym, ◌∙◌}
-use native.Mathlib.Omega.{arith}
-use borrow.Author.Rules.{rules}
+use Prim.Native.Nat.{◌-◌}
+use mathlib.Core.Path.{◌≡◌}
 use lib.ListN.{length, drop}
 use Rattle.model.specs.Rules.Word.{byte_at}
-use Rattle.model.proofs.Basics.Left.{Left, Parts, starts, room, turn, done}
+use Rattle.model.proofs.Basics.Left.{Left}
 use Rattle.text_keyword.specs.Cells.{letters_of}
-use Rattle.text_keyword.proofs.Finding.{letters-end}
-use Rattle.text_list.proofs.Writes.{letters-parts, some-inside}
 use Rattle.text_list.proofs.put_letters.Given as goal
 
 abbrev pub invariant-loop-c : goal.invariant-loop-c

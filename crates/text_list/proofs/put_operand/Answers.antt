@@ -3,7 +3,6 @@ use Prim.Native.Nat.{ℕ, ◌+◌, ◌-◌, ◌*◌, ◌≤◌}
 use mathlib.Core.List.{List}
 use mathlib.Core.Path.{◌≡◌, sym, ap, ◌∙◌}
 use native.Mathlib.Omega.{arith}
-use borrow.Author.Rules.{rules}
 use lib.ListN.{length, take, drop}
 use Rattle.model.specs.Rules.TextForm.{names, coded, operand_token}
 use Rattle.text_keyword.specs.Cells.{all_rows, cells, letters_of}
@@ -57,12 +56,11 @@ module _ (k : In-At) where
 
 pub find_value-found-requires : goal.find_value-found-requires
 find_value-found-requires c =
-    let s = c in
     omega (
       arith,
-      ap length s.requires.0,
+      ap length c.requires.0,
       cells-length,
-      names-inside s.args.operand,
+      names-inside c.args.operand,
       c.names_count-count.ensures,
       c.names_from-from.ensures,
     )
@@ -81,24 +79,18 @@ put_letters-requires c = let k = (goal.at.put_letters-requires c).In-At in rw (l
 
 pub put_number-requires : goal.put_number-requires
 put_number-requires c =
-    let k = c in
     let f = (goal.at.put_number-requires c).After-find_value-found in
-    let s = c in
-    rw (← token-number s.args.operand s.args.value (sym (found f) ∙ k.in-Nowhere.is)) s.requires.1
+    rw (← token-number c.args.operand c.args.value (sym (found f) ∙ c.in-Nowhere.is)) c.requires.1
 
 pub returns-in-At : goal.returns-in-At
 returns-in-At c =
-    let p = c in
     let k = (goal.at.returns-in-At c).In-At in
-    rw (← letters k) p.put_letters.ensures
+    rw (← letters k) c.put_letters.ensures
 
 pub returns-in-Nowhere : goal.returns-in-Nowhere
 returns-in-Nowhere c =
-    let p = c in
-    let k = c in
     let f = (goal.at.returns-in-Nowhere c).After-find_value-found in
-    let s = c in
-    rw (token-number s.args.operand s.args.value (sym (found f) ∙ k.in-Nowhere.is)) p.put_number.ensures
+    rw (token-number c.args.operand c.args.value (sym (found f) ∙ c.in-Nowhere.is)) c.put_number.ensures
 
 pub overflow_add-at : goal.overflow_add-at
 overflow_add-at c = omega (arith, inside c)

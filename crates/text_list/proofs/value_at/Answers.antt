@@ -1,8 +1,7 @@
 -- `text_list::value_at` meets its contract. Assumes nothing.
-use Prim.Native.Nat.{ℕ, ◌+◌, ◌*◌, ◌-◌, ◌^◌, ◌≤◌, ◌<◌}
+use Prim.Native.Nat.{ℕ, ◌+◌, ◌*◌, ◌-◌, ◌^◌, ◌<◌}
 use mathlib.Core.Path.{◌≡◌, sym, ap, ◌∙◌}
 use native.Mathlib.Omega.{arith}
-use borrow.Author.Rules.{rules}
 use Rattle.model.specs.Rules.TextForm.{low_at}
 use Rattle.text_list.proofs.Writes.{low-next, low_small, low-none, power_small}
 use Rattle.text_list.proofs.value_at.Goals as goal
@@ -10,23 +9,20 @@ use Rattle.text_list.proofs.value_at.Goals.{At-loop-i}
 
 small : (l : At-loop-i) → l.loop-i.value < 2 ^ 32
 small l =
-    let s = l in
-    let k = s.args.n - l.loop-i.i in
+    let k = l.args.n - l.loop-i.i in
     omega (
       arith,
       l.loop-i.invariant.1,
-      low_small s.args.bytes.now (λ i. omega (arith, l.shared_slice_known-1.given i)) k (s.args.at + l.loop-i.i),
-      power_small k (omega (arith, s.requires.0)),
+      low_small l.args.bytes.now (λ i. omega (arith, l.shared_slice_known-1.given i)) k (l.args.at + l.loop-i.i),
+      power_small k (omega (arith, l.requires.0)),
     )
 
 pub loop-i-preserved : goal.loop-i-preserved
-loop-i-preserved c =
-    let l = c in
-    let s = c in (
-      omega (arith, l.loop-i.invariant.0),
-      sym (low-next s.args.bytes.now s.args.n s.args.at l.loop-i.i (omega arith) l.loop-i.invariant.0 ∙
-          sum (ap (λ (m : ℕ). 256 * m) (sym l.loop-i.invariant.1)) (sym c.from_byte-byte.ensures.0)),
-    )
+loop-i-preserved c = (
+  omega (arith, c.loop-i.invariant.0),
+  sym (low-next c.args.bytes.now c.args.n c.args.at c.loop-i.i (omega arith) c.loop-i.invariant.0 ∙
+      sum (ap (λ (m : ℕ). 256 * m) (sym c.loop-i.invariant.1)) (sym c.from_byte-byte.ensures.0)),
+)
   where
     sum : {a b c d : ℕ} → a ≡ b → c ≡ d → a + c ≡ b + d
     sum p q = omega arith

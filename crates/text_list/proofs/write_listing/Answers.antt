@@ -1,5 +1,5 @@
 -- `text_list::write_listing` meets its contract. Assumes nothing.
-use Prim.Native.Nat.{◌+◌, ◌-◌, ◌≤◌, ◌<◌}
+use Prim.Native.Nat.{◌+◌, ◌≤◌, ◌<◌}
 use mathlib.Core.List.{◌∷◌, []}
 use mathlib.Core.Path.{refl}
 use native.Mathlib.Omega.{arith}
@@ -8,16 +8,8 @@ use Rattle.model.specs.Rules.TextForm.{listing}
 use Rattle.model.specs.Rules.Word.{AreBytes}
 use Rattle.model.proofs.Basics.Left.{Left, room, turn, done}
 use Rattle.text_keyword.specs.Written.{bytes_written}
-use Rattle.text_list.proofs.Walk.{
-  Writing,
-  writing-starts,
-  writing-room,
-  writing-next,
-  next-width,
-  writing-last,
-  fits-written,
-  newline-parts,
-}
+use Rattle.text_list.proofs.Walk.{writing-starts, writing-room, writing-next, next-width, writing-last, fits-written}
+use Rattle.text_list.proofs.Walk.{newline-parts}
 use Rattle.text_list.proofs.write_listing.Goals as goal
 use Rattle.text_list.proofs.write_listing.Goals.{After-loop-at, After-struct_known-1, At-loop-at, Start}
 
@@ -29,12 +21,11 @@ are l = λ i. omega (arith, l.shared_slice_known-2-1.given i)
 
 pub list_token-put-requires : goal.list_token-put-requires
 list_token-put-requires c =
-    let l = (goal.at.list_token-put-requires c).At-loop-at in
-    let s = c in (
-      s.requires.0,
+    let l = (goal.at.list_token-put-requires c).At-loop-at in (
+      c.requires.0,
       omega arith,
-      writing-room s.args.bytes.now s.args.out.now l.loop-at.at l.loop-at.pending l.loop-at.out l.loop-at.to
-          l.loop-at.invariant (omega arith) s.requires.1,
+      writing-room c.args.bytes.now c.args.out.now l.loop-at.at l.loop-at.pending l.loop-at.out l.loop-at.to
+          l.loop-at.invariant (omega arith) c.requires.1,
     )
 
 width : (c : After-struct_known-1) → let p = c in
@@ -42,17 +33,14 @@ width : (c : After-struct_known-1) → let p = c in
 width c =
     let p = c in
     let l = (goal.at.After-struct_known-1 c).At-loop-at in
-    let s = c in
-    next-width s.args.bytes.now s.args.out.now l.loop-at.at l.loop-at.pending l.loop-at.out l.loop-at.to
+    next-width c.args.bytes.now c.args.out.now l.loop-at.at l.loop-at.pending l.loop-at.out l.loop-at.to
     l.loop-at.invariant (omega arith) _ p.list_token-put.result p.list_token-put.ensures (are l)
 
 pub loop-at-preserved : goal.loop-at-preserved
 loop-at-preserved c =
-    let p = c in
     let l = (goal.at.loop-at-preserved c).At-loop-at in
-    let s = c in
-    writing-next s.args.bytes.now s.args.out.now l.loop-at.at l.loop-at.pending l.loop-at.out l.loop-at.to
-    l.loop-at.invariant (omega arith) _ p.list_token-put.result p.list_token-put.ensures (are l)
+    writing-next c.args.bytes.now c.args.out.now l.loop-at.at l.loop-at.pending l.loop-at.out l.loop-at.to
+    l.loop-at.invariant (omega arith) _ c.list_token-put.result c.list_token-put.ensures (are l)
 
 -- the newline
 last : (e : After-loop-at) → let l = (goal.at.After-loop-at e).At-loop-at in
@@ -66,15 +54,14 @@ last e =
 
 space : (e : After-loop-at) → e.loop-at.to + 1 ≤ length e.loop-at.out
 space e =
-    let s = e in
-    room newline-parts (last e) (fits-written s.args.bytes.now s.args.out.now s.requires.1)
+    room newline-parts (last e) (fits-written e.args.bytes.now e.args.out.now e.requires.1)
 
 pub returns : goal.returns
 returns c = done refl (turn newline-parts (last c) (record { holds = refl; ends = refl }))
 
 pub loop-at-init : goal.loop-at-init
-loop-at-init c = let s = c in writing-starts s.args.bytes.now
-    s.args.out.now s.requires.1
+loop-at-init c = writing-starts c.args.bytes.now
+    c.args.out.now c.requires.1
 
 pub overflow_add-at : goal.overflow_add-at
 overflow_add-at c = omega (arith, width c)

@@ -1,7 +1,6 @@
 -- `trial_prepare::prepare` meets its contract. Assumes nothing.
-use mathlib.Core.Path.{refl, sym, ap, ◌∙◌}
+use mathlib.Core.Path.{sym, ap, ◌∙◌}
 use native.Mathlib.Omega.{arith}
-use borrow.Author.Rules.{rules}
 use lib.ListN.{length-take}
 use Rattle.model.specs.Rules.Outcome.{yielded_of}
 use Rattle.trial_prepare.specs.Prepares.{Prepares}
@@ -30,21 +29,22 @@ imaged : (l : After-stated_length-length) → let i = (goal.at.After-stated_leng
 imaged l = first-bytes _ _ _ _ (made (goal.at.After-stated_length-length l).In-Number) _ l.stated_length-length.ensures
 
 pub slice_bounds-stated_length-end : goal.slice_bounds-stated_length-end
-slice_bounds-stated_length-end c = simp length-take (omega (arith, (made (goal.at.slice_bounds-stated_length-end c).In-Number).inside))
+slice_bounds-stated_length-end c =
+    simp length-take (omega (arith, (made (goal.at.slice_bounds-stated_length-end c).In-Number).inside))
 
 pub slice_bounds-prepare_image-end : goal.slice_bounds-prepare_image-end
-slice_bounds-prepare_image-end c = simp length-take (omega (arith, (imaged (goal.at.slice_bounds-prepare_image-end c).After-stated_length-length).inside))
+slice_bounds-prepare_image-end c =
+    simp length-take (omega (arith, (imaged (goal.at.slice_bounds-prepare_image-end c).After-stated_length-length).inside))
 
 pub prepare_image-ready-requires : goal.prepare_image-ready-requires
-prepare_image-ready-requires c = let m = imaged (goal.at.prepare_image-ready-requires c).After-stated_length-length in rw m.here m.formed
+prepare_image-ready-requires c = let m = imaged (goal.at.prepare_image-ready-requires c).After-stated_length-length in
+    rw m.here m.formed
 
 pub returns-in-Number : goal.returns-in-Number
 returns-in-Number c =
     let l = (goal.at.returns-in-Number c).After-stated_length-length in
-    let k = c in
-    let i = c in
-    let e = i.compile-compiled.ensures in
-    let answer = sym e.0 ∙ ap yielded_of k.in-Number.is in record {
+    let e = c.compile-compiled.ensures in
+    let answer = sym e.0 ∙ ap yielded_of c.in-Number.is in record {
       starts = prepared _ _ _ _ (imaged l) _ c.prepare_image-ready.ensures;
       holds = record { image-is = e.1; length-is = l.stated_length-length.ensures ∙ rw (answer, e.1) };
     }

@@ -2,7 +2,6 @@
 use Prim.Native.Nat.{ℕ}
 use mathlib.Core.Bool.{Bool}
 use mathlib.Core.Path.{◌≡◌, refl, sym, ap, fun_ext, ◌∙◌}
-use borrow.Author.Rules.{rules}
 use Rattle.model.specs.Rules.Outcome.{accepted}
 use Rattle.model.specs.Rules.Script.{check_of}
 use Rattle.trial_script.specs.Inputs.{fetches}
@@ -33,11 +32,10 @@ fine e = let k = (goal.at.In_default e).After-check_script-judged in sym (judged
 pub returns : goal.returns
 unfolding PreparesOn
 returns c =
-    let n = c in
     record {
-      checked = fine (goal.at.returns n).In_default;
-      lines-is = n.count_cycles-lines.ensures.0;
-      few = n.count_cycles-lines.ensures.1;
+      checked = fine (goal.at.returns c).In_default;
+      lines-is = c.count_cycles-lines.ensures.0;
+      few = c.count_cycles-lines.ensures.1;
       samples-are = refl;
       state-is = c.reset.ensures.1;
     }

@@ -1,6 +1,5 @@
 -- `trial_script::action_width` meets its contract. Assumes nothing.
 use Rattle.trial_script.specs.Script.{action_width}
-use borrow.Author.Rules.{rules}
 use Rattle.trial_script.proofs.action_width.Goals as goal
 
 pub returns-in-EndsEarly : goal.returns-in-EndsEarly

@@ -1,12 +1,11 @@
 -- `trial_script::count_cycles` meets its contract. Assumes nothing.
 use Rattle.trial_script.proofs.Walk.{inside, actions-past, actions-here, cycles-none, cycles-more}
 use Rattle.trial_script.specs.Script.{action_width, cycles_made}
-use Rattle.model.specs.Rules.Script.{script_command_at, script_at, cycles_of}
+use Rattle.model.specs.Rules.Script.{script_command_at}
 use lib.ListN.{length}
-use Prim.Native.Nat.{ℕ, ◌+◌, ◌-◌, ◌*◌, ◌≤◌}
+use Prim.Native.Nat.{ℕ, ◌+◌, ◌≤◌}
 use mathlib.Core.List.{List}
 use mathlib.Core.Path.{◌≡◌, ap, ◌∙◌}
-use borrow.Author.Rules.{rules}
 use native.Mathlib.Omega.{arith}
 use Rattle.trial_script.proofs.count_cycles.Goals as goal
 use Rattle.trial_script.proofs.count_cycles.Goals.{After-action_width-width, At-loop-at}
@@ -26,9 +25,8 @@ within w = inside (text w) (turn w).loop-at.at w.action_width-width.result (widt
 
 pub returns-then-width-eq0 : goal.returns-then-width-eq0
 returns-then-width-eq0 c = let w = (goal.at.returns-then-width-eq0 c).After-action_width-width in
-    let l = c in
-    let none = cycles-none _ (actions-here (text w) l.loop-at.at w.action_width-width.result (width w) c.if-width-eq0.true) in
-    (omega (arith, none, l.loop-at.invariant.0), omega (arith, l.loop-at.invariant.1, l.requires))
+    let none = cycles-none _ (actions-here (text w) c.loop-at.at w.action_width-width.result (width w) c.if-width-eq0.true) in
+    (omega (arith, none, c.loop-at.invariant.0), omega (arith, c.loop-at.invariant.1, c.requires))
 
 pub overflow_add-total : goal.overflow_add-total
 overflow_add-total c =
@@ -43,16 +41,18 @@ loop-at-smaller c = let w = (goal.at.loop-at-smaller c).After-action_width-width
 
 pub loop-at-preserved : goal.loop-at-preserved
 loop-at-preserved c = let w = (goal.at.loop-at-preserved c).After-action_width-width in
-    let l = c in
-    let runs : c.from_byte-total.result ≡ cycles_made (script_command_at (text w) l.loop-at.at) =
+    let runs : c.from_byte-total.result ≡ cycles_made (script_command_at (text w) c.loop-at.at) =
     c.from_byte-total.ensures.0 ∙ c.cycles_made.ensures ∙ ap cycles_made w.script_command_at-command.ensures in
-    let more = cycles-more (text w) l.loop-at.at w.action_width-width.result (width w) (omega arith) in
-    (omega (arith, runs, more, l.loop-at.invariant.0), omega (arith, c.from_byte-total.ensures.1, l.loop-at.invariant.1), within w)
+    let more = cycles-more (text w) c.loop-at.at w.action_width-width.result (width w) (omega arith) in (
+      omega (arith, runs, more, c.loop-at.invariant.0),
+      omega (arith, c.from_byte-total.ensures.1, c.loop-at.invariant.1),
+      within w,
+    )
 
 pub returns : goal.returns
-returns c = let l = c in
-    let none = cycles-none _ (actions-past l.args.text.now l.loop-at.at (omega arith)) in
-    (omega (arith, none, l.loop-at.invariant.0), omega (arith, l.loop-at.invariant.1, l.requires))
+returns c =
+    let none = cycles-none _ (actions-past c.args.text.now c.loop-at.at (omega arith)) in
+    (omega (arith, none, c.loop-at.invariant.0), omega (arith, c.loop-at.invariant.1, c.requires))
 
 pub loop-at-init : goal.loop-at-init
 loop-at-init c = (omega arith, omega arith, omega arith)

@@ -1,6 +1,5 @@
 -- `trial_script::cycles_made` meets its contract. Assumes nothing.
 use Rattle.trial_script.specs.Script.{cycles_made}
-use borrow.Author.Rules.{rules}
 use Rattle.trial_script.proofs.cycles_made.Goals as goal
 
 pub returns-in-EndsEarly : goal.returns-in-EndsEarly

@@ -6,15 +6,13 @@ use borrow.Author.Tests.{le-leb, lt-leb}
 use lib.ListN.{length}
 use Prim.Native.Nat.{◌+◌}
 use native.Mathlib.Omega.{arith}
-use borrow.Author.Rules.{rules}
 use Rattle.trial_script.proofs.ending_at.Goals as goal
 
 pub returns-then-next-text : goal.returns-then-next-text
 unfolding ending_at provided
 returns-then-next-text c =
-    let t = c in
-    let a = t.args in
-    rw (t.in-End.is, lt-leb (length a.text.now) (a.at + 1) (omega arith))
+    let a = c.args in
+    rw (c.in-End.is, lt-leb (length a.text.now) (a.at + 1) (omega arith))
     (ap ruled_of (rw c.in_script.ensures at c.refuse-then-next-text.ensures))
 
 pub returns-in-EndsEarly : goal.returns-in-EndsEarly
@@ -28,9 +26,8 @@ returns-in-Unknown c = rw c.in-Unknown.is (ap ruled_of c.refuse-in-Unknown.ensur
 pub returns-else-next-text : goal.returns-else-next-text
 unfolding ending_at provided
 returns-else-next-text c =
-    let t = c in
-    let a = t.args in
-    rw (t.in-End.is, le-leb (length a.text.now) (a.at + 1) (omega arith))
+    let a = c.args in
+    rw (c.in-End.is, le-leb (length a.text.now) (a.at + 1) (omega arith))
 
 pub returns-in-Set : goal.returns-in-Set
 unfolding ending_at

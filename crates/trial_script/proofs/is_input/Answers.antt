@@ -9,7 +9,6 @@ use borrow.Author.Tests.{lt-ltb, le-ltb}
 use Prim.Native.Nat.{ℕ, ◌<◌}
 use mathlib.Core.Path.{ap, ◌∙◌}
 use native.Mathlib.Omega.{arith}
-use borrow.Author.Rules.{rules}
 use Rattle.trial_script.proofs.is_input.Goals as goal
 use Rattle.trial_script.proofs.is_input.Goals.{Else-n-own, Start}
 
@@ -24,8 +23,8 @@ bounds-image-1 c = omega (arith, (head _ (formed _ c.requires).good).four)
 
 pub returns-then-n-own : goal.returns-then-n-own
 unfolding fetches
-returns-then-n-own c = let s = c in
-    rw (le-ltb s.args.x (count_of s.args.image.now)
+returns-then-n-own c =
+    rw (le-ltb c.args.x (count_of c.args.image.now)
     (omega (arith, c.from_byte-own.ensures.0, c.from_byte-n.ensures.0)))
 
 pub code_offset-at-requires : goal.code_offset-at-requires

@@ -2,7 +2,6 @@
 use mathlib.Core.Path.{ap}
 use lib.Dec.{eqb}
 use Prim.Native.Nat.{ℕ}
-use borrow.Author.Rules.{rules}
 use Rattle.model.specs.Rules.Word.{byte_at}
 use Rattle.trial_script.specs.Inputs.{marked}
 use Rattle.trial_script.proofs.is_marked.Goals as goal

@@ -1,6 +1,5 @@
 -- `trial_script::mark_of` meets its contract. Assumes nothing.
 use mathlib.Core.Path.{ap, sym, ◌∙◌}
-use borrow.Author.Rules.{rules}
 use Rattle.trial_script.specs.Inputs.{mark_of}
 use Rattle.trial_script.proofs.mark_of.Goals as goal
 

@@ -1,6 +1,5 @@
 -- `trial_script::may_stand` meets its contract. Assumes nothing.
 use Rattle.trial_script.specs.Script.{may_stand}
-use borrow.Author.Rules.{rules}
 use Rattle.trial_script.proofs.may_stand.Goals as goal
 
 pub returns-in-EndsEarly : goal.returns-in-EndsEarly

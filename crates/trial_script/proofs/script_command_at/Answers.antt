@@ -3,7 +3,6 @@ use Prim.Native.Nat.{ℕ, ◌+◌}
 use mathlib.Core.List.{List}
 use mathlib.Core.Path.{ap, ◌∙◌}
 use native.Mathlib.Omega.{arith}
-use borrow.Author.Rules.{rules}
 use borrow.Author.Tests.{lt-ltb, le-ltb, le-leb, lt-leb, eq-eqb, ne_eqb}
 use lib.ListN.{length, get_or}
 use Rattle.model.specs.Rules.Script.{script_command_at}
@@ -38,24 +37,22 @@ returns-then-b-eq0 c =
 pub returns-then-left-in_script : goal.returns-then-left-in_script
 unfolding script_command_at
 returns-then-left-in_script c =
-    let e = c in
     let s = (goal.at.returns-then-left-in_script c).After-shared_slice_known-2-1 in
     rw (
       lt-ltb (offset s) (length (text s)) (omega arith),
-      ne_eqb (byte s) 0x00 e.if-b-eq0.false,
-      eq-eqb (byte s) 0x70 e.if-b-eq112.true,
+      ne_eqb (byte s) 0x00 c.if-b-eq0.false,
+      eq-eqb (byte s) 0x70 c.if-b-eq112.true,
       lt-leb (offset s + 6) (length (text s)) (omega arith),
     )
 
 pub returns-then-b-eq112 : goal.returns-then-b-eq112
 unfolding script_command_at
 returns-then-b-eq112 c =
-    let e = c in
     let s = (goal.at.returns-then-b-eq112 c).After-shared_slice_known-2-1 in
     rw (
       lt-ltb (offset s) (length (text s)) (omega arith),
-      ne_eqb (byte s) 0x00 e.if-b-eq0.false,
-      eq-eqb (byte s) 0x70 e.if-b-eq112.true,
+      ne_eqb (byte s) 0x00 c.if-b-eq0.false,
+      eq-eqb (byte s) 0x70 c.if-b-eq112.true,
       le-leb (offset s + 6) (length (text s)) (omega arith),
     )
     (ap (ScriptCommand.Set (get_or (text s) (offset s + 1) 0)) (kept _ c.word_at.type_inv ∙ c.word_at.ensures))
@@ -63,26 +60,24 @@ returns-then-b-eq112 c =
 pub returns-then-left-in_script-2 : goal.returns-then-left-in_script-2
 unfolding script_command_at
 returns-then-left-in_script-2 c =
-    let e = c in
     let s = (goal.at.returns-then-left-in_script-2 c).After-shared_slice_known-2-1 in
     rw (
       lt-ltb (offset s) (length (text s)) (omega arith),
-      ne_eqb (byte s) 0x00 e.if-b-eq0.false,
-      ne_eqb (byte s) 0x70 e.if-b-eq112.false,
-      eq-eqb (byte s) 0x71 e.if-b-eq113.true,
+      ne_eqb (byte s) 0x00 c.if-b-eq0.false,
+      ne_eqb (byte s) 0x70 c.if-b-eq112.false,
+      eq-eqb (byte s) 0x71 c.if-b-eq113.true,
       lt-leb (offset s + 2) (length (text s)) (omega arith),
     )
 
 pub returns-then-b-eq113 : goal.returns-then-b-eq113
 unfolding script_command_at
 returns-then-b-eq113 c =
-    let e = c in
     let s = (goal.at.returns-then-b-eq113 c).After-shared_slice_known-2-1 in
     rw (
       lt-ltb (offset s) (length (text s)) (omega arith),
-      ne_eqb (byte s) 0x00 e.if-b-eq0.false,
-      ne_eqb (byte s) 0x70 e.if-b-eq112.false,
-      eq-eqb (byte s) 0x71 e.if-b-eq113.true,
+      ne_eqb (byte s) 0x00 c.if-b-eq0.false,
+      ne_eqb (byte s) 0x70 c.if-b-eq112.false,
+      eq-eqb (byte s) 0x71 c.if-b-eq113.true,
       le-leb (offset s + 2) (length (text s)) (omega arith),
     )
 

@@ -3,14 +3,13 @@ use Prim.Native.Nat.{ℕ, suc, ◌+◌, ◌-◌, ◌≤◌, ◌<◌}
 use mathlib.Core.List.{List, [], ◌++◌, append-nil}
 use mathlib.Core.Path.{◌≡◌, refl, sym, ap, subst, ◌∙◌}
 use native.Mathlib.Omega.{arith}
-use borrow.Author.Rules.{rules}
 use borrow.Rule.Slice.PartMut.{put_mid, post_of, same_len_mid, take_put}
 use lib.ListN.{length, take, drop, length-take, length-drop, drop_of_length-le}
 use lib.Seq.{take_all}
-use Rattle.trial_step.specs.Underway.{lines_left, Lined, step_of, Stepped, fill_from, block_of}
+use Rattle.trial_step.specs.Underway.{Lined, step_of, Stepped, fill_from, block_of}
 use Rattle.trial_step.proofs.Fills.{fill-line, fill-ended, fill-full}
 use Rattle.trial_step.proofs.Left.{is-lined, is-ended}
-use Rattle.trial_step.proofs.Filling.{Filling, filling-none, filling-all, filling-more}
+use Rattle.trial_step.proofs.Filling.{filling-none, filling-all, filling-more}
 use Rattle.trial_step.proofs.next_block.Goals as goal
 use Rattle.trial_step.proofs.next_block.Goals.{After-block-1, After-next_line-next, At-loop-block, In-Line}
 
@@ -19,7 +18,8 @@ turn n = (goal.at.After-next_line-next n).At-loop-block
 
 -- the block as the step has left it is as long as before
 block_same : (b : After-block-1) → let n = (goal.at.After-block-1 b).After-next_line-next in
-    length (put_mid (turn n).loop-block.size (length (turn n).loop-block.block - (turn n).loop-block.size) (turn n).loop-block.block
+    length (put_mid (turn n).loop-block.size (length (turn n).loop-block.block - (turn n).loop-block.size)
+    (turn n).loop-block.block
     n.next_line-next.new.line) ≡
     length (turn n).loop-block.block
 block_same b =
@@ -31,9 +31,8 @@ block_same b =
 pub loop-block-init : goal.loop-block-init
 unfolding block_of
 loop-block-init c =
-    let s = c in
-    let block = s.args.block.now in
-    (filling-none _ s.requires.0, (suc (length block), omega arith, refl))
+    let block = c.args.block.now in
+    (filling-none _ c.requires.0, (suc (length block), omega arith, refl))
 
 -- what the step is lent is the block from `size` on, and what is left is the block with it
 lent : (block : List ℕ) (size : ℕ) → take (length block - size) (drop size block) ≡ drop size block
@@ -63,37 +62,33 @@ stepped n =
 
 pub next_line-next-requires : goal.next_line-next-requires
 next_line-next-requires c =
-    let l = c in
-    (l.loop-block.invariant.0.underway, simp (length-take, length-drop) (omega (arith, c.loop-block-test.true)))
+    (c.loop-block.invariant.0.underway, simp (length-take, length-drop) (omega (arith, c.loop-block-test.true)))
 
 pub shape_of-samples-in_default : goal.shape_of-samples-in_default
 shape_of-samples-in_default c =
-    let n = (goal.at.shape_of-samples-in_default c).After-next_line-next in
-    n.next_line-next.auto.samples ∙ (turn n).loop-block.invariant.0.samples-kept
+    c.next_line-next.auto.samples ∙ c.loop-block.invariant.0.samples-kept
 
 pub shape_of-state-in_default : goal.shape_of-state-in_default
 shape_of-state-in_default c =
-    let n = (goal.at.shape_of-state-in_default c).After-next_line-next in
-    n.next_line-next.auto.state ∙ (turn n).loop-block.invariant.0.state-kept
+    c.next_line-next.auto.state ∙ c.loop-block.invariant.0.state-kept
 
 pub shape_of-block-in_default : goal.shape_of-block-in_default
-shape_of-block-in_default c = let b = (goal.at.shape_of-block-in_default c).After-block-1 in block_same b ∙ (turn (goal.at.After-block-1 b).After-next_line-next).loop-block.invariant.0.block-kept
+shape_of-block-in_default c =
+    block_same (goal.at.shape_of-block-in_default c).After-block-1 ∙ c.loop-block.invariant.0.block-kept
 
 pub returns-in_default : goal.returns-in_default
 returns-in_default c =
     let b = (goal.at.returns-in_default c).After-block-1 in
     let n = (goal.at.returns-in_default c).After-next_line-next in
-    let l = c in
-    let s = c in
-    let f = l.loop-block.invariant.0 in
-    let none = is-ended s.args.image.now s.args.text.now l.loop-block.reached l.loop-block.samples l.loop-block.state _ _ _
+    let f = c.loop-block.invariant.0 in
+    let none = is-ended c.args.image.now c.args.text.now c.loop-block.reached c.loop-block.samples c.loop-block.state _ _ _
     c.in_default.is n.next_line-next.ensures.steps in
     let line = n.next_line-next.new in
     let room = n.loop-block-test.true in
-    let e = l.loop-block.invariant.1 in
+    let e = c.loop-block.invariant.1 in
     let is = e.2 ∙
-    fill-ended s.args.image.now s.args.text.now l.loop-block.reached l.loop-block.samples l.loop-block.state l.loop-block.block
-    l.loop-block.size e.0 e.1 f.fits room
+    fill-ended c.args.image.now c.args.text.now c.loop-block.reached c.loop-block.samples c.loop-block.state c.loop-block.block
+    c.loop-block.size e.0 e.1 f.fits room
     (subst (Stepped _ line.samples line.state line.line) c.in_default.is (stepped n)) in record {
       fills = record {
         fits = omega (arith, f.fits, block_same b);
@@ -102,14 +97,14 @@ returns-in_default c =
         fewer = λ e. let z : ◌≡◌ {A = ℕ} 0 1 = cc in absurd (omega arith);
         last =
             λ e. filling-all f none ∙
-            sym (take_put l.loop-block.size (length l.loop-block.block - l.loop-block.size) l.loop-block.block
+            sym (take_put c.loop-block.size (length c.loop-block.block - c.loop-block.size) c.loop-block.block
             n.next_line-next.new.line f.fits);
       };
       is = record {
         answer-is = sym (ap (λ x. x.answer) is);
         samples-is = sym (ap (λ x. x.samples) is);
         state-is = sym (ap (λ x. x.state) is);
-        block-is = left l.loop-block.block line.line l.loop-block.size f.fits ∙ sym (ap (λ x. x.block) is);
+        block-is = left c.loop-block.block line.line c.loop-block.size f.fits ∙ sym (ap (λ x. x.block) is);
       };
     }
 
@@ -119,10 +114,9 @@ at-step c = (goal.at.In-Line c).After-next_line-next
 
 this : (c : In-Line) →
     let n = (goal.at.In-Line c).After-next_line-next in
-    let l = c in
-    let a = l.args in
+    let a = c.args in
     let line = n.next_line-next.new in
-    Lined a.image.now a.text.now l.loop-block.reached l.loop-block.samples l.loop-block.state line.samples line.state
+    Lined a.image.now a.text.now c.loop-block.reached c.loop-block.samples c.loop-block.state line.samples line.state
     line.line
     c.in-Line.length c.in-Line.after
 this c =
@@ -130,30 +124,28 @@ this c =
 
 pub overflow_add-size : goal.overflow_add-size
 overflow_add-size c =
-    let l = c in
-    omega (arith, l.loop-block.invariant.0.fits, (this c).fits, (at-step c).next_line-next.auto.line)
+    omega (arith, c.loop-block.invariant.0.fits, (this c).fits, (at-step c).next_line-next.auto.line)
 
 pub loop-block-preserved : goal.loop-block-preserved
 loop-block-preserved c =
     let n = (goal.at.loop-block-preserved c).After-next_line-next in
-    let l = c in
-    let s = c in
     let line = n.next_line-next.new in
-    let e = l.loop-block.invariant.1 in
+    let e = c.loop-block.invariant.1 in
     let more =
-    fill-line s.args.image.now s.args.text.now l.loop-block.reached l.loop-block.samples l.loop-block.state l.loop-block.block
-    l.loop-block.size e.0 e.1 l.loop-block.invariant.0.fits n.loop-block-test.true
+    fill-line c.args.image.now c.args.text.now c.loop-block.reached c.loop-block.samples c.loop-block.state c.loop-block.block
+    c.loop-block.size e.0 e.1 c.loop-block.invariant.0.fits n.loop-block-test.true
     (subst (Stepped _ line.samples line.state line.line) c.in-Line.is (stepped n)) in
     let same = block_same (goal.at.loop-block-preserved c).After-block-1 in (
-      filling-more (post_of l.loop-block.size (length l.loop-block.block - l.loop-block.size) l.loop-block.block) l.loop-block.invariant.0 (this c)
+      filling-more (post_of c.loop-block.size (length c.loop-block.block - c.loop-block.size) c.loop-block.block)
+          c.loop-block.invariant.0 (this c)
           n.next_line-next.auto.samples n.next_line-next.auto.state same,
       (
         more.0,
         omega (arith, more.1, same),
         e.2 ∙ more.2 ∙
-            ap (λ b. fill_from more.0 s.args.image.now s.args.text.now c.in-Line.after line.samples line.state b
-            (l.loop-block.size + c.in-Line.length))
-            (sym (left l.loop-block.block line.line l.loop-block.size l.loop-block.invariant.0.fits)),
+            ap (λ b. fill_from more.0 c.args.image.now c.args.text.now c.in-Line.after line.samples line.state b
+            (c.loop-block.size + c.in-Line.length))
+            (sym (left c.loop-block.block line.line c.loop-block.size c.loop-block.invariant.0.fits)),
       ),
     )
 

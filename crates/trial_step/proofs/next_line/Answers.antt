@@ -11,14 +11,10 @@ use Prim.Native.Nat.{ℕ, ◌-◌}
 use mathlib.Core.List.{List, ◌∷◌}
 use mathlib.Core.Path.{◌≡◌, ap, ◌∙◌}
 use native.Mathlib.Omega.{arith}
-use borrow.Author.Rules.{rules}
 use Rattle.trial_step.proofs.next_line.Goals as goal
-use Rattle.trial_step.proofs.next_line.Goals.{After-seek-sought, After-slice_known-then-left-gt0-1, In-Cycle, Start, Then-left-gt0}
+use Rattle.trial_step.proofs.next_line.Goals.{After-seek-sought, In-Cycle, Start, Then-left-gt0}
 
 -- within a RUN
-abbrev at-run : After-slice_known-then-left-gt0-1 → Then-left-gt0
-at-run c = (goal.at.After-slice_known-then-left-gt0-1 c).Then-left-gt0
-
 abbrev run-start : Then-left-gt0 → Start
 run-start t = (goal.at.Then-left-gt0 t).Start
 
@@ -64,19 +60,19 @@ cycle-calls o =
     sought-calls k ∙ ap (sought_calls (seek-start k).args.text.now k.seek-sought.new.samples) o.in-Cycle.is
 
 pub print_cycle-size-requires : goal.print_cycle-size-requires
-print_cycle-size-requires c = let s = c in (s.requires.0.runnable, s.requires.1)
+print_cycle-size-requires c = (c.requires.0.runnable, c.requires.1)
 
 pub overflow_add-next : goal.overflow_add-next
-overflow_add-next c = let t = (goal.at.overflow_add-next c).Then-left-gt0 in omega (arith, (run-start t).requires.0.few, ap length (run-calls t))
+overflow_add-next c = let t = (goal.at.overflow_add-next c).Then-left-gt0 in
+    omega (arith, (run-start t).requires.0.few, ap length (run-calls t))
 
 pub returns-then-left-gt0 : goal.returns-then-left-gt0
 unfolding StepsOn
 returns-then-left-gt0 c =
     let t = (goal.at.returns-then-left-gt0 c).Then-left-gt0 in
-    let s = c in
-    let a = s.args in
+    let a = c.args in
     let printed = c.print_cycle-size.ensures in record {
-      steps = lined a.progress.at (a.progress.left - 1) s.requires.0 s.requires.0.runnable (run-calls t) printed;
+      steps = lined a.progress.at (a.progress.left - 1) c.requires.0 c.requires.0.runnable (run-calls t) printed;
       is = stepped-cycle a.image.now a.text.now a.progress a.samples.now a.state.now a.line.now
           a.progress.at (a.progress.left - 1)
           (within-run a.text.now a.progress a.samples.now t.if-left-gt0.true) printed;
@@ -98,7 +94,12 @@ sought-runnable : (k : After-seek-sought) → let a =
     (seek-start k).args in Runnable a.image.now a.state.now k.seek-sought.new.samples
 sought-runnable k =
     let r = (seek-start k).requires.0.runnable in
-    record { formed = r.formed; long = r.long; position = r.position; enough = omega (arith, r.enough, k.seek-sought.auto.samples) }
+    record {
+      formed = r.formed;
+      long = r.long;
+      position = r.position;
+      enough = omega (arith, r.enough, k.seek-sought.auto.samples);
+    }
 
 pub print_cycle-size-requires-2 : goal.print_cycle-size-requires-2
 print_cycle-size-requires-2 c =
@@ -111,14 +112,12 @@ overflow_add-next-2 c = let o = (goal.at.overflow_add-next-2 c).In-Cycle in
 pub returns : goal.returns
 unfolding StepsOn
 returns c =
-    let c3 = c in
-    let c8 = c in
     let o = (goal.at.returns c).In-Cycle in
     let k = (goal.at.returns c).After-seek-sought in
     let a = (seek-start k).args in record {
       steps = lined o.in-Cycle.after o.in-Cycle.more (seek-start k).requires.0 (sought-runnable k) (cycle-calls o)
-          c3.print_cycle-size-2.ensures;
+          c.print_cycle-size-2.ensures;
       is = stepped-cycle a.image.now a.text.now a.progress a.samples.now a.state.now a.line.now
           o.in-Cycle.after o.in-Cycle.more
-          (sought-next k ∙ ap (seeking k.seek-sought.new.samples) o.in-Cycle.is) c3.print_cycle-size-2.ensures;
+          (sought-next k ∙ ap (seeking k.seek-sought.new.samples) o.in-Cycle.is) c.print_cycle-size-2.ensures;
     }

@@ -10,7 +10,6 @@ use lib.ListN.{length}
 use Prim.Native.Nat.{ℕ, ◌+◌, ◌-◌, ◌≤◌, ◌<◌}
 use mathlib.Core.List.{List}
 use mathlib.Core.Path.{◌≡◌, refl, sym, ap, ◌∙◌}
-use borrow.Author.Rules.{rules}
 use native.Mathlib.Omega.{arith}
 use Rattle.trial_step.proofs.seek.Goals as goal
 use Rattle.trial_step.proofs.seek.Goals.{After-action_width-width, After-cycles_made-runs, At-loop-at}
@@ -45,12 +44,12 @@ ends l e =
     let is = (sought l).2 ∙ e in (sym (ap (λ s. s.sought) is), sym (ap (λ s. s.samples) is))
 
 -- the command of this turn
-here : (r : After-cycles_made-runs) → let w = (goal.at.After-cycles_made-runs r).After-action_width-width in let l = r in
+here : (r : After-cycles_made-runs) → let w = at_width r in let l = turn w in
     calls_from l.loop-at.samples (script_at (text w) l.loop-at.at).actions ≡
     calls_left (text w) (l.loop-at.at + w.action_width-width.result) r.cycles_made-runs.result r.alter.new.samples
 here r =
-    let w = (goal.at.After-cycles_made-runs r).After-action_width-width in
-    let l = r in
+    let w = at_width r in
+    let l = turn w in
     let is = w.script_command_at-command.ensures in
     seek-step (text w) l.loop-at.at w.action_width-width.result r.cycles_made-runs.result l.loop-at.samples
     r.alter.new.samples (width w)
@@ -58,13 +57,13 @@ here r =
     (r.alter.ensures ∙ ap (altered l.loop-at.samples) is)
     (r.cycles_made-runs.ensures ∙ ap cycles_made is)
 
-cycles : (r : After-cycles_made-runs) → let w = (goal.at.After-cycles_made-runs r).After-action_width-width in let l = (goal.at.After-cycles_made-runs r).At-loop-at in
+cycles : (r : After-cycles_made-runs) → let w = at_width r in let l = turn w in
     0 < r.cycles_made-runs.result →
     seek_from (sought l).0 (text w) l.loop-at.at l.loop-at.samples ≡
     cycle_sought (l.loop-at.at + w.action_width-width.result) (r.cycles_made-runs.result - 1) r.alter.new.samples
 cycles r some =
-    let w = (goal.at.After-cycles_made-runs r).After-action_width-width in
-    let l = (goal.at.After-cycles_made-runs r).At-loop-at in
+    let w = at_width r in
+    let l = turn w in
     let is = w.script_command_at-command.ensures in
     seek-cycle (text w) l.loop-at.at l.loop-at.samples r.alter.new.samples w.action_width-width.result
     r.cycles_made-runs.result (width w)
@@ -72,14 +71,14 @@ cycles r some =
     (r.alter.ensures ∙ ap (altered l.loop-at.samples) is)
     (r.cycles_made-runs.ensures ∙ ap cycles_made is) (sought l).0 (sought l).1 w.loop-at-test.true some
 
-on : (r : After-cycles_made-runs) → let w = (goal.at.After-cycles_made-runs r).After-action_width-width in let l = (goal.at.After-cycles_made-runs r).At-loop-at in
+on : (r : After-cycles_made-runs) → let w = at_width r in let l = turn w in
     r.cycles_made-runs.result ≡ 0 →
     (m : ℕ) × (length (text w) ≤ m + (l.loop-at.at + w.action_width-width.result)) ×
     (seek_from (sought l).0 (text w) l.loop-at.at l.loop-at.samples ≡
     seek_from m (text w) (l.loop-at.at + w.action_width-width.result) r.alter.new.samples)
 on r none =
-    let w = (goal.at.After-cycles_made-runs r).After-action_width-width in
-    let l = (goal.at.After-cycles_made-runs r).At-loop-at in
+    let w = at_width r in
+    let l = turn w in
     let is = w.script_command_at-command.ensures in
     seek-on (text w) l.loop-at.at l.loop-at.samples r.alter.new.samples w.action_width-width.result
     r.cycles_made-runs.result (width w)
@@ -98,7 +97,7 @@ pub overflow_add-at : goal.overflow_add-at
 overflow_add-at c = let w = (goal.at.overflow_add-at c).After-action_width-width in omega (arith, within w)
 
 pub shape_of-samples-then-runs-gt0 : goal.shape_of-samples-then-runs-gt0
-shape_of-samples-then-runs-gt0 c = c.alter.auto.samples ∙ (turn (goal.at.shape_of-samples-then-runs-gt0 c).After-action_width-width).loop-at.invariant.1
+shape_of-samples-then-runs-gt0 c = c.alter.auto.samples ∙ c.loop-at.invariant.1
 
 pub returns-then-runs-gt0 : goal.returns-then-runs-gt0
 returns-then-runs-gt0 c = let r = (goal.at.returns-then-runs-gt0 c).After-cycles_made-runs in
@@ -139,7 +138,7 @@ unfolding seek_of
 loop-at-init c = (refl, refl, (length c.args.text.now, omega arith, refl))
 
 pub shape_of-samples-then-width-eq0 : goal.shape_of-samples-then-width-eq0
-shape_of-samples-then-width-eq0 c = (turn (goal.at.shape_of-samples-then-width-eq0 c).After-action_width-width).loop-at.invariant.1
+shape_of-samples-then-width-eq0 c = c.loop-at.invariant.1
 
 pub shape_of-samples : goal.shape_of-samples
 shape_of-samples c = c.loop-at.invariant.1

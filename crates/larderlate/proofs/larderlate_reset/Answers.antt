@@ -1,0 +1,10 @@
+-- `larderlate::larderlate_reset` meets its contract. Assumes nothing.
+use mathlib.Core.Path.{ap, ◌∙◌}
+use Rattle.larderlate.specs.Code.{code_number}
+use borrow.Author.Rules.{rules}
+use Rattle.larderlate.proofs.larderlate_reset.Goals as goal
+
+pub returns : goal.returns
+returns c =
+    let e = c.reset-ran.ensures in
+    (c.code_of_ran.ensures ∙ ap code_number e.0, e.1)
