@@ -31,7 +31,7 @@ use Rattle.report.proofs.+measure_expression.Goals as goal
 use Rattle.report.proofs.+measure_expression.Goals.{After-measure_expression-second, After-measure_expression-second-in-If, After-operator_at-decoded}
 
 -- where the command is known
-module _ (t : ℕ) (c : After-operator_at-decoded t ) where
+module _ (t : ℕ) (c : After-operator_at-decoded t) where
   abbrev text : List ℕ
   text = c.args.text.now.now
 
@@ -109,7 +109,7 @@ measure_expression-second-requires t c =
     )
 
 -- the operands of an operator with two
-two : (t : ℕ) (c : After-measure_expression-second t ) →
+two : (t : ℕ) (c : After-measure_expression-second t) →
     let c5 = (goal.at.After-measure_expression-second t c).After-operator_at-decoded in
     Small (text t c5) (at t c5 + 1) c.measure_expression-first.result ×
     Small (text t c5) c.measure_expression-first.result.next c.measure_expression-second.result
@@ -210,7 +210,7 @@ measure_expression-second-requires-in-If t c =
     )
 
 -- the operands of IF
-three : (t : ℕ) (c : After-measure_expression-second-in-If t ) →
+three : (t : ℕ) (c : After-measure_expression-second-in-If t) →
     Small (text t (goal.at.After-measure_expression-second-in-If t c).After-operator_at-decoded)
     (at t (goal.at.After-measure_expression-second-in-If t c).After-operator_at-decoded + 1) c.measure_expression-condition.result ×
     Small (text t (goal.at.After-measure_expression-second-in-If t c).After-operator_at-decoded) c.measure_expression-condition.result.next
