@@ -202,8 +202,8 @@ pub fn write_file(rt: &HostRuntime, name: &[u8], bytes: &[u8]) -> io::Result<boo
         Ok(file) => match put(rt, file, path, name, bytes) {
             Ok(()) => Ok(true),
             Err(error) => {
-                fail(rt, name, &error)?;
                 let _removed = remove(rt, path).is_ok();
+                fail(rt, name, &error)?;
                 Ok(false)
             }
         },
