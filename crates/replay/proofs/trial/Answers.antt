@@ -16,5 +16,5 @@ pub slice_bounds-hash_lines-end : goal.slice_bounds-hash_lines-end
 slice_bounds-hash_lines-end c =
     simp length-take (omega (arith, (started (goal.at.slice_bounds-hash_lines-end c).In_default).fits))
 
-pub hash_lines-requires : goal.hash_lines-requires
-hash_lines-requires c = (started (goal.at.hash_lines-requires c).In_default).underway
+pub hash_lines-hash-requires : goal.hash_lines-hash-requires
+hash_lines-hash-requires c = (started (goal.at.hash_lines-hash-requires c).In_default).underway
