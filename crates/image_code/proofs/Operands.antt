@@ -324,23 +324,6 @@ one-wide (Operator.Binary operator) h = refl
 one-wide (Operator.Unary operator) h = refl
 one-wide Operator.If h = refl
 
--- What has operands is written in the code by the byte that it has in the text.
-written_last : {text : List ℕ} {at : ℕ} {c : Operator} → OperatorWritten text at c → (operands_of c ≡ 0 → ⊥) →
-    (lead_of c).last ≡ byte_at text at ∷ []
-unfolding operands_of
-written_last (OperatorWritten.constant g b) h = absurd (h refl)
-written_last (OperatorWritten.plain kind e g b) h = absurd (h refl)
-written_last (OperatorWritten.sampled kind e g b r i) h = absurd (h refl)
-written_last (OperatorWritten.binary operator g b) h = ap (λ (n : ℕ). n ∷ []) (sym b)
-written_last (OperatorWritten.unary operator g b) h = ap (λ (n : ℕ). n ∷ []) (sym b)
-written_last (OperatorWritten.choose g b) h = ap (λ (n : ℕ). n ∷ []) (sym b)
-
-pub own-byte : {text : List ℕ} {at n : ℕ} {e : Expr} (c : Operator) → operator_at text at ≡ c →
-    Spells least_factor text at e n → (operands_of c ≡ 0 → ⊥) → (lead_of c).last ≡ byte_at text at ∷ []
-own-byte {text} {at} c q u =
-    let s = spells-stands u in
-    written_last (subst (OperatorWritten text at) (sym (operator-decoded s.written) ∙ q) s.written)
-
 -- What is no operator.
 abbrev pub others : List ℕ
 others = 0 ∷ 1 ∷ 2 ∷ []

@@ -2,18 +2,45 @@
 #![tactic(auto)]
 
 ghost use Rattle.std.specs.Prelude.{◌≡◌, [], ◌∷◌, ◌+◌, ◌^◌, ◌≤◌, ◌<◌, length};
+ghost use Rattle.model.specs.Rules.Image.{binary_byte, unary_byte};
 ghost use Rattle.model.specs.Rules.Width.{in_code};
 ghost use Rattle.model.specs.Rules.Word.{byte_at, word_bytes};
+ghost use Rattle.text_command.specs.Operator.{operands_of};
 ghost use Rattle.image_code.specs.Shape.{lead_of};
 ghost use Rattle.image_code.specs.Code.{Puts, SignalRoom, EmitsSignal, Rooms, EmitsAll, LeafSpace};
 
-use model::Operator;
+use model::{Binary, Operator, Unary};
 
 // Where the text goes on, and where the code ends.
 #[derive(Clone, Copy)]
 pub struct Emitted {
     pub next: usize,
     pub end: usize,
+}
+
+// The byte of an operator with two operands.
+fn binary_byte(operator: Binary) -> u8
+    ensures { result ≡ binary_byte operator }
+{
+    match operator {
+        Binary::Add => 0x30,
+        Binary::Sub => 0x31,
+        Binary::Mul => 0x32,
+        Binary::Less => 0x33,
+        Binary::Same => 0x34,
+        Binary::Min => 0x35,
+        Binary::Max => 0x36,
+    }
+}
+
+// The byte of an operator with one operand.
+fn unary_byte(operator: Unary) -> u8
+    ensures { result ≡ unary_byte operator }
+{
+    match operator {
+        Unary::Negate => 0x38,
+        Unary::Table => 0x3B,
+    }
 }
 
 // Writes a PUSH.
@@ -43,7 +70,7 @@ pub fn put_access(out: &mut [u8], to: usize, code: u8, signal: u8, next: usize) 
     }
 }
 
-// Writes an operator after its operands, by the byte that it has in the text; all are as wide as ADD.
+// Writes an operator after its operands; all are as wide as ADD.
 fn put_operator(out: &mut [u8], operands: Emitted, code: u8) -> Emitted
     requires { operands.end + in_code 0x30 ≤ length out.old }
     ensures { Puts out.old operands.end (code ∷ []) operands.next out.new result.next result.end }
@@ -75,10 +102,21 @@ fn put_leaf(out: &mut [u8], operator: Operator, at: usize, to: usize) -> Emitted
     }
 }
 
+// The code of an operator that has operands.
+fn operator_byte(operator: Operator) -> u8
+    ensures { (operands_of operator ≡ 0 → ⊥) → (lead_of operator).last ≡ result ∷ [] }
+{
+    match operator {
+        Operator::Binary(o) => binary_byte(o),
+        Operator::Unary(o) => unary_byte(o),
+        _ => 0x3A,
+    }
+}
+
 // Writes the code of so many expressions from `at` on, one after another, each of which nests at most `depth` deep, from `to`
-// on: an operator comes after its operands, and is written as it stands in the text. The slices go by references to them, which
-// no level of the recursion has to copy. `counted` is what the type of a slice says and that of a reference to one does not;
-// `same`: the slice is not exchanged for another.
+// on: an operator comes after its operands. The slices go by references to them, which no level of the recursion has to copy.
+// `counted` is what the type of a slice says and that of a reference to one does not; `same`: the slice is not exchanged for
+// another.
 pub fn emit_expressions(
     text: &&[u8],
     number: usize,
@@ -105,7 +143,7 @@ pub fn emit_expressions(
         } else {
             let first = here + width::in_expression(0x30);
             let before = emit_expressions(text, operands, first, depth - 1, out, from);
-            put_operator(*out, before, text[here])
+            put_operator(*out, before, operator_byte(operator))
         };
         left = left - 1;
     }

@@ -25,7 +25,6 @@ use Rattle.image_code.proofs.Operands.{
   without,
   arity-is,
   one-wide,
-  own-byte,
   emits_none,
   emits-more,
   emits-last,
@@ -99,9 +98,6 @@ module _ (t : ℕ) (o : After-operands_of-operands t) where
         (length (lead_of operator).last)
     behind = rw (one-wide operator operands, arity-is operator) at lead
 
-    byte : (lead_of operator).last ≡ byte_at (text t turn) (here t turn) ∷ []
-    byte = own-byte operator is (room t turn).spelled operands
-
 -- one expression is written, by either branch
 one : (t : ℕ) (j : Joined-operands-eq0 t) →
     let b = (goal.at.Joined-operands-eq0 t j).In-loop-left in
@@ -117,7 +113,7 @@ one t j =
           let h = operands t o y.if-operands-eq0.false in
           let ws = rw (sym (one-wide (operator t o) h), sym (arity-is (operator t o))) at
           (rw (y.in_expression.ensures, o.operands_of-operands.ensures) at y.emit_expressions-before.ensures.emits_all) in
-          rw (y.out-is, y.done-is) (emits-last (operator t o) (is t o) ws (rw (sym (byte t o y.if-operands-eq0.false)) at
+          rw (y.out-is, y.done-is) (emits-last (operator t o) (is t o) ws (rw (sym (y.operator_byte.ensures h)) at
           y.put_operator-done.ensures))
     ]
 
@@ -173,7 +169,7 @@ put_operator-done-requires t c =
     let o = (goal.at.put_operator-done-requires t c).After-operands_of-operands in
     let h = k.if-operands-eq0.false in
     let ws = rw (k.in_expression.ensures, o.operands_of-operands.ensures) at e.emit_expressions-before.ensures.emits_all in
-    omega (arith, after-rooms (behind t o h) ws, ap length (byte t o h))
+    omega (arith, after-rooms (behind t o h) ws, ap length (c.operator_byte.ensures (operands t o h)))
 
 pub overflow_sub-left : goal.overflow_sub-left
 overflow_sub-left t c = omega (arith, (turn t (goal.at.overflow_sub-left t c).After-operands_of-operands).loop-left-test.true)
@@ -199,9 +195,3 @@ returns t c =
       same = l.invariant.1;
       emits_all = l.invariant.2 _ _ _ (rw z emits_none);
     }
-
-pub bounds-text-here : goal.bounds-text-here
-bounds-text-here t c =
-    let o = (goal.at.bounds-text-here t c).After-operands_of-operands in
-    let one = one-wide (operator t o) (operands t o c.if-operands-eq0.false) in
-    omega (arith, inside t o, one)

@@ -25,7 +25,6 @@ use Rattle.image_code.proofs.Operands.{
   without,
   arity-is,
   one-wide,
-  own-byte,
   emits_none,
   emits-more,
   emits-last,
